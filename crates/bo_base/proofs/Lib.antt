@@ -1,0 +1,6 @@
+pub mod Places
+pub mod Edits
+pub mod ToldLemmas
+mod CivilLemmas
+mod TextLemmas
+mod DigitLemmas

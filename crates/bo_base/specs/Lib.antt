@@ -1,0 +1,9 @@
+pub mod Tables
+pub mod Texts
+pub mod Told
+pub mod Refusals
+pub mod Digits
+pub mod Money
+pub mod Moments
+pub mod Civil
+pub mod Rising

@@ -1,0 +1,28 @@
+-- Moments, in whole seconds since 1970-01-01T00:00:00Z.
+use Rattle.std.specs.Prelude.{ℕ, ◌/◌, List, Result, Ok, Err, if◌then◌else◌, nat_le, ℤ, pos, negsuc}
+use Rattle.jiff_core.specs.declared.error.Error.{Error}
+use Rattle.jiff_fmt.specs.Temporal.{parse_timestamp}
+use Rattle.bo_base.specs.declared.refusal.ValueRefusal.{ValueRefusal}
+use Rattle.bo_base.specs.declared.refusal.ValueRefusal.TheVariants.{NotMoment, OutOfRange}
+
+-- 9998-12-31T23:59:59Z
+abbrev pub last_moment : ℕ
+last_moment = 253370764799
+
+abbrev pub in_range : ℤ → Result ℕ ValueRefusal
+in_range (pos s) = if nat_le s last_moment then Ok s else Err OutOfRange
+in_range (negsuc s) = Err OutOfRange
+
+-- the whole second of an instant in nanoseconds, rounded down
+abbrev pub second_of : ℤ → Result ℕ ValueRefusal
+second_of (pos n) = in_range (pos (n / 1000000000))
+second_of (negsuc n) = Err OutOfRange
+
+-- the moment that a reading of an instant gives
+abbrev pub moment_at : Result ℤ Error → Result ℕ ValueRefusal
+moment_at (Ok n) = second_of n
+moment_at (Err e) = Err NotMoment
+
+-- the moment that a text writes
+abbrev pub moment_of : List ℕ → Result ℕ ValueRefusal
+moment_of text = moment_at (parse_timestamp text)

@@ -1,0 +1,77 @@
+//! Lists of ids.
+
+ghost use Rattle.std.specs.Prelude.{◌≡◌, IfOk};
+ghost use Rattle.bo_base.specs.Rising.{rising};
+ghost use Rattle.bo_base.specs.Tables.{has};
+
+use crate::rows::{Row, Rows};
+use std::alloc::{AllocError, Global};
+use std::marker::Model;
+
+/// Ids, which contracts see as a list.
+#[derive(Debug, Drop)]
+pub struct Ids {
+    ids: Vec<u64>,
+}
+
+impl Model for Ids {
+    ghost use Rattle.std.specs.Prelude.{List, ℕ};
+
+    ghost Value = { List ℕ };
+
+    ghost view = { λ t. t.ids.items };
+}
+
+impl Ids {
+    /// These ids.
+    pub fn new(ids: Vec<u64>) -> Self
+        ensures { result ≡ ids.items }
+    {
+        Ids { ids }
+    }
+
+    /// The ids in rising order, each once.
+    pub fn rising(alloc: Global, given: &[u64]) -> Result<Self, AllocError>
+        ensures { IfOk result (λ ids. ids ≡ rising given.now) }
+    {
+        let mut rows = Rows::new(alloc);
+        for id in given {
+            rows.reserve(1)?;
+            rows.put(*id);
+        }
+        Ok(Ids {
+            ids: rows.into_vec(),
+        })
+    }
+
+    /// A copy.
+    pub fn copy(&self, alloc: Global) -> Result<Self, AllocError>
+        ensures { IfOk result (λ ids. ids ≡ self.now) }
+    {
+        Ok(Ids {
+            ids: self.ids.to_vec(alloc)?,
+        })
+    }
+
+    /// The ids in order.
+    pub fn as_slice(&self) -> &[u64]
+        ensures { result.now ≡ self.now }
+    {
+        self.ids.as_slice()
+    }
+
+    /// Whether the id is among them.
+    pub fn has(&self, id: u64) -> bool
+        ensures { result ≡ has id self.now }
+    {
+        self.ids.iter().any(|x| *x == id)
+    }
+}
+
+impl Row for u64 {
+    ghost key = { λ n. n };
+
+    fn id(&self) -> u64 {
+        *self
+    }
+}

@@ -1,0 +1,30 @@
+//! What every layer speaks of: money, moments, draws, texts, tables of rows, devices and answers.
+#![tactic(auto)]
+
+pub mod answer;
+pub mod cents;
+pub mod device;
+pub mod digits;
+pub mod draw;
+pub mod ids;
+pub mod moment;
+pub mod price_mode;
+pub mod refusal;
+pub mod rows;
+pub mod std_device;
+pub mod steps;
+pub mod text;
+
+pub use answer::{Answer, Body, Methods, Told};
+pub use cents::{Cents, cents_text, read_cents};
+pub use device::{Drain, Refused, Source, Tick, Ticks};
+pub use digits::number_of;
+pub use draw::Draw;
+pub use ids::Ids;
+pub use moment::{Moment, moment_text, read_moment};
+pub use price_mode::PriceMode;
+pub use refusal::ValueRefusal;
+pub use rows::{Row, Rows};
+pub use std_device::Device;
+pub use steps::Steps;
+pub use text::Text;

@@ -1,0 +1,63 @@
+-- All that is for sale, as lists of rows in order of id.
+use Rattle.std.specs.Prelude.{◌≡◌, ℕ, Bool, true, false, List, [], ◌∷◌, map, filter, ◌==◌, if◌then◌else◌, Option, Some, None, Result, Ok, Err, unwrap_or}
+use Rattle.bo_base.specs.Tables.{row_at}
+use Rattle.bo_catalogue.specs.declared.rows.Item.{Item}
+use Rattle.bo_catalogue.specs.declared.rows.Variation.{Variation}
+use Rattle.bo_catalogue.specs.declared.rows.Quota.{Quota}
+use Rattle.bo_catalogue.specs.declared.rows.Product.{Product}
+use Rattle.bo_catalogue.specs.declared.refusal.CatalogueRefusal.{CatalogueRefusal}
+use Rattle.bo_catalogue.specs.declared.refusal.CatalogueRefusal.TheVariants.{NoItem, NoVariation, NeedsVariation}
+use Rattle.bo_catalogue.specs.Member.{is_in}
+
+pub record CatalogueLists : Type 0 where
+  pub items : List Item
+  pub variations : List Variation
+  pub quotas : List Quota
+
+-- the lists, and how many rows each of them can be given without taking memory
+pub record CatalogueTables : Type 0 where
+  pub lists : CatalogueLists
+  pub room : ℕ
+
+abbrev pub item_at : ℕ → CatalogueLists → Option Item
+item_at id lists = row_at (λ r. r.id) id lists.items
+
+abbrev pub variation_at : ℕ → CatalogueLists → Option Variation
+variation_at id lists = row_at (λ r. r.id) id lists.variations
+
+abbrev pub quota_at : ℕ → CatalogueLists → Option Quota
+quota_at id lists = row_at (λ r. r.id) id lists.quotas
+
+-- an item that is varied is sold by one of its variations, and any other by itself
+abbrev pub plain_product : ℕ → Bool → Result Product CatalogueRefusal
+plain_product item true = Err NeedsVariation
+plain_product item false = Ok (record { item = item; variation = None })
+
+abbrev pub varied_product : ℕ → ℕ → Option Variation → Result Product CatalogueRefusal
+varied_product item id None = Err NoVariation
+varied_product item id (Some variation) = if variation.item == item then Ok (record { item = item; variation = Some id }) else Err NoVariation
+
+abbrev pub product_by : ℕ → Option ℕ → Option Item → CatalogueLists → Result Product CatalogueRefusal
+product_by item variation None lists = Err NoItem
+product_by item None (Some row) lists = plain_product item row.varied
+product_by item (Some id) (Some row) lists = varied_product item id (variation_at id lists)
+
+abbrev pub product_of : ℕ → Option ℕ → CatalogueLists → Result Product CatalogueRefusal
+product_of item variation lists = product_by item variation (item_at item lists) lists
+
+-- the quotas that a product is in, by id
+abbrev pub quotas_of : Product → CatalogueLists → List ℕ
+quotas_of product lists = map (λ quota. quota.id) (filter (λ quota. is_in quota product) lists.quotas)
+
+-- the variation's price where it has one, else the item's
+abbrev pub priced : ℕ → Option Variation → Option ℕ
+priced price None = None
+priced price (Some variation) = Some (unwrap_or variation.default_price price)
+
+abbrev pub base_price_by : Option ℕ → Option Item → CatalogueLists → Option ℕ
+base_price_by variation None lists = None
+base_price_by None (Some item) lists = Some item.default_price
+base_price_by (Some id) (Some item) lists = priced item.default_price (variation_at id lists)
+
+abbrev pub base_price : Product → CatalogueLists → Option ℕ
+base_price product lists = base_price_by product.variation (item_at product.item lists) lists

@@ -1,0 +1,13 @@
+-- Which products a quota has.
+use Rattle.std.specs.Prelude.{ℕ, Bool, Option, Some, None}
+use Rattle.bo_base.specs.Tables.{has}
+use Rattle.bo_catalogue.specs.declared.rows.Quota.{Quota}
+use Rattle.bo_catalogue.specs.declared.rows.Product.{Product}
+
+-- a variation is in a quota that lists it, and a product without one where its item is listed
+abbrev pub lists : Quota → Product → Option ℕ → Bool
+lists quota product None = has product.item quota.items
+lists quota product (Some variation) = has variation quota.variations
+
+abbrev pub is_in : Quota → Product → Bool
+is_in quota product = lists quota product product.variation
