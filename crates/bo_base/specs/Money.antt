@@ -42,4 +42,4 @@ money_of text = money_at text (position (λ b. b == 46) text)
 
 -- at least one digit, a point and two digits
 abbrev pub cents_text : ℕ → List ℕ
-cents_text cents = decimal (cents / 100) ++ 46 ∷ [] ++ decimal (cents / 10 % 10) ++ decimal (cents % 10)
+cents_text cents = decimal (cents / 100) ++ 46 ∷ (decimal (cents / 10 % 10) ++ decimal (cents % 10))

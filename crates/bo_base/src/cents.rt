@@ -1,6 +1,6 @@
 //! Amounts of money, and their texts.
 
-ghost use Rattle.std.specs.Prelude.{◌≡◌, ◌≤◌, IfOk, IfSome, string_bytes};
+ghost use Rattle.std.specs.Prelude.{◌≡◌, ◌≤◌, ◌<◌, ◌==◌, length, position, IfOk, IfSome, string_bytes};
 ghost use Rattle.bo_base.specs.Money.{money_of, money_by, decimals_of, cents_text, last_cents};
 
 use crate::digits::{is_digits, number_of};
@@ -54,10 +54,18 @@ pub fn read_cents(text: &str) -> Result<Cents, ValueRefusal>
     ensures { result ≡ money_of text.now }
 {
     let bytes = text.as_bytes();
-    match bytes.iter().position(|b| *b == b'.') {
+    match point_of(bytes) {
         None => read_parts(bytes, Some(0)),
         Some(at) => read_parts(&bytes[..at], decimals_of(&bytes[at + 1..])),
     }
+}
+
+// Where the point stands.
+fn point_of(text: &[u8]) -> Option<usize>
+    ensures place { result ≡ position (λ b. b == 46) text.now }
+    ensures within { IfSome result (λ at. at < length text.now) }
+{
+    text.iter().position(|b| *b == b'.')
 }
 
 // The amount of so many units, and of what stands behind the point.

@@ -1,7 +1,7 @@
-use Rattle.std.proofs.Common.{rules, ◌≡◌, ◌≤◌, IfOk, IfSome, string_bytes, ℕ, ◌+◌, ◌-◌, ◌*◌, ◌<◌, length, ◌/◌, ◌%◌, Bool, true, false, nat_eq, nat_lt, List, [], ◌∷◌, ◌++◌, slice_index_or, slice_set, bit_and, bit_or, Fits, w8, w32, w64, Bor, MutBor}
-use Rattle.bo_base.specs.Money.{money_of, money_by, decimals_of, cents_text, last_cents}
+use Rattle.std.proofs.Common.{ap, ◌∙◌}
+use Rattle.std.proofs.lemmas.Result.{IfOk-weaker}
+use Rattle.bo_base.specs.Money.{cents_text}
 use Rattle.bo_base.proofs.cents.cents_text.Goals as goal
 
--- src/cents.rt:97:1
 pub returns : goal.returns
-returns c = ?
+returns c = IfOk-weaker c.format.result _ _ (λ s h. h ∙ ap cents_text c.get-cents.ensures.value) c.format.ensures.ok

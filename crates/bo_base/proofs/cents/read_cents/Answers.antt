@@ -1,11 +1,12 @@
-use Rattle.std.proofs.Common.{rules, ◌≡◌, ◌≤◌, IfOk, IfSome, string_bytes, ℕ, ◌+◌, ◌-◌, ◌*◌, ◌<◌, length, ◌/◌, ◌%◌, Bool, true, false, nat_eq, nat_lt, List, [], ◌∷◌, ◌++◌, slice_index_or, slice_set, bit_and, bit_or, Fits, w8, w32, w64, Bor, MutBor}
-use Rattle.bo_base.specs.Money.{money_of, money_by, decimals_of, cents_text, last_cents}
+use Rattle.std.proofs.Common.{◌≡◌, ℕ, ◌+◌, ◌==◌, Option, Some, position, length, take, drop, sym, ap, ◌∙◌}
+use Rattle.std.proofs.lemmas.List.{take_rest}
+use Rattle.bo_base.specs.Money.{money_of, money_at, money_by, decimals_of}
 use Rattle.bo_base.proofs.cents.read_cents.Goals as goal
 
--- src/cents.rt:53:1
-pub returns-in-None : goal.returns-in-None
-returns-in-None c = ?
-
--- src/cents.rt:53:1
 pub returns-in-Some : goal.returns-in-Some
-returns-in-Some c = ?
+returns-in-Some c =
+    let bytes = c.as_bytes-bytes.result.now in
+    let at = c.in-Some.at in
+    let behind = c.decimals_of.ensures.value ∙ ap decimals_of (take_rest bytes (at + 1)) in
+    let place : c.point_of.result ≡ position (λ b. b == 46) bytes = c.point_of.ensures.place in
+    c.read_parts-in-Some.ensures ∙ ap (money_by (take at bytes)) behind ∙ ap (money_at bytes) (sym c.in-Some.is ∙ place) ∙ ap money_of c.as_bytes-bytes.ensures.value

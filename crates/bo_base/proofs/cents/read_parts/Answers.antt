@@ -1,7 +1,16 @@
-use Rattle.std.proofs.Common.{rules, ◌≡◌, ◌≤◌, IfOk, IfSome, string_bytes, ℕ, ◌+◌, ◌-◌, ◌*◌, ◌<◌, length, ◌/◌, ◌%◌, Bool, true, false, nat_eq, nat_lt, List, [], ◌∷◌, ◌++◌, slice_index_or, slice_set, bit_and, bit_or, Fits, w8, w32, w64, Bor, MutBor}
-use Rattle.bo_base.specs.Money.{money_of, money_by, decimals_of, cents_text, last_cents}
+use Rattle.std.proofs.Common.{◌≡◌, ℕ, ◌+◌, ◌*◌, ◌^◌, ◌<◌, ◌≤◌, length, arith}
+use Rattle.std.proofs.Math.Nat.{pow-le-pow_right}
 use Rattle.bo_base.proofs.cents.read_parts.Goals as goal
 
--- src/cents.rt:79:23
+-- a number of at most eight digits
+eight : (n places : ℕ) → places ≤ 8 → n < 10 ^ places → n < 100000000
+eight n places few small =
+    let le : 10 ^ places ≤ 10 ^ 8 = pow-le-pow_right {n = 10} (omega arith) {i = places} {j = 8} few in
+    omega (arith, le, small)
+
 pub new-requires : goal.new-requires
-new-requires c = ?
+new-requires c =
+    let small : c.in-Some-number_of.n < 10 ^ length c.args.units.now = rw c.in-Some-number_of.is at c.number_of.ensures.small in
+    let n = eight c.in-Some-number_of.n (length c.args.units.now) c.if-units-gt8.false small in
+    let d = rw c.in-Some.is at c.requires in
+    omega (arith, n, d)
