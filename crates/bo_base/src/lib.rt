@@ -13,6 +13,8 @@ pub mod refusal;
 pub mod rows;
 pub mod std_device;
 pub mod steps;
+#[cfg(test)]
+mod tests;
 pub mod text;
 
 pub use answer::{Answer, Body, Methods, Told};

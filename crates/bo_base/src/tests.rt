@@ -1,0 +1,71 @@
+use crate::cents::{Cents, cents_text, read_cents};
+use crate::moment::{Moment, moment_text, read_moment};
+use crate::refusal::ValueRefusal;
+use std::test::Fail;
+
+#[test]
+fn money(rt: HostRuntime) -> Result<(), Fail> {
+    for (text, cents) in [
+        ("99999999.99", 9_999_999_999),
+        ("23", 2300),
+        ("23.5", 2350),
+        ("0.03", 3),
+        ("007.10", 710),
+    ] {
+        assert_eq!(rt; read_cents(text).map(|c| c.get()), Ok(cents), "{text}");
+    }
+    for text in [
+        "1.234",
+        "",
+        ".",
+        ".5",
+        "5.",
+        "-1",
+        "+1",
+        " 1",
+        "1,50",
+        "123456789.555",
+        "1.2.3",
+    ] {
+        assert_eq!(rt; read_cents(text), Err(ValueRefusal::NotMoney), "{text}");
+    }
+    for text in ["100000000", "123456789.55", "000000001"] {
+        assert_eq!(rt; read_cents(text), Err(ValueRefusal::TooLarge), "{text}");
+    }
+    let alloc = rt.alloc();
+    for (amount, text) in [
+        (Cents::new(1533), "15.33"),
+        (Cents::new(2), "0.02"),
+        (Cents::new(0), "0.00"),
+        (Cents::new(9_999_999_999), "99999999.99"),
+    ] {
+        assert_eq!(rt; cents_text(alloc, amount)?.as_str(), text);
+    }
+    Ok(())
+}
+
+#[test]
+fn moments(rt: HostRuntime) -> Result<(), Fail> {
+    for (text, seconds) in [
+        ("2026-05-01T12:00:00.9+02:00", 1_777_629_600),
+        ("1970-01-01T00:00:00Z", 0),
+        ("9998-12-31T23:59:59Z", 253_370_764_799),
+    ] {
+        assert_eq!(rt; read_moment(text).map(|m| m.get()), Ok(seconds), "{text}");
+    }
+    for text in ["2026-05-01", "", "noon", "2026-05-01T10:00:00"] {
+        assert_eq!(rt; read_moment(text), Err(ValueRefusal::NotMoment), "{text}");
+    }
+    for text in ["1969-12-31T23:59:59Z", "9999-01-01T00:00:00Z"] {
+        assert_eq!(rt; read_moment(text), Err(ValueRefusal::OutOfRange), "{text}");
+    }
+    let alloc = rt.alloc();
+    for (moment, text) in [
+        (Moment::new(0), "1970-01-01T00:00:00Z"),
+        (Moment::new(1_777_629_600), "2026-05-01T10:00:00Z"),
+        (Moment::new(253_370_764_799), "9998-12-31T23:59:59Z"),
+    ] {
+        assert_eq!(rt; moment_text(alloc, moment)?.as_str(), text);
+    }
+    Ok(())
+}

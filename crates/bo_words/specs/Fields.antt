@@ -1,0 +1,29 @@
+-- The names of fields, and the sentences that say what is wrong with one.
+use Rattle.std.specs.Prelude.{ℕ, List, codes}
+use Rattle.bo_words.specs.declared.fields.Field.{Field}
+use Rattle.bo_words.specs.declared.fields.Field.TheVariants as fields
+use Rattle.bo_words.specs.declared.fields.Problem.{Problem}
+use Rattle.bo_words.specs.declared.fields.Problem.TheVariants as problems
+
+-- the name by which a body gives the field
+abbrev pub field_name : Field → List ℕ
+field_name fields.Name = codes "name"
+field_name fields.DefaultPrice = codes "default_price"
+field_name fields.Active = codes "active"
+field_name fields.Variations = codes "variations"
+field_name fields.Size = codes "size"
+field_name fields.Items = codes "items"
+field_name fields.Item = codes "item"
+field_name fields.Variation = codes "variation"
+field_name fields.Price = codes "price"
+field_name fields.CartId = codes "cart_id"
+field_name fields.Expires = codes "expires"
+field_name fields.Voucher = codes "voucher"
+
+abbrev pub problem_text : Problem → List ℕ
+problem_text problems.Required = codes "This field is required."
+problem_text problems.Null = codes "This field may not be null."
+problem_text problems.Blank = codes "This field may not be blank."
+problem_text problems.Invalid = codes "A valid value is required."
+problem_text problems.OutOfRange = codes "Value out of range."
+problem_text problems.NotAllowed = codes "Text not allowed."

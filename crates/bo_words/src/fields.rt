@@ -1,0 +1,83 @@
+//! The fields of requests, and what may be wrong with one.
+
+ghost use Rattle.std.specs.Prelude.{◌≡◌};
+ghost use Rattle.bo_words.specs.Fields.{field_name, problem_text};
+
+/// A field of a request.
+#[derive(Clone, Copy, Debug, PartialEq, Eq)]
+pub enum Field {
+    Name,
+    DefaultPrice,
+    Active,
+    Variations,
+    Size,
+    Items,
+    Item,
+    Variation,
+    Price,
+    CartId,
+    Expires,
+    Voucher,
+}
+
+/// What is wrong with a field.
+#[derive(Clone, Copy, Debug, PartialEq, Eq)]
+pub enum Problem {
+    /// It has to be there, and isn't.
+    Required,
+    /// It is null, and may not be.
+    Null,
+    /// It is an empty text, and may not be.
+    Blank,
+    /// It is of another kind, or another word of a choice.
+    Invalid,
+    /// It is a number, an amount or a moment out of its limits.
+    OutOfRange,
+    /// It is a text that is too long, or has a control byte.
+    NotAllowed,
+}
+
+/// The first field of a request that is wrong.
+#[derive(Clone, Copy, Debug, PartialEq, Eq)]
+pub struct Fault {
+    pub field: Field,
+    pub problem: Problem,
+}
+
+impl Field {
+    /// The name by which a body gives it.
+    pub fn name(self) -> &'static str
+        ensures { result.now ≡ field_name self }
+    {
+        match self {
+            Field::Name => "name",
+            Field::DefaultPrice => "default_price",
+            Field::Active => "active",
+            Field::Variations => "variations",
+            Field::Size => "size",
+            Field::Items => "items",
+            Field::Item => "item",
+            Field::Variation => "variation",
+            Field::Price => "price",
+            Field::CartId => "cart_id",
+            Field::Expires => "expires",
+            Field::Voucher => "voucher",
+        }
+    }
+}
+
+impl Problem {
+    /// The sentence that says it.
+    pub fn text(self) -> &'static str
+        ensures { result.now ≡ problem_text self }
+    {
+        match self {
+            Problem::Required => "This field is required.",
+            Problem::Null => "This field may not be null.",
+            Problem::Blank => "This field may not be blank.",
+            Problem::Invalid => "A valid value is required.",
+            Problem::OutOfRange => "Value out of range.",
+            Problem::NotAllowed => "Text not allowed.",
+        }
+    }
+}
