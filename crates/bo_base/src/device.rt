@@ -1,6 +1,7 @@
 //! Readers, writers and clocks that tell what passed through them, and count their failures.
 
 ghost use Rattle.std.specs.Prelude.{◌≡◌, ℕ, ◌+◌, ◌<◌, ◌≤◌, List, [], ◌∷◌, Option, length, take, IfOk, OnOk, OnErr};
+ghost use Rattle.std.specs.Io.KnownBytes.{IsAtEnd};
 ghost use Rattle.bo_base.specs.Told.{Adds, Gives};
 ghost use Rattle.bo_base.specs.declared.device.Tick.{Tick};
 
@@ -25,6 +26,7 @@ pub trait Source {
     fn read(&mut self, buffer: &mut [u8]) -> Result<usize, Refused>
         ensures fits { IfOk result (λ n. n ≤ length buffer.new) }
         ensures given { IfOk result (λ n. Gives (left self.old) (take n buffer.new) (left self.new)) }
+        ensures ended { IfOk result (λ n. n ≡ 0 → 0 < length buffer.new → IsAtEnd (left self.new)) }
         ensures kept { OnErr result (Gives (left self.old) [] (left self.new)) }
         ensures calls { calls self.new ≡ calls self.old + 1 }
         ensures well { OnOk result (failures self.new ≡ failures self.old) }

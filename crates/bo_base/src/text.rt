@@ -1,6 +1,6 @@
 //! Texts.
 
-ghost use Rattle.std.specs.Prelude.{◌≡◌, ◌↔◌, IsTrue, IfOk, string_bytes};
+ghost use Rattle.std.specs.Prelude.{◌≡◌, IfOk, string_bytes};
 ghost use Rattle.bo_base.specs.Texts.{same_text};
 
 use std::alloc::{AllocError, Global};
@@ -54,13 +54,6 @@ impl Text {
     /// Whether it is the same text, as the test that definitions over lists use.
     pub fn same(&self, other: &str) -> bool
         ensures { result ≡ same_text self.now other.now }
-    {
-        self.chars.as_str() == other
-    }
-
-    /// Whether it is the same text.
-    pub fn is(&self, other: &str) -> bool
-        ensures { IsTrue result ↔ (self.now ≡ other.now) }
     {
         self.chars.as_str() == other
     }

@@ -1,5 +1,6 @@
 -- All that is for sale, as lists of rows in order of id.
-use Rattle.std.specs.Prelude.{◌≡◌, ℕ, Bool, true, false, List, [], ◌∷◌, map, filter, ◌==◌, if◌then◌else◌, Option, Some, None, Result, Ok, Err, unwrap_or}
+use Rattle.std.specs.Prelude.{ℕ, Bool, true, false, ◌&&◌, List, map, filter, ◌==◌, if◌then◌else◌, Option, Some, None, Result, Ok, Err, unwrap_or}
+use Rattle.std.specs.List.{list_any}
 use Rattle.bo_base.specs.Tables.{row_at}
 use Rattle.bo_catalogue.specs.declared.rows.Item.{Item}
 use Rattle.bo_catalogue.specs.declared.rows.Variation.{Variation}
@@ -61,3 +62,23 @@ base_price_by (Some id) (Some item) lists = priced item.default_price (variation
 
 abbrev pub base_price : Product → CatalogueLists → Option ℕ
 base_price product lists = base_price_by product.variation (item_at product.item lists) lists
+
+abbrev pub item_is_active : Option Item → Bool
+item_is_active None = false
+item_is_active (Some item) = item.active
+
+abbrev pub variation_is_active : Option Variation → Bool
+variation_is_active None = false
+variation_is_active (Some variation) = variation.active
+
+abbrev pub variation_if_any_is_active : Option ℕ → CatalogueLists → Bool
+variation_if_any_is_active None lists = true
+variation_if_any_is_active (Some id) lists = variation_is_active (variation_at id lists)
+
+-- its item is active, and so is its variation, where it has one
+abbrev pub is_active : Product → CatalogueLists → Bool
+is_active product lists = item_is_active (item_at product.item lists) && variation_if_any_is_active product.variation lists
+
+-- it is in a quota
+abbrev pub is_sold : Product → CatalogueLists → Bool
+is_sold product lists = list_any (λ quota. is_in quota product) lists.quotas

@@ -1,8 +1,12 @@
-ghost use Rattle.std.specs.Prelude.{◌≡◌};
+//! The rows of the catalogue.
+
+ghost use Rattle.std.specs.Prelude.{◌≡◌, IfOk};
 ghost use Rattle.bo_catalogue.specs.Member.{is_in};
 
 use bo_base::{Cents, Ids, Row, Text};
+use std::alloc::{AllocError, Global};
 
+/// What is sold: by itself, or, where it is varied, by its variations alone.
 #[derive(Debug, Drop)]
 pub struct Item {
     pub id: u64,
@@ -20,6 +24,22 @@ impl Row for Item {
     }
 }
 
+impl Item {
+    /// A copy.
+    pub fn copy(&self, alloc: Global) -> Result<Self, AllocError>
+        ensures { IfOk result (λ row. row ≡ self.now) }
+    {
+        Ok(Item {
+            id: self.id,
+            name: self.name.copy(alloc)?,
+            default_price: self.default_price,
+            active: self.active,
+            varied: self.varied,
+        })
+    }
+}
+
+/// One kind of an item. Where it has no price, the item's price holds.
 #[derive(Debug, Drop)]
 pub struct Variation {
     pub id: u64,
@@ -37,6 +57,7 @@ impl Row for Variation {
     }
 }
 
+/// So many places, shared by some products. Where it has no size, it is unlimited.
 #[derive(Debug, Drop)]
 pub struct Quota {
     pub id: u64,
@@ -54,14 +75,21 @@ impl Row for Quota {
     }
 }
 
-/// An item, or an item with one of its variations.
-#[derive(Clone, Copy, Debug, PartialEq, Eq)]
-pub struct Product {
-    pub item: u64,
-    pub variation: Option<u64>,
-}
-
 impl Quota {
+    /// A copy.
+    pub fn copy(&self, alloc: Global) -> Result<Self, AllocError>
+        ensures { IfOk result (λ row. row ≡ self.now) }
+    {
+        Ok(Quota {
+            id: self.id,
+            name: self.name.copy(alloc)?,
+            size: self.size,
+            items: self.items.copy(alloc)?,
+            variations: self.variations.copy(alloc)?,
+        })
+    }
+
+    /// Whether it has the product: by its variation, or, without one, by its item.
     pub fn has(&self, product: Product) -> bool
         ensures { result ≡ is_in self.now product }
     {
@@ -70,4 +98,11 @@ impl Quota {
             Some(variation) => self.variations.has(variation),
         }
     }
+}
+
+/// An item, or an item with one of its variations.
+#[derive(Clone, Copy, Debug, PartialEq, Eq)]
+pub struct Product {
+    pub item: u64,
+    pub variation: Option<u64>,
 }

@@ -1,0 +1,72 @@
+-- A new quota: its row, and the tests in the order of their refusals.
+use Rattle.std.specs.Prelude.{ℕ, Bool, false, ◌&&◌, ◌||◌, not, ◌==◌, List, Option, Some, None, Result, Ok, Err, if◌then◌else◌}
+use Rattle.std.specs.List.{list_all, list_any}
+use Rattle.std.specs.Option.{is_some}
+use Rattle.bo_base.specs.Tables.{has}
+use Rattle.bo_base.specs.Rising.{rising}
+use Rattle.bo_catalogue.specs.declared.rows.Item.{Item}
+use Rattle.bo_catalogue.specs.declared.rows.Variation.{Variation}
+use Rattle.bo_catalogue.specs.declared.rows.Quota.{Quota}
+use Rattle.bo_catalogue.specs.declared.requests.NewQuota.{NewQuota}
+use Rattle.bo_catalogue.specs.declared.refusal.CatalogueRefusal.{CatalogueRefusal}
+use Rattle.bo_catalogue.specs.declared.refusal.CatalogueRefusal.TheVariants.{NoItem, NoVariation, BadMember, Full}
+use Rattle.bo_catalogue.specs.Limits.{takes_row}
+use Rattle.bo_catalogue.specs.CatalogueLists.{CatalogueLists, item_at, variation_at}
+
+-- the row of a new quota; ids that are given twice count once
+abbrev pub quota_row : NewQuota → ℕ → Quota
+quota_row new id = record { id = id; name = new.name; size = new.size; items = rising new.items; variations = rising new.variations }
+
+-- the variation is of one of these items
+abbrev pub is_of_one : List ℕ → Option Variation → Bool
+is_of_one items None = false
+is_of_one items (Some variation) = has variation.item items
+
+-- the variation is of this item
+abbrev pub is_of : ℕ → Option Variation → Bool
+is_of item None = false
+is_of item (Some variation) = variation.item == item
+
+-- one of these variations is of the item
+abbrev pub has_one_of : ℕ → List ℕ → CatalogueLists → Bool
+has_one_of item variations lists = list_any (λ id. is_of item (variation_at id lists)) variations
+
+-- an item that is sold by variations is in a quota with one of them
+abbrev pub is_offered : List ℕ → CatalogueLists → Option Item → Bool
+is_offered variations lists None = false
+is_offered variations lists (Some item) = not item.varied || has_one_of item.id variations lists
+
+-- each variation's item is listed
+unfoldable pub variations_fit : Quota → CatalogueLists → Bool
+variations_fit quota lists = list_all (λ id. is_of_one quota.items (variation_at id lists)) quota.variations
+
+-- each item is offered
+unfoldable pub items_fit : Quota → CatalogueLists → Bool
+items_fit quota lists = list_all (λ id. is_offered quota.variations lists (item_at id lists)) quota.items
+
+unfoldable pub items_stand : Quota → CatalogueLists → Bool
+items_stand quota lists = list_all (λ id. is_some (item_at id lists)) quota.items
+
+unfoldable pub variations_stand : Quota → CatalogueLists → Bool
+variations_stand quota lists = list_all (λ id. is_some (variation_at id lists)) quota.variations
+
+abbrev pub room_test : Quota → CatalogueLists → Result (Unit {0}) CatalogueRefusal
+room_test quota lists = if takes_row quota.id lists.quotas then Ok tt else Err Full
+
+abbrev pub member_test : Quota → CatalogueLists → Result (Unit {0}) CatalogueRefusal
+member_test quota lists = if variations_fit quota lists && items_fit quota lists then room_test quota lists else Err BadMember
+
+abbrev pub variation_test : Quota → CatalogueLists → Result (Unit {0}) CatalogueRefusal
+variation_test quota lists = if variations_stand quota lists then member_test quota lists else Err NoVariation
+
+-- all its items stand, all its variations do, they fit together, and there is room
+unfoldable pub quota_test : Quota → CatalogueLists → Result (Unit {0}) CatalogueRefusal
+quota_test quota lists = if items_stand quota lists then variation_test quota lists else Err NoItem
+
+abbrev pub quota_if : Quota → Result (Unit {0}) CatalogueRefusal → Result Quota CatalogueRefusal
+quota_if quota (Ok _) = Ok quota
+quota_if quota (Err refusal) = Err refusal
+
+-- the row, or the first refusal
+unfoldable pub quota_added : NewQuota → ℕ → CatalogueLists → Result Quota CatalogueRefusal
+quota_added new id lists = quota_if (quota_row new id) (quota_test (quota_row new id) lists)

@@ -1,0 +1,369 @@
+//! The tables of the catalogue.
+
+ghost use Rattle.std.specs.Prelude.{◌≡◌, ◌≢◌, ◌≤◌, ◌+◌, Ok, Err, IfOk, IfErr, OnOk, []};
+ghost use Rattle.std.specs.Option.{option_copied};
+ghost use Rattle.bo_base.specs.Tables.{with_row};
+ghost use Rattle.bo_catalogue.specs.CatalogueLists.{item_at, variation_at, quota_at, product_of, quotas_of, base_price, is_active, is_sold};
+ghost use Rattle.bo_catalogue.specs.ItemAdded.{item_added};
+ghost use Rattle.bo_catalogue.specs.QuotaAdded.{quota_added, quota_test, items_stand, variations_stand, variations_fit, items_fit, is_of, is_of_one, is_offered, has_one_of};
+
+use crate::limits::takes_row;
+use crate::refusal::CatalogueRefusal;
+use crate::requests::{NewItem, NewQuota};
+use crate::rows::{Item, Product, Quota, Variation};
+use bo_base::{Cents, Rows};
+use std::alloc::{AllocError, Global};
+use std::marker::Model;
+
+/// All that is for sale. Contracts see the lists of rows, and how many rows each of them can be given
+/// without taking memory.
+#[derive(Drop)]
+pub struct Catalogue {
+    items: Rows<Item>,
+    variations: Rows<Variation>,
+    quotas: Rows<Quota>,
+}
+
+impl Model for Catalogue {
+    ghost use Rattle.std.specs.Prelude.{min};
+    ghost use Rattle.bo_catalogue.specs.CatalogueLists.{CatalogueTables};
+
+    ghost Value = { CatalogueTables };
+
+    ghost view = { λ c. record {
+      lists = record { items = c.items.rows; variations = c.variations.rows; quotas = c.quotas.rows };
+      room = min (min c.items.room c.variations.room) c.quotas.room;
+    } };
+}
+
+impl Catalogue {
+    /// Nothing for sale.
+    pub fn new(alloc: Global) -> Self
+        ensures items { result.lists.items ≡ [] }
+        ensures variations { result.lists.variations ≡ [] }
+        ensures quotas { result.lists.quotas ≡ [] }
+    {
+        Catalogue {
+            items: Rows::new(alloc),
+            variations: Rows::new(alloc),
+            quotas: Rows::new(alloc),
+        }
+    }
+
+    /// These tables.
+    pub fn of(items: Rows<Item>, variations: Rows<Variation>, quotas: Rows<Quota>) -> Self
+        ensures items { result.lists.items ≡ items.rows }
+        ensures variations { result.lists.variations ≡ variations.rows }
+        ensures quotas { result.lists.quotas ≡ quotas.rows }
+    {
+        Catalogue {
+            items,
+            variations,
+            quotas,
+        }
+    }
+
+    /// The item of an id.
+    pub fn item(&self, id: u64) -> Option<&Item>
+        ensures { option_copied result ≡ item_at id self.now.lists }
+    {
+        self.items.get(id)
+    }
+
+    /// The variation of an id.
+    pub fn variation(&self, id: u64) -> Option<&Variation>
+        ensures { option_copied result ≡ variation_at id self.now.lists }
+    {
+        self.variations.get(id)
+    }
+
+    /// The quota of an id.
+    pub fn quota(&self, id: u64) -> Option<&Quota>
+        ensures { option_copied result ≡ quota_at id self.now.lists }
+    {
+        self.quotas.get(id)
+    }
+
+    /// The items in order of id.
+    pub fn items(&self) -> &[Item]
+        ensures { result.now ≡ self.now.lists.items }
+    {
+        self.items.as_slice()
+    }
+
+    /// The variations in order of id.
+    pub fn variations(&self) -> &[Variation]
+        ensures { result.now ≡ self.now.lists.variations }
+    {
+        self.variations.as_slice()
+    }
+
+    /// The quotas in order of id.
+    pub fn quotas(&self) -> &[Quota]
+        ensures { result.now ≡ self.now.lists.quotas }
+    {
+        self.quotas.as_slice()
+    }
+
+    /// The product that these ids name.
+    /// Refusals: 10 `NoItem`, 11 `NoVariation` where the variation is unknown or of another item,
+    /// 12 `NeedsVariation` where the item is sold by variations and none is named.
+    pub fn product(&self, item: u64, variation: Option<u64>) -> Result<Product, CatalogueRefusal>
+        ensures { result ≡ product_of item variation self.now.lists }
+    {
+        let Some(row) = self.item(item) else {
+            return Err(CatalogueRefusal::NoItem);
+        };
+        match variation {
+            None if row.varied => Err(CatalogueRefusal::NeedsVariation),
+            None => Ok(Product { item, variation }),
+            Some(id) => match self.variation(id) {
+                Some(variation) if variation.item == item => Ok(Product {
+                    item,
+                    variation: Some(id),
+                }),
+                _ => Err(CatalogueRefusal::NoVariation),
+            },
+        }
+    }
+
+    /// The ids of the quotas that a product is in.
+    pub fn quotas_of(&self, alloc: Global, product: Product) -> Result<Vec<u64>, AllocError>
+        ensures { IfOk result (λ ids. ids.items ≡ quotas_of product self.now.lists) }
+    {
+        self.quotas
+            .as_slice()
+            .iter()
+            .filter(|quota| quota.has(product))
+            .map(|quota| quota.id)
+            .collect(alloc)
+    }
+
+    /// Whether a product is in a quota.
+    pub fn is_sold(&self, product: Product) -> bool
+        ensures { result ≡ is_sold product self.now.lists }
+    {
+        self.quotas
+            .as_slice()
+            .iter()
+            .any(|quota| quota.has(product))
+    }
+
+    /// Whether a product's item is active, and its variation, where it has one.
+    pub fn is_active(&self, product: Product) -> bool
+        ensures { result ≡ is_active product self.now.lists }
+    {
+        let Some(item) = self.item(product.item) else {
+            return false;
+        };
+        match product.variation {
+            None => item.active,
+            Some(id) => item.active && self.variation(id).is_some_and(|variation| variation.active),
+        }
+    }
+
+    /// The price of a product before any voucher: its variation's where it has one, else its item's.
+    pub fn base_price(&self, product: Product) -> Option<Cents>
+        ensures { result ≡ base_price product self.now.lists }
+    {
+        let item = self.item(product.item)?;
+        match product.variation {
+            None => Some(item.default_price),
+            Some(id) => {
+                let variation = self.variation(id)?;
+                Some(variation.default_price.unwrap_or(item.default_price))
+            }
+        }
+    }
+}
+
+impl Catalogue {
+    /// The row of a new item with this id. It is for the caller to put it.
+    /// Refusals: 16 `Full` where 1,000,000 items stand or the id is above 9,007,199,254,740,991.
+    pub fn add_item(&self, alloc: Global, new: &NewItem, id: u64) -> Result<Item, CatalogueRefusal>
+        ensures done { IfOk result (λ row. item_added new.now id self.now.lists ≡ Ok row) }
+        ensures refused { IfErr result (λ e. e ≢ CatalogueRefusal.Memory → item_added new.now id self.now.lists ≡ Err e) }
+    {
+        if !takes_row(id, self.items()) {
+            return Err(CatalogueRefusal::Full);
+        }
+        Ok(new.row(alloc, id)?)
+    }
+
+    /// The row of a new quota with this id. It is for the caller to put it.
+    /// Refusals: 10 `NoItem`, 11 `NoVariation` where one is unknown; 14 `BadMember` where a variation's item
+    /// isn't listed, or none of the variations of an item that is sold by them; 16 `Full` where
+    /// 1,000,000 quotas stand or the id is above 9,007,199,254,740,991.
+    #[tactic(auto, unfolding(crate::specs::QuotaAdded::quota_added))]
+    pub fn add_quota(
+        &self,
+        alloc: Global,
+        new: &NewQuota,
+        id: u64,
+    ) -> Result<Quota, CatalogueRefusal>
+        ensures done { IfOk result (λ row. quota_added new.now id self.now.lists ≡ Ok row) }
+        ensures refused { IfErr result (λ e. e ≢ CatalogueRefusal.Memory → quota_added new.now id self.now.lists ≡ Err e) }
+    {
+        let quota = new.row(alloc, id)?;
+        self.test_quota(&quota)?;
+        Ok(quota)
+    }
+
+    // Whether a quota may be added.
+    #[tactic(auto, unfolding(crate::specs::QuotaAdded::quota_test))]
+    fn test_quota(&self, quota: &Quota) -> Result<(), CatalogueRefusal>
+        ensures { result ≡ quota_test quota.now self.now.lists }
+    {
+        if !self.items_stand(quota) {
+            return Err(CatalogueRefusal::NoItem);
+        }
+        if !self.variations_stand(quota) {
+            return Err(CatalogueRefusal::NoVariation);
+        }
+        if !(self.variations_fit(quota) && self.items_fit(quota)) {
+            return Err(CatalogueRefusal::BadMember);
+        }
+        if !takes_row(quota.id, self.quotas()) {
+            return Err(CatalogueRefusal::Full);
+        }
+        Ok(())
+    }
+
+    // Whether each item that the quota lists stands.
+    #[tactic(auto, unfolding(crate::specs::QuotaAdded::items_stand))]
+    fn items_stand(&self, quota: &Quota) -> bool
+        ensures { result ≡ items_stand quota.now self.now.lists }
+    {
+        quota
+            .items
+            .as_slice()
+            .iter()
+            .all(|id| self.item(*id).is_some())
+    }
+
+    // Whether each variation that the quota lists stands.
+    #[tactic(auto, unfolding(crate::specs::QuotaAdded::variations_stand))]
+    fn variations_stand(&self, quota: &Quota) -> bool
+        ensures { result ≡ variations_stand quota.now self.now.lists }
+    {
+        quota
+            .variations
+            .as_slice()
+            .iter()
+            .all(|id| self.variation(*id).is_some())
+    }
+
+    // Whether each listed variation's item is listed too.
+    #[tactic(auto, unfolding(crate::specs::QuotaAdded::variations_fit))]
+    fn variations_fit(&self, quota: &Quota) -> bool
+        ensures { result ≡ variations_fit quota.now self.now.lists }
+    {
+        quota
+            .variations
+            .as_slice()
+            .iter()
+            .all(|id| self.is_of_one(*id, quota))
+    }
+
+    // Whether each listed item is sold by itself, or one of its variations is listed.
+    #[tactic(auto, unfolding(crate::specs::QuotaAdded::items_fit))]
+    fn items_fit(&self, quota: &Quota) -> bool
+        ensures { result ≡ items_fit quota.now self.now.lists }
+    {
+        quota
+            .items
+            .as_slice()
+            .iter()
+            .all(|id| self.is_offered(*id, quota))
+    }
+
+    // Whether a variation's item is in the quota.
+    fn is_of_one(&self, variation: u64, quota: &Quota) -> bool
+        ensures { result ≡ is_of_one quota.now.items (variation_at variation self.now.lists) }
+    {
+        match self.variation(variation) {
+            None => false,
+            Some(row) => quota.items.has(row.item),
+        }
+    }
+
+    // Whether an item is sold by itself, or one of its variations is in the quota.
+    fn is_offered(&self, item: u64, quota: &Quota) -> bool
+        ensures { result ≡ is_offered quota.now.variations self.now.lists (item_at item self.now.lists) }
+    {
+        match self.item(item) {
+            None => false,
+            Some(row) => !row.varied || self.has_one_of(row.id, quota),
+        }
+    }
+
+    // Whether one of an item's variations is in the quota.
+    fn has_one_of(&self, item: u64, quota: &Quota) -> bool
+        ensures { result ≡ has_one_of item quota.now.variations self.now.lists }
+    {
+        quota
+            .variations
+            .as_slice()
+            .iter()
+            .any(|id| self.is_of(*id, item))
+    }
+
+    // Whether a variation is of this item.
+    fn is_of(&self, variation: u64, item: u64) -> bool
+        ensures { result ≡ is_of item (variation_at variation self.now.lists) }
+    {
+        match self.variation(variation) {
+            None => false,
+            Some(row) => row.item == item,
+        }
+    }
+}
+
+impl Catalogue {
+    /// Takes memory, so that this many rows can be put into each table.
+    pub fn reserve(&mut self, count: usize) -> Result<(), AllocError>
+        ensures ok { OnOk result (count ≤ self.new.room) }
+        ensures same { self.new.lists ≡ self.old.lists }
+    {
+        self.items.reserve(count)?;
+        self.variations.reserve(count)?;
+        self.quotas.reserve(count)
+    }
+
+    /// How many rows can be put without taking memory.
+    pub fn room(&self) -> usize
+        ensures { result ≡ self.now.room }
+    {
+        self.items
+            .room()
+            .min(self.variations.room())
+            .min(self.quotas.room())
+    }
+
+    /// Puts an item in the place of its id.
+    pub fn put_item(&mut self, row: Item)
+        requires { 1 ≤ self.old.room }
+        ensures lists { self.new.lists ≡ record self.old.lists { items = with_row (λ r. r.id) row self.old.lists.items } }
+        ensures room { self.old.room ≤ self.new.room + 1 }
+    {
+        self.items.put(row);
+    }
+
+    /// Puts a variation in the place of its id.
+    pub fn put_variation(&mut self, row: Variation)
+        requires { 1 ≤ self.old.room }
+        ensures lists { self.new.lists ≡ record self.old.lists { variations = with_row (λ r. r.id) row self.old.lists.variations } }
+        ensures room { self.old.room ≤ self.new.room + 1 }
+    {
+        self.variations.put(row);
+    }
+
+    /// Puts a quota in the place of its id.
+    pub fn put_quota(&mut self, row: Quota)
+        requires { 1 ≤ self.old.room }
+        ensures lists { self.new.lists ≡ record self.old.lists { quotas = with_row (λ r. r.id) row self.old.lists.quotas } }
+        ensures room { self.old.room ≤ self.new.room + 1 }
+    {
+        self.quotas.put(row);
+    }
+}

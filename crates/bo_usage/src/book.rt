@@ -1,0 +1,102 @@
+//! What keeps the rows.
+
+ghost use Rattle.std.specs.Prelude.{◌≡◌, ◌≤◌, ◌↔◌, ℕ, length, OnOk, IsTrue};
+ghost use Rattle.std.specs.Option.{option_copied};
+ghost use Rattle.bo_usage.specs.Lists.{State, voucher_at, cart_at, order_at};
+ghost use Rattle.bo_usage.specs.Usage.{redeemed, usage_of};
+ghost use Rattle.bo_usage.specs.Change.{applied};
+ghost use Rattle.bo_usage.specs.Headroom.{held};
+ghost use Rattle.bo_usage.specs.Kept.{IsKept};
+
+use crate::changes::Changes;
+use crate::rows::{CartPos, NextIds, Order, OrderPos, Usage, Voucher, Waiting};
+use bo_base::{Moment, Steps};
+use bo_catalogue::{Catalogue, Quota};
+use std::alloc::AllocError;
+use std::sync::ledger::Ledger;
+
+/// Keeps the rows of a box office, and answers how much of each quota is used.
+pub trait Book {
+    /// The rows, the next ids and the moment.
+    ghost state: { Self → State };
+
+    /// How many changes can be applied without taking memory.
+    ghost room: { Self → ℕ };
+
+    /// Ids rise in each list of sales, and none of these lists is longer than 2^32.
+    fn known(&self)
+        ensures { IsKept 4294967296 (state self.now).lists };
+
+    /// All that is for sale.
+    fn catalogue(&self) -> &Catalogue
+        ensures { result.now.lists ≡ (state self.now).lists.catalogue };
+
+    /// The moment of the last change.
+    fn moment(&self) -> Moment
+        ensures { result ≡ (state self.now).moment };
+
+    /// The ids that new rows get.
+    fn next_ids(&self) -> NextIds
+        ensures { result ≡ (state self.now).next };
+
+    /// The voucher of an id.
+    fn voucher(&self, id: u64) -> Option<&Voucher>
+        ensures { option_copied result ≡ voucher_at id (state self.now).lists };
+
+    /// The cart position of an id.
+    fn cart(&self, id: u64) -> Option<&CartPos>
+        ensures { option_copied result ≡ cart_at id (state self.now).lists };
+
+    /// The order of an id.
+    fn order(&self, id: u64) -> Option<&Order>
+        ensures { option_copied result ≡ order_at id (state self.now).lists };
+
+    /// All vouchers, by id.
+    fn vouchers(&self) -> &[Voucher]
+        ensures { result.now ≡ (state self.now).lists.vouchers };
+
+    /// All cart positions, by id.
+    fn carts(&self) -> &[CartPos]
+        ensures { result.now ≡ (state self.now).lists.carts };
+
+    /// All orders, by id.
+    fn orders(&self) -> &[Order]
+        ensures { result.now ≡ (state self.now).lists.orders };
+
+    /// All order positions, by id.
+    fn positions(&self) -> &[OrderPos]
+        ensures { result.now ≡ (state self.now).lists.positions };
+
+    /// The whole waiting list, by id.
+    fn waiting(&self) -> &[Waiting]
+        ensures { result.now ≡ (state self.now).lists.waiting };
+
+    /// What uses a quota at a moment that isn't before the book's.
+    fn usage_at<L: Ledger>(&self, quota: &Quota, at: Moment, steps: &mut Steps<L>) -> Usage
+        requires { (state self.now).moment ≤ at }
+        ensures { result ≡ usage_of (state self.now).lists at quota.now };
+
+    /// How many positions of pending and paid orders name the voucher.
+    fn redeemed(&self, voucher: u64) -> u64
+        ensures value { result ≡ redeemed voucher (state self.now).lists }
+        ensures few { result ≤ 4294967296 };
+
+    /// How many cart positions that are live at a moment name the voucher.
+    fn held(&self, voucher: u64, at: Moment) -> u64
+        ensures value { result ≡ held at voucher (state self.now).lists }
+        ensures few { result ≤ 4294967296 };
+
+    /// Takes the memory that these changes need.
+    fn reserve(&mut self, changes: &Changes) -> Result<(), AllocError>
+        ensures ok { OnOk result (length changes.now.list ≤ room self.new) }
+        ensures same { state self.new ≡ state self.old };
+
+    /// Whether these changes can be applied without taking memory.
+    fn has_room(&self, changes: &Changes) -> bool
+        ensures { IsTrue result ↔ (length changes.now.list ≤ room self.now) };
+
+    /// Makes exactly these changes, at a moment.
+    fn apply(&mut self, changes: Changes, at: Moment)
+        requires { length changes.list ≤ room self.old }
+        ensures { state self.new ≡ applied changes at (state self.old) };
+}

@@ -1,0 +1,315 @@
+//! A book that counts.
+
+ghost use Rattle.std.specs.Prelude.{◌≡◌, ◌≤◌, ◌+◌, ◌↔◌, ℕ, length, OnOk, IsTrue, [], min, count_by, sum_by};
+ghost use Rattle.std.specs.Option.{option_copied};
+ghost use Rattle.bo_usage.specs.Lists.{empty, order_at};
+ghost use Rattle.bo_usage.specs.Tests.{is_paid, is_pending, is_in_force};
+ghost use Rattle.bo_usage.specs.Usage.{stands_as, uses, redeemed, usage_of, position_counts, blocked_by, is_covered, cart_counts, waits_for};
+ghost use Rattle.bo_usage.specs.Change.{applied, after_change, after_all};
+
+use crate::book::Book;
+use crate::changes::{Change, Changes};
+use crate::rows::{CartPos, NextIds, Order, OrderPos, Usage, Voucher, Waiting};
+use bo_base::{Moment, Rows, Steps};
+use bo_catalogue::{Catalogue, Quota};
+use std::alloc::{AllocError, Global};
+use std::marker::Model;
+use std::sync::ledger::Ledger;
+
+/// A book that counts afresh at each call.
+#[derive(Drop)]
+pub struct Recount {
+    catalogue: Catalogue,
+    vouchers: Rows<Voucher>,
+    carts: Rows<CartPos>,
+    orders: Rows<Order>,
+    positions: Rows<OrderPos>,
+    waiting: Rows<Waiting>,
+    next: NextIds,
+    moment: Moment,
+}
+
+impl Model for Recount {
+    ghost use Rattle.std.specs.Prelude.{min};
+    ghost use Rattle.bo_usage.specs.BookView.{BookView};
+
+    ghost Value = { BookView };
+
+    ghost view = { λ b. record {
+      state = record {
+        lists = record {
+          catalogue = b.catalogue.lists;
+          vouchers = b.vouchers.rows;
+          carts = b.carts.rows;
+          orders = b.orders.rows;
+          positions = b.positions.rows;
+          waiting = b.waiting.rows;
+        };
+        next = b.next;
+        moment = b.moment;
+      };
+      room = min b.catalogue.room (min (min b.vouchers.room b.carts.room) (min (min b.orders.room b.positions.room) b.waiting.room));
+    } };
+}
+
+impl Recount {
+    /// An empty box office: no rows, every next id 1, moment 0.
+    pub fn new(alloc: Global) -> Self
+        ensures { result.state ≡ empty }
+    {
+        Recount {
+            catalogue: Catalogue::new(alloc),
+            vouchers: Rows::new(alloc),
+            carts: Rows::new(alloc),
+            orders: Rows::new(alloc),
+            positions: Rows::new(alloc),
+            waiting: Rows::new(alloc),
+            next: NextIds::first(),
+            moment: Moment::new(0),
+        }
+    }
+
+    fn apply_one(&mut self, change: Change)
+        requires { 1 ≤ self.old.room }
+        ensures lists { self.new.state ≡ record self.old.state { lists = after_change change self.old.state.lists } }
+        ensures room { self.old.room ≤ self.new.room + 1 }
+    {
+        match change {
+            Change::PutItem(row) => self.catalogue.put_item(row),
+            Change::PutVariation(row) => self.catalogue.put_variation(row),
+            Change::PutQuota(row) => self.catalogue.put_quota(row),
+            Change::PutVoucher(row) => self.vouchers.put(row),
+            Change::PutCart(row) => self.carts.put(row),
+            Change::PutOrder(row) => self.orders.put(row),
+            Change::PutPosition(row) => self.positions.put(row),
+            Change::PutWaiting(row) => self.waiting.put(row),
+            Change::DropVoucher(id) => self.vouchers.delete(id),
+            Change::DropCart(id) => self.carts.delete(id),
+            Change::DropWaiting(id) => self.waiting.delete(id),
+        }
+    }
+}
+
+impl Recount {
+    // Whether a position is of an order that stands as paid.
+    fn is_paid(&self, order: u64) -> bool
+        ensures { result ≡ stands_as is_paid (order_at order self.now.state.lists) }
+    {
+        self.orders.get(order).is_some_and(|o| o.status.is_paid())
+    }
+
+    fn is_pending(&self, order: u64) -> bool
+        ensures { result ≡ stands_as is_pending (order_at order self.now.state.lists) }
+    {
+        self.orders
+            .get(order)
+            .is_some_and(|o| o.status.is_pending())
+    }
+
+    // Whether a position uses the voucher.
+    fn uses(&self, voucher: u64, position: &OrderPos) -> bool
+        ensures { result ≡ uses voucher self.now.state.lists position.now }
+    {
+        position.voucher == Some(voucher)
+            && self
+                .orders
+                .get(position.order)
+                .is_some_and(|o| o.status.is_in_force())
+    }
+
+    fn is_covered(&self, at: Moment, quota: &Quota, cart: &CartPos) -> bool
+        ensures { result ≡ is_covered self.now.state.lists at quota.now cart.now }
+    {
+        match cart.voucher {
+            None => false,
+            Some(id) => match self.vouchers.get(id) {
+                None => false,
+                Some(voucher) => voucher.blocks(at, quota),
+            },
+        }
+    }
+
+    fn redeemed_by(&self, voucher: u64) -> u64
+        ensures value { result ≡ redeemed voucher self.now.state.lists }
+        ensures few { result ≤ 4294967296 }
+    {
+        let positions = self.positions.as_slice();
+        positions.iter().filter(|p| self.uses(voucher, p)).count() as u64
+    }
+
+    fn blocked_in(&self, at: Moment, quota: &Quota) -> u64
+        ensures { result ≡ sum_by (blocked_by self.now.state.lists at quota.now) self.now.state.lists.vouchers }
+    {
+        let mut blocked = 0;
+        for voucher in self.vouchers.as_slice() {
+            blocked += self.blocked_by(at, quota, voucher);
+        }
+        blocked
+    }
+
+    #[tactic(auto, unfolding(crate::specs::Usage::blocked_by))]
+    fn blocked_by(&self, at: Moment, quota: &Quota, voucher: &Voucher) -> u64
+        ensures value { result ≡ blocked_by self.now.state.lists at quota.now voucher.now }
+        ensures small { result ≤ 4294967295 }
+    {
+        if voucher.blocks(at, quota) {
+            u64::from(voucher.max_usages).saturating_sub(self.redeemed_by(voucher.id))
+        } else {
+            0
+        }
+    }
+
+    fn carts_in(&self, at: Moment, quota: &Quota) -> u64
+        ensures { result ≡ count_by (cart_counts self.now.state.lists at quota.now) self.now.state.lists.carts }
+    {
+        let carts = self.carts.as_slice();
+        carts
+            .iter()
+            .filter(|c| c.is_live(at) && quota.has(c.product) && !self.is_covered(at, quota, c))
+            .count() as u64
+    }
+
+    fn paid_in(&self, quota: &Quota) -> u64
+        ensures { result ≡ count_by (position_counts is_paid self.now.state.lists quota.now) self.now.state.lists.positions }
+    {
+        let positions = self.positions.as_slice();
+        positions
+            .iter()
+            .filter(|p| self.is_paid(p.order) && quota.has(p.product))
+            .count() as u64
+    }
+
+    fn pending_in(&self, quota: &Quota) -> u64
+        ensures { result ≡ count_by (position_counts is_pending self.now.state.lists quota.now) self.now.state.lists.positions }
+    {
+        let positions = self.positions.as_slice();
+        positions
+            .iter()
+            .filter(|p| self.is_pending(p.order) && quota.has(p.product))
+            .count() as u64
+    }
+
+    fn waiting_in(&self, quota: &Quota) -> u64
+        ensures { result ≡ count_by (waits_for quota.now) self.now.state.lists.waiting }
+    {
+        let entries = self.waiting.as_slice();
+        entries.iter().filter(|e| e.waits_for(quota)).count() as u64
+    }
+}
+
+impl Book for Recount {
+    ghost state = { λ b. b.state };
+
+    ghost room = { λ b. b.room };
+
+    fn known(&self) {
+        self.vouchers.known();
+        self.carts.known();
+        self.orders.known();
+        self.positions.known();
+        self.waiting.known();
+    }
+
+    fn catalogue(&self) -> &Catalogue {
+        &self.catalogue
+    }
+
+    fn moment(&self) -> Moment {
+        self.moment
+    }
+
+    fn next_ids(&self) -> NextIds {
+        self.next
+    }
+
+    fn voucher(&self, id: u64) -> Option<&Voucher> {
+        self.vouchers.get(id)
+    }
+
+    fn cart(&self, id: u64) -> Option<&CartPos> {
+        self.carts.get(id)
+    }
+
+    fn order(&self, id: u64) -> Option<&Order> {
+        self.orders.get(id)
+    }
+
+    fn vouchers(&self) -> &[Voucher] {
+        self.vouchers.as_slice()
+    }
+
+    fn carts(&self) -> &[CartPos] {
+        self.carts.as_slice()
+    }
+
+    fn orders(&self) -> &[Order] {
+        self.orders.as_slice()
+    }
+
+    fn positions(&self) -> &[OrderPos] {
+        self.positions.as_slice()
+    }
+
+    fn waiting(&self) -> &[Waiting] {
+        self.waiting.as_slice()
+    }
+
+    #[tactic(auto, unfolding(crate::specs::Usage::usage_of))]
+    fn usage_at<L: Ledger>(&self, quota: &Quota, at: Moment, _steps: &mut Steps<L>) -> Usage {
+        Usage {
+            paid: self.paid_in(quota),
+            pending: self.pending_in(quota),
+            blocked: self.blocked_in(at, quota),
+            carts: self.carts_in(at, quota),
+            waiting: self.waiting_in(quota),
+        }
+    }
+
+    fn redeemed(&self, voucher: u64) -> u64 {
+        self.redeemed_by(voucher)
+    }
+
+    fn held(&self, voucher: u64, at: Moment) -> u64 {
+        let carts = self.carts.as_slice();
+        carts.iter().filter(|c| c.holds(at, voucher)).count() as u64
+    }
+
+    fn reserve(&mut self, changes: &Changes) -> Result<(), AllocError> {
+        let count = changes.as_slice().len();
+        self.catalogue.reserve(count)?;
+        self.vouchers.reserve(count)?;
+        self.carts.reserve(count)?;
+        self.orders.reserve(count)?;
+        self.positions.reserve(count)?;
+        self.waiting.reserve(count)
+    }
+
+    fn has_room(&self, changes: &Changes) -> bool {
+        let count = changes.as_slice().len();
+        count <= self.catalogue.room()
+            && count <= self.vouchers.room()
+            && count <= self.carts.room()
+            && count <= self.orders.room()
+            && count <= self.positions.room()
+            && count <= self.waiting.room()
+    }
+
+    fn apply(&mut self, changes: Changes, at: Moment) {
+        let (list, next) = changes.into_parts();
+        self.apply_list(list);
+        self.next = next;
+        self.moment = at;
+    }
+}
+
+impl Recount {
+    fn apply_list(&mut self, mut list: Vec<Change>)
+        requires { length list.items ≤ self.old.room }
+        ensures { self.new.state ≡ record self.old.state { lists = after_all list.items self.old.state.lists } }
+    {
+        list.reverse();
+        while let Some(change) = list.pop() {
+            self.apply_one(change);
+        }
+    }
+}
