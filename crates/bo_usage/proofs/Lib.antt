@@ -6,3 +6,6 @@ pub mod Shifts
 pub mod Overs
 pub mod Extensions
 pub mod Holds
+pub mod Time
+pub mod Headroom
+pub mod Sound

@@ -11,5 +11,6 @@ pub mod DraftState
 pub mod Over
 pub mod Shift
 pub mod Headroom
+pub mod Numbered
 pub mod Sound
 pub mod Full

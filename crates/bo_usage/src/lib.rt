@@ -5,6 +5,7 @@ pub mod available;
 pub mod book;
 pub mod changes;
 pub mod draft;
+pub mod laws;
 pub mod overlay;
 pub mod recount;
 pub mod rows;

@@ -1,1 +1,5 @@
 pub mod Fields
+pub mod Values
+pub mod Rows
+pub mod Told
+pub mod Faults

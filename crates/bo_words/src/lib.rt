@@ -1,6 +1,14 @@
 //! The words of replies, refusals and faults: their status, their allowed methods and their body.
 #![tactic(auto)]
 
+pub mod faults;
 pub mod fields;
+mod rows;
+mod told;
+mod values;
 
+pub use faults::{
+    field_fault, invalid_data, invalid_token, method_not_allowed, no_credentials, not_found,
+    parse_error,
+};
 pub use fields::{Fault, Field, Problem};

@@ -1,11 +1,13 @@
-use Rattle.std.proofs.Common.{sym, ap, ◌∙◌, Some, None}
+use Rattle.std.proofs.Common.{◌≡◌, sym, ap, ◌∙◌, Some, None, length, option_copied, arith}
+use Rattle.bo_base.specs.Tables.{sum_at}
 use Rattle.bo_usage.specs.declared.changes.Change.TheVariants.{DropCart}
-use Rattle.bo_usage.specs.Lists.{State}
+use Rattle.bo_usage.specs.Lists.{State, cart_at}
 use Rattle.bo_usage.specs.Change.{changed}
 use Rattle.bo_usage.specs.DraftState.{DraftState, Log, usages_of, rows_of, now}
 use Rattle.bo_usage.specs.Shift.{usages_shifted}
 use Rattle.bo_usage.proofs.Extensions.{now-with_change}
 use Rattle.bo_usage.proofs.Shifts.{usages_after_drop}
+use Rattle.bo_usage.proofs.Counts.{count_drop}
 use Rattle.bo_usage.proofs.draft.Draft.drop_cart.Goals as goal
 
 -- the shifted usages are those of the log with the change
@@ -13,7 +15,11 @@ pub invariant_of-self-2 : goal.invariant_of-self-2
 invariant_of-self-2 g c =
     let at = c.self.inside.moment in
     let overlay = c.self.inside.overlay in
-    c.in_ok-usages.ensures ∙ ap (λ gone. usages_shifted (rows_of overlay) at gone (None)) c.cart-gone.ensures ∙ sym (ap (λ log. usages_of (rows_of log) at) c.in_ok-drop_cart.ensures.ok ∙ usages_after_drop overlay at c.args.id c.known.ensures.kept.carts.in_order)
+    let order = c.known.ensures.kept.carts.in_order in
+    let gone : sum_at (λ d. 1) (option_copied c.cart-gone.result) ≡ sum_at (λ d. 1) (cart_at c.args.id (rows_of overlay)) = ap (sum_at (λ d. 1)) c.cart-gone.ensures in (
+      c.in_ok-usages.ensures ∙ ap (λ gone. usages_shifted (rows_of overlay) at gone (None)) c.cart-gone.ensures ∙ sym (ap (λ log. usages_of (rows_of log) at) c.in_ok-drop_cart.ensures.ok ∙ usages_after_drop overlay at c.args.id c.known.ensures.kept.carts.in_order),
+      c.shifted_count-carts.ensures ∙ omega (arith, c.self.invariant.1, gone, ap (λ (log : Log). length (rows_of log).carts) c.in_ok-drop_cart.ensures.ok, count_drop overlay c.args.id order),
+    )
 
 pub returns-clause-ok : goal.returns-clause-ok
 returns-clause-ok g c =

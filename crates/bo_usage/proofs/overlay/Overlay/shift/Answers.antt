@@ -17,7 +17,7 @@ pub shifted-requires : goal.shifted-requires
 shifted-requires g c =
     let lists = rows_of c.args.self.now in
     let q = c.index-quotas-i.result in
-    let none : Usage = record { paid = 0; pending = 0; blocked = 0; carts = 0 } in
+    let none : Usage = record { paid = 0; pending = 0; blocked = 0; carts = 0; waiting = 0 } in
     let read : get_or c.loop-i.usages c.loop-i.i none ≡ usage_of lists c.args.at q =
     ap (λ l. get_or l c.loop-i.i none) c.loop-i.invariant ∙ over_read _ _ c.quotas-quotas.result.now c.loop-i.i q none c.loop-i-test.true ∙ ap (usage_of lists c.args.at) (sym c.index-quotas-i.is) in
     rw read (omega (arith, carts_le lists c.args.at q, c.known.ensures.kept.carts.few, c.known.ensures.few, c.cart_share-come.ensures.one))
@@ -26,7 +26,7 @@ pub loop-i-preserved : goal.loop-i-preserved
 loop-i-preserved g c =
     let lists = rows_of c.args.self.now in
     let q = c.index-quotas-i.result in
-    let none : Usage = record { paid = 0; pending = 0; blocked = 0; carts = 0 } in
+    let none : Usage = record { paid = 0; pending = 0; blocked = 0; carts = 0; waiting = 0 } in
     let read : get_or c.loop-i.usages c.loop-i.i none ≡ usage_of lists c.args.at q =
     ap (λ l. get_or l c.loop-i.i none) c.loop-i.invariant ∙ over_read _ _ c.quotas-quotas.result.now c.loop-i.i q none c.loop-i-test.true ∙ ap (usage_of lists c.args.at) (sym c.index-quotas-i.is) in
     let new : c.shifted.result ≡ usage_shifted lists c.args.at (option_copied c.args.gone) (option_copied c.args.come) (get_or c.quotas-quotas.result.now c.loop-i.i q) =

@@ -1,0 +1,17 @@
+-- What is told: a status, perhaps the methods that a path has, and a value as JSON without spaces.
+use Rattle.std.specs.Prelude.{ℕ, List, Option, None, codes}
+use Rattle.serde_json.specs.Data.{Data, string, object, member, no_members}
+use Rattle.serde_json.specs.Written.{compact_text}
+use Rattle.bo_base.specs.declared.answer.Methods.{Methods}
+use Rattle.bo_base.specs.declared.answer.Told.{Told}
+
+abbrev pub told : ℕ → Option Methods → Data → Told
+told status allow value = record { status = status; allow = allow; body = compact_text value }
+
+-- `{"detail":"text"}`
+abbrev pub detail_body : List ℕ → Data
+detail_body text = object (member (codes "detail") (string text) no_members)
+
+-- `{}`
+abbrev pub empty_body : Data
+empty_body = object no_members

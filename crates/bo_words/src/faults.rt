@@ -1,0 +1,101 @@
+//! The words for a request that can't be read.
+
+ghost use Rattle.std.specs.Prelude.{◌≡◌, IfOk, string_bytes};
+ghost use Rattle.serde_json.specs.View.{view};
+ghost use Rattle.bo_words.specs.Faults.{fault_body, field_fault, parse_error, invalid_data, no_credentials, invalid_token, not_found, method_text, method_not_allowed};
+
+use crate::fields::Fault;
+use crate::told::{detailed, told};
+use bo_base::{Methods, Told};
+use http::StatusCode;
+use serde_json::{Value, json};
+use std::alloc::{AllocError, Global};
+
+fn fault_value(alloc: Global, fault: Fault) -> Result<Value, AllocError>
+    ensures { IfOk result (λ v. view v ≡ fault_body fault) }
+{
+    let name = fault.field.name();
+    let text = fault.problem.text();
+    json!(in alloc; {name: [text]})
+}
+
+/// 400 `{"field":["text"]}`.
+#[tactic(auto, unfolding(crate::specs::Faults::field_fault))]
+pub fn field_fault(alloc: Global, fault: Fault) -> Result<Told, AllocError>
+    ensures { IfOk result (λ told. told ≡ field_fault fault) }
+{
+    let value = fault_value(alloc, fault)?;
+    told(alloc, StatusCode::BAD_REQUEST, None, &value)
+}
+
+/// 400 `JSON parse error.`: the body is no JSON.
+#[tactic(auto, unfolding(crate::specs::Faults::parse_error))]
+pub fn parse_error(alloc: Global) -> Result<Told, AllocError>
+    ensures { IfOk result (λ told. told ≡ parse_error) }
+{
+    detailed(alloc, StatusCode::BAD_REQUEST, None, "JSON parse error.")
+}
+
+/// 400 `Invalid data.`: the body is JSON of another kind than the request has.
+#[tactic(auto, unfolding(crate::specs::Faults::invalid_data))]
+pub fn invalid_data(alloc: Global) -> Result<Told, AllocError>
+    ensures { IfOk result (λ told. told ≡ invalid_data) }
+{
+    detailed(alloc, StatusCode::BAD_REQUEST, None, "Invalid data.")
+}
+
+/// 401 `Authentication credentials were not provided.`
+#[tactic(auto, unfolding(crate::specs::Faults::no_credentials))]
+pub fn no_credentials(alloc: Global) -> Result<Told, AllocError>
+    ensures { IfOk result (λ told. told ≡ no_credentials) }
+{
+    detailed(
+        alloc,
+        StatusCode::UNAUTHORIZED,
+        None,
+        "Authentication credentials were not provided.",
+    )
+}
+
+/// 401 `Invalid token.`
+#[tactic(auto, unfolding(crate::specs::Faults::invalid_token))]
+pub fn invalid_token(alloc: Global) -> Result<Told, AllocError>
+    ensures { IfOk result (λ told. told ≡ invalid_token) }
+{
+    detailed(alloc, StatusCode::UNAUTHORIZED, None, "Invalid token.")
+}
+
+/// 404 `Not found.`
+#[tactic(auto, unfolding(crate::specs::Faults::not_found))]
+pub fn not_found(alloc: Global) -> Result<Told, AllocError>
+    ensures { IfOk result (λ told. told ≡ not_found) }
+{
+    detailed(alloc, StatusCode::NOT_FOUND, None, "Not found.")
+}
+
+/// `Method "M" not allowed.`
+fn method_text(alloc: Global, method: &[u8]) -> Result<String, AllocError>
+    ensures { IfOk result (λ s. string_bytes s ≡ method_text method.now) }
+{
+    let method = String::from_utf8_lossy(alloc, method)?;
+    format!(in alloc; "Method \"{method}\" not allowed.")
+}
+
+/// 405 `Method "M" not allowed.`, with the methods that the path has.
+/// The method stands in the text as the head gives it.
+#[tactic(auto, unfolding(crate::specs::Faults::method_not_allowed))]
+pub fn method_not_allowed(
+    alloc: Global,
+    method: &[u8],
+    methods: Methods,
+) -> Result<Told, AllocError>
+    ensures { IfOk result (λ told. told ≡ method_not_allowed method.now methods) }
+{
+    let text = method_text(alloc, method)?;
+    detailed(
+        alloc,
+        StatusCode::METHOD_NOT_ALLOWED,
+        Some(methods),
+        text.as_str(),
+    )
+}

@@ -1,0 +1,82 @@
+//! The rows of answers as JSON.
+
+ghost use Rattle.std.specs.Prelude.{◌≡◌, IfOk, map};
+ghost use Rattle.serde_json.specs.View.{view};
+ghost use Rattle.bo_words.specs.Values.{list};
+ghost use Rattle.bo_words.specs.Rows.{variation_body, item_body, quota_body};
+
+use crate::values::{count_or_null, counts, money, money_or_null};
+use bo_base::Cents;
+use bo_catalogue::{Item, Quota, Variation};
+use serde_json::{Value, json};
+use std::alloc::{AllocError, Global};
+
+/// A variation of an item that costs that price.
+fn variation_value(
+    alloc: Global,
+    price: Cents,
+    variation: &Variation,
+) -> Result<Value, AllocError>
+    ensures { IfOk result (λ v. view v ≡ variation_body price variation.now) }
+{
+    let own = money_or_null(alloc, variation.default_price)?;
+    let price = money(alloc, variation.default_price.unwrap_or(price))?;
+    json!(in alloc; {
+        "active": variation.active,
+        "default_price": own,
+        "id": variation.id,
+        "price": price,
+        "value": variation.name.as_str(),
+    })
+}
+
+/// Variations of an item that costs that price.
+fn variations_value(
+    alloc: Global,
+    price: Cents,
+    variations: &[Variation],
+) -> Result<Value, AllocError>
+    ensures { IfOk result (λ v. view v ≡ list (map (variation_body price) variations.now)) }
+{
+    let mut values = Vec::with_capacity(alloc, variations.len())?;
+    for variation in variations {
+        values.push(variation_value(alloc, price, variation)?)?;
+    }
+    Ok(Value::Array(values))
+}
+
+/// An item with its variations.
+pub(crate) fn item_value(
+    alloc: Global,
+    item: &Item,
+    variations: &[Variation],
+) -> Result<Value, AllocError>
+    ensures { IfOk result (λ v. view v ≡ item_body item.now variations.now) }
+{
+    let price = money(alloc, item.default_price)?;
+    let variations = variations_value(alloc, item.default_price, variations)?;
+    json!(in alloc; {
+        "active": item.active,
+        "default_price": price,
+        "has_variations": item.varied,
+        "id": item.id,
+        "name": item.name.as_str(),
+        "variations": variations,
+    })
+}
+
+/// A quota.
+pub(crate) fn quota_value(alloc: Global, quota: &Quota) -> Result<Value, AllocError>
+    ensures { IfOk result (λ v. view v ≡ quota_body quota.now) }
+{
+    let items = counts(alloc, quota.items.as_slice())?;
+    let size = count_or_null(quota.size.map(u64::from));
+    let variations = counts(alloc, quota.variations.as_slice())?;
+    json!(in alloc; {
+        "id": quota.id,
+        "items": items,
+        "name": quota.name.as_str(),
+        "size": size,
+        "variations": variations,
+    })
+}

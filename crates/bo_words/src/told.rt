@@ -1,0 +1,61 @@
+//! What is told, from a status and a value.
+
+ghost use Rattle.std.specs.Prelude.{◌≡◌, false, None, IfOk};
+ghost use Rattle.serde_json.specs.View.{view};
+ghost use Rattle.serde_json.specs.Written.{has_float};
+ghost use Rattle.bo_words.specs.Told.{told, detail_body};
+
+use bo_base::{Body, Methods, Told};
+use http::StatusCode;
+use serde_json::{Value, json};
+use std::alloc::{AllocError, Global};
+
+/// That status, those methods, and the value as JSON without spaces.
+pub(crate) fn told(
+    alloc: Global,
+    status: StatusCode,
+    allow: Option<Methods>,
+    value: &Value,
+) -> Result<Told, AllocError>
+    requires { has_float (view value.now) ≡ false }
+    ensures { IfOk result (λ t. t ≡ told status allow (view value.now)) }
+{
+    let body = Body::new(value.to_vec(alloc)?);
+    Ok(Told {
+        status,
+        allow,
+        body,
+    })
+}
+
+/// The same with no methods.
+pub(crate) fn told_value(
+    alloc: Global,
+    status: StatusCode,
+    value: &Value,
+) -> Result<Told, AllocError>
+    requires { has_float (view value.now) ≡ false }
+    ensures { IfOk result (λ t. t ≡ told status None (view value.now)) }
+{
+    told(alloc, status, None, value)
+}
+
+/// `{"detail":"text"}`.
+fn detail_value(alloc: Global, text: &str) -> Result<Value, AllocError>
+    ensures { IfOk result (λ v. view v ≡ detail_body text.now) }
+{
+    json!(in alloc; {"detail": text})
+}
+
+/// `{"detail":"text"}` with that status and those methods.
+pub(crate) fn detailed(
+    alloc: Global,
+    status: StatusCode,
+    allow: Option<Methods>,
+    text: &str,
+) -> Result<Told, AllocError>
+    ensures { IfOk result (λ t. t ≡ told status allow (detail_body text.now)) }
+{
+    let value = detail_value(alloc, text)?;
+    told(alloc, status, allow, &value)
+}
