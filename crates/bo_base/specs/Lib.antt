@@ -7,3 +7,4 @@ pub mod Money
 pub mod Moments
 pub mod Civil
 pub mod Rising
+pub mod Price

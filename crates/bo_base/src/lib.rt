@@ -24,7 +24,7 @@ pub use digits::number_of;
 pub use draw::Draw;
 pub use ids::Ids;
 pub use moment::{Moment, moment_text, read_moment};
-pub use price_mode::PriceMode;
+pub use price_mode::{PriceMode, price};
 pub use refusal::ValueRefusal;
 pub use rows::{Row, Rows};
 pub use std_device::Device;

@@ -1,5 +1,10 @@
 //! How a voucher changes a price.
 
+ghost use Rattle.std.specs.Prelude.{◌≡◌};
+ghost use Rattle.bo_base.specs.Price.{price, price_with};
+
+use crate::cents::Cents;
+
 /// How a voucher changes a price.
 #[derive(Clone, Copy, Debug, PartialEq, Eq)]
 pub enum PriceMode {
@@ -11,4 +16,29 @@ pub enum PriceMode {
     Subtract,
     /// The voucher's value, in hundredths of a percent, is taken off.
     Percent,
+}
+
+/// The price by a voucher's mode and value, where it has a value, else the base price.
+/// The value is cents, and in the mode `Percent` hundredths of a percent (above 10,000 the price is 0).
+pub fn price(mode: PriceMode, value: Option<Cents>, base: Cents) -> Cents
+    ensures { result ≡ price mode value base }
+{
+    match value {
+        None => base,
+        Some(value) => price_with(mode, value, base),
+    }
+}
+
+fn price_with(mode: PriceMode, value: Cents, base: Cents) -> Cents
+    ensures { result ≡ price_with mode value base }
+{
+    match mode {
+        PriceMode::None => base,
+        PriceMode::Set => value,
+        PriceMode::Subtract => Cents::new(base.get().saturating_sub(value.get())),
+        PriceMode::Percent => {
+            let kept = 10_000u64.saturating_sub(value.get());
+            Cents::new((base.get() * kept + 5000) / 10_000)
+        }
+    }
 }

@@ -1,5 +1,6 @@
 use crate::cents::{Cents, cents_text, read_cents};
 use crate::moment::{Moment, moment_text, read_moment};
+use crate::price_mode::{PriceMode, price};
 use crate::refusal::ValueRefusal;
 use std::test::Fail;
 
@@ -68,4 +69,17 @@ fn moments(rt: HostRuntime) -> Result<(), Fail> {
         assert_eq!(rt; moment_text(alloc, moment)?.as_str(), text);
     }
     Ok(())
+}
+
+#[test]
+fn prices(rt: HostRuntime) {
+    let (base, value) = (Cents::new(2300), Some(Cents::new(3333)));
+    assert_eq!(rt; price(PriceMode::Percent, value, base).get(), 1533);
+    let (base, value) = (Cents::new(3), Some(Cents::new(5000)));
+    assert_eq!(rt; price(PriceMode::Percent, value, base).get(), 2);
+    let (base, value) = (Cents::new(500), Some(Cents::new(750)));
+    assert_eq!(rt; price(PriceMode::Subtract, value, base).get(), 0);
+    assert_eq!(rt; price(PriceMode::Set, value, base).get(), 750);
+    assert_eq!(rt; price(PriceMode::None, value, base).get(), 500);
+    assert_eq!(rt; price(PriceMode::Set, None, base).get(), 500);
 }

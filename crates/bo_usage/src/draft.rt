@@ -16,16 +16,10 @@ use crate::changes::{Change, Changes};
 use crate::rows::{CartPos, NextIds, Usage, Voucher};
 use crate::overlay::Overlay;
 use bo_base::{Moment, Steps};
-use bo_catalogue::{Catalogue, Quota};
+use bo_catalogue::{Catalogue, LAST_ID, MOST_ROWS, Quota};
 use std::alloc::{AllocError, Global};
 use std::marker::{Brand, Model};
 use std::sync::ledger::{Blank, Ledger};
-
-/// The most rows of a table.
-pub const MOST_ROWS: usize = 1_000_000;
-
-/// The last id of a row.
-pub const LAST_ID: u64 = 9_007_199_254_740_991;
 
 /// A place in a draft, to which it can go back.
 #[derive(Drop)]

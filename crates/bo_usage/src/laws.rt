@@ -1,4 +1,5 @@
-// Laws of the definitions alone.
+//! Laws of the definitions alone.
+
 ghost use Rattle.std.specs.Prelude.{ℕ, ◌≤◌};
 ghost use Rattle.bo_catalogue.specs.declared.rows.Quota.{Quota};
 ghost use Rattle.bo_usage.specs.Lists.{Lists};
@@ -11,4 +12,5 @@ ghost use Rattle.bo_usage.specs.Usage.{usage_of};
 pub fn time_lowers()
     ensures { (limit : ℕ) (lists : Lists) (quota : Quota) (at later : ℕ) → IsKept limit lists →
         AllHaveHeadroom at lists → at ≤ later → total (usage_of lists later quota) ≤ total (usage_of lists at quota) }
-{}
+{
+}

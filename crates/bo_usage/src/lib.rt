@@ -6,7 +6,7 @@ pub mod book;
 pub mod changes;
 pub mod draft;
 pub mod laws;
-pub mod overlay;
+mod overlay;
 pub mod recount;
 pub mod rows;
 

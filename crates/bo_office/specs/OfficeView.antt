@@ -1,0 +1,10 @@
+-- What a contract sees of an office.
+use Rattle.std.specs.Prelude.{ℕ, List}
+use Rattle.bo_usage.specs.Lists.{State}
+
+-- the short names of the organizer and the event, the state, and how many changes it has room for
+pub record OfficeView : Type 0 where
+  pub organizer : List ℕ
+  pub event : List ℕ
+  pub state : State
+  pub room : ℕ

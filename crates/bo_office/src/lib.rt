@@ -1,0 +1,11 @@
+//! The box office: what each command does, and what each query is answered.
+#![tactic(auto)]
+
+pub mod command;
+pub mod laws;
+pub mod office;
+pub mod reply;
+
+pub use command::{Command, Kind, Query};
+pub use office::Office;
+pub use reply::{Refusal, Reply};

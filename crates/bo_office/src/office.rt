@@ -1,0 +1,247 @@
+//! One box office over a book.
+
+ghost use Rattle.std.specs.Prelude.{◌≡◌, ◌≤◌, IfOk, OnOk, length};
+ghost use Rattle.bo_usage.specs.Change.{applied};
+ghost use Rattle.bo_usage.specs.Sound.{IsSound};
+ghost use Rattle.bo_office.specs.Step.{step, no_change};
+ghost use Rattle.bo_office.specs.Answer.{answer};
+
+use crate::command::{Command, Kind, Query};
+use crate::reply::{Refusal, Reply};
+use bo_base::{Draw, Moment, Text};
+use bo_catalogue::{CatalogueRefusal, NewItem, NewQuota};
+use bo_orders::{NewCart, OrderRefusal, add_position};
+use bo_usage::{Book, Change, Changes, Draft, NextIds, availability};
+use std::alloc::{AllocError, Global};
+use std::marker::Model;
+
+/// A box office over any book. Contracts see its two names, its state, and how many changes it has room for.
+#[derive(Drop)]
+pub struct Office<B: Book> {
+    organizer: Text,
+    event: Text,
+    book: B,
+}
+
+impl<B: Book> Model for Office<B> {
+    ghost use Rattle.bo_usage.specs.Sound.{IsSound};
+    ghost use Rattle.bo_office.specs.OfficeView.{OfficeView};
+
+    ghost Value = { OfficeView };
+
+    ghost view = { λ o. record {
+      organizer = o.organizer;
+      event = o.event;
+      state = B.state o.book;
+      room = B.room o.book;
+    } };
+
+    ghost invariant = { λ o. IsSound (B.state o.book) };
+}
+
+impl<B: Book> Office<B> {
+    /// The office of an event, over a book that is sound.
+    pub fn over(organizer: Text, event: Text, book: B) -> Self
+        requires { IsSound (B.state book) }
+        ensures organizer { result.organizer ≡ organizer }
+        ensures event { result.event ≡ event }
+        ensures state { result.state ≡ B.state book }
+        ensures room { result.room ≡ B.room book }
+    {
+        Office {
+            organizer,
+            event,
+            book,
+        }
+    }
+
+    /// The book.
+    pub fn book(&self) -> &B
+        ensures state { B.state result.now ≡ self.now.state }
+        ensures room { B.room result.now ≡ self.now.room }
+    {
+        &self.book
+    }
+
+    /// The organizer's short name.
+    pub fn organizer(&self) -> &str
+        ensures { result.now ≡ self.now.organizer }
+    {
+        self.organizer.as_str()
+    }
+
+    /// The event's short name.
+    pub fn event(&self) -> &str
+        ensures { result.now ≡ self.now.event }
+    {
+        self.event.as_str()
+    }
+
+    /// The moment of the last command.
+    pub fn moment(&self) -> Moment
+        ensures { result ≡ self.now.state.moment }
+    {
+        self.book.moment()
+    }
+
+    /// What a command that comes at a moment, with a draw, is answered, and the changes that it makes.
+    /// The moment isn't before the office's. A refused command makes no change.
+    pub fn decide(
+        &self,
+        alloc: Global,
+        at: Moment,
+        draw: Draw,
+        command: &Command,
+    ) -> Result<(Changes, Reply), AllocError>
+        requires { self.now.state.moment ≤ at }
+        ensures step { IfOk result (λ r. (applied r.0 at self.now.state, r.1) ≡ step command.now at draw self.now.state) }
+        ensures sound { IfOk result (λ r. IsSound (applied r.0 at self.now.state)) }
+    {
+        let _ = &self.book;
+        self.decided(alloc, at, draw, command)
+    }
+
+    fn decided(
+        &self,
+        alloc: Global,
+        at: Moment,
+        draw: Draw,
+        command: &Command,
+    ) -> Result<(Changes, Reply), AllocError>
+        requires { self.now.state.moment ≤ at }
+        ensures { IfOk result (λ r. (applied r.0 at self.now.state, r.1) ≡ step command.now at draw self.now.state) }
+    {
+        match command {
+            Command::AddItem(new) => self.add_item(alloc, at, draw, new),
+            Command::AddQuota(new) => self.add_quota(alloc, at, draw, new),
+            Command::AddCart(new) => self.add_cart(alloc, at, draw, new),
+        }
+    }
+
+    // Adds an item.
+    fn add_item(
+        &self,
+        alloc: Global,
+        _at: Moment,
+        _draw: Draw,
+        new: &NewItem,
+    ) -> Result<(Changes, Reply), AllocError>
+        ensures { IfOk result (λ r. (applied r.0 _at self.now.state, r.1) ≡ step (Command.AddItem new.now) _at _draw self.now.state) }
+    {
+        let next = self.book.next_ids();
+        match self.book.catalogue().add_item(alloc, new, next.item) {
+            Ok(row) => {
+                let reply = Reply::Item(row.copy(alloc)?);
+                let next = NextIds {
+                    item: next.item + 1,
+                    ..next
+                };
+                let list = vec![in alloc; Change::PutItem(row)]?;
+                Ok((Changes::new(list, next), reply))
+            }
+            Err(CatalogueRefusal::Memory) => Err(AllocError),
+            Err(refusal) => Ok(self.refused(alloc, Kind::AddItem, Refusal::Catalogue(refusal))),
+        }
+    }
+
+    // Adds a quota.
+    fn add_quota(
+        &self,
+        alloc: Global,
+        _at: Moment,
+        _draw: Draw,
+        new: &NewQuota,
+    ) -> Result<(Changes, Reply), AllocError>
+        ensures { IfOk result (λ r. (applied r.0 _at self.now.state, r.1) ≡ step (Command.AddQuota new.now) _at _draw self.now.state) }
+    {
+        let next = self.book.next_ids();
+        match self.book.catalogue().add_quota(alloc, new, next.quota) {
+            Ok(row) => {
+                let reply = Reply::Quota(row.copy(alloc)?);
+                let next = NextIds {
+                    quota: next.quota + 1,
+                    ..next
+                };
+                let list = vec![in alloc; Change::PutQuota(row)]?;
+                Ok((Changes::new(list, next), reply))
+            }
+            Err(CatalogueRefusal::Memory) => Err(AllocError),
+            Err(refusal) => Ok(self.refused(alloc, Kind::AddQuota, Refusal::Catalogue(refusal))),
+        }
+    }
+
+    // Adds a cart position.
+    fn add_cart(
+        &self,
+        alloc: Global,
+        at: Moment,
+        draw: Draw,
+        new: &NewCart,
+    ) -> Result<(Changes, Reply), AllocError>
+        requires { self.now.state.moment ≤ at }
+        ensures { IfOk result (λ r. (applied r.0 at self.now.state, r.1) ≡ step (Command.AddCart new.now) at draw self.now.state) }
+    {
+        let mut draft = Draft::new(alloc, &self.book, at)?;
+        let reply = match add_position(&mut draft, alloc, draw, new) {
+            Ok(row) => Reply::Cart(row),
+            Err(OrderRefusal::Memory) => return Err(AllocError),
+            Err(refusal) => Reply::Refused(Kind::AddCart, Refusal::Order(refusal)),
+        };
+        Ok((draft.finish(), reply))
+    }
+
+    // No change, and a refusal.
+    fn refused(&self, alloc: Global, kind: Kind, refusal: Refusal) -> (Changes, Reply)
+        ensures { result ≡ (no_change self.now.state, Reply.Refused kind refusal) }
+    {
+        (
+            Changes::new(Vec::new(alloc), self.book.next_ids()),
+            Reply::Refused(kind, refusal),
+        )
+    }
+
+    /// What a query is answered at a moment that isn't before the office's.
+    pub fn ask(&self, _alloc: Global, at: Moment, query: &Query) -> Result<Reply, AllocError>
+        requires { self.now.state.moment ≤ at }
+        ensures { IfOk result (λ reply. reply ≡ answer query.now at self.now.state) }
+    {
+        match query {
+            Query::Availability(id) => Ok(self.availability(at, *id)),
+        }
+    }
+
+    // What is left of a quota.
+    fn availability(&self, at: Moment, id: u64) -> Reply
+        requires { self.now.state.moment ≤ at }
+        ensures { result ≡ answer (Query.Availability id) at self.now.state }
+    {
+        match self.book.catalogue().quota(id) {
+            None => Reply::Refused(
+                Kind::Availability,
+                Refusal::Catalogue(CatalogueRefusal::NoQuota),
+            ),
+            Some(quota) => Reply::Availability(availability(&self.book, quota, at)),
+        }
+    }
+
+    /// Takes the memory that these changes need.
+    pub fn reserve(&mut self, changes: &Changes) -> Result<(), AllocError>
+        ensures ok { OnOk result (length changes.now.list ≤ self.new.room) }
+        ensures state { self.new.state ≡ self.old.state }
+        ensures organizer { self.new.organizer ≡ self.old.organizer }
+        ensures event { self.new.event ≡ self.old.event }
+    {
+        self.book.reserve(changes)
+    }
+
+    /// Makes these changes at a moment. There is room for them, and the office stays sound.
+    pub fn adopt(&mut self, changes: Changes, at: Moment)
+        requires room { length changes.list ≤ self.old.room }
+        requires sound { IsSound (applied changes at self.old.state) }
+        ensures state { self.new.state ≡ applied changes at self.old.state }
+        ensures organizer { self.new.organizer ≡ self.old.organizer }
+        ensures event { self.new.event ≡ self.old.event }
+    {
+        self.book.apply(changes, at);
+    }
+}

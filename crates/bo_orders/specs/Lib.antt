@@ -1,0 +1,3 @@
+pub mod CartId
+pub mod Carts
+pub mod Refusals

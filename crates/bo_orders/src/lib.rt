@@ -1,0 +1,12 @@
+//! Decisions on carts and orders.
+#![tactic(auto)]
+
+pub mod cart_id;
+pub mod carts;
+pub mod laws;
+pub mod new_cart;
+pub mod refusal;
+
+pub use carts::add_position;
+pub use new_cart::NewCart;
+pub use refusal::OrderRefusal;
