@@ -3,3 +3,5 @@ pub mod Values
 pub mod Rows
 pub mod Told
 pub mod Faults
+pub mod Refusals
+pub mod Replies

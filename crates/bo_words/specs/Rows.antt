@@ -4,7 +4,9 @@ use Rattle.serde_json.specs.Data.{Data, boolean, string, object, member, no_memb
 use Rattle.bo_catalogue.specs.declared.rows.Item.{Item}
 use Rattle.bo_catalogue.specs.declared.rows.Variation.{Variation}
 use Rattle.bo_catalogue.specs.declared.rows.Quota.{Quota}
-use Rattle.bo_words.specs.Values.{count, count_or_null, money, money_or_null, list, counts}
+use Rattle.bo_usage.specs.declared.rows.CartPos.{CartPos}
+use Rattle.bo_usage.specs.declared.rows.Availability.{Availability}
+use Rattle.bo_words.specs.Values.{count, count_or_null, money, money_or_null, moment, list, counts}
 
 -- a variation of an item that costs price: its own price may be null, and what it costs is its own or the item's
 abbrev pub variation_body : ℕ → Variation → Data
@@ -36,3 +38,29 @@ quota_body quota = object (
     (member (codes "size") (count_or_null quota.size)
     (member (codes "variations") (counts quota.variations)
     no_members)))))
+
+-- a cart position, with the ids of its item and of its variation, and of its voucher
+abbrev pub cart_body : CartPos → Data
+cart_body cart = object (
+    member (codes "cart_id") (string cart.cart_id)
+    (member (codes "datetime") (moment cart.made_at)
+    (member (codes "expires") (moment cart.expires)
+    (member (codes "id") (count cart.id)
+    (member (codes "item") (count cart.product.item)
+    (member (codes "price") (money cart.price)
+    (member (codes "variation") (count_or_null cart.product.variation)
+    (member (codes "voucher") (count_or_null cart.voucher)
+    no_members))))))))
+
+-- what is left of a quota, and what uses it; size and what is left are null where it is unlimited
+abbrev pub availability_body : Availability → Data
+availability_body left = object (
+    member (codes "available") (boolean left.available)
+    (member (codes "available_number") (count_or_null left.available_number)
+    (member (codes "blocking_vouchers") (count left.usage.blocked)
+    (member (codes "cart_positions") (count left.usage.carts)
+    (member (codes "paid_orders") (count left.usage.paid)
+    (member (codes "pending_orders") (count left.usage.pending)
+    (member (codes "total_size") (count_or_null left.size)
+    (member (codes "waiting_list") (count left.usage.waiting)
+    no_members))))))))

@@ -3,6 +3,8 @@
 
 pub mod faults;
 pub mod fields;
+mod refusals;
+pub mod replies;
 mod rows;
 mod told;
 mod values;
@@ -12,3 +14,4 @@ pub use faults::{
     parse_error,
 };
 pub use fields::{Fault, Field, Problem};
+pub use replies::words;

@@ -3,20 +3,17 @@
 ghost use Rattle.std.specs.Prelude.{◌≡◌, IfOk, map};
 ghost use Rattle.serde_json.specs.View.{view};
 ghost use Rattle.bo_words.specs.Values.{list};
-ghost use Rattle.bo_words.specs.Rows.{variation_body, item_body, quota_body};
+ghost use Rattle.bo_words.specs.Rows.{variation_body, item_body, quota_body, cart_body, availability_body};
 
-use crate::values::{count_or_null, counts, money, money_or_null};
+use crate::values::{count_or_null, counts, moment, money, money_or_null};
 use bo_base::Cents;
 use bo_catalogue::{Item, Quota, Variation};
+use bo_usage::{Availability, CartPos};
 use serde_json::{Value, json};
 use std::alloc::{AllocError, Global};
 
 /// A variation of an item that costs that price.
-fn variation_value(
-    alloc: Global,
-    price: Cents,
-    variation: &Variation,
-) -> Result<Value, AllocError>
+fn variation_value(alloc: Global, price: Cents, variation: &Variation) -> Result<Value, AllocError>
     ensures { IfOk result (λ v. view v ≡ variation_body price variation.now) }
 {
     let own = money_or_null(alloc, variation.default_price)?;
@@ -78,5 +75,44 @@ pub(crate) fn quota_value(alloc: Global, quota: &Quota) -> Result<Value, AllocEr
         "name": quota.name.as_str(),
         "size": size,
         "variations": variations,
+    })
+}
+
+/// A cart position.
+pub(crate) fn cart_value(alloc: Global, cart: &CartPos) -> Result<Value, AllocError>
+    ensures { IfOk result (λ v. view v ≡ cart_body cart.now) }
+{
+    let made_at = moment(alloc, cart.made_at)?;
+    let expires = moment(alloc, cart.expires)?;
+    let price = money(alloc, cart.price)?;
+    let variation = count_or_null(cart.product.variation);
+    let voucher = count_or_null(cart.voucher);
+    json!(in alloc; {
+        "cart_id": cart.cart_id.as_str(),
+        "datetime": made_at,
+        "expires": expires,
+        "id": cart.id,
+        "item": cart.product.item,
+        "price": price,
+        "variation": variation,
+        "voucher": voucher,
+    })
+}
+
+/// What is left of a quota, and what uses it.
+pub(crate) fn availability_value(alloc: Global, left: &Availability) -> Result<Value, AllocError>
+    ensures { IfOk result (λ v. view v ≡ availability_body left.now) }
+{
+    let number = count_or_null(left.available_number);
+    let size = count_or_null(left.size.map(u64::from));
+    json!(in alloc; {
+        "available": left.available,
+        "available_number": number,
+        "blocking_vouchers": left.usage.blocked,
+        "cart_positions": left.usage.carts,
+        "paid_orders": left.usage.paid,
+        "pending_orders": left.usage.pending,
+        "total_size": size,
+        "waiting_list": left.usage.waiting,
     })
 }

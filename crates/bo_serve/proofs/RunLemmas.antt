@@ -1,0 +1,296 @@
+-- Runs and chains, one after another.
+use Rattle.std.proofs.Common.{◌≡◌, ℕ, ◌+◌, ◌<◌, ◌⊎◌, Bool, true, false, List, [], ◌∷◌, ◌++◌, map, length, Option, Some, Result, Ok, Err, refl, sym, ap, ap₂, ◌∙◌, subst, subst₂, arith, append_assoc, append-nil, length-append, inl, inr}
+use Rattle.std.proofs.lemmas.List.{map-append}
+use Rattle.std.specs.Io.KnownBytes.{IsAtEnd}
+use Rattle.bo_base.specs.declared.answer.Answer.{Answer}
+use Rattle.bo_base.specs.declared.device.Tick.{Tick}
+use Rattle.bo_base.specs.Told.{Adds}
+use Rattle.bo_base.proofs.ToldLemmas.{Adds-nil, Adds-append}
+use Rattle.bo_http.specs.declared.fault.Fault.{Fault}
+use Rattle.bo_http.specs.Text.{text, fault_text}
+use Rattle.bo_http.specs.Messages.{Message, Takes, Faults, HasNone, closes, Messages}
+use Rattle.bo_http.specs.Framed.{TakesFirst}
+use Rattle.bo_serve.specs.declared.failure.Failure.{Failure}
+use Rattle.bo_serve.specs.declared.failure.Failure.TheVariants as failures
+use Rattle.bo_serve.specs.Run.{Item, Runs, Acted, Chain, whole, AreAlways, AreAll, Place, place, Progress, Finished, IsCut, Broken}
+
+-- ---- chains
+
+pub Chain-append : (a b c : List ℕ) (ms ns : List Message) → Chain a ms b → Chain b ns c → Chain a (ms ++ ns) c
+Chain-append a b c [] ns x y = subst (λ (t : List ℕ). Chain t ns c) (sym x) y
+Chain-append a b c (m ∷ ms) ns (mid, takes, goes, x) y = (mid, takes, goes, Chain-append mid b c ms ns x y)
+
+pub Chain-feed : (a b more : List ℕ) (ms : List Message) → Chain a ms b → Chain (a ++ more) ms (b ++ more)
+Chain-feed a b more [] x = ap (λ (t : List ℕ). t ++ more) x
+Chain-feed a b more (m ∷ ms) (mid, takes, goes, x) =
+    (mid ++ more, λ rest. subst₂ (λ (s t : List ℕ). Takes s m t) (sym (append_assoc a more rest)) (sym (append_assoc mid more rest)) (takes (more ++ rest)), goes, Chain-feed mid b more ms x)
+
+takes_now : (a b : List ℕ) (m : Message) → TakesFirst a m b → Takes a m b
+takes_now a b m takes = subst₂ (λ (s t : List ℕ). Takes s m t) (append-nil a) (append-nil b) (takes [])
+
+-- whatever follows the chain completes the messages
+pub Chain-messages : (a b more : List ℕ) (ms : List Message) (items : List Item) → Chain a ms b → Messages (b ++ more) items
+    → Messages (a ++ more) (map whole ms ++ items)
+Chain-messages a b more [] items x y = subst (λ (t : List ℕ). Messages (t ++ more) items) (sym x) y
+Chain-messages a b more (m ∷ ms) items (mid, takes, goes, x) y =
+    (mid ++ more, takes more, λ is. absurd (let both : true ≡ false = sym is ∙ goes in cc), λ is. Chain-messages mid b more ms items x y)
+
+pub Chain-acted : (a b : List ℕ) (ms : List Message) (items : List Item) → Chain a ms b → Acted b items → Acted a (map whole ms ++ items)
+Chain-acted a b [] items x y = subst (λ (t : List ℕ). Acted t items) (sym x) y
+Chain-acted a b (m ∷ ms) items (mid, takes, goes, x) y =
+    (mid, takes_now a mid m takes, λ is. absurd (let both : true ≡ false = sym is ∙ goes in cc), λ is. Chain-acted mid b ms items x y)
+
+-- ---- runs
+
+pub Runs-append : {D : Type 0} (Serves : D → Tick → Message → Answer → D → Type 0) (d e f : D) (ts us : List Tick) (ms : List Message) (items : List Item) (a b : List ℕ)
+    → Runs Serves d ts (map whole ms) a e → Runs Serves e us items b f → Runs Serves d (ts ++ us) (map whole ms ++ items) (a ++ b) f
+Runs-append Serves d e f [] us [] items a b (written, same) y =
+    subst₂ (λ s (t : List ℕ). Runs Serves s us items t f) same (sym (ap (λ (s : List ℕ). s ++ b) written)) y
+Runs-append Serves d e f (t ∷ ts) us [] items a b x y = absurd x
+Runs-append Serves d e f [] us (m ∷ ms) items a b x y = absurd x
+Runs-append Serves d e f (t ∷ ts) us (m ∷ ms) items a b (mid, answer, rest, serves, written, x) y = (
+  mid,
+  answer,
+  rest ++ b,
+  serves,
+  ap (λ (s : List ℕ). s ++ b) written ∙ append_assoc (text answer (closes m)) rest b,
+  Runs-append Serves mid e f ts us ms items rest b x y,
+)
+
+-- ---- one step
+
+abbrev pub some_message : Message → Option Message
+some_message m = Some m
+
+-- the frame is the message that was taken
+pub takes_frame : (l l' : List ℕ) (frame : Message) (taken : Option Message) → some_message frame ≡ taken
+    → ((m : Message) × (taken ≡ some_message m) × TakesFirst l m l') → TakesFirst l frame l'
+takes_frame l l' frame taken is (m, same, takes) =
+    let both : some_message frame ≡ some_message m = is ∙ same in
+    let e : frame ≡ m = cc in
+    subst (λ (x : Message). TakesFirst l x l') (sym e) takes
+
+pub fault_done : {D : Type 0} (Serves : D → Tick → Message → Answer → D → Type 0) (l l' : List ℕ) (t : Option (List Tick)) (d : D) (w w' : Option (List ℕ)) (f : Fault)
+    → ((more : List ℕ) → Faults (l ++ more) f) → Adds w (fault_text f) w' → Finished Serves (AreAlways l) (place l t d w) (place l' t d w')
+fault_done Serves l l' t d w w' f faults wrote = record {
+  items = Err f ∷ [];
+  ticks = [];
+  written = fault_text f;
+  all = λ more. (faults more, refl);
+  told = Adds-nil t;
+  taken = wrote;
+  runs = (refl, refl, refl);
+}
+
+pub fault_broken : {D : Type 0} (Serves : D → Tick → Message → Answer → D → Type 0) (l l' : List ℕ) (t : Option (List Tick)) (d : D) (w w' : Option (List ℕ)) (f : Fault) (part rest : List ℕ)
+    → ((more : List ℕ) → Faults (l ++ more) f) → fault_text f ≡ part ++ rest → Adds w part w' → Broken Serves failures.Output (place l t d w) (place l' t d w')
+fault_broken Serves l l' t d w w' f part rest faults split wrote = record {
+  items = Err f ∷ [];
+  ticks = [];
+  part = part;
+  rest = rest;
+  acted = (subst (λ (s : List ℕ). Faults s f) (append-nil l) (faults []), refl);
+  told = Adds-nil t;
+  taken = wrote;
+  cut = tt;
+  runs = (sym split, refl, refl);
+}
+
+pub clock_broken : {D : Type 0} (Serves : D → Tick → Message → Answer → D → Type 0) (l l' : List ℕ) (t t' : Option (List Tick)) (d : D) (w : Option (List ℕ))
+    → Adds t [] t' → Broken Serves failures.Clock (place l t d w) (place l' t' d w)
+clock_broken Serves l l' t t' d w told = record {
+  items = [];
+  ticks = [];
+  part = [];
+  rest = [];
+  acted = tt;
+  told = told;
+  taken = Adds-nil w;
+  cut = refl;
+  runs = (refl, refl);
+}
+
+pub message_ends : {D : Type 0} (Serves : D → Tick → Message → Answer → D → Type 0) (l l' : List ℕ) (t t' : Option (List Tick)) (d d' : D) (w w' : Option (List ℕ)) (m : Message) (tick : Tick) (answer : Answer) (b : Bool)
+    → TakesFirst l m l' → Adds t (tick ∷ []) t' → Serves d tick m answer d' → Adds w (text answer b) w' → b ≡ closes m → b ≡ true
+    → Finished Serves (AreAlways l) (place l t d w) (place l' t' d' w')
+message_ends Serves l l' t t' d d' w w' m tick answer b takes told serves wrote test hit = let ends : closes m ≡ true = sym test ∙ hit in record {
+  items = Ok m ∷ [];
+  ticks = tick ∷ [];
+  written = text answer b;
+  all = λ more. (l' ++ more, takes more, λ e. refl, λ e. absurd (let both : true ≡ false = sym ends ∙ e in cc));
+  told = told;
+  taken = wrote;
+  runs = (d', answer, [], serves, ap (text answer) test ∙ sym (append-nil (text answer (closes m))), (refl, refl));
+}
+
+pub message_goes : {D : Type 0} (Serves : D → Tick → Message → Answer → D → Type 0) (l l' : List ℕ) (t t' : Option (List Tick)) (d d' : D) (w w' : Option (List ℕ)) (m : Message) (tick : Tick) (answer : Answer) (b : Bool)
+    → TakesFirst l m l' → Adds t (tick ∷ []) t' → Serves d tick m answer d' → Adds w (text answer b) w' → b ≡ closes m → b ≡ false
+    → Progress Serves (place l t d w) (place l' t' d' w')
+message_goes Serves l l' t t' d d' w w' m tick answer b takes told serves wrote test hit = let goes : closes m ≡ false = sym test ∙ hit in record {
+  messages = m ∷ [];
+  ticks = tick ∷ [];
+  written = text answer b;
+  chain = (l', takes, goes, refl);
+  told = told;
+  taken = wrote;
+  runs = (d', answer, [], serves, ap (text answer) test ∙ sym (append-nil (text answer (closes m))), (refl, refl));
+}
+
+pub message_broken : {D : Type 0} (Serves : D → Tick → Message → Answer → D → Type 0) (l l' : List ℕ) (t t' : Option (List Tick)) (d d' : D) (w w' : Option (List ℕ)) (m : Message) (tick : Tick) (answer : Answer) (b : Bool) (part rest : List ℕ)
+    → TakesFirst l m l' → Adds t (tick ∷ []) t' → Serves d tick m answer d' → text answer b ≡ part ++ rest → Adds w part w' → b ≡ closes m
+    → Broken Serves failures.Output (place l t d w) (place l' t' d' w')
+message_broken Serves l l' t t' d d' w w' m tick answer b part rest takes told serves split wrote test = record {
+  items = Ok m ∷ [];
+  ticks = tick ∷ [];
+  part = part;
+  rest = rest;
+  acted = (l', takes_now l l' m takes, λ e. refl, λ e. tt);
+  told = told;
+  taken = wrote;
+  cut = tt;
+  runs = (d', answer, [], serves, sym split ∙ (ap (text answer) test ∙ sym (append-nil (text answer (closes m)))), (refl, refl));
+}
+
+-- where nothing is left unwritten
+cut_none : (e : Failure) → IsCut e []
+cut_none failures.Output = tt
+cut_none failures.Input = refl
+cut_none failures.Clock = refl
+cut_none failures.Limit = refl
+cut_none failures.Memory = refl
+
+-- ---- several steps
+
+module _ {D : Type 0} (Serves : D → Tick → Message → Answer → D → Type 0) where
+  pub progress_none : (p q : Place D) → q ≡ p → Progress Serves p q
+  progress_none p q same = subst (Progress Serves p) (sym same) (record {
+    messages = [];
+    ticks = [];
+    written = [];
+    chain = refl;
+    told = Adds-nil p.told;
+    taken = Adds-nil p.taken;
+    runs = (refl, refl);
+  })
+
+  map_whole : (ms ns : List Message) → map whole (ms ++ ns) ≡ map whole ms ++ map whole ns
+  map_whole ms ns = map-append whole ms ns
+
+  pub progress_more : (p q r : Place D) → Progress Serves p q → Progress Serves q r → Progress Serves p r
+  progress_more p q r x y = record {
+    messages = x.messages ++ y.messages;
+    ticks = x.ticks ++ y.ticks;
+    written = x.written ++ y.written;
+    chain = Chain-append p.left q.left r.left x.messages y.messages x.chain y.chain;
+    told = Adds-append p.told q.told r.told x.ticks y.ticks x.told y.told;
+    taken = Adds-append p.taken q.taken r.taken x.written y.written x.taken y.taken;
+    runs = subst (λ (items : List Item). Runs Serves p.desk (x.ticks ++ y.ticks) items (x.written ++ y.written) r.desk)
+        (sym (map_whole x.messages y.messages))
+        (Runs-append Serves p.desk q.desk r.desk x.ticks y.ticks x.messages (map whole y.messages) x.written y.written x.runs y.runs);
+  }
+
+  pub finished_more : (p q r : Place D) → Progress Serves p q → Finished Serves (AreAlways q.left) q r → Finished Serves (AreAlways p.left) p r
+  finished_more p q r x y = record {
+    items = map whole x.messages ++ y.items;
+    ticks = x.ticks ++ y.ticks;
+    written = x.written ++ y.written;
+    all = λ more. Chain-messages p.left q.left more x.messages y.items x.chain (y.all more);
+    told = Adds-append p.told q.told r.told x.ticks y.ticks x.told y.told;
+    taken = Adds-append p.taken q.taken r.taken x.written y.written x.taken y.taken;
+    runs = Runs-append Serves p.desk q.desk r.desk x.ticks y.ticks x.messages y.items x.written y.written x.runs y.runs;
+  }
+
+  pub broken_more : (e : Failure) (p q r : Place D) → Progress Serves p q → Broken Serves e q r → Broken Serves e p r
+  broken_more e p q r x y = record {
+    items = map whole x.messages ++ y.items;
+    ticks = x.ticks ++ y.ticks;
+    part = x.written ++ y.part;
+    rest = y.rest;
+    acted = Chain-acted p.left q.left x.messages y.items x.chain y.acted;
+    told = Adds-append p.told q.told r.told x.ticks y.ticks x.told y.told;
+    taken = Adds-append p.taken q.taken r.taken x.written y.part x.taken y.taken;
+    cut = y.cut;
+    runs = subst (λ (t : List ℕ). Runs Serves p.desk (x.ticks ++ y.ticks) (map whole x.messages ++ y.items) t r.desk)
+        (sym (append_assoc x.written y.part y.rest))
+        (Runs-append Serves p.desk q.desk r.desk x.ticks y.ticks x.messages y.items x.written (y.part ++ y.rest) x.runs y.runs);
+  }
+
+  -- a piece that comes after the bytes
+  pub progress_feed : (b l : List ℕ) (piece : List ℕ) (t t' : Option (List Tick)) (d d' : D) (w w' : Option (List ℕ))
+      → Progress Serves (place b t d w) (place l t' d' w') → Progress Serves (place (b ++ piece) t d w) (place (l ++ piece) t' d' w')
+  progress_feed b l piece t t' d d' w w' x = record {
+    messages = x.messages;
+    ticks = x.ticks;
+    written = x.written;
+    chain = Chain-feed b l piece x.messages x.chain;
+    told = x.told;
+    taken = x.taken;
+    runs = x.runs;
+  }
+
+  -- where no message is left and nothing follows, all were answered
+  pub finished_none : (after : Option (List ℕ)) (p q : Place D) → Progress Serves p q → HasNone q.left → IsAtEnd after → Finished Serves (AreAll p.left after) p q
+  finished_none after p q x none ended = record {
+    items = map whole x.messages;
+    ticks = x.ticks;
+    written = x.written;
+    all = inr (
+      subst₂ (λ (t : List ℕ) (items : List Item). Messages t items) (append-nil p.left) (append-nil (map whole x.messages))
+          (Chain-messages p.left q.left [] x.messages [] x.chain (subst HasNone (sym (append-nil q.left)) none)),
+      ended,
+    );
+    told = x.told;
+    taken = x.taken;
+    runs = x.runs;
+  }
+
+  -- where the last message ends the connection, all were answered
+  pub finished_all : (after : Option (List ℕ)) (p q : Place D) → Finished Serves (AreAlways p.left) p q → Finished Serves (AreAll p.left after) p q
+  finished_all after p q x = record {
+    items = x.items;
+    ticks = x.ticks;
+    written = x.written;
+    all = inl x.all;
+    told = x.told;
+    taken = x.taken;
+    runs = x.runs;
+  }
+
+  -- what was answered so far, where the run breaks off between two messages
+  pub broken_off : (e : Failure) (p q : Place D) → Progress Serves p q → Broken Serves e p q
+  broken_off e p q x = record {
+    items = map whole x.messages;
+    ticks = x.ticks;
+    part = x.written;
+    rest = [];
+    acted = subst (Acted p.left) (append-nil (map whole x.messages)) (Chain-acted p.left q.left x.messages [] x.chain tt);
+    told = x.told;
+    taken = x.taken;
+    cut = cut_none e;
+    runs = subst (λ (t : List ℕ). Runs Serves p.desk x.ticks (map whole x.messages) t q.desk) (sym (append-nil x.written)) x.runs;
+  }
+
+  -- what is left afterwards does not matter
+  pub broken_at : (e : Failure) (p : Place D) (l l' : List ℕ) (t : Option (List Tick)) (d : D) (w : Option (List ℕ)) → Broken Serves e p (place l t d w) → Broken Serves e p (place l' t d w)
+  broken_at e p l l' t d w x = record {
+    items = x.items;
+    ticks = x.ticks;
+    part = x.part;
+    rest = x.rest;
+    acted = x.acted;
+    told = x.told;
+    taken = x.taken;
+    cut = x.cut;
+    runs = x.runs;
+  }
+
+  pub finished_at : (p : Place D) (IsOf : List Item → Type 0) (l l' : List ℕ) (t : Option (List Tick)) (d : D) (w : Option (List ℕ)) → Finished Serves IsOf p (place l t d w) → Finished Serves IsOf p (place l' t d w)
+  finished_at p IsOf l l' t d w x = record {
+    items = x.items;
+    ticks = x.ticks;
+    written = x.written;
+    all = x.all;
+    told = x.told;
+    taken = x.taken;
+    runs = x.runs;
+  }

@@ -1,0 +1,80 @@
+use Rattle.std.proofs.Common.{◌≡◌, ◌+◌, ◌++◌, [], ℕ, List, refl, sym, ap, ◌∙◌, subst, arith, append-nil}
+use Rattle.bo_base.specs.Told.{Gives}
+use Rattle.bo_serve.specs.Run.{Progress, Finished, Broken, place}
+use Rattle.bo_base.proofs.ToldLemmas.{Gives-nil, Gives-append}
+use Rattle.bo_serve.proofs.RunLemmas.{progress_none, progress_more, progress_feed, finished_more, finished_none, finished_all, finished_at, broken_more, broken_off, broken_at}
+use Rattle.bo_serve.proofs.run.serve_all.Goals as goal
+
+pub loop-turn-init : goal.loop-turn-init
+loop-turn-init g c = record {
+  done = (
+    [],
+    Gives-nil _,
+    progress_none g.D.Desk.serves _ _ (ap (λ (l : List ℕ). place l (g.T.Ticks.told c.args.ticks.now) c.args.desk.now (g.W.Drain.taken c.args.writer.now)) c.requires.empty),
+  );
+  clock = refl;
+  output = refl;
+  input = refl;
+  calls = omega arith;
+}
+
+pub returns-in-Ok-false-clause-leads : goal.returns-in-Ok-false-clause-leads
+returns-in-Ok-false-clause-leads g c =
+    let S = g.D.Desk.serves in
+    let done = c.loop-turn.invariant.done in
+    let e = rw c.in-Ok-false.field-0-test at c.in-Ok-false.ensures in
+    (done.0, done.1, finished_at S _ _ _ _ _ _ _ (finished_all S _ _ _ (finished_more S _ _ _ done.2 e.leads)))
+
+pub returns-in-Err-clause-leads : goal.returns-in-Err-clause-leads
+returns-in-Err-clause-leads g c =
+    let S = g.D.Desk.serves in
+    let done = c.loop-turn.invariant.done in
+    (done.0, done.1, broken_at S _ _ _ _ _ _ _ (broken_more S _ _ _ _ done.2 c.in-Err.ensures.leads))
+
+pub returns-in-Ok-false-take_in-clause-leads : goal.returns-in-Ok-false-take_in-clause-leads
+returns-in-Ok-false-take_in-clause-leads g c =
+    let S = g.D.Desk.serves in
+    let done = c.loop-turn.invariant.done in
+    let e = rw c.in-Ok-true.field-0-test at c.in-Ok-true.ensures in
+    let read = rw c.in-Ok-false-take_in.field-0-test at c.in-Ok-false-take_in.ensures in (
+      done.0,
+      subst (λ (b : List ℕ). Gives (g.R.Source.left c.args.reader.now) b (g.R.Source.left c.take_in.new.reader)) (append-nil done.0) (Gives-append _ _ _ _ _ done.1 read.leads.0),
+      finished_at S _ _ _ _ _ _ _ (finished_none S _ _ _ (progress_more S _ _ _ done.2 e.leads.0) e.leads.1 read.leads.2),
+    )
+
+pub returns-in-Err-take_in-clause-leads : goal.returns-in-Err-take_in-clause-leads
+returns-in-Err-take_in-clause-leads g c =
+    let S = g.D.Desk.serves in
+    let done = c.loop-turn.invariant.done in
+    let e = rw c.in-Ok-true.field-0-test at c.in-Ok-true.ensures in
+    let read = c.in-Err-take_in.ensures.leads in (
+      done.0 ++ read.0,
+      Gives-append _ _ _ _ _ done.1 read.1,
+      broken_at S _ _ _ _ _ _ _ (broken_off S _ _ _ (progress_feed S done.0 _ read.0 _ _ _ _ _ _ (progress_more S _ _ _ done.2 e.leads.0))),
+    )
+
+pub loop-turn-preserved : goal.loop-turn-preserved
+loop-turn-preserved g c =
+    let S = g.D.Desk.serves in
+    let inv = c.loop-turn.invariant in
+    let done = inv.done in
+    let e = rw c.in-Ok-true.field-0-test at c.in-Ok-true.ensures in
+    let read = rw c.in-Ok-true-take_in.field-0-test at c.in-Ok-true-take_in.ensures in
+    let fed = progress_feed S done.0 _ read.leads.0 _ _ _ _ _ _ (progress_more S _ _ _ done.2 e.leads.0) in
+    record {
+      done = (
+        done.0 ++ read.leads.0,
+        Gives-append _ _ _ _ _ done.1 read.leads.1,
+        subst (λ (l : List ℕ). Progress S (place (done.0 ++ read.leads.0) (g.T.Ticks.told c.args.ticks.now) c.args.desk.now (g.W.Drain.taken c.args.writer.now)) (place l (g.T.Ticks.told c.serve_ready.new.ticks) c.serve_ready.new.desk (g.W.Drain.taken c.serve_ready.new.writer))) (sym read.leads.2) fed,
+      );
+      clock = e.counted.0 ∙ inv.clock;
+      output = e.counted.1 ∙ inv.output;
+      input = read.counted ∙ inv.input;
+      calls = omega (arith, read.calls, inv.calls);
+    }
+
+pub returns-clause-leads : goal.returns-clause-leads
+returns-clause-leads g c =
+    let S = g.D.Desk.serves in
+    let done = c.loop-turn.invariant.done in
+    (done.0, done.1, broken_at S _ _ _ _ _ _ _ (broken_off S _ _ _ done.2))

@@ -1,0 +1,11 @@
+//! A connection: bytes to bytes, over the box office.
+#![tactic(auto)]
+
+pub mod desk;
+pub mod failure;
+pub mod run;
+pub mod step;
+
+pub use desk::Desk;
+pub use failure::Failure;
+pub use run::run_stream;
