@@ -1,8 +1,8 @@
 -- What a row that is put or removed does to look-ups and to sums over the rows.
-use Rattle.std.proofs.Common.{◌≡◌, ℕ, suc, ◌+◌, ◌<◌, ◌≤◌, ◌≢◌, List, [], ◌∷◌, Option, Some, None, true, false, eqb, leb, if◌then◌else◌, ◌⊎◌, inl, inr, refl, sym, ap, ◌∙◌, sum_by, length, arith}
-use Rattle.std.proofs.lemmas.Bool.Decides.{nat_tests, leb_tells, eqb_tells}
+use Rattle.std.proofs.Common.{◌≡◌, ℕ, ◌+◌, ◌<◌, ◌≤◌, List, [], ◌∷◌, Some, None, eqb, if◌then◌else◌, refl, sum_by, length, arith}
+use Rattle.std.proofs.lemmas.Bool.Decides.{nat_tests}
 use Rattle.std.proofs.lemmas.List.Sums.{sum_by-cons}
-use Rattle.bo_base.specs.Tables.{row_at, with_row, without_row, InOrderFrom, AreInOrder, AreKept, sum_at}
+use Rattle.bo_base.specs.Tables.{row_at, with_row, without_row, InOrderFrom, AreKept, sum_at}
 use Rattle.bo_base.proofs.Places.{with_row_in_order, without_row_in_order}
 
 module _ {T : Type 0} (key : T → ℕ) where

@@ -1,6 +1,5 @@
 -- Amounts of money in cents, and their texts.
-use Rattle.std.specs.Prelude.{ℕ, ◌+◌, ◌*◌, ◌/◌, ◌%◌, ◌==◌, Bool, true, false, List, [], ◌∷◌, ◌++◌, length, take, drop, position, Option, Some, None, Result, Ok, Err, if◌then◌else◌, nat_lt, not}
-use Rattle.std.specs.List.{list_all}
+use Rattle.std.specs.Prelude.{ℕ, ◌+◌, ◌*◌, ◌/◌, ◌%◌, ◌==◌, List, ◌∷◌, ◌++◌, length, take, drop, position, Option, Some, None, Result, Ok, Err, if◌then◌else◌, nat_lt, not}
 use Rattle.std.specs.Fmt.{decimal}
 use Rattle.bo_base.specs.Digits.{is_digits, number_of}
 use Rattle.bo_base.specs.declared.refusal.ValueRefusal.{ValueRefusal}

@@ -73,13 +73,17 @@ fn moments(rt: HostRuntime) -> Result<(), Fail> {
 
 #[test]
 fn prices(rt: HostRuntime) {
-    let (base, value) = (Cents::new(2300), Some(Cents::new(3333)));
-    assert_eq!(rt; price(PriceMode::Percent, value, base).get(), 1533);
-    let (base, value) = (Cents::new(3), Some(Cents::new(5000)));
-    assert_eq!(rt; price(PriceMode::Percent, value, base).get(), 2);
-    let (base, value) = (Cents::new(500), Some(Cents::new(750)));
-    assert_eq!(rt; price(PriceMode::Subtract, value, base).get(), 0);
-    assert_eq!(rt; price(PriceMode::Set, value, base).get(), 750);
-    assert_eq!(rt; price(PriceMode::None, value, base).get(), 500);
-    assert_eq!(rt; price(PriceMode::Set, None, base).get(), 500);
+    let base = Cents::new(500);
+    let third = price(PriceMode::Percent, Some(Cents::new(3333)), Cents::new(2300));
+    assert_eq!(rt; third.get(), 1533);
+    let half = price(PriceMode::Percent, Some(Cents::new(5000)), Cents::new(3));
+    assert_eq!(rt; half.get(), 2);
+    let less = price(PriceMode::Subtract, Some(Cents::new(750)), base);
+    assert_eq!(rt; less.get(), 0);
+    let set = price(PriceMode::Set, Some(Cents::new(750)), base);
+    assert_eq!(rt; set.get(), 750);
+    let unchanged = price(PriceMode::None, Some(Cents::new(750)), base);
+    assert_eq!(rt; unchanged.get(), 500);
+    let unset = price(PriceMode::Set, None, base);
+    assert_eq!(rt; unset.get(), 500);
 }

@@ -1,5 +1,5 @@
-use Rattle.std.proofs.Common.{subst, sym, ap, ◌∙◌, arith, rules, length}
-use Rattle.bo_base.specs.Tables.{AreInOrder, without_row}
+use Rattle.std.proofs.Common.{subst, sym, ◌∙◌, arith}
+use Rattle.bo_base.specs.Tables.{AreInOrder}
 use Rattle.bo_base.proofs.Places.{remove_is_without_row, without_gap, without_row_in_order}
 use Rattle.bo_base.proofs.rows.Rows.delete.Goals as goal
 

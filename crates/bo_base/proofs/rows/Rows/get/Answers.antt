@@ -1,6 +1,4 @@
 use Rattle.std.proofs.Common.{sym, ap, ◌∙◌, Some}
-use Rattle.std.proofs.lemmas.List.{get_or_default}
-use Rattle.bo_base.specs.Tables.{row_at}
 use Rattle.bo_base.proofs.Places.{row_at_place, row_at_gap}
 use Rattle.bo_base.proofs.rows.Rows.get.Goals as goal
 

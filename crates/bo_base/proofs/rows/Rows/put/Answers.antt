@@ -1,6 +1,6 @@
-use Rattle.std.proofs.Common.{subst, sym, ap, ◌∙◌, arith, length-set, rules, length}
+use Rattle.std.proofs.Common.{subst, sym, ◌∙◌, arith, length-set}
 use Rattle.std.proofs.lemmas.List.Edits.{length-insert}
-use Rattle.bo_base.specs.Tables.{AreInOrder, with_row}
+use Rattle.bo_base.specs.Tables.{AreInOrder}
 use Rattle.bo_base.proofs.Places.{set_is_with_row, insert_is_with_row, with_row_in_order}
 use Rattle.bo_base.proofs.rows.Rows.put.Goals as goal
 
