@@ -1,5 +1,5 @@
 -- What was written, piece after piece.
-use Rattle.std.proofs.Common.{◌≡◌, ◌≢◌, ℕ, ◌+◌, ◌<◌, Bool, true, false, ◌&&◌, ◌||◌, List, [], ◌∷◌, ◌++◌, length, get_or, take, drop, Option, Some, Result, Ok, Err, refl, sym, ap, ◌∙◌, subst, arith, codes, decimal, append_assoc, append-nil, take-append-drop}
+use Rattle.std.proofs.Common.{◌≡◌, ◌≢◌, ℕ, ◌+◌, ◌<◌, Bool, true, false, ◌&&◌, ◌||◌, List, [], ◌∷◌, ◌++◌, length, get_or, take, drop, Option, Some, Result, Ok, Err, refl, sym, ap, ◌∙◌, subst, arith, codes, decimal, append_assoc, take-append-drop}
 use Rattle.std.specs.Result.{OnOk, OnErr}
 use Rattle.std.specs.List.{flat_map, concat}
 use Rattle.std.proofs.lemmas.List.{drop_more}
@@ -8,11 +8,8 @@ use Rattle.std.proofs.lemmas.Bool.Decides.{nat_tests}
 use Rattle.bo_base.specs.declared.answer.Methods.{Methods}
 use Rattle.bo_base.specs.Told.{Adds}
 use Rattle.bo_base.proofs.ToldLemmas.{Adds-append}
+use Rattle.bo_http.specs.Written.{AddsPart}
 use Rattle.bo_http.specs.Text.{when, has_content, content_fields, listed, name_if, allow_field}
-
--- a part of the text was added
-abbrev pub Stops : Option (List ℕ) → List ℕ → Option (List ℕ) → Type 0
-Stops old text new = (part : List ℕ) × (rest : List ℕ) × (text ≡ part ++ rest) × Adds old part new
 
 pub on_err : {T E : Type 0} (r : Result T E) {P : Type 0} → P → OnErr r P
 on_err (Ok x) p = tt
@@ -31,7 +28,7 @@ pieces_around {X} f xs i d part rest below is =
     ∙ sym (append_assoc front part (rest ++ behind))
 
 pub stopped_in : {X : Type 0} (f : X → List ℕ) (xs : List X) (i : ℕ) (d : X) (old mid new : Option (List ℕ)) → i < length xs
-    → Adds old (flat_map f (take i xs)) mid → Stops mid (f (get_or xs i d)) new → Stops old (flat_map f xs) new
+    → Adds old (flat_map f (take i xs)) mid → AddsPart mid (f (get_or xs i d)) new → AddsPart old (flat_map f xs) new
 stopped_in f xs i d old mid new below before (part, rest, is, added) = (
   flat_map f (take i xs) ++ part,
   rest ++ flat_map f (drop (i + 1) xs),
@@ -40,11 +37,11 @@ stopped_in f xs i d old mid new below before (part, rest, is, added) = (
 )
 
 -- the first of two texts stopped
-pub stopped : (old new : Option (List ℕ)) (xs ys : List ℕ) → Stops old xs new → Stops old (xs ++ ys) new
+pub stopped : (old new : Option (List ℕ)) (xs ys : List ℕ) → AddsPart old xs new → AddsPart old (xs ++ ys) new
 stopped old new xs ys (part, rest, is, added) = (part, rest ++ ys, ap (λ (t : List ℕ). t ++ ys) is ∙ append_assoc part rest ys, added)
 
 -- the first of two texts was written, and the second stopped
-pub stopped_behind : (old mid new : Option (List ℕ)) (xs ys : List ℕ) → Adds old xs mid → Stops mid ys new → Stops old (xs ++ ys) new
+pub stopped_behind : (old mid new : Option (List ℕ)) (xs ys : List ℕ) → Adds old xs mid → AddsPart mid ys new → AddsPart old (xs ++ ys) new
 stopped_behind old mid new xs ys before (part, rest, is, added) =
     (xs ++ part, rest, ap (λ (t : List ℕ). xs ++ t) is ∙ sym (append_assoc xs part rest), Adds-append old mid new xs part before added)
 
@@ -52,7 +49,7 @@ pub ok_behind : {T E : Type 0} (r : Result T E) (old mid new : Option (List ℕ)
 ok_behind (Ok x) old mid new xs ys before added = Adds-append old mid new xs ys before added
 ok_behind (Err e) old mid new xs ys before added = tt
 
-pub err_behind : {T E : Type 0} (r : Result T E) (old mid new : Option (List ℕ)) (xs ys : List ℕ) → Adds old xs mid → OnErr r (Stops mid ys new) → OnErr r (Stops old (xs ++ ys) new)
+pub err_behind : {T E : Type 0} (r : Result T E) (old mid new : Option (List ℕ)) (xs ys : List ℕ) → Adds old xs mid → OnErr r (AddsPart mid ys new) → OnErr r (AddsPart old (xs ++ ys) new)
 err_behind (Ok x) old mid new xs ys before stops = tt
 err_behind (Err e) old mid new xs ys before stops = stopped_behind old mid new xs ys before stops
 
@@ -61,14 +58,14 @@ err_behind (Err e) old mid new xs ys before stops = stopped_behind old mid new x
 pub adds_as : (old new : Option (List ℕ)) (xs ys : List ℕ) → xs ≡ ys → Adds old xs new → Adds old ys new
 adds_as old new xs ys is added = subst (λ (t : List ℕ). Adds old t new) is added
 
-pub stops_as : (old new : Option (List ℕ)) (xs ys : List ℕ) → xs ≡ ys → Stops old xs new → Stops old ys new
-stops_as old new xs ys is stops = subst (λ (t : List ℕ). Stops old t new) is stops
+pub stops_as : (old new : Option (List ℕ)) (xs ys : List ℕ) → xs ≡ ys → AddsPart old xs new → AddsPart old ys new
+stops_as old new xs ys is stops = subst (λ (t : List ℕ). AddsPart old t new) is stops
 
 pub ok_as : {T E : Type 0} (r : Result T E) (old new : Option (List ℕ)) (xs ys : List ℕ) → xs ≡ ys → OnOk r (Adds old xs new) → OnOk r (Adds old ys new)
 ok_as r old new xs ys is added = subst (λ (t : List ℕ). OnOk r (Adds old t new)) is added
 
-pub err_as : {T E : Type 0} (r : Result T E) (old new : Option (List ℕ)) (xs ys : List ℕ) → xs ≡ ys → OnErr r (Stops old xs new) → OnErr r (Stops old ys new)
-err_as r old new xs ys is stops = subst (λ (t : List ℕ). OnErr r (Stops old t new)) is stops
+pub err_as : {T E : Type 0} (r : Result T E) (old new : Option (List ℕ)) (xs ys : List ℕ) → xs ≡ ys → OnErr r (AddsPart old xs new) → OnErr r (AddsPart old ys new)
+err_as r old new xs ys is stops = subst (λ (t : List ℕ). OnErr r (AddsPart old t new)) is stops
 
 -- ---- the texts
 

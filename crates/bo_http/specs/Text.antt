@@ -1,5 +1,5 @@
 -- The texts of answers.
-use Rattle.std.specs.Prelude.{ℕ, Bool, true, false, not, List, [], ◌∷◌, ◌++◌, length, Option, Some, None, unwrap_or, if◌then◌else◌, ◌==◌, codes, decimal}
+use Rattle.std.specs.Prelude.{ℕ, Bool, true, not, List, [], ◌∷◌, ◌++◌, length, Option, Some, None, unwrap_or, if◌then◌else◌, ◌==◌, codes, decimal}
 use Rattle.std.specs.List.{concat}
 use Rattle.http.specs.StatusCode.{code_digits, reason_phrase}
 use Rattle.bo_base.specs.declared.answer.Methods.{Methods}

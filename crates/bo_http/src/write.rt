@@ -1,8 +1,9 @@
 //! Answers, written in pieces: no whole text is built, and no memory is taken.
 
-ghost use Rattle.std.specs.Prelude.{◌≡◌, ℕ, ◌+◌, List, ◌++◌, OnOk, OnErr};
+ghost use Rattle.std.specs.Prelude.{◌≡◌, ◌+◌, OnOk, OnErr};
 ghost use Rattle.std.specs.List.{flat_map};
 ghost use Rattle.bo_base.specs.Told.{Adds};
+ghost use Rattle.bo_http.specs.Written.{AddsPart};
 ghost use Rattle.bo_http.specs.Text.{when, phrase, challenge, close_field, content, status_line, content_fields, allow_field, answer_text, text, fault_text};
 
 use crate::fault::Fault;
@@ -15,7 +16,7 @@ use itoa::Buffer;
 pub fn write_all<W: Drain>(writer: &mut W, bytes: &[u8]) -> Result<(), Refused>
     ensures all { OnOk result (Adds (W.taken writer.old) bytes.now (W.taken writer.new)) }
     ensures well { OnOk result (W.failures writer.new ≡ W.failures writer.old) }
-    ensures part { OnErr result ((part : List ℕ) × (rest : List ℕ) × (bytes.now ≡ part ++ rest) × Adds (W.taken writer.old) part (W.taken writer.new)) }
+    ensures part { OnErr result (AddsPart (W.taken writer.old) bytes.now (W.taken writer.new)) }
     ensures failed { OnErr result (W.failures writer.new ≡ W.failures writer.old + 1) }
 {
     let mut at = 0;
@@ -32,7 +33,7 @@ pub fn write_all<W: Drain>(writer: &mut W, bytes: &[u8]) -> Result<(), Refused>
 fn write_pieces<W: Drain>(writer: &mut W, pieces: &[&[u8]]) -> Result<(), Refused>
     ensures all { OnOk result (Adds (W.taken writer.old) (flat_map (λ p. p.now) pieces.now) (W.taken writer.new)) }
     ensures well { OnOk result (W.failures writer.new ≡ W.failures writer.old) }
-    ensures part { OnErr result ((part : List ℕ) × (rest : List ℕ) × (flat_map (λ p. p.now) pieces.now ≡ part ++ rest) × Adds (W.taken writer.old) part (W.taken writer.new)) }
+    ensures part { OnErr result (AddsPart (W.taken writer.old) (flat_map (λ p. p.now) pieces.now) (W.taken writer.new)) }
     ensures failed { OnErr result (W.failures writer.new ≡ W.failures writer.old + 1) }
 {
     for piece in pieces {
@@ -87,10 +88,11 @@ fn content(status: StatusCode, body: &[u8]) -> &[u8]
     when(status.as_u16() != 204, body)
 }
 
+// Writes the first line.
 fn write_status_line<W: Drain>(writer: &mut W, status: StatusCode) -> Result<(), Refused>
     ensures all { OnOk result (Adds (W.taken writer.old) (status_line status) (W.taken writer.new)) }
     ensures well { OnOk result (W.failures writer.new ≡ W.failures writer.old) }
-    ensures part { OnErr result ((part : List ℕ) × (rest : List ℕ) × (status_line status ≡ part ++ rest) × Adds (W.taken writer.old) part (W.taken writer.new)) }
+    ensures part { OnErr result (AddsPart (W.taken writer.old) (status_line status) (W.taken writer.new)) }
     ensures failed { OnErr result (W.failures writer.new ≡ W.failures writer.old + 1) }
 {
     write_pieces(
@@ -113,7 +115,7 @@ fn write_content_fields<W: Drain>(
 ) -> Result<(), Refused>
     ensures all { OnOk result (Adds (W.taken writer.old) (content_fields status size) (W.taken writer.new)) }
     ensures well { OnOk result (W.failures writer.new ≡ W.failures writer.old) }
-    ensures part { OnErr result ((part : List ℕ) × (rest : List ℕ) × (content_fields status size ≡ part ++ rest) × Adds (W.taken writer.old) part (W.taken writer.new)) }
+    ensures part { OnErr result (AddsPart (W.taken writer.old) (content_fields status size) (W.taken writer.new)) }
     ensures failed { OnErr result (W.failures writer.new ≡ W.failures writer.old + 1) }
 {
     if status.as_u16() == 204 {
@@ -134,7 +136,7 @@ fn write_content_fields<W: Drain>(
 fn write_allow<W: Drain>(writer: &mut W, allow: Option<Methods>) -> Result<(), Refused>
     ensures all { OnOk result (Adds (W.taken writer.old) (allow_field allow) (W.taken writer.new)) }
     ensures well { OnOk result (W.failures writer.new ≡ W.failures writer.old) }
-    ensures part { OnErr result ((part : List ℕ) × (rest : List ℕ) × (allow_field allow ≡ part ++ rest) × Adds (W.taken writer.old) part (W.taken writer.new)) }
+    ensures part { OnErr result (AddsPart (W.taken writer.old) (allow_field allow) (W.taken writer.new)) }
     ensures failed { OnErr result (W.failures writer.new ≡ W.failures writer.old + 1) }
 {
     let Some(path) = allow else {
@@ -166,7 +168,7 @@ fn write_text<W: Drain>(
 ) -> Result<(), Refused>
     ensures all { OnOk result (Adds (W.taken writer.old) (answer_text status allow body.now closes) (W.taken writer.new)) }
     ensures well { OnOk result (W.failures writer.new ≡ W.failures writer.old) }
-    ensures part { OnErr result ((part : List ℕ) × (rest : List ℕ) × (answer_text status allow body.now closes ≡ part ++ rest) × Adds (W.taken writer.old) part (W.taken writer.new)) }
+    ensures part { OnErr result (AddsPart (W.taken writer.old) (answer_text status allow body.now closes) (W.taken writer.new)) }
     ensures failed { OnErr result (W.failures writer.new ≡ W.failures writer.old + 1) }
 {
     write_status_line(writer, status)?;
@@ -183,7 +185,7 @@ fn write_text<W: Drain>(
 pub fn write_answer<W: Drain>(writer: &mut W, answer: &Answer, closes: bool) -> Result<(), Refused>
     ensures all { OnOk result (Adds (W.taken writer.old) (text answer.now closes) (W.taken writer.new)) }
     ensures well { OnOk result (W.failures writer.new ≡ W.failures writer.old) }
-    ensures part { OnErr result ((part : List ℕ) × (rest : List ℕ) × (text answer.now closes ≡ part ++ rest) × Adds (W.taken writer.old) part (W.taken writer.new)) }
+    ensures part { OnErr result (AddsPart (W.taken writer.old) (text answer.now closes) (W.taken writer.new)) }
     ensures failed { OnErr result (W.failures writer.new ≡ W.failures writer.old + 1) }
 {
     match answer {
@@ -209,7 +211,7 @@ pub fn write_answer<W: Drain>(writer: &mut W, answer: &Answer, closes: bool) -> 
 pub fn write_fault<W: Drain>(writer: &mut W, fault: Fault) -> Result<(), Refused>
     ensures all { OnOk result (Adds (W.taken writer.old) (fault_text fault) (W.taken writer.new)) }
     ensures well { OnOk result (W.failures writer.new ≡ W.failures writer.old) }
-    ensures part { OnErr result ((part : List ℕ) × (rest : List ℕ) × (fault_text fault ≡ part ++ rest) × Adds (W.taken writer.old) part (W.taken writer.new)) }
+    ensures part { OnErr result (AddsPart (W.taken writer.old) (fault_text fault) (W.taken writer.new)) }
     ensures failed { OnErr result (W.failures writer.new ≡ W.failures writer.old + 1) }
 {
     write_text(writer, fault.status(), None, fault.body().as_bytes(), true)

@@ -1,4 +1,4 @@
-use Rattle.std.proofs.Common.{◌≡◌, ℕ, List, Option, Some, None, [], Bor, option_map, unwrap_or, sym, ap, ◌∙◌}
+use Rattle.std.proofs.Common.{◌≡◌, ℕ, List, Option, Some, None, [], unwrap_or, ap, ◌∙◌}
 use Rattle.http.specs.StatusCode.{reason_phrase}
 use Rattle.bo_http.specs.Text.{phrase}
 use Rattle.bo_http.proofs.write.phrase.Goals as goal

@@ -1,4 +1,4 @@
-use Rattle.std.proofs.Common.{◌≡◌, ℕ, List, ◌++◌, take, drop, sym, subst, rules, append-nil, arith, ap, length, length-drop, take-append-drop}
+use Rattle.std.proofs.Common.{ℕ, List, take, drop, sym, subst, rules, append-nil, arith, ap, length, length-drop, take-append-drop}
 use Rattle.std.proofs.lemmas.List.{take_rest}
 use Rattle.bo_base.specs.Told.{Adds}
 use Rattle.bo_base.proofs.ToldLemmas.{Adds-append, take_on}

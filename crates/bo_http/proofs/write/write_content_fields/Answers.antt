@@ -1,4 +1,4 @@
-use Rattle.std.proofs.Common.{◌≢◌, ℕ, sym, ◌∙◌}
+use Rattle.std.proofs.Common.{◌≢◌, ◌∙◌}
 use Rattle.bo_http.proofs.WriteLemmas.{ok_as, with_content}
 use Rattle.bo_http.proofs.write.write_content_fields.Goals as goal
 

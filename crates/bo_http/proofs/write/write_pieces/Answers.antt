@@ -1,4 +1,3 @@
-use Rattle.std.proofs.Common.{◌≡◌, ◌+◌, List, ℕ, ◌++◌, take, drop, flat_map}
 use Rattle.bo_http.proofs.WriteLemmas.{on_err, stopped_in}
 use Rattle.bo_http.proofs.write.write_pieces.Goals as goal
 

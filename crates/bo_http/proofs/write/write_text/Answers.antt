@@ -1,4 +1,4 @@
-use Rattle.std.proofs.Common.{◌≡◌, List, ℕ, ◌++◌, [], ap, ◌∙◌, sym, append-nil}
+use Rattle.std.proofs.Common.{◌∙◌, sym, append-nil}
 use Rattle.bo_http.specs.Text.{answer_text}
 use Rattle.bo_http.proofs.WriteLemmas.{on_err, stopped, stopped_behind, ok_behind, err_behind, adds_as, stops_as, ok_as, err_as}
 use Rattle.bo_http.proofs.write.write_text.Goals as goal
