@@ -1,10 +1,10 @@
 -- Runs of commands, and what holds of each step of a run.
-use Rattle.std.specs.Prelude.{◌≡◌, ℕ, ◌≤◌, max, List, [], ◌∷◌, None}
+use Rattle.std.specs.Prelude.{◌≡◌, ℕ, ◌≤◌, max, List, [], ◌∷◌}
 use Rattle.bo_base.specs.declared.draw.Draw.{Draw}
 use Rattle.bo_usage.specs.declared.rows.CartPos.{CartPos}
 use Rattle.bo_usage.specs.Lists.{State}
-use Rattle.bo_usage.specs.Over.{first_over}
 use Rattle.bo_usage.specs.Sound.{IsSound}
+use Rattle.bo_orders.specs.Takes.{TakesNoMore}
 use Rattle.bo_office.specs.declared.command.Command.{Command}
 use Rattle.bo_office.specs.declared.command.Kind.{Kind}
 use Rattle.bo_office.specs.declared.reply.Refusal.{Refusal}
@@ -40,9 +40,9 @@ abbrev pub trace : List Arrival → State → List Stepped
 trace [] state = []
 trace (arrival ∷ arrivals) state = stepped arrival state ∷ trace arrivals (stepped arrival state).after
 
--- where a cart position was added, too much was taken of no quota
+-- where a cart position was added, no quota's usage went above its size
 abbrev pub NoneOver : Stepped → Type 0
-NoneOver s = (row : CartPos) → s.reply ≡ Cart row → first_over s.before.lists s.after.lists s.at (row.id ∷ []) ≡ None
+NoneOver s = (row : CartPos) → s.reply ≡ Cart row → TakesNoMore (record s.before { moment = s.at }) s.after
 
 abbrev pub LeavesSound : Stepped → Type 0
 LeavesSound s = IsSound s.after

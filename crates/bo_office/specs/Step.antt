@@ -1,5 +1,5 @@
 -- What each command does.
-use Rattle.std.specs.Prelude.{ℕ, ◌+◌, List, [], Result, Ok, Err}
+use Rattle.std.specs.Prelude.{ℕ, [], Result, Ok, Err}
 use Rattle.bo_base.specs.declared.draw.Draw.{Draw}
 use Rattle.bo_catalogue.specs.declared.rows.Item.{Item}
 use Rattle.bo_catalogue.specs.declared.rows.Quota.{Quota}
@@ -7,9 +7,9 @@ use Rattle.bo_catalogue.specs.declared.refusal.CatalogueRefusal.{CatalogueRefusa
 use Rattle.bo_catalogue.specs.ItemAdded.{item_added}
 use Rattle.bo_catalogue.specs.QuotaAdded.{quota_added}
 use Rattle.bo_usage.specs.declared.rows.CartPos.{CartPos}
-use Rattle.bo_usage.specs.declared.changes.Change.TheVariants.{PutItem, PutQuota}
 use Rattle.bo_usage.specs.Lists.{State}
-use Rattle.bo_usage.specs.Change.{Changed, after_change}
+use Rattle.bo_usage.specs.Change.{Changed}
+use Rattle.bo_usage.specs.Numbered.{with_item, with_quota}
 use Rattle.bo_orders.specs.declared.refusal.OrderRefusal.{OrderRefusal}
 use Rattle.bo_orders.specs.Carts.{position_added}
 use Rattle.bo_office.specs.declared.command.Command.{Command}
@@ -22,14 +22,6 @@ use Rattle.bo_office.specs.declared.reply.Reply.TheVariants.{Item as TheItem, Qu
 -- no row is put, and the next ids stay
 abbrev pub no_change : State → Changed
 no_change state = record { list = []; next = state.next }
-
--- the office with a new item
-abbrev pub with_item : Item → State → State
-with_item row state = record state { lists = after_change (PutItem row) state.lists; next = record state.next { item = state.next.item + 1 } }
-
--- the office with a new quota
-abbrev pub with_quota : Quota → State → State
-with_quota row state = record state { lists = after_change (PutQuota row) state.lists; next = record state.next { quota = state.next.quota + 1 } }
 
 abbrev pub item_step : State → Result Item CatalogueRefusal → State × Reply
 item_step state (Ok row) = (with_item row state, TheItem row)

@@ -1,6 +1,7 @@
 //! One box office over a book.
 
-ghost use Rattle.std.specs.Prelude.{◌≡◌, ◌≤◌, IfOk, OnOk, length};
+ghost use Rattle.std.specs.Prelude.{◌≡◌, ◌≤◌, ℕ, IfOk, OnOk, length};
+ghost use Rattle.bo_base.specs.declared.draw.Draw.{Draw};
 ghost use Rattle.bo_usage.specs.Change.{applied};
 ghost use Rattle.bo_usage.specs.Sound.{IsSound};
 ghost use Rattle.bo_office.specs.Step.{step, no_change};
@@ -112,21 +113,15 @@ impl<B: Book> Office<B> {
         ensures { IfOk result (λ r. (applied r.0 at self.now.state, r.1) ≡ step command.now at draw self.now.state) }
     {
         match command {
-            Command::AddItem(new) => self.add_item(alloc, at, draw, new),
-            Command::AddQuota(new) => self.add_quota(alloc, at, draw, new),
+            Command::AddItem(new) => self.add_item(alloc, new),
+            Command::AddQuota(new) => self.add_quota(alloc, new),
             Command::AddCart(new) => self.add_cart(alloc, at, draw, new),
         }
     }
 
-    // Adds an item.
-    fn add_item(
-        &self,
-        alloc: Global,
-        _at: Moment,
-        _draw: Draw,
-        new: &NewItem,
-    ) -> Result<(Changes, Reply), AllocError>
-        ensures { IfOk result (λ r. (applied r.0 _at self.now.state, r.1) ≡ step (Command.AddItem new.now) _at _draw self.now.state) }
+    // Adds an item, at whatever moment and with whatever draw.
+    fn add_item(&self, alloc: Global, new: &NewItem) -> Result<(Changes, Reply), AllocError>
+        ensures { IfOk result (λ r. (at : ℕ) (draw : Draw) → (applied r.0 at self.now.state, r.1) ≡ step (Command.AddItem new.now) at draw self.now.state) }
     {
         let next = self.book.next_ids();
         match self.book.catalogue().add_item(alloc, new, next.item) {
@@ -144,15 +139,9 @@ impl<B: Book> Office<B> {
         }
     }
 
-    // Adds a quota.
-    fn add_quota(
-        &self,
-        alloc: Global,
-        _at: Moment,
-        _draw: Draw,
-        new: &NewQuota,
-    ) -> Result<(Changes, Reply), AllocError>
-        ensures { IfOk result (λ r. (applied r.0 _at self.now.state, r.1) ≡ step (Command.AddQuota new.now) _at _draw self.now.state) }
+    // Adds a quota, at whatever moment and with whatever draw.
+    fn add_quota(&self, alloc: Global, new: &NewQuota) -> Result<(Changes, Reply), AllocError>
+        ensures { IfOk result (λ r. (at : ℕ) (draw : Draw) → (applied r.0 at self.now.state, r.1) ≡ step (Command.AddQuota new.now) at draw self.now.state) }
     {
         let next = self.book.next_ids();
         match self.book.catalogue().add_quota(alloc, new, next.quota) {

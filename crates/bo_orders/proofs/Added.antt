@@ -2,18 +2,54 @@
 use Rattle.std.proofs.Common.{◌≡◌, ℕ, ◌+◌, Bool, true, false, List, [], ◌∷◌, Option, Some, None, Result, Ok, Err, refl, sym, ap, ◌∙◌, subst}
 use Rattle.std.specs.Prelude.{if◌then◌else◌}
 use Rattle.bo_base.specs.declared.draw.Draw.{Draw}
+use Rattle.bo_catalogue.specs.declared.rows.Product.{Product}
 use Rattle.bo_catalogue.specs.declared.refusal.CatalogueRefusal.{CatalogueRefusal}
 use Rattle.bo_catalogue.specs.declared.refusal.CatalogueRefusal.TheVariants.{Full}
+use Rattle.bo_catalogue.specs.CatalogueLists.{base_price}
 use Rattle.bo_usage.specs.declared.rows.CartPos.{CartPos}
 use Rattle.bo_usage.specs.declared.changes.Change.TheVariants.{PutCart}
 use Rattle.bo_usage.specs.Lists.{State}
 use Rattle.bo_usage.specs.Change.{after_change}
 use Rattle.bo_usage.specs.Full.{takes_cart}
+use Rattle.bo_usage.specs.Headroom.{has_use}
+use Rattle.bo_usage.specs.Numbered.{with_cart}
 use Rattle.bo_usage.specs.Over.{first_over}
+use Rattle.bo_usage.specs.Sound.{IsSound}
+use Rattle.bo_usage.proofs.Sound.{sound_cart}
+use Rattle.bo_orders.specs.CartId.{cart_id_test}
+use Rattle.bo_orders.specs.Takes.{TakesNoMore}
+use Rattle.bo_orders.proofs.Takes.{takes_no_more}
 use Rattle.bo_orders.specs.declared.new_cart.NewCart.{NewCart}
 use Rattle.bo_orders.specs.declared.refusal.OrderRefusal.{OrderRefusal}
 use Rattle.bo_orders.specs.declared.refusal.OrderRefusal.TheVariants.{Catalogue}
-use Rattle.bo_orders.specs.Carts.{position_added, placed, placed_by, placed_if, with_cart, cart_row}
+use Rattle.bo_orders.specs.Carts.{position_added, placed, placed_by, placed_if, cart_row, row_in_cart, row_of_product, row_at_price, product_for_sale, price_by}
+
+-- the row has the next id, and names no voucher
+pub record IsNew (state : State) (row : CartPos) : Type 0 where
+  pub id : row.id ≡ state.next.cart
+  pub voucher : row.voucher ≡ None
+
+ok_same : (a b : CartPos) → (let all : Result CartPos OrderRefusal = Ok a in all ≡ Ok b) → a ≡ b
+ok_same a b h = cc
+
+module _ (new : NewCart) (draw : Draw) (state : State) (row : CartPos) where
+  by_price : (product : Product) (price : Result ℕ OrderRefusal) → row_at_price new draw state product price ≡ Ok row → IsNew state row
+  by_price product (Err refusal) h = absurd (cc)
+  by_price product (Ok price) h =
+      let same = ok_same _ row h in
+      record { id = sym (ap (λ (r : CartPos). r.id) same); voucher = sym (ap (λ (r : CartPos). r.voucher) same) }
+
+  by_product : (product : Result Product CatalogueRefusal) → row_of_product new draw state product ≡ Ok row → IsNew state row
+  by_product (Err refusal) h = absurd (cc)
+  by_product (Ok product) h = by_price product (price_by new.price (base_price product state.lists.catalogue)) h
+
+  by_cart : (test : Result (Unit {0}) OrderRefusal) → row_in_cart new draw state test ≡ Ok row → IsNew state row
+  by_cart (Err refusal) h = absurd (cc)
+  by_cart (Ok u) h = by_product (product_for_sale new.item new.variation state.lists.catalogue) h
+
+  pub row_is_new : cart_row new draw state ≡ Ok row → IsNew state row
+  unfolding cart_row
+  row_is_new h = by_cart (cart_id_test new.cart_id) h
 
 -- the row, the tests that it passed, and the box office with it
 pub record IsAdded (new : NewCart) (draw : Draw) (before after : State) (row : CartPos) : Type 0 where
@@ -46,8 +82,21 @@ module _ (new : NewCart) (draw : Draw) (before after : State) (row : CartPos) wh
   unfolding position_added
   added_is h = by_row (cart_row new draw before) refl h
 
-  -- no quota is over
-  pub added_none_over : position_added new draw before ≡ Ok (after, row) → first_over before.lists after.lists before.moment (row.id ∷ []) ≡ None
-  added_none_over h =
+  -- no quota is taken too much of
+  pub added_takes_no_more : position_added new draw before ≡ Ok (after, row) → TakesNoMore before after
+  added_takes_no_more h =
       let a = added_is h in
-      subst (λ (s : State). first_over before.lists s.lists before.moment (row.id ∷ []) ≡ None) a.is_after a.not_over
+      let n = row_is_new new draw before row a.is_row in
+      subst (λ (s : State). TakesNoMore before s) a.is_after (takes_no_more before row n.voucher a.not_over)
+
+  pub added_moment : position_added new draw before ≡ Ok (after, row) → after.moment ≡ before.moment
+  added_moment h =
+      let a = added_is h in
+      sym (ap (λ (s : State). s.moment) a.is_after)
+
+  -- the box office stays sound
+  pub added_sound : IsSound before → position_added new draw before ≡ Ok (after, row) → IsSound after
+  added_sound sound h =
+      let a = added_is h in
+      let n = row_is_new new draw before row a.is_row in
+      subst IsSound a.is_after (sound_cart before row n.id (ap (λ (v : Option ℕ). has_use before.moment before.lists v) n.voucher) sound)

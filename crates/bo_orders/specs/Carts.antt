@@ -1,5 +1,5 @@
 -- Adding a cart position: the first refusal, or else the box office with the new row.
-use Rattle.std.specs.Prelude.{ℕ, ◌+◌, List, [], ◌∷◌, Option, Some, None, Result, Ok, Err, if◌then◌else◌, unwrap_or, min}
+use Rattle.std.specs.Prelude.{ℕ, ◌+◌, [], ◌∷◌, Option, Some, None, Result, Ok, Err, if◌then◌else◌, unwrap_or, min}
 use Rattle.bo_base.specs.Moments.{last_moment}
 use Rattle.bo_base.specs.declared.draw.Draw.{Draw}
 use Rattle.bo_catalogue.specs.declared.rows.Product.{Product}
@@ -11,6 +11,7 @@ use Rattle.bo_usage.specs.declared.changes.Change.TheVariants.{PutCart}
 use Rattle.bo_usage.specs.Lists.{State}
 use Rattle.bo_usage.specs.Change.{after_change}
 use Rattle.bo_usage.specs.Full.{takes_cart}
+use Rattle.bo_usage.specs.Numbered.{with_cart}
 use Rattle.bo_usage.specs.Over.{first_over}
 use Rattle.bo_orders.specs.CartId.{cart_id_test, cart_id_of}
 use Rattle.bo_orders.specs.declared.new_cart.NewCart.{NewCart}
@@ -55,10 +56,6 @@ row_in_cart new draw state (Ok _) = row_of_product new draw state (product_for_s
 -- the row that is asked for
 unfoldable pub cart_row : NewCart → Draw → State → Result CartPos OrderRefusal
 cart_row new draw state = row_in_cart new draw state (cart_id_test new.cart_id)
-
--- the box office with the row
-abbrev pub with_cart : CartPos → State → State
-with_cart row state = record state { lists = after_change (PutCart row) state.lists; next = record state.next { cart = state.next.cart + 1 } }
 
 abbrev pub placed_by : CartPos → State → Option ℕ → Result (State × CartPos) OrderRefusal
 placed_by row state (Some quota) = Err (SoldOut quota)

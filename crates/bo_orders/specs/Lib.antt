@@ -1,3 +1,4 @@
 pub mod CartId
 pub mod Carts
 pub mod Refusals
+pub mod Takes

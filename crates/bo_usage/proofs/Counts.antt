@@ -1,13 +1,12 @@
 -- How many cart positions there are after one came or went.
-use Rattle.std.proofs.Common.{◌≡◌, ℕ, ◌+◌, ◌-◌, List, [], ◌∷◌, ◌++◌, length, refl, sym, ap, ◌∙◌, sum_by, arith}
+use Rattle.std.proofs.Common.{◌≡◌, ℕ, ◌+◌, ◌-◌, List, [], ◌∷◌, ◌++◌, length, refl, ap, ◌∙◌, sum_by, arith}
 use Rattle.std.proofs.lemmas.List.Sums.{sum_by-cons}
-use Rattle.bo_base.specs.Tables.{AreInOrder, sum_at, row_at, with_row, without_row}
+use Rattle.bo_base.specs.Tables.{AreInOrder, sum_at, with_row, without_row}
 use Rattle.bo_base.proofs.Edits.{sum_by-with_row, sum_by-without_row}
 use Rattle.bo_usage.specs.declared.rows.CartPos.{CartPos}
 use Rattle.bo_usage.specs.declared.changes.Change.TheVariants.{PutCart, DropCart}
 use Rattle.bo_usage.specs.Lists.{cart_at}
 use Rattle.bo_usage.specs.DraftState.{Log, rows_of}
-use Rattle.bo_usage.specs.Change.{after_change}
 use Rattle.bo_usage.proofs.Steps.{after_all-push}
 
 length_is : {T : Type 0} (rows : List T) → length rows ≡ sum_by (λ r. 1) rows

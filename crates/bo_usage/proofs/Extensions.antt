@@ -1,9 +1,9 @@
 -- A draft that goes on keeps its marks.
-use Rattle.std.proofs.Common.{◌≡◌, ℕ, ◌≤◌, List, [], ◌∷◌, ◌++◌, length, take, refl, sym, ap, ◌∙◌, subst, arith, length-append}
+use Rattle.std.proofs.Common.{◌≡◌, ◌≤◌, List, [], ◌∷◌, length, refl, sym, ap, ◌∙◌, arith, length-append}
 use Rattle.std.proofs.lemmas.List.{take-append-le}
 use Rattle.bo_usage.specs.declared.changes.Change.{Change}
 use Rattle.bo_usage.specs.Change.{changed}
-use Rattle.bo_usage.specs.DraftState.{DraftState, MarkState, IsMarkOf, Extends, now, back, with_change, usages_of}
+use Rattle.bo_usage.specs.DraftState.{DraftState, MarkState, Extends, now, back, with_change, usages_of}
 use Rattle.bo_usage.proofs.Steps.{after_all-push}
 
 pub extends_same : (draft : DraftState) → Extends draft draft

@@ -1,16 +1,16 @@
 -- What keeps headroom: time, and a cart position whose voucher has a use left.
-use Rattle.std.proofs.Common.{◌≡◌, ℕ, suc, ◌+◌, ◌-◌, ◌<◌, ◌≤◌, ◌≢◌, ◌⊎◌, inl, inr, Bool, true, false, ◌&&◌, eqb, leb, List, [], ◌∷◌, Option, Some, None, refl, sym, ap, ◌∙◌, subst, count_by, sum_by, arith}
-use Rattle.std.specs.Prelude.{if◌then◌else◌, nat_lt}
+use Rattle.std.proofs.Common.{◌≡◌, ℕ, ◌+◌, ◌<◌, ◌≤◌, ◌≢◌, ◌⊎◌, inl, inr, Bool, true, false, ◌&&◌, eqb, leb, List, [], ◌∷◌, Option, Some, None, refl, sym, ap, ◌∙◌, arith}
+use Rattle.std.specs.Prelude.{if◌then◌else◌}
 use Rattle.std.specs.List.{AllByRecursion}
-use Rattle.std.proofs.lemmas.Bool.Decides.{nat_tests, eqb_tells, leb_tells}
+use Rattle.std.proofs.lemmas.Bool.Decides.{nat_tests, eqb_tells}
 use Rattle.std.proofs.lemmas.List.Sums.{sum_by-le-sum_by}
-use Rattle.bo_base.specs.Tables.{row_at, sum_at, InOrderFrom, AreInOrder}
+use Rattle.bo_base.specs.Tables.{row_at, InOrderFrom, AreInOrder}
 use Rattle.bo_base.proofs.Edits.{sum_by-with_row}
 use Rattle.bo_usage.specs.declared.rows.Voucher.{Voucher}
 use Rattle.bo_usage.specs.declared.rows.CartPos.{CartPos}
 use Rattle.bo_usage.specs.declared.changes.Change.TheVariants.{PutCart}
 use Rattle.bo_usage.specs.Tests.{is_live_cart, names, holds}
-use Rattle.bo_usage.specs.Lists.{Lists, voucher_at, cart_at}
+use Rattle.bo_usage.specs.Lists.{Lists}
 use Rattle.bo_usage.specs.Change.{after_change}
 use Rattle.bo_usage.specs.Usage.{redeemed}
 use Rattle.bo_usage.specs.Headroom.{held, HasHeadroom, AllHaveHeadroom, has_use, has_use_by}

@@ -1,9 +1,7 @@
 -- How many cart positions name a voucher, one change after another.
-use Rattle.std.proofs.Common.{◌≡◌, ℕ, suc, ◌+◌, ◌-◌, ◌<◌, ◌≤◌, ◌⊎◌, inl, inr, Bool, true, false, ◌&&◌, List, [], ◌∷◌, ◌++◌, length, take, get_or, Option, Some, None, refl, sym, ap, ◌∙◌, subst, count_by, sum_by, arith, length-append}
+use Rattle.std.proofs.Common.{◌≡◌, ℕ, ◌+◌, ◌<◌, Bool, true, false, ◌&&◌, length, get_or, refl, ap, ◌∙◌, count_by}
 use mir.Val.{bool_byte}
 use Rattle.std.specs.Prelude.{if◌then◌else◌}
-use Rattle.std.proofs.lemmas.Bool.{cases_lt}
-use Rattle.std.proofs.lemmas.List.{take_all, take-append-le}
 use Rattle.bo_base.specs.Tables.{row_at, sum_at, AreInOrder}
 use Rattle.bo_base.proofs.Edits.{sum_by-with_row, sum_by-without_row}
 use Rattle.bo_usage.specs.declared.rows.Order.{Order}
@@ -13,11 +11,11 @@ use Rattle.bo_usage.specs.declared.changes.Change.{Change}
 use Rattle.bo_usage.specs.declared.changes.Change.TheVariants.{PutCart, DropCart}
 use Rattle.bo_usage.specs.Tests.{is_in_force, names, holds}
 use Rattle.bo_usage.specs.Lists.{Lists, cart_at}
-use Rattle.bo_usage.specs.Change.{after_change, after_all}
-use Rattle.bo_usage.specs.Usage.{stands_as, uses, redeemed}
+use Rattle.bo_usage.specs.Change.{after_change}
+use Rattle.bo_usage.specs.Usage.{stands_as, redeemed}
 use Rattle.bo_usage.specs.Headroom.{held}
 use Rattle.bo_usage.specs.DraftState.{Log, rows_at}
-use Rattle.bo_usage.proofs.Steps.{after_all-push, after_all_more}
+use Rattle.bo_usage.proofs.Steps.{after_all_more}
 
 pub redeemed_same : (id : ℕ) (h k : Lists) → k.orders ≡ h.orders → k.positions ≡ h.positions → redeemed id k ≡ redeemed id h
 redeemed_same id h k orders positions = λ i. count_by (λ (p : OrderPos). names id p.voucher && stands_as is_in_force (row_at (λ (r : Order). r.id) p.order (orders i))) (positions i)

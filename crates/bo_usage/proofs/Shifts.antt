@@ -1,15 +1,14 @@
 -- The usage after a cart position came or went.
-use Rattle.std.proofs.Common.{◌≡◌, ℕ, ◌+◌, ◌-◌, ◌<◌, ◌≤◌, List, [], ◌∷◌, ◌++◌, length, map, take, drop, set, get_or, Option, Some, None, refl, sym, ap, ◌∙◌, count_by, sum_by, arith, zero, suc, add-one}
+use Rattle.std.proofs.Common.{◌≡◌, ℕ, ◌+◌, ◌-◌, ◌<◌, ◌≤◌, List, [], ◌∷◌, ◌++◌, length, map, take, drop, set, get_or, Some, None, refl, ap, ◌∙◌, count_by, arith, zero, suc, add-one}
 use Rattle.std.specs.Prelude.{if◌then◌else◌}
 use Rattle.std.proofs.lemmas.List.Sums.{count_by-le-length}
-use Rattle.bo_base.specs.Tables.{AreInOrder, sum_at}
+use Rattle.bo_base.specs.Tables.{AreInOrder}
 use Rattle.bo_base.proofs.Edits.{sum_by-with_row, sum_by-without_row}
 use Rattle.bo_catalogue.specs.declared.rows.Quota.{Quota}
 use Rattle.bo_usage.specs.declared.rows.CartPos.{CartPos}
-use Rattle.bo_usage.specs.declared.rows.Usage.{Usage}
 use Rattle.bo_usage.specs.declared.changes.Change.TheVariants.{PutCart, DropCart}
 use Rattle.bo_usage.specs.Lists.{Lists, cart_at}
-use Rattle.bo_usage.specs.Change.{after_change, after_all}
+use Rattle.bo_usage.specs.Change.{after_change}
 use Rattle.bo_usage.specs.Usage.{usage_of, cart_counts, blocked_by}
 use Rattle.bo_usage.specs.DraftState.{Log, rows_of, usages_of}
 use Rattle.bo_usage.proofs.Steps.{after_all-push}

@@ -1,17 +1,13 @@
 -- What keeps a box office sound.
-use Rattle.std.proofs.Common.{◌≡◌, ℕ, suc, ◌+◌, ◌<◌, ◌≤◌, ◌⊎◌, inl, inr, ◌≢◌, Bool, true, false, eqb, leb, if◌then◌else◌, List, [], ◌∷◌, Option, Some, None, refl, sym, ap, ◌∙◌, subst, arith}
+use Rattle.std.proofs.Common.{◌≡◌, ℕ, ◌+◌, ◌<◌, ◌≤◌, Bool, true, false, eqb, if◌then◌else◌, List, [], ◌∷◌, arith}
 use Rattle.std.specs.Prelude.{nat_lt}
 use Rattle.std.specs.List.{AllByRecursion}
-use Rattle.std.proofs.lemmas.Bool.Decides.{nat_tests, leb_tells, eqb_tells}
-use Rattle.bo_base.specs.Tables.{with_row, AreInOrder}
+use Rattle.bo_base.specs.Tables.{with_row}
 use Rattle.bo_base.proofs.Places.{with_row_in_order}
 use Rattle.bo_catalogue.specs.declared.rows.Item.{Item}
-use Rattle.bo_catalogue.specs.declared.rows.Variation.{Variation}
 use Rattle.bo_catalogue.specs.declared.rows.Quota.{Quota}
 use Rattle.bo_usage.specs.declared.rows.CartPos.{CartPos}
-use Rattle.bo_usage.specs.declared.changes.Change.TheVariants.{PutItem, PutQuota, PutCart}
-use Rattle.bo_usage.specs.Lists.{Lists, State, empty}
-use Rattle.bo_usage.specs.Change.{changed}
+use Rattle.bo_usage.specs.Lists.{State, empty}
 use Rattle.bo_usage.specs.Headroom.{has_use}
 use Rattle.bo_usage.specs.Numbered.{with_item, with_quota, with_cart}
 use Rattle.bo_usage.specs.Sound.{AreNumbered, IsSound}

@@ -1,9 +1,7 @@
 -- Look-ups and changes, one step on.
-use Rattle.std.proofs.Common.{◌≡◌, ℕ, ◌+◌, ◌<◌, List, [], ◌∷◌, ◌++◌, length, take, get_or, refl, sym, ap, ◌∙◌}
+use Rattle.std.proofs.Common.{◌≡◌, ℕ, ◌+◌, ◌<◌, List, [], ◌∷◌, ◌++◌, length, take, get_or, refl, ap, ◌∙◌}
 use Rattle.std.proofs.lemmas.List.{take_more}
 use Rattle.bo_base.proofs.Edits.{row_at-with_row, row_at-without_row}
-use Rattle.bo_usage.specs.declared.rows.Voucher.{Voucher}
-use Rattle.bo_usage.specs.declared.rows.CartPos.{CartPos}
 use Rattle.bo_usage.specs.declared.changes.Change.{Change}
 use Rattle.bo_usage.specs.declared.changes.Change.TheVariants.{PutVoucher, PutCart, DropVoucher, DropCart}
 use Rattle.bo_usage.specs.Lists.{Lists, voucher_at, cart_at}

@@ -1,5 +1,5 @@
 -- Time alone raises no usage.
-use Rattle.std.proofs.Common.{◌≡◌, ℕ, suc, ◌+◌, ◌-◌, ◌<◌, ◌≤◌, Bool, true, false, not, ◌&&◌, eqb, leb, List, [], ◌∷◌, Option, Some, None, refl, sym, ap, ◌∙◌, subst, count_by, sum_by, arith}
+use Rattle.std.proofs.Common.{◌≡◌, ℕ, ◌+◌, ◌-◌, ◌≤◌, Bool, true, false, not, ◌&&◌, eqb, leb, List, [], ◌∷◌, Option, Some, None, refl, sym, ap, ◌∙◌, subst, count_by, sum_by, arith}
 use Rattle.std.specs.Prelude.{if◌then◌else◌}
 use Rattle.std.specs.List.{AllByRecursion}
 use Rattle.std.proofs.lemmas.Bool.Decides.{nat_tests}
@@ -12,7 +12,7 @@ use Rattle.bo_usage.specs.declared.rows.Voucher.{Voucher}
 use Rattle.bo_usage.specs.declared.rows.CartPos.{CartPos}
 use Rattle.bo_usage.specs.Tests.{is_live_voucher, is_live_cart, has_not_ended, hits, blocks, names, holds}
 use Rattle.bo_usage.specs.Lists.{Lists}
-use Rattle.bo_usage.specs.Usage.{redeemed, blocked_by, blocks_if, is_covered_by, is_covered, cart_counts, usage_of}
+use Rattle.bo_usage.specs.Usage.{redeemed, blocked_by, blocks_if, is_covered_by, cart_counts, usage_of}
 use Rattle.bo_usage.specs.Total.{total}
 use Rattle.bo_usage.specs.Headroom.{held, HasHeadroom, AllHaveHeadroom}
 

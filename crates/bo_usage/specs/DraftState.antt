@@ -1,12 +1,11 @@
 -- A draft: a box office as it stands in the book, and changes that aren't applied yet.
 use Rattle.std.specs.Prelude.{◌≡◌, ℕ, ◌≤◌, List, [], ◌∷◌, ◌++◌, length, take, map}
-use Rattle.bo_catalogue.specs.CatalogueLists.{CatalogueLists}
 use Rattle.bo_usage.specs.declared.rows.NextIds.{NextIds}
 use Rattle.bo_usage.specs.declared.rows.Usage.{Usage}
 use Rattle.bo_usage.specs.declared.changes.Change.{Change}
 use Rattle.bo_usage.specs.Lists.{Lists, State}
 use Rattle.bo_usage.specs.Usage.{usage_of}
-use Rattle.bo_usage.specs.Change.{after_change, after_all}
+use Rattle.bo_usage.specs.Change.{after_all}
 
 -- the rows in the book, and the changes since
 pub record Log : Type 0 where

@@ -1,5 +1,5 @@
 -- No voucher is named more often than it may be used.
-use Rattle.std.specs.Prelude.{ℕ, ◌+◌, ◌≤◌, Bool, true, nat_lt, Option, Some, None, List, count_by}
+use Rattle.std.specs.Prelude.{ℕ, ◌+◌, ◌≤◌, Bool, true, nat_lt, Option, Some, None, count_by}
 use Rattle.std.specs.List.{AllByRecursion}
 use Rattle.bo_usage.specs.declared.rows.Voucher.{Voucher}
 use Rattle.bo_usage.specs.Tests.{holds}

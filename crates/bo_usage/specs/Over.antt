@@ -1,7 +1,6 @@
 -- When a request takes too much of a quota.
 use Rattle.std.specs.Prelude.{ℕ, ◌-◌, Bool, false, ◌&&◌, nat_lt, List, [], ◌∷◌, if◌then◌else◌, Option, Some, None, count_by, find, option_map}
 use Rattle.bo_catalogue.specs.declared.rows.Quota.{Quota}
-use Rattle.bo_catalogue.specs.CatalogueLists.{CatalogueLists}
 use Rattle.bo_usage.specs.declared.rows.Voucher.{Voucher}
 use Rattle.bo_usage.specs.declared.rows.CartPos.{CartPos}
 use Rattle.bo_usage.specs.declared.rows.Usage.{Usage}

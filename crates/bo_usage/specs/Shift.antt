@@ -1,8 +1,7 @@
 -- What a cart position that comes or goes does to the usage of a quota.
-use Rattle.std.specs.Prelude.{ℕ, ◌+◌, ◌-◌, Bool, Option, if◌then◌else◌, List, map}
+use Rattle.std.specs.Prelude.{ℕ, ◌+◌, ◌-◌, Option, if◌then◌else◌, List, map}
 use Rattle.bo_base.specs.Tables.{sum_at}
 use Rattle.bo_catalogue.specs.declared.rows.Quota.{Quota}
-use Rattle.bo_catalogue.specs.CatalogueLists.{CatalogueLists}
 use Rattle.bo_usage.specs.declared.rows.CartPos.{CartPos}
 use Rattle.bo_usage.specs.declared.rows.Usage.{Usage}
 use Rattle.bo_usage.specs.Lists.{Lists}

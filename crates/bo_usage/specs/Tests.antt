@@ -1,7 +1,6 @@
 -- Tests on single rows.
 use Rattle.std.specs.Prelude.{ℕ, Bool, true, false, ◌&&◌, ◌==◌, nat_le, Option, Some, None}
 use Rattle.bo_catalogue.specs.declared.rows.Quota.{Quota}
-use Rattle.bo_catalogue.specs.declared.rows.Product.{Product}
 use Rattle.bo_catalogue.specs.Member.{is_in}
 use Rattle.bo_usage.specs.declared.rows.Voucher.{Voucher}
 use Rattle.bo_usage.specs.declared.rows.CartPos.{CartPos}

@@ -1,8 +1,7 @@
 -- What uses a quota, counted afresh over the lists.
-use Rattle.std.specs.Prelude.{ℕ, ◌+◌, ◌-◌, Bool, true, false, ◌&&◌, not, Option, Some, None, List, count_by, sum_by, if◌then◌else◌}
+use Rattle.std.specs.Prelude.{ℕ, ◌-◌, Bool, true, false, ◌&&◌, not, Option, Some, None, count_by, sum_by, if◌then◌else◌}
 use Rattle.bo_catalogue.specs.declared.rows.Quota.{Quota}
 use Rattle.bo_catalogue.specs.Member.{is_in}
-use Rattle.bo_catalogue.specs.CatalogueLists.{quota_at}
 use Rattle.bo_usage.specs.declared.rows.Voucher.{Voucher}
 use Rattle.bo_usage.specs.declared.rows.CartPos.{CartPos}
 use Rattle.bo_usage.specs.declared.rows.Order.{Order}

@@ -13,8 +13,8 @@ ghost use Rattle.bo_usage.specs.Usage.{usage_of};
 
 use crate::book::Book;
 use crate::changes::{Change, Changes};
-use crate::rows::{CartPos, NextIds, Usage, Voucher};
 use crate::overlay::Overlay;
+use crate::rows::{CartPos, NextIds, Usage, Voucher};
 use bo_base::{Moment, Steps};
 use bo_catalogue::{Catalogue, LAST_ID, MOST_ROWS, Quota};
 use std::alloc::{AllocError, Global};

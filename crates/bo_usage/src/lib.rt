@@ -15,6 +15,4 @@ pub use book::Book;
 pub use changes::{Change, Changes};
 pub use draft::{Draft, Mark};
 pub use recount::Recount;
-pub use rows::{
-    Availability, CartPos, NextIds, Order, OrderPos, Status, Usage, Voucher, Waiting,
-};
+pub use rows::{Availability, CartPos, NextIds, Order, OrderPos, Status, Usage, Voucher, Waiting};

@@ -8,7 +8,7 @@ use Rattle.bo_words.specs.Rows.{item_body, quota_body, cart_body, availability_b
 use Rattle.bo_words.specs.Refusals.{refused}
 
 -- 201 for what was made, 200 for what was asked for
-abbrev pub words : Reply → Told
+unfoldable pub words : Reply → Told
 words (replies.Item item) = told 201 None (item_body item [])
 words (replies.Quota quota) = told 201 None (quota_body quota)
 words (replies.Cart cart) = told 201 None (cart_body cart)

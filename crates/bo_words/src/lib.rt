@@ -3,9 +3,12 @@
 
 pub mod faults;
 pub mod fields;
+pub mod laws;
 mod refusals;
 pub mod replies;
 mod rows;
+#[cfg(test)]
+mod tests;
 mod told;
 mod values;
 

@@ -45,6 +45,7 @@ fn availability_shown(alloc: Global, left: &Availability) -> Result<Told, AllocE
 
 /// The words of a reply: 201 for what was made, 200 for what was asked for, and for a refusal its status,
 /// its number and its sentence. A refusal for want of memory, which no request is told, has 200 and `{}`.
+#[tactic(auto, unfolding(crate::specs::Replies::words))]
 pub fn words(alloc: Global, reply: &Reply) -> Result<Told, AllocError>
     ensures { IfOk result (λ told. told ≡ words reply.now) }
 {

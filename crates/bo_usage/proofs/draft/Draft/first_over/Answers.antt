@@ -1,4 +1,4 @@
-use Rattle.std.proofs.Common.{◌≡◌, List, length, map, sym, ap, ◌∙◌, subst}
+use Rattle.std.proofs.Common.{List, length, map, sym, ap, ◌∙◌, subst}
 use Rattle.std.proofs.lemmas.List.{length-map}
 use Rattle.bo_catalogue.specs.declared.rows.Quota.{Quota}
 use Rattle.bo_usage.specs.Usage.{usage_of}

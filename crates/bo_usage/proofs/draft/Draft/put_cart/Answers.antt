@@ -1,7 +1,7 @@
-use Rattle.std.proofs.Common.{◌≡◌, sym, ap, ◌∙◌, Some, None, length, option_copied, arith}
+use Rattle.std.proofs.Common.{◌≡◌, sym, ap, ◌∙◌, Some, length, option_copied, arith}
 use Rattle.bo_base.specs.Tables.{sum_at}
 use Rattle.bo_usage.specs.declared.changes.Change.TheVariants.{PutCart}
-use Rattle.bo_usage.specs.Lists.{State, cart_at}
+use Rattle.bo_usage.specs.Lists.{cart_at}
 use Rattle.bo_usage.specs.Change.{changed}
 use Rattle.bo_usage.specs.DraftState.{DraftState, Log, usages_of, rows_of, now}
 use Rattle.bo_usage.specs.Shift.{usages_shifted}

@@ -1,4 +1,4 @@
-use Rattle.std.proofs.Common.{arith, refl, ◌++◌, ◌∷◌, []}
+use Rattle.std.proofs.Common.{arith, refl}
 use Rattle.bo_usage.specs.declared.changes.Change.TheVariants.{DropCart}
 use Rattle.bo_usage.proofs.Leaves.{leaves_more}
 use Rattle.bo_usage.proofs.overlay.Overlay.drop_cart.Goals as goal

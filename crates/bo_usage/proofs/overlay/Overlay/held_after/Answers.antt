@@ -1,4 +1,4 @@
-use Rattle.std.proofs.Common.{◌≡◌, ℕ, take, get_or, if◌then◌else◌, arith, sym, ap, ◌∙◌, refl, subst}
+use Rattle.std.proofs.Common.{◌≡◌, take, get_or, if◌then◌else◌, arith, sym, ap, ◌∙◌, subst}
 use Rattle.bo_usage.specs.Tests.{holds}
 use Rattle.bo_usage.specs.Kept.{IsKept}
 use Rattle.bo_usage.specs.DraftState.{Log}

@@ -1,4 +1,4 @@
-use Rattle.std.proofs.Common.{arith, refl, ◌++◌, ◌∷◌, []}
+use Rattle.std.proofs.Common.{arith, refl}
 use Rattle.bo_usage.specs.declared.changes.Change.TheVariants.{PutCart}
 use Rattle.bo_usage.proofs.Leaves.{leaves_more}
 use Rattle.bo_usage.proofs.overlay.Overlay.put_cart.Goals as goal

@@ -1,6 +1,4 @@
-use Rattle.std.proofs.Common.{◌≡◌, ◌++◌, ◌<◌, ◌+◌, ◌-◌, ℕ, List, length, take, drop, map, option_copied, get_or, set, sym, ap, ◌∙◌, subst, arith}
-use Rattle.std.proofs.lemmas.List.{get_or_read}
-use Rattle.bo_catalogue.specs.declared.rows.Quota.{Quota}
+use Rattle.std.proofs.Common.{◌≡◌, ◌++◌, ◌+◌, ◌-◌, take, drop, map, option_copied, get_or, set, sym, ap, ◌∙◌, arith}
 use Rattle.bo_catalogue.specs.CatalogueLists.{CatalogueLists}
 use Rattle.bo_usage.specs.declared.rows.Usage.{Usage}
 use Rattle.bo_usage.specs.Usage.{usage_of}

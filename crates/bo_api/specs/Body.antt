@@ -1,0 +1,35 @@
+-- The body of a write: JSON, an object, its fields.
+use Rattle.std.specs.Prelude.{ℕ, ◌==◌, List, length, Option, Some, None, Result, Ok, Err, if◌then◌else◌, is_some, codes}
+use Rattle.std.specs.Str.{is_utf8}
+use Rattle.serde_json.specs.Data.{Data}
+use Rattle.serde_json.specs.Read.{read}
+use Rattle.serde_json.specs.Find.{as_object}
+use Rattle.bo_office.specs.declared.command.Command.{Command}
+use Rattle.bo_fields.specs.declared.error.BodyFault.{BodyFault}
+use Rattle.bo_fields.specs.declared.error.BodyFault.TheVariants as faults
+use Rattle.bo_fields.specs.Reading.{◌>>=◌}
+use Rattle.bo_api.specs.declared.endpoint.Form.{Form}
+use Rattle.bo_api.specs.Requests.{command_of}
+
+-- the text of a body: `{}` for an empty one
+abbrev pub body_text : List ℕ → List ℕ
+body_text bytes = if length bytes == 0 then codes "{}" else bytes
+
+abbrev pub json_from : Option Data → Result Data BodyFault
+json_from None = Err faults.NotJson
+json_from (Some d) = Ok d
+
+-- the value of a text that is UTF-8 and JSON, and nests no deeper than 127
+unfoldable pub json_of : List ℕ → Result Data BodyFault
+json_of text = if is_utf8 text then json_from (read text) else Err faults.NotJson
+
+-- the value is an object
+abbrev pub object_of : Data → Result (Unit {0}) BodyFault
+object_of d = if is_some (as_object d) then Ok tt else Err faults.InvalidData
+
+-- the command that a body of that form says
+unfoldable pub read_command : Form → List ℕ → Result Command BodyFault
+read_command form bytes = do
+  d ← json_of (body_text bytes)
+  is ← object_of d
+  command_of form d

@@ -1,0 +1,9 @@
+pub mod Slugs
+pub mod Routes
+pub mod Path
+pub mod Token
+pub mod Verbs
+pub mod Endpoints
+pub mod Requests
+pub mod Body
+pub mod Call

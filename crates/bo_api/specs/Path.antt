@@ -1,0 +1,63 @@
+-- What a path names.
+use Rattle.std.specs.Prelude.{ℕ, ◌==◌, Bool, List, [], length, take, drop, position, Option, Some, None, if◌then◌else◌, codes, bytes_eq, slice_get, option_map, option_and_then}
+use Rattle.std.specs.Borrow.{Bor}
+use Rattle.std.specs.List.{slice_split}
+use Rattle.bo_base.specs.Digits.{number_of}
+use Rattle.bo_api.specs.declared.routes.Route.{Route}
+use Rattle.bo_api.specs.declared.routes.Route.TheVariants as routes
+use Rattle.bo_api.specs.declared.path.Place.{Place}
+use Rattle.bo_api.specs.declared.path.Place.TheVariants as places
+use Rattle.bo_api.specs.Routes.{route_of}
+
+-- the bytes of a lent text
+abbrev pub bytes_of : Bor (List ℕ) → List ℕ
+bytes_of s = s.now
+
+-- the next step, where there is one
+infixl 10 ◌>>=◌
+abbrev pub ◌>>=◌ : {A B : Type 0} → Option A → (A → Option B) → Option B
+(Some x) >>= f = f x
+None >>= f = None
+
+-- the text up to a place
+abbrev pub up_to : List ℕ → Option ℕ → List ℕ
+up_to text None = text
+up_to text (Some at) = take at text
+
+-- the path of a target: what stands before the first question mark
+abbrev pub path_of : List ℕ → List ℕ
+path_of target = up_to target (position (λ b. b == 63) target)
+
+-- what follows the front, where the text begins with it
+abbrev pub after : List ℕ → List ℕ → Option (List ℕ)
+after front text = if bytes_eq (take (length front) text) front then Some (drop (length front) text) else None
+
+-- the part of a path behind the slugs, where they are these
+unfoldable pub within : List ℕ → List ℕ → List ℕ → Option (List ℕ)
+within organizer event path = do
+  a ← after (codes "/api/v1/organizers/") path
+  b ← after organizer a
+  c ← after (codes "/events/") b
+  after event c
+
+-- the nth of the texts between the slashes
+abbrev pub segment : ℕ → List ℕ → Option (List ℕ)
+segment n path = slice_get (slice_split (λ b. b == 47) path) n
+
+-- the id behind the first name of a path: 1 to 18 digits
+abbrev pub id_in : List ℕ → Option ℕ
+id_in path = segment 2 path >>= number_of
+
+-- what a path of that route names; an id that isn't one makes it unknown
+abbrev pub place_by : List ℕ → Route → Option Place
+place_by path routes.Items = Some places.Items
+place_by path routes.Quotas = Some places.Quotas
+place_by path routes.Availability = id_in path >>= λ id. Some (places.Availability id)
+place_by path routes.CartPositions = Some places.CartPositions
+
+-- what a target names, in the shop of those slugs
+unfoldable pub place_of : List ℕ → List ℕ → List ℕ → Option Place
+place_of organizer event target = do
+  path ← within organizer event (path_of target)
+  route ← route_of path
+  place_by path route

@@ -1,0 +1,39 @@
+-- The routes of the shop, as rows of a router.
+use Rattle.std.specs.Prelude.{ℕ, List, [], Option, Some, None, Result, Ok, Err, if◌then◌else◌, codes}
+use Rattle.std.specs.Str.{is_utf8}
+use Rattle.matchit.specs.Rows.{RowsOf}
+use Rattle.matchit.specs.Route.{Scan, parse_route}
+use Rattle.matchit.specs.Order.{placed}
+use Rattle.matchit.specs.Router.{RouteOf, route_from}
+use Rattle.matchit.specs.Seek.{first}
+use Rattle.matchit.specs.declared.error.InsertError.{InsertError}
+use Rattle.bo_api.specs.declared.routes.Route.{Route}
+use Rattle.bo_api.specs.declared.routes.Route.TheVariants as routes
+
+abbrev pub Rows : Type 0
+Rows = RowsOf (RouteOf Route)
+
+abbrev pub with_read : Result Scan InsertError → Route → Rows → Rows
+with_read (Ok s) route rows = placed ((route_from s route).pattern, route_from s route) rows
+with_read (Err e) route rows = rows
+
+-- the rows with one more route
+unfoldable pub with_route : List ℕ → Route → Rows → Rows
+with_route text route rows = with_read (parse_route text) route rows
+
+unfoldable pub first_routes : Rows → Rows
+first_routes rows =
+    with_route (codes "/cartpositions/") routes.CartPositions (with_route (codes "/quotas/{id}/availability/") routes.Availability (with_route (codes "/quotas/") routes.Quotas (with_route (codes "/items/") routes.Items rows)))
+
+-- all routes
+unfoldable pub all_routes : Rows
+all_routes = first_routes []
+
+-- what stands beside a route that was found
+abbrev pub found : Option (RouteOf Route) → Option Route
+found None = None
+found (Some route) = Some route.value
+
+-- the route of a path behind the slugs; a path that is no UTF-8 has none
+unfoldable pub route_of : List ℕ → Option Route
+route_of path = if is_utf8 path then found (first all_routes path) else None

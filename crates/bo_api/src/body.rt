@@ -1,0 +1,57 @@
+//! The body of a write.
+
+ghost use Rattle.std.specs.Prelude.{◌≡◌};
+ghost use Rattle.serde_json.specs.View.{view};
+ghost use Rattle.bo_fields.specs.Reading.{Gives, Reads};
+ghost use Rattle.bo_api.specs.Body.{body_text, json_of, object_of, read_command};
+
+use crate::endpoint::Form;
+use crate::requests::command_of;
+use bo_fields::{BodyFault, ReadError};
+use bo_office::Command;
+use serde_json::Value;
+use std::alloc::Global;
+
+/// The text of a body: `{}` for an empty one.
+fn body_text(body: &[u8]) -> &[u8]
+    ensures { result.now ≡ body_text body.now }
+{
+    if body.is_empty() { b"{}" } else { body }
+}
+
+/// The JSON value of a text.
+fn json_of(alloc: Global, text: &[u8]) -> Result<Value, ReadError>
+    ensures { Gives view result (json_of text.now) }
+{
+    match Value::from_slice(alloc, text) {
+        Ok(value) => Ok(value),
+        Err(error) => {
+            if error.is_memory() {
+                Err(ReadError::Memory)
+            } else {
+                Err(ReadError::Body(BodyFault::NotJson))
+            }
+        }
+    }
+}
+
+/// Whether a value is an object.
+fn check_object(value: &Value) -> Result<(), BodyFault>
+    ensures { result ≡ object_of (view value.now) }
+{
+    if value.is_object() {
+        Ok(())
+    } else {
+        Err(BodyFault::InvalidData)
+    }
+}
+
+/// The command that a body of that form says.
+#[tactic(auto, unfolding(crate::specs::Body::read_command))]
+pub fn read_command(alloc: Global, form: Form, body: &[u8]) -> Result<Command, ReadError>
+    ensures { Reads result (read_command form body.now) }
+{
+    let value = json_of(alloc, body_text(body))?;
+    check_object(&value)?;
+    command_of(alloc, form, &value)
+}

@@ -1,0 +1,93 @@
+//! What a message asks for, and how it is refused where it asks for nothing.
+
+ghost use Rattle.std.specs.Prelude.{◌≡◌, IfOk};
+ghost use Rattle.bo_api.specs.Body.{read_command};
+ghost use Rattle.bo_api.specs.Call.{told_fault, refused_by, written, call_at, call_of};
+ghost use Rattle.bo_api.specs.Verbs.{is_write, verb_of};
+
+use crate::body::read_command;
+use crate::endpoint::{Endpoint, Form, endpoint_of, methods_of};
+use crate::path::Place;
+use crate::verb::{Verb, verb_of};
+use bo_base::Told;
+use bo_fields::{BodyFault, ReadError};
+use bo_http::Frame;
+use bo_office::{Command, Query};
+use bo_words::{field_fault, invalid_data, method_not_allowed, not_found, parse_error};
+use std::alloc::{AllocError, Global};
+
+/// What a message asks for. A message without a known token has no key; a refused write takes one.
+#[derive(Drop)]
+pub enum Call {
+    /// 401: there is no token, or an unknown one.
+    Unauthorized(Told),
+    Read(Query),
+    /// 404 or 405 of a method that doesn't write.
+    ReadRefused(Told),
+    Write(Command),
+    /// 404 or 405 of a POST, PATCH or DELETE, or 400 for its body.
+    WriteRefused(Told),
+}
+
+/// The words for a body that isn't read.
+fn told_fault(alloc: Global, fault: BodyFault) -> Result<Told, AllocError>
+    ensures { IfOk result (λ told. told ≡ told_fault fault) }
+{
+    match fault {
+        BodyFault::NotJson => parse_error(alloc),
+        BodyFault::InvalidData => invalid_data(alloc),
+        BodyFault::Field(fault) => field_fault(alloc, fault),
+    }
+}
+
+/// A refusal of a request with that method.
+fn refused(verb: Verb, told: Told) -> Call
+    ensures { result ≡ refused_by (is_write verb) told }
+{
+    if verb.is_write() {
+        Call::WriteRefused(told)
+    } else {
+        Call::ReadRefused(told)
+    }
+}
+
+/// The command of a body of that form, or the refusal of the body.
+fn written(alloc: Global, form: Form, body: &[u8]) -> Result<Call, AllocError>
+    ensures { IfOk result (λ call. call ≡ written (read_command form body.now)) }
+{
+    match read_command(alloc, form, body) {
+        Ok(command) => Ok(Call::Write(command)),
+        Err(ReadError::Memory) => Err(AllocError),
+        Err(ReadError::Body(fault)) => Ok(Call::WriteRefused(told_fault(alloc, fault)?)),
+    }
+}
+
+/// What a message asks for at a place.
+fn call_at(alloc: Global, frame: &Frame<'_>, place: Place) -> Result<Call, AllocError>
+    ensures { IfOk result (λ call. call ≡ call_at frame.now place) }
+{
+    let method = frame.method();
+    let verb = verb_of(method);
+    match endpoint_of(place, verb) {
+        None => {
+            let told = method_not_allowed(alloc, method, methods_of(place))?;
+            Ok(refused(verb, told))
+        }
+        Some(Endpoint::Read(query)) => Ok(Call::Read(query)),
+        Some(Endpoint::Write(form)) => written(alloc, form, frame.body()),
+    }
+}
+
+/// What a message with a known token asks for, by what its target names.
+pub(crate) fn call_of(
+    alloc: Global,
+    frame: &Frame<'_>,
+    place: Option<Place>,
+) -> Result<Call, AllocError>
+    ensures { IfOk result (λ call. call ≡ call_of frame.now place) }
+{
+    match place {
+        None => Ok(refused(verb_of(frame.method()), not_found(alloc)?)),
+        Some(place) => call_at(alloc, frame, place),
+    }
+}

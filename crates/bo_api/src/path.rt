@@ -1,0 +1,96 @@
+//! What a path names.
+
+ghost use Rattle.std.specs.Prelude.{◌≡◌, ◌==◌, ◌<◌, length, position, option_map, IfSome};
+ghost use Rattle.bo_api.specs.Path.{bytes_of, path_of, after, within, segment, id_in, place_by, place_of};
+ghost use Rattle.bo_api.specs.Routes.{all_routes, route_of};
+
+use crate::routes::{Route, route_of};
+use bo_base::number_of;
+use matchit::Router;
+
+/// What a path names, with the ids that stand in it.
+#[derive(Clone, Copy, Debug, PartialEq, Eq)]
+pub enum Place {
+    Items,
+    Quotas,
+    Availability(u64),
+    CartPositions,
+}
+
+/// Where the first question mark stands.
+fn mark_of(target: &[u8]) -> Option<usize>
+    ensures place { result ≡ position (λ b. b == 63) target.now }
+    ensures within { IfSome result (λ at. at < length target.now) }
+{
+    target.iter().position(|b| *b == b'?')
+}
+
+/// The bytes of a target before the first question mark.
+fn path_of(target: &[u8]) -> &[u8]
+    ensures { result.now ≡ path_of target.now }
+{
+    match mark_of(target) {
+        None => target,
+        Some(at) => &target[..at],
+    }
+}
+
+/// What follows a text, where the path begins with it.
+fn after<'p>(front: &[u8], path: &'p [u8]) -> Option<&'p [u8]>
+    ensures { option_map bytes_of result ≡ after front.now path.now }
+{
+    path.strip_prefix(front)
+}
+
+/// The part of a path behind the slugs, where they are these.
+#[tactic(auto, unfolding(crate::specs::Path::within))]
+fn within<'p>(organizer: &str, event: &str, path: &'p [u8]) -> Option<&'p [u8]>
+    ensures { option_map bytes_of result ≡ within organizer.now event.now path.now }
+{
+    let path = after(b"/api/v1/organizers/", path)?;
+    let path = after(organizer.as_bytes(), path)?;
+    let path = after(b"/events/", path)?;
+    after(event.as_bytes(), path)
+}
+
+/// The nth of the texts between the slashes.
+fn segment<'p>(n: usize, path: &'p [u8]) -> Option<&'p [u8]>
+    ensures { option_map bytes_of result ≡ segment n path.now }
+{
+    path.split(|b| *b == b'/').nth(n)
+}
+
+/// The id behind the first name of a path.
+fn id_in(path: &[u8]) -> Option<u64>
+    ensures { result ≡ id_in path.now }
+{
+    number_of(segment(2, path)?)
+}
+
+/// What a path of that route names.
+fn place_by(path: &[u8], route: Route) -> Option<Place>
+    ensures { result ≡ place_by path.now route }
+{
+    match route {
+        Route::Items => Some(Place::Items),
+        Route::Quotas => Some(Place::Quotas),
+        Route::Availability => Some(Place::Availability(id_in(path)?)),
+        Route::CartPositions => Some(Place::CartPositions),
+    }
+}
+
+/// What a target names, in the shop of these slugs.
+#[tactic(auto, unfolding(crate::specs::Path::place_of))]
+pub fn place_of(
+    router: &Router<Route>,
+    organizer: &str,
+    event: &str,
+    target: &[u8],
+) -> Option<Place>
+    requires { router.now ≡ all_routes }
+    ensures { result ≡ place_of organizer.now event.now target.now }
+{
+    let path = within(organizer, event, path_of(target))?;
+    let route = route_of(router, path)?;
+    place_by(path, route)
+}

@@ -1,0 +1,66 @@
+//! The routes of the shop.
+
+ghost use Rattle.std.specs.Prelude.{◌≡◌, IfOk, OnOk};
+ghost use Rattle.bo_api.specs.Routes.{with_route, first_routes, all_routes, route_of, found};
+ghost use Rattle.matchit.specs.Seek.{first};
+
+use matchit::{InsertError, Router};
+use std::alloc::Global;
+
+/// A path of the table, whatever ids stand in it.
+#[derive(Clone, Copy, Debug, Drop, PartialEq, Eq)]
+pub enum Route {
+    Items,
+    Quotas,
+    Availability,
+    CartPositions,
+}
+
+/// One more route.
+fn add(router: &mut Router<Route>, text: &str, route: Route) -> Result<(), InsertError>
+    ensures { OnOk result (router.new ≡ with_route text.now route router.old) }
+{
+    router.insert(text, route)
+}
+
+#[tactic(auto, unfolding(crate::specs::Routes::first_routes))]
+fn add_first(router: &mut Router<Route>) -> Result<(), InsertError>
+    ensures { OnOk result (router.new ≡ first_routes router.old) }
+{
+    add(router, "/items/", Route::Items)?;
+    add(router, "/quotas/", Route::Quotas)?;
+    add(router, "/quotas/{id}/availability/", Route::Availability)?;
+    add(router, "/cartpositions/", Route::CartPositions)?;
+    Ok(())
+}
+
+/// The router of all routes. It fails where there is no memory.
+#[tactic(auto, unfolding(crate::specs::Routes::all_routes))]
+pub fn routes(alloc: Global) -> Result<Router<Route>, InsertError>
+    ensures { IfOk result (λ r. r ≡ all_routes) }
+{
+    let mut router = Router::new(alloc);
+    add_first(&mut router)?;
+    Ok(router)
+}
+
+/// The route that a text matches.
+fn found(router: &Router<Route>, path: &str) -> Option<Route>
+    ensures { result ≡ found (first router.now path.now) }
+{
+    match router.at(path) {
+        Ok(found) => Some(*found.value),
+        Err(_) => None,
+    }
+}
+
+/// The route of a path behind the slugs.
+pub fn route_of(router: &Router<Route>, path: &[u8]) -> Option<Route>
+    requires { router.now ≡ all_routes }
+    ensures { result ≡ route_of path.now }
+{
+    match str::from_utf8(path) {
+        Ok(text) => found(router, text),
+        Err(_) => None,
+    }
+}

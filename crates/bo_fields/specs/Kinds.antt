@@ -1,0 +1,110 @@
+-- What a field's value is: a truth value, a number, a text, an amount of money, a moment.
+use Rattle.std.specs.Prelude.{ℕ, ◌*◌, ◌==◌, ◌&&◌, ◌||◌, Bool, true, false, List, length, Option, Some, None, Result, Ok, Err, if◌then◌else◌, nat_lt, nat_le, is_some, option_and_then}
+use Rattle.std.specs.List.{list_any}
+use Rattle.serde_json.specs.Data.{Data, Members, no_members, member}
+use Rattle.serde_json.specs.Find.{as_bool, as_str, as_number, as_u64, as_i64, as_object}
+use Rattle.bo_base.specs.Money.{money_of}
+use Rattle.bo_base.specs.Moments.{moment_of}
+use Rattle.bo_base.specs.declared.refusal.ValueRefusal.{ValueRefusal}
+use Rattle.bo_base.specs.declared.refusal.ValueRefusal.TheVariants as refusals
+use Rattle.bo_words.specs.declared.fields.Field.{Field}
+use Rattle.bo_words.specs.declared.fields.Problem.TheVariants as problems
+use Rattle.bo_fields.specs.declared.error.BodyFault.{BodyFault}
+use Rattle.bo_fields.specs.Reading.{fault}
+
+-- a truth value
+abbrev pub truth_of : Field → Option Bool → Result Bool BodyFault
+truth_of f None = Err (fault f problems.Invalid)
+truth_of f (Some b) = Ok b
+
+abbrev pub truth : Field → Data → Result Bool BodyFault
+truth f v = truth_of f (as_bool v)
+
+-- a whole number between two bounds; a negative one is out of range, any other number is another kind
+abbrev pub whole_of : Field → ℕ → ℕ → Option ℕ → Bool → Result ℕ BodyFault
+whole_of f low high (Some n) negative = if nat_le low n && nat_le n high then Ok n else Err (fault f problems.OutOfRange)
+whole_of f low high None true = Err (fault f problems.OutOfRange)
+whole_of f low high None false = Err (fault f problems.Invalid)
+
+-- the number of a value that is a whole one, 0 or more
+abbrev pub count_in : Data → Option ℕ
+count_in v = option_and_then as_u64 (as_number v)
+
+-- the value is a whole number that fits 64 bits with a sign
+abbrev pub is_signed : Data → Bool
+is_signed v = is_some (option_and_then as_i64 (as_number v))
+
+abbrev pub whole : Field → ℕ → ℕ → Data → Result ℕ BodyFault
+whole f low high v = whole_of f low high (count_in v) (is_signed v)
+
+-- an id
+abbrev pub id : Field → Data → Result ℕ BodyFault
+id f v = whole f 1 9007199254740991 v
+
+-- a byte below 32, or 127
+abbrev pub is_control : ℕ → Bool
+is_control b = nat_lt b 32 || (b == 127)
+
+-- more than 254 bytes, or a control byte
+abbrev pub is_unfit : List ℕ → Bool
+is_unfit s = nat_lt 254 (length s) || list_any is_control s
+
+-- a text that is not blank, of at most 254 bytes and with no control byte
+abbrev pub text_from : Field → Option (List ℕ) → Result (List ℕ) BodyFault
+text_from f None = Err (fault f problems.Invalid)
+text_from f (Some s) =
+    if length s == 0 then Err (fault f problems.Blank)
+    else (if is_unfit s then Err (fault f problems.NotAllowed) else Ok s)
+
+abbrev pub text : Field → Data → Result (List ℕ) BodyFault
+text f v = text_from f (as_str v)
+
+-- the value of the first member, by the order of the names' bytes
+abbrev pub first_member : Members → Option Data
+first_member no_members = None
+first_member (member k v ms) = Some v
+
+-- the name in the first of its languages; none is blank
+abbrev pub first_name : Field → Option Data → Result (List ℕ) BodyFault
+first_name f None = Err (fault f problems.Blank)
+first_name f (Some v) = text f v
+
+-- a name: a text, or an object of languages
+abbrev pub name_from : Field → Data → Option Members → Result (List ℕ) BodyFault
+name_from f v None = text f v
+name_from f v (Some languages) = first_name f (first_member languages)
+
+abbrev pub name : Field → Data → Result (List ℕ) BodyFault
+name f v = name_from f v (as_object v)
+
+-- an amount of money, from the reading of its text
+abbrev pub money_read : Field → Result ℕ ValueRefusal → Result ℕ BodyFault
+money_read f (Ok cents) = Ok cents
+money_read f (Err refusals.TooLarge) = Err (fault f problems.OutOfRange)
+money_read f (Err _) = Err (fault f problems.Invalid)
+
+-- an amount of money as a whole number of units, of at most eight digits
+abbrev pub units_from : Field → Option ℕ → Result ℕ BodyFault
+units_from f None = Err (fault f problems.Invalid)
+units_from f (Some n) = if nat_le n 99999999 then Ok (n * 100) else Err (fault f problems.OutOfRange)
+
+-- an amount of money: its text, or a number of units
+abbrev pub money_from : Field → Data → Option (List ℕ) → Result ℕ BodyFault
+money_from f v (Some s) = money_read f (money_of s)
+money_from f v None = units_from f (count_in v)
+
+abbrev pub money : Field → Data → Result ℕ BodyFault
+money f v = money_from f v (as_str v)
+
+-- a moment, from the reading of its text
+abbrev pub moment_read : Field → Result ℕ ValueRefusal → Result ℕ BodyFault
+moment_read f (Ok seconds) = Ok seconds
+moment_read f (Err refusals.OutOfRange) = Err (fault f problems.OutOfRange)
+moment_read f (Err _) = Err (fault f problems.Invalid)
+
+abbrev pub moment_from : Field → Option (List ℕ) → Result ℕ BodyFault
+moment_from f None = Err (fault f problems.Invalid)
+moment_from f (Some s) = moment_read f (moment_of s)
+
+abbrev pub moment : Field → Data → Result ℕ BodyFault
+moment f v = moment_from f (as_str v)

@@ -1,0 +1,5 @@
+pub mod Reading
+pub mod Modes
+pub mod Kinds
+pub mod Lists
+pub mod Lacking

@@ -1,0 +1,34 @@
+-- Lists in a body.
+use Rattle.std.specs.Prelude.{ℕ, List, [], ◌∷◌, ◌++◌, Option, Some, None, Result, Ok, Err, if◌then◌else◌, is_some}
+use Rattle.serde_json.specs.Data.{Data, Items, no_items, item}
+use Rattle.serde_json.specs.Find.{as_null, as_array}
+use Rattle.bo_words.specs.declared.fields.Field.{Field}
+use Rattle.bo_words.specs.declared.fields.Problem.TheVariants as problems
+use Rattle.bo_fields.specs.declared.error.BodyFault.{BodyFault}
+use Rattle.bo_fields.specs.Reading.{◌>>=◌, fault}
+use Rattle.bo_fields.specs.Kinds.{id}
+
+-- a list
+abbrev pub list_from : Field → Option Items → Result Items BodyFault
+list_from f None = Err (fault f problems.Invalid)
+list_from f (Some ds) = Ok ds
+
+abbrev pub list : Field → Data → Result Items BodyFault
+list f d = list_from f (as_array d)
+
+-- each entry by the reading, or the first fault
+abbrev pub all_of : {A : Type 0} → (Data → Result A BodyFault) → Items → Result (List A) BodyFault
+all_of read no_items = Ok []
+all_of read (item d ds) = read d >>= λ x. all_of read ds >>= λ xs. Ok (x ∷ xs)
+
+-- an entry that is an id; its faults are the list's
+abbrev pub entry_id : Field → Data → Result ℕ BodyFault
+entry_id f d = if is_some (as_null d) then Err (fault f problems.Null) else id f d
+
+-- a list of ids
+abbrev pub ids : Field → Data → Result (List ℕ) BodyFault
+ids f d = list f d >>= all_of (entry_id f)
+
+-- the entries that were read, and those of the rest
+abbrev pub with_front : {A : Type 0} → List A → Result (List A) BodyFault → Result (List A) BodyFault
+with_front front rest = rest >>= λ xs. Ok (front ++ xs)

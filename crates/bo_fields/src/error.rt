@@ -1,0 +1,51 @@
+//! Why a body isn't read.
+
+ghost use Rattle.std.specs.Prelude.{◌≡◌, Err};
+ghost use Rattle.bo_fields.specs.Reading.{fault};
+ghost use Rattle.bo_fields.specs.declared.error.ReadError.TheVariants.{Memory, Body};
+
+use bo_words::{Fault, Field, Problem};
+use std::alloc::AllocError;
+
+/// What is wrong with a body.
+#[derive(Clone, Copy, Debug, PartialEq, Eq)]
+pub enum BodyFault {
+    /// It is no JSON, or nests deeper than 127.
+    NotJson,
+    /// It is no object, or a field has a value that isn't read yet.
+    InvalidData,
+    /// A field is wrong.
+    Field(Fault),
+}
+
+/// Why a body isn't read.
+#[derive(Clone, Copy, Debug, PartialEq, Eq)]
+pub enum ReadError {
+    /// There is no memory.
+    Memory,
+    /// The body is wrong.
+    Body(BodyFault),
+}
+
+impl From<AllocError> for ReadError {
+    ghost from_gives = { λ _ e. e ≡ Memory };
+
+    fn from(_e: AllocError) -> ReadError {
+        ReadError::Memory
+    }
+}
+
+impl From<BodyFault> for ReadError {
+    ghost from_gives = { λ f e. e ≡ Body f };
+
+    fn from(fault: BodyFault) -> ReadError {
+        ReadError::Body(fault)
+    }
+}
+
+/// The fault that says what is wrong with a field.
+pub(crate) fn fault<T>(field: Field, problem: Problem) -> Result<T, BodyFault>
+    ensures { result ≡ Err (fault field problem) }
+{
+    Err(BodyFault::Field(Fault { field, problem }))
+}

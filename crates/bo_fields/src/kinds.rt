@@ -1,0 +1,179 @@
+//! What a field's value is: a truth value, a number, a text, an amount of money, a moment.
+
+ghost use Rattle.std.specs.Prelude.{◌≡◌, ◌≤◌, IfOk, option_map};
+ghost use Rattle.std.specs.List.{list_any};
+ghost use Rattle.bo_base.specs.Money.{money_of};
+ghost use Rattle.bo_base.specs.Moments.{moment_of};
+ghost use Rattle.bo_fields.specs.Reading.{Shows, text_of, view_of};
+ghost use Rattle.bo_fields.specs.Kinds.{truth, whole, id, is_control, is_unfit, text, first_member, first_name, name, money_read, units_from, count_in, money, moment_read, moment};
+ghost use Rattle.serde_json.specs.View.{view, members_view};
+
+use crate::error::{BodyFault, fault};
+use bo_base::{Cents, Moment, ValueRefusal, read_cents, read_moment};
+use bo_words::{Field, Problem};
+use serde_json::{Map, Value};
+
+/// A truth value.
+pub fn truth(field: Field, value: &Value) -> Result<bool, BodyFault>
+    ensures { result ≡ truth field (view value.now) }
+{
+    match value.as_bool() {
+        None => fault(field, Problem::Invalid),
+        Some(b) => Ok(b),
+    }
+}
+
+/// A whole number between two bounds.
+pub fn whole(field: Field, low: u64, high: u64, value: &Value) -> Result<u64, BodyFault>
+    ensures value { result ≡ whole field low high (view value.now) }
+    ensures within { IfOk result (λ n. n ≤ high) }
+{
+    match value.as_u64() {
+        Some(n) => {
+            if low <= n && n <= high {
+                Ok(n)
+            } else {
+                fault(field, Problem::OutOfRange)
+            }
+        }
+        None => {
+            if value.as_i64().is_some() {
+                fault(field, Problem::OutOfRange)
+            } else {
+                fault(field, Problem::Invalid)
+            }
+        }
+    }
+}
+
+/// An id: 1 to 9,007,199,254,740,991.
+pub fn id(field: Field, value: &Value) -> Result<u64, BodyFault>
+    ensures { result ≡ id field (view value.now) }
+{
+    whole(field, 1, 9_007_199_254_740_991, value)
+}
+
+/// Whether a byte is a control byte.
+fn is_control(byte: u8) -> bool
+    ensures { result ≡ is_control byte }
+{
+    byte < 32 || byte == 127
+}
+
+/// Whether a text has a control byte.
+fn has_control(text: &[u8]) -> bool
+    ensures { result ≡ list_any is_control text.now }
+{
+    text.iter().any(|b| is_control(*b))
+}
+
+/// Whether a text has more than 254 bytes, or a control byte.
+fn is_unfit(text: &[u8]) -> bool
+    ensures { result ≡ is_unfit text.now }
+{
+    text.len() > 254 || has_control(text)
+}
+
+/// A text that is not blank, of at most 254 bytes and with no control byte.
+pub fn text<'v>(field: Field, value: &'v Value) -> Result<&'v str, BodyFault>
+    ensures { Shows text_of result (text field (view value.now)) }
+{
+    let Some(text) = value.as_str() else {
+        return fault(field, Problem::Invalid);
+    };
+    if text.is_empty() {
+        return fault(field, Problem::Blank);
+    }
+    if is_unfit(text.as_bytes()) {
+        return fault(field, Problem::NotAllowed);
+    }
+    Ok(text)
+}
+
+/// The value of the first member, by the order of the names' bytes.
+fn first_member<'v>(languages: &'v Map<String, Value>) -> Option<&'v Value>
+    ensures { option_map view_of result ≡ first_member (members_view languages.now.entries) }
+{
+    match languages.first_key_value() {
+        None => None,
+        Some((_, value)) => Some(value),
+    }
+}
+
+/// The name in the first of its languages.
+fn first_name<'v>(field: Field, languages: &'v Map<String, Value>) -> Result<&'v str, BodyFault>
+    ensures { Shows text_of result (first_name field (first_member (members_view languages.now.entries))) }
+{
+    match first_member(languages) {
+        None => fault(field, Problem::Blank),
+        Some(value) => text(field, value),
+    }
+}
+
+/// A name: a text, or an object of languages, of which the first by byte order counts.
+pub fn name<'v>(field: Field, value: &'v Value) -> Result<&'v str, BodyFault>
+    ensures { Shows text_of result (name field (view value.now)) }
+{
+    match value.as_object() {
+        None => text(field, value),
+        Some(languages) => first_name(field, languages),
+    }
+}
+
+/// An amount of money from its text.
+fn money_read(field: Field, text: &str) -> Result<Cents, BodyFault>
+    ensures { result ≡ money_read field (money_of text.now) }
+{
+    match read_cents(text) {
+        Ok(cents) => Ok(cents),
+        Err(ValueRefusal::TooLarge) => fault(field, Problem::OutOfRange),
+        Err(_) => fault(field, Problem::Invalid),
+    }
+}
+
+/// An amount of money from a whole number of units.
+fn units(field: Field, value: &Value) -> Result<Cents, BodyFault>
+    ensures { result ≡ units_from field (count_in (view value.now)) }
+{
+    match value.as_u64() {
+        None => fault(field, Problem::Invalid),
+        Some(n) => {
+            if n <= 99_999_999 {
+                Ok(Cents::new(n * 100))
+            } else {
+                fault(field, Problem::OutOfRange)
+            }
+        }
+    }
+}
+
+/// An amount of money: its text, or a whole number of units up to 99,999,999.
+pub fn money(field: Field, value: &Value) -> Result<Cents, BodyFault>
+    ensures { result ≡ money field (view value.now) }
+{
+    match value.as_str() {
+        Some(text) => money_read(field, text),
+        None => units(field, value),
+    }
+}
+
+/// A moment from its text.
+fn moment_read(field: Field, text: &str) -> Result<Moment, BodyFault>
+    ensures { result ≡ moment_read field (moment_of text.now) }
+{
+    match read_moment(text) {
+        Ok(moment) => Ok(moment),
+        Err(ValueRefusal::OutOfRange) => fault(field, Problem::OutOfRange),
+        Err(_) => fault(field, Problem::Invalid),
+    }
+}
+
+/// A moment: the text of an instant, rounded down to the second.
+pub fn moment(field: Field, value: &Value) -> Result<Moment, BodyFault>
+    ensures { result ≡ moment field (view value.now) }
+{
+    match value.as_str() {
+        None => fault(field, Problem::Invalid),
+        Some(text) => moment_read(field, text),
+    }
+}

@@ -1,0 +1,55 @@
+//! Lists in a body.
+
+ghost use Rattle.std.specs.Prelude.{◌≡◌};
+ghost use Rattle.bo_fields.specs.Reading.{Reads, Shows, items_of_slice};
+ghost use Rattle.bo_fields.specs.Lists.{list, entry_id, all_of, ids};
+ghost use Rattle.serde_json.specs.View.{view, items_view};
+
+use crate::error::{BodyFault, ReadError, fault};
+use crate::kinds::id;
+use bo_base::Ids;
+use bo_words::{Field, Problem};
+use serde_json::Value;
+use std::alloc::Global;
+
+/// The entries of a list.
+pub fn list<'v>(field: Field, value: &'v Value) -> Result<&'v [Value], BodyFault>
+    ensures { Shows items_of_slice result (list field (view value.now)) }
+{
+    match value.as_array() {
+        None => fault(field, Problem::Invalid),
+        Some(list) => Ok(list.as_slice()),
+    }
+}
+
+/// An entry that is an id.
+fn entry_id(field: Field, entry: &Value) -> Result<u64, BodyFault>
+    ensures { result ≡ entry_id field (view entry.now) }
+{
+    if entry.is_null() {
+        fault(field, Problem::Null)
+    } else {
+        id(field, entry)
+    }
+}
+
+/// The ids that a list's entries are.
+fn entries(alloc: Global, field: Field, list: &[Value]) -> Result<Ids, ReadError>
+    ensures { Reads result (all_of (entry_id field) (items_view list.now)) }
+{
+    let mut found = Vec::new(alloc);
+    for entry in list {
+        let found_id = entry_id(field, entry)?;
+        if found.push(found_id).is_err() {
+            return Err(ReadError::Memory);
+        }
+    }
+    Ok(Ids::new(found))
+}
+
+/// A list of ids as the body gives them. `Memory` where there is none for them.
+pub fn ids(alloc: Global, field: Field, value: &Value) -> Result<Ids, ReadError>
+    ensures { Reads result (ids field (view value.now)) }
+{
+    entries(alloc, field, list(field, value)?)
+}

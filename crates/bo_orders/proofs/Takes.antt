@@ -1,0 +1,65 @@
+-- Where no quota is over, no quota is taken too much of.
+use Rattle.std.proofs.Common.{◌≡◌, ℕ, ◌+◌, ◌-◌, ◌≤◌, ◌⊎◌, inl, inr, Bool, true, false, List, [], ◌∷◌, Option, Some, None, refl, sym, ap, ◌∙◌, subst, cond, count_by, arith}
+use Rattle.std.specs.Prelude.{◌&&◌, nat_lt, find, option_map}
+use Rattle.std.specs.List.{AllByRecursion}
+use Rattle.std.proofs.lemmas.Bool.Decides.{nat_tests}
+use Rattle.bo_base.proofs.Edits.{row_at-with_row}
+use Rattle.bo_catalogue.specs.declared.rows.Quota.{Quota}
+use Rattle.bo_usage.specs.declared.rows.CartPos.{CartPos}
+use Rattle.bo_usage.specs.declared.changes.Change.TheVariants.{PutCart}
+use Rattle.bo_usage.specs.Lists.{Lists, State, cart_at}
+use Rattle.bo_usage.specs.Change.{after_change}
+use Rattle.bo_usage.specs.Numbered.{with_cart}
+use Rattle.bo_usage.specs.Over.{first_over, is_over, is_over_size, is_free, is_free_cart, ignores, weighed}
+use Rattle.bo_usage.specs.Total.{total}
+use Rattle.bo_usage.specs.Usage.{usage_of, cart_counts}
+use Rattle.bo_orders.specs.Takes.{used, IsWithin, TakesNoMore}
+
+none_passes : (test : Quota → Bool) (quotas : List Quota) → option_map (λ quota. quota.id) (find test quotas) ≡ None → AllByRecursion (λ quota. test quota ≡ false) quotas
+none_passes test [] h = tt
+none_passes test (quota ∷ quotas) h = by_test (test quota) refl h (none_passes test quotas)
+  where
+    by_test : (b : Bool) → test quota ≡ b → option_map (λ q. q.id) (cond b (Some quota) (find test quotas)) ≡ None → (option_map (λ q. q.id) (find test quotas) ≡ None → AllByRecursion (λ q. test q ≡ false) quotas) → AllByRecursion (λ q. test q ≡ false) (quota ∷ quotas)
+    by_test true is h more = absurd (cc)
+    by_test false is h more = (is, more h)
+
+within : (size : Option ℕ) (before after : ℕ) → is_over_size size before after ≡ false → IsWithin size before after
+within None before after h = tt
+within (Some size) before after h = by_tests (nat_lt size after) (nat_lt before after) refl refl h
+  where
+    by_tests : (a b : Bool) → nat_lt size after ≡ a → nat_lt before after ≡ b → (a && b) ≡ false → (after ≤ size) ⊎ (after ≤ before)
+    by_tests false b ea eb h = inl (grind (arith, nat_tests))
+    by_tests true false ea eb h = inr (grind (arith, nat_tests))
+    by_tests true true ea eb h = absurd (cc)
+
+and_false : (b : Bool) → (b && false) ≡ false
+and_false true = refl
+and_false false = refl
+
+-- a new row without a voucher ignores no quota
+module _ (lists : Lists) (at : ℕ) (quota : Quota) (row : CartPos) where
+  is_found : cart_at row.id (after_change (PutCart row) lists) ≡ Some row
+  is_found = let e = row_at-with_row (λ (r : CartPos). r.id) row.id row lists.carts in grind (arith, nat_tests, e)
+
+  not_free : row.voucher ≡ None → is_free (after_change (PutCart row) lists) at quota row.id ≡ false
+  not_free none =
+      ap (λ (c : Option CartPos). is_free_cart (after_change (PutCart row) lists) at quota c) is_found
+      ∙ ap (λ (v : Option ℕ). cart_counts (after_change (PutCart row) lists) at quota row && ignores (after_change (PutCart row) lists) v) none
+      ∙ and_false (cart_counts (after_change (PutCart row) lists) at quota row)
+
+less_none : (test : ℕ → Bool) (id n : ℕ) → test id ≡ false → n - count_by test (id ∷ []) ≡ n
+less_none test id n h = rw h (omega arith)
+
+weighs_all : (lists : Lists) (at : ℕ) (quota : Quota) (row : CartPos) → row.voucher ≡ None → weighed (after_change (PutCart row) lists) at quota (row.id ∷ []) ≡ total (usage_of (after_change (PutCart row) lists) at quota)
+unfolding weighed
+weighs_all lists at quota row none =
+    less_none (is_free (after_change (PutCart row) lists) at quota) row.id (total (usage_of (after_change (PutCart row) lists) at quota)) (not_free lists at quota row none)
+
+all_within : (before : State) (row : CartPos) (quotas : List Quota) → row.voucher ≡ None → AllByRecursion (λ quota. is_over before.lists (after_change (PutCart row) before.lists) before.moment (row.id ∷ []) quota ≡ false) quotas → AllByRecursion (λ quota. IsWithin quota.size (used before quota) (used (with_cart row before) quota)) quotas
+all_within before row [] none h = tt
+all_within before row (quota ∷ quotas) none h =
+    (within quota.size (used before quota) (used (with_cart row before) quota) (subst (λ (n : ℕ). is_over_size quota.size (used before quota) n ≡ false) (weighs_all before.lists before.moment quota row none) h.0), all_within before row quotas none h.1)
+
+pub takes_no_more : (before : State) (row : CartPos) → row.voucher ≡ None → first_over before.lists (after_change (PutCart row) before.lists) before.moment (row.id ∷ []) ≡ None → TakesNoMore before (with_cart row before)
+takes_no_more before row none h =
+    all_within before row before.lists.catalogue.quotas none (none_passes (is_over before.lists (after_change (PutCart row) before.lists) before.moment (row.id ∷ [])) before.lists.catalogue.quotas h)
