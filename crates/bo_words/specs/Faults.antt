@@ -1,5 +1,5 @@
 -- The words for a request that can't be read.
-use Rattle.std.specs.Prelude.{ℕ, List, ◌++◌, Option, Some, None, codes}
+use Rattle.std.specs.Prelude.{ℕ, List, ◌++◌, Some, None, codes}
 use Rattle.std.specs.Str.Lossy.{utf8_lossy}
 use Rattle.serde_json.specs.Data.{Data, string, array, item, no_items, object, member, no_members}
 use Rattle.bo_base.specs.declared.answer.Methods.{Methods}

@@ -1,5 +1,5 @@
 -- What is told: a status, perhaps the methods that a path has, and a value as JSON without spaces.
-use Rattle.std.specs.Prelude.{ℕ, List, Option, None, codes}
+use Rattle.std.specs.Prelude.{ℕ, List, Option, codes}
 use Rattle.serde_json.specs.Data.{Data, string, object, member, no_members}
 use Rattle.serde_json.specs.Written.{compact_text}
 use Rattle.bo_base.specs.declared.answer.Methods.{Methods}

@@ -1,6 +1,10 @@
-use crate::{Fault, Field, Problem, field_fault, method_not_allowed, no_credentials, words};
+use crate::rows::item_value;
+use crate::{
+    Fault, Field, Problem, field_fault, invalid_data, invalid_token, method_not_allowed,
+    no_credentials, not_found, parse_error, words,
+};
 use bo_base::{Cents, Ids, Methods, Moment, Text, Told};
-use bo_catalogue::{CatalogueRefusal, Item, Product, Quota};
+use bo_catalogue::{CatalogueRefusal, Item, Product, Quota, Variation};
 use bo_office::{Kind, Refusal, Reply};
 use bo_orders::OrderRefusal;
 use bo_usage::{Availability, CartPos, Usage};
@@ -105,6 +109,24 @@ fn replies(rt: HostRuntime) -> Result<(), Fail> {
 }
 
 #[test]
+fn variations(rt: HostRuntime) -> Result<(), Fail> {
+    let alloc = rt.alloc();
+    let adult = Variation {
+        id: 1,
+        item: 1,
+        name: Text::copy_of(alloc, "Adult")?,
+        default_price: None,
+        active: true,
+    };
+    let text = item_value(alloc, &item(alloc)?, &[adult])?.to_string(alloc)?;
+    assert_eq!(rt;
+        text.as_str(),
+        "{\"active\":true,\"default_price\":\"23.00\",\"has_variations\":false,\"id\":1,\"name\":\"Stalls\",\"variations\":[{\"active\":true,\"default_price\":null,\"id\":1,\"price\":\"23.00\",\"value\":\"Adult\"}]}"
+    );
+    Ok(())
+}
+
+#[test]
 fn refusals(rt: HostRuntime) -> Result<(), Fail> {
     let alloc = rt.alloc();
     let sold_out = Reply::Refused(Kind::AddCart, Refusal::Order(OrderRefusal::SoldOut(1)));
@@ -150,6 +172,22 @@ fn faults(rt: HostRuntime) -> Result<(), Fail> {
             "{\"detail\":\"Authentication credentials were not provided.\"}"
         )
     );
+    assert!(rt;
+        says(
+            &invalid_token(alloc)?,
+            401,
+            "{\"detail\":\"Invalid token.\"}"
+        )
+    );
+    assert!(rt;
+        says(
+            &parse_error(alloc)?,
+            400,
+            "{\"detail\":\"JSON parse error.\"}"
+        )
+    );
+    assert!(rt; says(&invalid_data(alloc)?, 400, "{\"detail\":\"Invalid data.\"}"));
+    assert!(rt; says(&not_found(alloc)?, 404, "{\"detail\":\"Not found.\"}"));
     let methods = Methods {
         get: true,
         post: true,

@@ -1,4 +1,4 @@
-use Rattle.std.proofs.Common.{◌≡◌, ap, ◌++◌, Some, codes}
+use Rattle.std.proofs.Common.{ap, ◌++◌, Some, codes}
 use Rattle.bo_words.specs.Told.{told, detail_body}
 use Rattle.bo_words.specs.Faults.{method_not_allowed}
 use Rattle.bo_words.proofs.MethodLemmas.{method_as_given}
