@@ -1,5 +1,5 @@
 -- The route of a path, by whether it is UTF-8.
-use Rattle.std.proofs.Common.{◌≡◌, ℕ, true, false, cond, List, Option, None, refl}
+use Rattle.std.proofs.Common.{◌≡◌, ℕ, true, false, cond, List, None, refl}
 use Rattle.std.specs.Str.{IsUtf8, is_utf8}
 use Rattle.std.proofs.lemmas.Str.{IsUtf8-from_is_utf8, is_utf8-from_IsUtf8}
 use Rattle.matchit.specs.Seek.{first}

@@ -1,5 +1,5 @@
 -- What a path names.
-use Rattle.std.specs.Prelude.{ℕ, ◌==◌, Bool, List, [], length, take, drop, position, Option, Some, None, if◌then◌else◌, codes, bytes_eq, slice_get, option_map, option_and_then}
+use Rattle.std.specs.Prelude.{ℕ, ◌==◌, List, length, take, drop, position, Option, Some, None, if◌then◌else◌, codes, bytes_eq, slice_get}
 use Rattle.std.specs.Borrow.{Bor}
 use Rattle.std.specs.List.{slice_split}
 use Rattle.bo_base.specs.Digits.{number_of}

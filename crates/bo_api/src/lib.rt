@@ -1,16 +1,16 @@
 //! Which command is this message?
 #![tactic(auto)]
 
-pub mod body;
+mod body;
 pub mod call;
-pub mod endpoint;
-pub mod path;
-pub mod requests;
-pub mod routes;
+mod endpoint;
+mod path;
+mod requests;
+mod routes;
 #[cfg(test)]
 mod tests;
-pub mod token;
-pub mod verb;
+mod token;
+mod verb;
 pub mod words;
 
 pub use call::Call;

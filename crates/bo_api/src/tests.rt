@@ -167,14 +167,22 @@ fn told_text(alloc: Global, told: &Told) -> Result<String, Fail> {
 
 fn command_text(alloc: Global, command: &Command) -> Result<String, Fail> {
     match command {
-        Command::AddItem(new) => Ok(
-            format!(in alloc; "item {} {} {}", new.name.as_str(), new.default_price.get(), new.active)?,
-        ),
+        Command::AddItem(new) => Ok(format!(in alloc;
+            "item {} {} {}",
+            new.name.as_str(),
+            new.default_price.get(),
+            new.active
+        )?),
         Command::AddQuota(new) => {
             let items = new.items.as_slice().len();
             match new.size {
                 None => Ok(format!(in alloc; "quota {} none {}", new.name.as_str(), items)?),
-                Some(size) => Ok(format!(in alloc; "quota {} {} {}", new.name.as_str(), size, items)?),
+                Some(size) => Ok(format!(in alloc;
+                    "quota {} {} {}",
+                    new.name.as_str(),
+                    size,
+                    items
+                )?),
             }
         }
         Command::AddCart(new) => {
@@ -236,7 +244,10 @@ fn forms(rt: HostRuntime) -> Result<(), Fail> {
     let alloc = rt.alloc();
     let words = Words::new(alloc, "big", "2026")?;
     for (path, body, wanted) in FORMS {
-        let text = format!(in alloc; "POST /api/v1/organizers/big/events/2026{path} HTTP/1.1\r\nAuthorization: tokEN abc\r\nContent-Length: {}\r\n\r\n{body}", body.len())?;
+        let text = format!(in alloc;
+            "POST /api/v1/organizers/big/events/2026{path} HTTP/1.1\r\nAuthorization: tokEN abc\r\nContent-Length: {}\r\n\r\n{body}",
+            body.len()
+        )?;
         let (found, _) = outcome(alloc, &words, text.as_bytes(), Some(1))?;
         assert_eq!(rt; found.as_str(), wanted);
     }
@@ -261,10 +272,30 @@ fn tokens(rt: HostRuntime) -> Result<(), Fail> {
     let words = Words::new(alloc, "big", "2026")?;
     // the digest of `abc` begins with 0xba
     for (field, known, first, wanted) in [
-        ("Authorization: Token abc", None, 0xba, "401 {\"detail\":\"Invalid token.\"}"),
-        ("Authorization: Token abc\r\nAuthorization: x", Some(1), 0xba, "read 404 {\"detail\":\"Not found.\"}"),
-        ("Authorization: Token", Some(1), 0, "401 {\"detail\":\"Authentication credentials were not provided.\"}"),
-        ("Authorization: Bearer abc", Some(1), 0, "401 {\"detail\":\"Authentication credentials were not provided.\"}"),
+        (
+            "Authorization: Token abc",
+            None,
+            0xba,
+            "401 {\"detail\":\"Invalid token.\"}",
+        ),
+        (
+            "Authorization: Token abc\r\nAuthorization: x",
+            Some(1),
+            0xba,
+            "read 404 {\"detail\":\"Not found.\"}",
+        ),
+        (
+            "Authorization: Token",
+            Some(1),
+            0,
+            "401 {\"detail\":\"Authentication credentials were not provided.\"}",
+        ),
+        (
+            "Authorization: Bearer abc",
+            Some(1),
+            0,
+            "401 {\"detail\":\"Authentication credentials were not provided.\"}",
+        ),
     ] {
         let text = format!(in alloc; "GET / HTTP/1.1\r\n{field}\r\n\r\n")?;
         let (found, digest) = outcome(alloc, &words, text.as_bytes(), known)?;

@@ -1,5 +1,5 @@
 -- Lists and members of values, as data.
-use Rattle.std.proofs.Common.{◌≡◌, ◌≤◌, List, [], ◌∷◌, length, Option, Some, Result, Err, String, Global, refl, sym, ap, arith, slice_get}
+use Rattle.std.proofs.Common.{◌≡◌, ◌≤◌, List, [], ◌∷◌, length, Some, Err, String, Global, refl, sym, ap, arith, slice_get}
 use Rattle.serde_json.specs.View.{view, items_view, members_view}
 use Rattle.serde_json.specs.declared.value.Value.{Value}
 use Rattle.bo_fields.specs.declared.error.BodyFault.TheVariants as faults

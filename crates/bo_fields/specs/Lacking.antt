@@ -2,10 +2,9 @@
 use Rattle.std.specs.Prelude.{ℕ, Bool, List, [], Option, Some, None, Result, Ok, Err}
 use Rattle.serde_json.specs.Data.{Data, Items, no_items, item}
 use Rattle.bo_words.specs.declared.fields.Field.{Field}
-use Rattle.bo_words.specs.declared.fields.Problem.TheVariants as problems
 use Rattle.bo_fields.specs.declared.error.BodyFault.{BodyFault}
 use Rattle.bo_fields.specs.declared.error.BodyFault.TheVariants as faults
-use Rattle.bo_fields.specs.Reading.{◌>>=◌, fault}
+use Rattle.bo_fields.specs.Reading.{◌>>=◌}
 use Rattle.bo_fields.specs.Modes.{optional, present}
 use Rattle.bo_fields.specs.Kinds.{truth, id, text, money, moment}
 use Rattle.bo_fields.specs.Lists.{list, ids}

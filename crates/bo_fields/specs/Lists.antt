@@ -1,11 +1,12 @@
 -- Lists in a body.
-use Rattle.std.specs.Prelude.{ℕ, List, [], ◌∷◌, ◌++◌, Option, Some, None, Result, Ok, Err, if◌then◌else◌, is_some}
+use Rattle.std.specs.Prelude.{ℕ, List, [], ◌∷◌, ◌++◌, Option, Some, None, Result, Ok, Err}
 use Rattle.serde_json.specs.Data.{Data, Items, no_items, item}
-use Rattle.serde_json.specs.Find.{as_null, as_array}
+use Rattle.serde_json.specs.Find.{as_array}
 use Rattle.bo_words.specs.declared.fields.Field.{Field}
 use Rattle.bo_words.specs.declared.fields.Problem.TheVariants as problems
 use Rattle.bo_fields.specs.declared.error.BodyFault.{BodyFault}
 use Rattle.bo_fields.specs.Reading.{◌>>=◌, fault}
+use Rattle.bo_fields.specs.Modes.{not_null}
 use Rattle.bo_fields.specs.Kinds.{id}
 
 -- a list
@@ -23,7 +24,7 @@ all_of read (item d ds) = read d >>= λ x. all_of read ds >>= λ xs. Ok (x ∷ x
 
 -- an entry that is an id; its faults are the list's
 abbrev pub entry_id : Field → Data → Result ℕ BodyFault
-entry_id f d = if is_some (as_null d) then Err (fault f problems.Null) else id f d
+entry_id f d = not_null f d >>= id f
 
 -- a list of ids
 abbrev pub ids : Field → Data → Result (List ℕ) BodyFault

@@ -6,12 +6,16 @@ use Rattle.bo_words.specs.declared.fields.Field.{Field}
 use Rattle.bo_words.specs.declared.fields.Problem.TheVariants as problems
 use Rattle.bo_words.specs.Fields.{field_name}
 use Rattle.bo_fields.specs.declared.error.BodyFault.{BodyFault}
-use Rattle.bo_fields.specs.Reading.{fault}
+use Rattle.bo_fields.specs.Reading.{◌>>=◌, fault}
+
+-- a value that may not be null
+abbrev pub not_null : Field → Data → Result Data BodyFault
+not_null f v = if is_some (as_null v) then Err (fault f problems.Null) else Ok v
 
 -- a field that has to be there, and may not be null
 abbrev pub required_from : Field → Option Data → Result Data BodyFault
 required_from f None = Err (fault f problems.Required)
-required_from f (Some v) = if is_some (as_null v) then Err (fault f problems.Null) else Ok v
+required_from f (Some v) = not_null f v
 
 abbrev pub required : Field → Data → Result Data BodyFault
 required f d = required_from f (get (field_name f) d)
@@ -39,7 +43,7 @@ optional f d = optional_from (get (field_name f) d)
 -- a field that may be absent, and may not be null
 abbrev pub present_from : Field → Option Data → Result (Option Data) BodyFault
 present_from f None = Ok None
-present_from f (Some v) = if is_some (as_null v) then Err (fault f problems.Null) else Ok (Some v)
+present_from f (Some v) = not_null f v >>= λ x. Ok (Some x)
 
 abbrev pub present : Field → Data → Result (Option Data) BodyFault
 present f d = present_from f (get (field_name f) d)

@@ -3,15 +3,15 @@
 
 pub mod error;
 pub mod kinds;
+pub mod lacking;
 pub mod lists;
 pub mod modes;
-pub mod lacking;
 
 pub use error::{BodyFault, ReadError};
 pub use kinds::{id, moment, money, name, text, truth, whole};
-pub use lists::{ids, list};
-pub use modes::{nullable, optional, present, required};
 pub use lacking::{
     empty_list, ids_or_none, optional_id, optional_moment, optional_money, optional_text, truth_or,
     unset,
 };
+pub use lists::{ids, list};
+pub use modes::{nullable, optional, present, required};

@@ -7,6 +7,7 @@ ghost use Rattle.serde_json.specs.View.{view, items_view};
 
 use crate::error::{BodyFault, ReadError, fault};
 use crate::kinds::id;
+use crate::modes::not_null;
 use bo_base::Ids;
 use bo_words::{Field, Problem};
 use serde_json::Value;
@@ -26,11 +27,7 @@ pub fn list<'v>(field: Field, value: &'v Value) -> Result<&'v [Value], BodyFault
 fn entry_id(field: Field, entry: &Value) -> Result<u64, BodyFault>
     ensures { result ≡ entry_id field (view entry.now) }
 {
-    if entry.is_null() {
-        fault(field, Problem::Null)
-    } else {
-        id(field, entry)
-    }
+    id(field, not_null(field, entry)?)
 }
 
 /// The ids that a list's entries are.

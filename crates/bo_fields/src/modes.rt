@@ -2,12 +2,23 @@
 
 ghost use Rattle.std.specs.Prelude.{◌≡◌, option_map};
 ghost use Rattle.bo_fields.specs.Reading.{Shows, view_of};
-ghost use Rattle.bo_fields.specs.Modes.{required, nullable, optional, present, unless_null};
+ghost use Rattle.bo_fields.specs.Modes.{not_null, required, nullable, optional, present, unless_null};
 ghost use Rattle.serde_json.specs.View.{view};
 
 use crate::error::{BodyFault, fault};
 use bo_words::{Field, Problem};
 use serde_json::Value;
+
+/// A value that may not be null.
+pub(crate) fn not_null<'v>(field: Field, value: &'v Value) -> Result<&'v Value, BodyFault>
+    ensures { Shows view_of result (not_null field (view value.now)) }
+{
+    if value.is_null() {
+        fault(field, Problem::Null)
+    } else {
+        Ok(value)
+    }
+}
 
 /// The value of a field that has to be there, and may not be null.
 pub fn required<'v>(field: Field, body: &'v Value) -> Result<&'v Value, BodyFault>
@@ -15,13 +26,7 @@ pub fn required<'v>(field: Field, body: &'v Value) -> Result<&'v Value, BodyFaul
 {
     match body.get(field.name()) {
         None => fault(field, Problem::Required),
-        Some(value) => {
-            if value.is_null() {
-                fault(field, Problem::Null)
-            } else {
-                Ok(value)
-            }
-        }
+        Some(value) => not_null(field, value),
     }
 }
 
@@ -58,12 +63,6 @@ pub fn present<'v>(field: Field, body: &'v Value) -> Result<Option<&'v Value>, B
 {
     match body.get(field.name()) {
         None => Ok(None),
-        Some(value) => {
-            if value.is_null() {
-                fault(field, Problem::Null)
-            } else {
-                Ok(Some(value))
-            }
-        }
+        Some(value) => Ok(Some(not_null(field, value)?)),
     }
 }

@@ -9,6 +9,3 @@ pub mod reply;
 pub use command::{Command, Kind, Query};
 pub use office::Office;
 pub use reply::{Refusal, Reply};
-
-#[cfg(test)]
-mod tests;

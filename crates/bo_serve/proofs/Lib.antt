@@ -1,1 +1,3 @@
 pub mod RunLemmas
+pub mod PassLemmas
+pub mod LawLemmas

@@ -1,2 +1,4 @@
 pub mod Failures
 pub mod Run
+pub mod BoxOfficeView
+pub mod Served

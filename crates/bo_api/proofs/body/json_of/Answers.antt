@@ -1,4 +1,3 @@
-use Rattle.std.proofs.Common.{◌≡◌, true, false}
 use Rattle.serde_json.specs.Errors.{IsMemory}
 use Rattle.bo_api.proofs.Json.{json_read, json_refused}
 use Rattle.bo_api.proofs.body.json_of.Goals as goal

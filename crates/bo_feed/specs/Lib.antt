@@ -1,0 +1,5 @@
+pub mod Faults
+pub mod Feed
+pub mod FeedTicks
+pub mod House
+pub mod Line

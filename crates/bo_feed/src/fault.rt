@@ -1,0 +1,30 @@
+//! Why the program ends with status 1.
+
+ghost use Rattle.std.specs.Prelude.{◌≡◌};
+ghost use Rattle.bo_feed.specs.Faults.{fault_number};
+
+use bo_serve::Failure;
+
+/// Why the program ends with status 1.
+#[derive(Clone, Copy, Debug, PartialEq, Eq)]
+pub enum Fault {
+    /// There is no memory to read the command line.
+    Memory,
+    /// The value of an argument can't be read, or is out of its range.
+    Argument,
+    /// The run failed.
+    Run(Failure),
+}
+
+impl Fault {
+    /// Its number: 6 for want of memory, 84 for an argument, and that of the failure.
+    pub fn number(self) -> u8
+        ensures { result ≡ fault_number self }
+    {
+        match self {
+            Fault::Memory => 6,
+            Fault::Argument => 84,
+            Fault::Run(failure) => failure.number(),
+        }
+    }
+}

@@ -1,0 +1,55 @@
+-- What a box office does with one message, and what it answers.
+use Rattle.std.specs.Prelude.{◌≡◌, ℕ, List, Option, Some, None, if◌then◌else◌, bytes_eq, option_map}
+use Rattle.sha2.specs.Sha256.{sha256}
+use Rattle.bo_base.specs.declared.answer.Answer.{Answer}
+use Rattle.bo_base.specs.declared.answer.Answer.TheVariants as answers
+use Rattle.bo_base.specs.declared.answer.Told.{Told}
+use Rattle.bo_base.specs.declared.device.Tick.{Tick}
+use Rattle.bo_base.specs.declared.draw.Draw.{Draw}
+use Rattle.bo_http.specs.Messages.{Message}
+use Rattle.bo_usage.specs.Lists.{State}
+use Rattle.bo_office.specs.Answer.{answer}
+use Rattle.bo_office.specs.Runs.{moment_at}
+use Rattle.bo_office.specs.Step.{step}
+use Rattle.bo_api.specs.declared.call.Call.{Call}
+use Rattle.bo_api.specs.declared.call.Call.TheVariants as calls
+use Rattle.bo_api.specs.Call.{call}
+use Rattle.bo_api.specs.Token.{token_of}
+use Rattle.bo_words.specs.Replies.{words}
+use Rattle.bo_serve.specs.BoxOfficeView.{BoxOfficeView}
+
+-- the token with that digest has the number 1, and no other one has a number
+abbrev pub row_of : List ℕ → Option (List ℕ) → Option ℕ
+row_of known None = None
+row_of known (Some digest) = if bytes_eq digest known then Some 1 else None
+
+-- the number of the token that a message shows
+abbrev pub token_row : List ℕ → Message → Option ℕ
+token_row known m = row_of known (option_map sha256 (token_of m))
+
+-- What is done with a call at a moment, and what is told. A write stores its moment, refused or not; a read stores
+-- nothing, and neither does a request without a known token.
+abbrev pub told_of : Call → ℕ → Draw → State → State × Told
+told_of (calls.Unauthorized told) at draw state = (state, told)
+told_of (calls.Read query) at draw state = (state, words (answer query at state))
+told_of (calls.ReadRefused told) at draw state = (state, told)
+told_of (calls.Write command) at draw state = let made = step command at draw state in (made.0, words made.1)
+told_of (calls.WriteRefused told) at draw state = (record state { moment = at }, told)
+
+-- what is done with a message at a tick, and what is told: its moment is the clock's, but never before the office's
+abbrev pub served : BoxOfficeView → Tick → Message → State × Told
+served office tick m =
+    told_of (call office.organizer office.event m (token_row office.digest m)) (moment_at tick.clock office.state) tick.draw office.state
+
+-- the state is as it was done, and this is what was told
+abbrev pub Leads : BoxOfficeView → State × Told → BoxOfficeView → Told → Type 0
+Leads old made new told = (new ≡ record old { state = made.0 }) × (told ≡ made.1)
+
+-- the message is told what is done with it, or it is answered 503 and nothing has changed
+abbrev pub Serves : BoxOfficeView → Tick → Message → Answer → BoxOfficeView → Type 0
+Serves old tick m (answers.Told told) new = Leads old (served old tick m) new told
+Serves old tick m answers.Unavailable new = new ≡ old
+
+-- the message is told what is done with it
+abbrev pub Tells : BoxOfficeView → Tick → Message → Answer → BoxOfficeView → Type 0
+Tells old tick m answer new = (answer ≡ answers.Told (served old tick m).1) × (new ≡ record old { state = (served old tick m).0 })

@@ -1,0 +1,152 @@
+//! The box office as a desk: what it does with one message, and what it answers.
+
+ghost use Rattle.std.specs.Prelude.{◌≡◌, ◌≤◌, Ok, IfOk, OnErr, max};
+ghost use Rattle.bo_words.specs.Replies.{words};
+ghost use Rattle.bo_usage.specs.Lists.{State};
+ghost use Rattle.bo_usage.specs.Sound.{IsSound};
+ghost use Rattle.bo_office.specs.Answer.{answer};
+ghost use Rattle.bo_office.specs.Step.{step};
+ghost use Rattle.bo_serve.specs.BoxOfficeView.{BoxOfficeView};
+ghost use Rattle.bo_serve.specs.Served.{Serves, Leads, token_row, told_of, served};
+
+use crate::desk::Desk;
+use bo_api::{Call, Words};
+use bo_base::{Answer, Draw, Moment, Tick, Told};
+use bo_http::frame::Frame;
+use bo_office::{Command, Office, Query};
+use bo_usage::{Book, Changes};
+use bo_words::words;
+use std::alloc::{AllocError, Global};
+use std::marker::Model;
+
+/// A box office that answers messages. It knows one token, by its digest.
+/// Contracts see its two names, that digest, and the office's state.
+#[derive(Drop)]
+pub struct BoxOffice<B: Book> {
+    office: Office<B>,
+    words: Words,
+    digest: [u8; 32],
+}
+
+impl<B: Book> Model for BoxOffice<B> {
+    ghost use Rattle.bo_usage.specs.Sound.{IsSound};
+    ghost use Rattle.bo_serve.specs.BoxOfficeView.{BoxOfficeView};
+
+    ghost Value = { BoxOfficeView };
+
+    ghost view = { λ b. record {
+      organizer = b.words.organizer;
+      event = b.words.event;
+      digest = b.digest;
+      state = b.office.state;
+    } };
+
+    ghost invariant = { λ b. IsSound b.office.state };
+}
+
+impl<B: Book + Drop> BoxOffice<B> {
+    /// The box office of an office. The requests to it show the token with that digest.
+    pub fn over(alloc: Global, office: Office<B>, digest: [u8; 32]) -> Result<Self, AllocError>
+        requires { IsSound office.state }
+        ensures { IfOk result (λ b. b ≡ record { organizer = office.organizer; event = office.event; digest = digest; state = office.state }) }
+    {
+        let words = Words::new(alloc, office.organizer(), office.event())?;
+        Ok(BoxOffice {
+            office,
+            words,
+            digest,
+        })
+    }
+}
+
+impl<B: Book> BoxOffice<B> {
+    // The number of the token that a message shows: 1 where it is the known one.
+    fn token(&self, frame: &Frame<'_>) -> Option<u64>
+        ensures { result ≡ token_row self.now.digest frame.now }
+    {
+        match self.words.token_digest(frame) {
+            Some(digest) if digest == self.digest => Some(1),
+            _ => None,
+        }
+    }
+
+    // The moment of a message: the clock's, but never before the office's.
+    fn moment_at(&self, clock: Moment) -> Moment
+        ensures at { result ≡ max self.now.state.moment clock }
+        ensures later { self.now.state.moment ≤ result }
+    {
+        let stored = self.office.moment();
+        if stored.is_before(clock) {
+            clock
+        } else {
+            stored
+        }
+    }
+
+    // What a query is told.
+    fn ask(&self, alloc: Global, at: Moment, query: &Query) -> Result<Told, AllocError>
+        requires { self.now.state.moment ≤ at }
+        ensures { IfOk result (λ told. told ≡ words (answer query.now at self.now.state)) }
+    {
+        let reply = self.office.ask(alloc, at, query)?;
+        words(alloc, &reply)
+    }
+
+    // Does a command. All that can fail comes before the change.
+    fn act(
+        &mut self,
+        alloc: Global,
+        at: Moment,
+        draw: Draw,
+        command: &Command,
+    ) -> Result<Told, AllocError>
+        requires { self.old.state.moment ≤ at }
+        ensures ok { IfOk result (Leads self.old (told_of (Call.Write command.now) at draw self.old.state) self.new) }
+        ensures err { OnErr result (self.new ≡ self.old) }
+    {
+        let (changes, reply) = self.office.decide(alloc, at, draw, command)?;
+        let told = words(alloc, &reply)?;
+        self.office.reserve(&changes)?;
+        self.office.adopt(changes, at);
+        Ok(told)
+    }
+
+    // Stores the moment of a write that was refused before it was a command.
+    fn pass(&mut self, alloc: Global, at: Moment)
+        requires { self.old.state.moment ≤ at }
+        ensures { self.new ≡ record self.old { state = record self.old.state { moment = at } } }
+    {
+        let next = self.office.book().next_ids();
+        self.office.adopt(Changes::new(Vec::new(alloc), next), at);
+    }
+
+    // Does what a message asks for, and words it. Where there is no memory, nothing changes.
+    fn tell(&mut self, alloc: Global, tick: Tick, frame: &Frame<'_>) -> Result<Told, AllocError>
+        ensures ok { IfOk result (Leads self.old (served self.old tick frame.now) self.new) }
+        ensures err { OnErr result (self.new ≡ self.old) }
+    {
+        let token = self.token(frame);
+        let at = self.moment_at(tick.clock);
+        match self.words.read_request(alloc, frame, token)? {
+            Call::Unauthorized(told) => Ok(told),
+            Call::ReadRefused(told) => Ok(told),
+            Call::Read(query) => self.ask(alloc, at, &query),
+            Call::Write(command) => self.act(alloc, at, tick.draw, &command),
+            Call::WriteRefused(told) => {
+                self.pass(alloc, at);
+                Ok(told)
+            }
+        }
+    }
+}
+
+impl<B: Book> Desk for BoxOffice<B> {
+    ghost serves = { Serves };
+
+    fn serve(&mut self, alloc: Global, tick: Tick, frame: &Frame<'_>) -> Answer {
+        match self.tell(alloc, tick, frame) {
+            Ok(told) => Answer::Told(told),
+            Err(_) => Answer::Unavailable,
+        }
+    }
+}

@@ -1,0 +1,27 @@
+//! Laws of every run of a box office over a stream.
+
+ghost use Rattle.std.specs.Prelude.{◌≡◌, ◌≤◌, ℕ, List, Option, Some};
+ghost use Rattle.bo_base.specs.declared.answer.Answer.{Answer};
+ghost use Rattle.bo_base.specs.declared.device.Tick.{Tick};
+ghost use Rattle.bo_base.specs.Told.{Gives};
+ghost use Rattle.bo_http.specs.Messages.{Messages};
+ghost use Rattle.bo_serve.specs.BoxOfficeView.{BoxOfficeView};
+ghost use Rattle.bo_serve.specs.Run.{Item, AreAll, Runs};
+ghost use Rattle.bo_serve.specs.Served.{Serves, Tells};
+
+/// Where the bytes of a stream are known, the messages that a run answers are those of the whole stream, however it was cut.
+pub fn all_are_answered()
+    ensures { (all front : List ℕ) (after : Option (List ℕ)) (items : List Item) → Gives (Some all) front after → AreAll front after items → Messages all items }
+{}
+
+/// Two runs over the same messages with the same ticks, in which nothing is answered 503, write the same and lead to the same.
+pub fn runs_are_alike()
+    ensures { (old : BoxOfficeView) (ticks : List Tick) (items : List Item) (a b : List ℕ) (new other : BoxOfficeView)
+        → Runs Tells old ticks items a new → Runs Tells old ticks items b other → (a ≡ b) × (new ≡ other) }
+{}
+
+/// The office's moment never falls, whatever the clock shows.
+pub fn time_never_falls()
+    ensures { (old : BoxOfficeView) (ticks : List Tick) (items : List Item) (a : List ℕ) (new : BoxOfficeView)
+        → Runs Serves old ticks items a new → old.state.moment ≤ new.state.moment }
+{}

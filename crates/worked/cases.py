@@ -1,0 +1,306 @@
+#!/usr/bin/env python3
+"""Writes the case files under data/ and the file stdout, from the texts of the requests and of their answers.
+
+A case file begins with a line of moments, one for each request, with a space between two. The rest are the bytes of the
+stream. What stdout has of a case is its name, how it ends, and the bytes that are written.
+
+Nothing here comes from the program: the answers are written out, or built from a status, a body and the form of a head.
+"""
+
+from pathlib import Path
+
+HERE = Path(__file__).parent
+PATH = "/api/v1/organizers/house/events/hall"
+T = "2026-05-01T10:00:00Z"
+PHRASES = {
+    200: "OK", 201: "Created", 400: "Bad Request", 401: "Unauthorized", 404: "Not Found",
+    405: "Method Not Allowed", 413: "Payload Too Large", 431: "Request Header Fields Too Large",
+    501: "Not Implemented",
+}
+cases = []
+
+
+def request(method, path, body="", token="Authorization: Token feed\r\n", fields="", version="1.1"):
+    length = f"Content-Length: {len(body.encode())}\r\n" if body else ""
+    return f"{method} {path} HTTP/{version}\r\nHost: h\r\n{token}{fields}{length}\r\n{body}"
+
+
+def post(path, body, **more):
+    return request("POST", PATH + path, body, **more)
+
+
+def get(path, **more):
+    return request("GET", PATH + path, **more)
+
+
+def answer(status, body, allow="", closes=False):
+    challenge = "WWW-Authenticate: Token\r\n" if status == 401 else ""
+    allowed = f"Allow: {allow}\r\n" if allow else ""
+    close = "Connection: close\r\n" if closes else ""
+    return (
+        f"HTTP/1.1 {status} {PHRASES[status]}\r\nContent-Type: application/json\r\n"
+        f"Content-Length: {len(body.encode())}\r\n{challenge}{allowed}{close}\r\n{body}"
+    )
+
+
+def case(name, exchanges, ending="ended"):
+    """A case of requests with their moments and answers; an answer may be empty."""
+    cases.append((name, exchanges, ending))
+
+
+def item(number, name, price):
+    return answer(201, f'{{"active":true,"default_price":"{price}","has_variations":false,"id":{number},"name":"{name}","variations":[]}}')
+
+
+def quota(number, name, size):
+    return answer(201, f'{{"id":{number},"items":[1],"name":"{name}","size":{size},"variations":[]}}')
+
+
+def cart(number, tick, made, expires, price="23.00"):
+    return answer(
+        201,
+        f'{{"cart_id":"{tick:032x}z{number}@api","datetime":"{made}","expires":"{expires}",'
+        f'"id":{number},"item":1,"price":"{price}","variation":null,"voucher":null}}',
+    )
+
+
+def left(size, carts):
+    number = size - carts
+    return answer(
+        200,
+        f'{{"available":{"true" if number else "false"},"available_number":{number},"blocking_vouchers":0,'
+        f'"cart_positions":{carts},"paid_orders":0,"pending_orders":0,"total_size":{size},"waiting_list":0}}',
+    )
+
+
+def sold_out(number):
+    return answer(400, f'{{"code":28,"detail":"Sold out.","quota":{number}}}')
+
+
+def detail(status, text, **more):
+    return answer(status, f'{{"detail":"{text}"}}', **more)
+
+
+def refused(number, text):
+    return answer(400, f'{{"code":{number},"detail":"{text}"}}')
+
+
+def fault(field, text):
+    return answer(400, f'{{"{field}":["{text}"]}}')
+
+
+REQUIRED = "This field is required."
+NULL = "This field may not be null."
+BLANK = "This field may not be blank."
+INVALID = "A valid value is required."
+RANGE = "Value out of range."
+TEXT = "Text not allowed."
+
+new_item = post("/items/", '{"name":"Stalls","default_price":"23.00"}')
+hold = post("/cartpositions/", '{"item":1}')
+ask = get("/quotas/1/availability/")
+
+
+def new_quota(size, name="A"):
+    return post("/quotas/", f'{{"name":"{name}","size":{size},"items":[1],"variations":[]}}')
+
+
+def setup(size):
+    """An item, and a quota of that size with it."""
+    return [(T, new_item, item(1, "Stalls", "23.00")), (T, new_quota(size), quota(1, "A", size))]
+
+
+case("empty_stream", [])
+
+case("a_hold_is_counted", [
+    (T, new_item, item(1, "Stalls", "23.00")),
+    ("2026-05-01T10:01:00Z", new_quota(2), quota(1, "A", 2)),
+    ("2026-05-01T10:02:00Z", hold, cart(1, 3, "2026-05-01T10:02:00Z", "2026-05-01T10:32:00Z")),
+    ("2026-05-01T10:03:00Z", ask, left(2, 1)),
+])
+
+case("least_quota_over", setup(2) + [
+    (T, new_quota(1, "B"), quota(2, "B", 1)),
+    (T, hold, cart(1, 4, T, "2026-05-01T10:30:00Z")),
+    (T, hold, sold_out(2)),
+    (T, ask, left(2, 1)),
+])
+
+case("item_in_no_quota", [
+    (T, new_item, item(1, "Stalls", "23.00")),
+    (T, hold, refused(18, "In no quota.")),
+])
+
+case("hold_ends_after_its_second", setup(1) + [
+    (T, hold, cart(1, 3, T, "2026-05-01T10:30:00Z")),
+    ("2026-05-01T10:30:00Z", hold, sold_out(1)),
+    ("2026-05-01T10:30:01Z", hold, cart(2, 5, "2026-05-01T10:30:01Z", "2026-05-01T11:00:01Z")),
+])
+
+case("clock_that_goes_back", setup(1) + [
+    (T, hold, cart(1, 3, T, "2026-05-01T10:30:00Z")),
+    ("2026-05-01T10:30:01Z", post("/items/", '{"name":"Pit","default_price":5}'), item(2, "Pit", "5.00")),
+    ("2026-05-01T10:29:10Z", ask, left(1, 0)),
+])
+
+case("refused_write_stores_its_moment", setup(1) + [
+    (T, hold, cart(1, 3, T, "2026-05-01T10:30:00Z")),
+    ("2026-05-01T10:30:01Z", post("/items/", "{}"), fault("name", REQUIRED)),
+    ("2026-05-01T10:29:10Z", ask, left(1, 0)),
+])
+
+case("read_stores_no_moment", setup(1) + [
+    (T, hold, cart(1, 3, T, "2026-05-01T10:30:00Z")),
+    ("2026-05-01T10:30:01Z", ask, left(1, 0)),
+    ("2026-05-01T10:29:10Z", ask, left(1, 1)),
+])
+
+case("given_price_cart_and_end", setup(1) + [
+    (T, post("/cartpositions/", '{"item":1,"price":"7.5","cart_id":"c@api","expires":"2026-05-01T12:00:00+02:00"}'),
+     answer(201, '{"cart_id":"c@api","datetime":"2026-05-01T10:00:00Z","expires":"2026-05-01T10:00:00Z",'
+                 '"id":1,"item":1,"price":"7.50","variation":null,"voucher":null}')),
+    (T, hold, sold_out(1)),
+    ("2026-05-01T10:00:01Z", hold, cart(2, 5, "2026-05-01T10:00:01Z", "2026-05-01T10:30:01Z")),
+])
+
+case("quota_without_a_size", [
+    (T, new_item, item(1, "Stalls", "23.00")),
+    (T, new_quota("null"), quota(1, "A", "null")),
+    (T, hold, cart(1, 3, T, "2026-05-01T10:30:00Z")),
+    (T, ask, answer(200, '{"available":true,"available_number":null,"blocking_vouchers":0,"cart_positions":1,'
+                         '"paid_orders":0,"pending_orders":0,"total_size":null,"waiting_list":0}')),
+])
+
+short = post("/items/", "x" * 20)
+case("short_body_is_no_answer", [(T, short[:-13], "")])
+
+case("two_requests_in_one_piece", setup(1))
+
+case("body_too_large", [
+    ("", request("POST", PATH + "/items/", fields="Content-Length: 1048577\r\n"), detail(413, "Body too large.", closes=True)),
+])
+
+case("bad_head_ends_the_connection", [
+    (T, new_item, item(1, "Stalls", "23.00")),
+    ("", "GET \x01 HTTP/1.1\r\n\r\n", detail(400, "Bad request head.", closes=True)),
+    ("", new_item, ""),
+])
+
+case("head_of_65_fields", [
+    ("", get("/items/", fields="x: y\r\n" * 63), detail(431, "Request head too large.", closes=True)),
+])
+
+case("chunked_body", [
+    ("", get("/items/", fields="Transfer-Encoding: chunked\r\n"), detail(501, "Transfer-Encoding is not supported.", closes=True)),
+])
+
+case("connection_closes_after_the_answer", [
+    (T, get("/quotas/1/availability/", fields="Connection: close\r\n"), detail(404, "Not found.", closes=True)),
+    ("", new_item, ""),
+])
+
+case("older_version_closes", [
+    (T, get("/quotas/1/availability/", version="1.0"), detail(404, "Not found.", closes=True)),
+    ("", new_item, ""),
+])
+
+case("clock_that_fails", [
+    (T, new_item, item(1, "Stalls", "23.00")),
+    ("", new_quota(1), ""),
+], "fault 85")
+
+case("tokens", [
+    (T, get("/quotas/1/availability/", token=""), detail(401, "Authentication credentials were not provided.")),
+    (T, get("/quotas/1/availability/", token="Authorization: Basic feed\r\n"), detail(401, "Authentication credentials were not provided.")),
+    (T, get("/quotas/1/availability/", token="Authorization: Token\r\n"), detail(401, "Authentication credentials were not provided.")),
+    (T, get("/quotas/1/availability/", token="Authorization: Token fee\r\n"), detail(401, "Invalid token.")),
+    (T, get("/quotas/1/availability/", token="Authorization: tOKEN feed\r\n"), detail(404, "Not found.")),
+    (T, post("/nowhere/", "{", token=""), detail(401, "Authentication credentials were not provided.")),
+])
+
+case("paths", [
+    (T, get("/nowhere/"), detail(404, "Not found.")),
+    (T, get("/items"), detail(404, "Not found.")),
+    (T, get("/quotas/x/availability/"), detail(404, "Not found.")),
+    (T, get("/quotas/0000000000000000001/availability/"), detail(404, "Not found.")),
+    (T, get("/quotas/1/availability/"), detail(404, "Not found.")),
+    (T, request("GET", "/api/v1/organizers/other/events/hall/quotas/1/availability/"), detail(404, "Not found.")),
+    (T, request("POST", "/api/v1/organizers/house/events/pit/items/", "{}"), detail(404, "Not found.")),
+    (T, post("/items/?page=2", "{}"), fault("name", REQUIRED)),
+    (T, post("/quotas/1/availability/", "{"), detail(405, 'Method \\"POST\\" not allowed.', allow="GET")),
+    (T, request("HEAD", PATH + "/quotas/1/availability/"), detail(405, 'Method \\"HEAD\\" not allowed.', allow="GET")),
+    (T, request("get", PATH + "/quotas/1/availability/"), detail(405, 'Method \\"get\\" not allowed.', allow="GET")),
+])
+
+case("bodies", [
+    (T, post("/items/", "{"), detail(400, "JSON parse error.")),
+    (T, post("/items/", "[]"), detail(400, "Invalid data.")),
+    (T, post("/items/", "null"), detail(400, "Invalid data.")),
+    (T, post("/items/", ""), fault("name", REQUIRED)),
+    (T, post("/items/", '{"x":1e999}'), detail(400, "JSON parse error.")),
+    (T, post("/items/", '{"name":"A","name":"B","default_price":1}'), item(1, "B", "1.00")),
+])
+
+case("item_fields", [(T, post("/items/", body), told) for body, told in [
+    ('{"default_price":"1.00"}', fault("name", REQUIRED)),
+    ('{"name":null,"default_price":"x"}', fault("name", NULL)),
+    ('{"name":""}', fault("name", BLANK)),
+    ('{"name":5}', fault("name", INVALID)),
+    ('{"name":"' + "a" * 255 + '"}', fault("name", TEXT)),
+    ('{"name":"a\\u0007"}', fault("name", TEXT)),
+    ('{"name":"A"}', fault("default_price", REQUIRED)),
+    ('{"name":"A","default_price":"1.234"}', fault("default_price", INVALID)),
+    ('{"name":"A","default_price":"100000000"}', fault("default_price", RANGE)),
+    ('{"name":"A","default_price":1.5}', fault("default_price", INVALID)),
+    ('{"name":"A","default_price":-1}', fault("default_price", INVALID)),
+    ('{"name":"A","default_price":100000000}', fault("default_price", RANGE)),
+    ('{"name":"A","default_price":"1","active":1}', fault("active", INVALID)),
+    ('{"name":"A","default_price":"1","active":null}', fault("active", NULL)),
+    ('{"name":{"en":"B","de":"A"},"default_price":"99999999.99"}', item(1, "A", "99999999.99")),
+]])
+
+case("quota_fields", [(T, post("/quotas/", body), told) for body, told in [
+    ('{"name":"Q"}', fault("size", REQUIRED)),
+    ('{"name":"Q","size":-1}', fault("size", RANGE)),
+    ('{"name":"Q","size":1000001}', fault("size", RANGE)),
+    ('{"name":"Q","size":1.5}', fault("size", INVALID)),
+    ('{"name":"Q","size":"1"}', fault("size", INVALID)),
+    ('{"name":"Q","size":1,"items":{}}', fault("items", INVALID)),
+    ('{"name":"Q","size":1,"items":[0]}', fault("items", RANGE)),
+    ('{"name":"Q","size":1,"items":[null]}', fault("items", NULL)),
+    ('{"name":"Q","size":1,"items":[1]}', refused(10, "Item not found.")),
+    ('{"name":"Q","size":1000000}', answer(201, '{"id":1,"items":[],"name":"Q","size":1000000,"variations":[]}')),
+]])
+
+case("cart_fields", setup(1) + [(T, post("/cartpositions/", body), told) for body, told in [
+    ("{}", fault("item", REQUIRED)),
+    ('{"item":0}', fault("item", RANGE)),
+    ('{"item":9007199254740992}', fault("item", RANGE)),
+    ('{"item":"1"}', fault("item", INVALID)),
+    ('{"item":1,"price":"x"}', fault("price", INVALID)),
+    ('{"item":1,"cart_id":""}', fault("cart_id", BLANK)),
+    ('{"item":1,"cart_id":"c"}', refused(45, "Wrong cart.")),
+    ('{"item":1,"expires":"tomorrow"}', fault("expires", INVALID)),
+    ('{"item":1,"expires":"9999-01-01T00:00:00Z"}', fault("expires", RANGE)),
+    ('{"item":9}', refused(10, "Item not found.")),
+    ('{"item":1,"variation":1}', refused(11, "Variation not found.")),
+    ('{"item":1}', cart(1, 14, T, "2026-05-01T10:30:00Z")),
+]])
+
+
+def main():
+    data = HERE / "data"
+    for old in data.glob("*.case"):
+        old.unlink()
+    out = []
+    for name, exchanges, ending in cases:
+        moments = " ".join(moment for moment, _, _ in exchanges if moment)
+        stream = "".join(sent for _, sent, _ in exchanges)
+        (data / f"{name}.case").write_bytes(f"{moments}\n{stream}".encode())
+        told = "".join(told for _, _, told in exchanges)
+        out.append(f"== {name}: {ending}\n{told}\n")
+    (data / "names").write_text("".join(f"{name}\n" for name, _, _ in cases))
+    (HERE / "stdout").write_bytes("".join(out).encode())
+
+
+main()

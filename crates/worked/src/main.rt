@@ -1,0 +1,32 @@
+//! The worked cases: each stream of requests under `data/` is answered by a box office of its own, once in one piece and once
+//! byte by byte. Printed are its name, how it ends, and what is written.
+//!
+//! A case file begins with a line of moments, one for each whole request, with a space between two. What follows are the
+//! bytes of the stream. `data/names` has the names of the cases, one a line. `cases.py` writes them, and `stdout`, from the
+//! texts of the requests and of their answers.
+#![tactic(auto)]
+
+mod case;
+mod cut;
+mod listed;
+
+use crate::case::answered;
+use std::fs;
+
+fn main(rt: HostRuntime) -> anyhow::Result<()> {
+    let names = fs::read_to_string(&rt, "names")?;
+    for name in names.lines() {
+        let path = format!(in rt.alloc(); "{name}.case")?;
+        let case = fs::read(&rt, path.as_str())?;
+        let whole = answered(rt.alloc(), case.as_slice(), 65536)?;
+        let cut = answered(rt.alloc(), case.as_slice(), 1)?;
+        if whole == cut {
+            print!(rt; "== {name}: ")?;
+        } else {
+            print!(rt; "== {name}, which the cut changes: ")?;
+        }
+        rt.write_all(whole.as_slice())?;
+        println!(rt)?;
+    }
+    Ok(())
+}
