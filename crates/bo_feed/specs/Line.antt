@@ -1,5 +1,7 @@
 -- What a command line comes to.
 use Rattle.std.specs.Prelude.{◌≡◌, ℕ, ◌⊎◌, List, Option, Result, Ok, Err}
+use Rattle.std.specs.declared.io.ErrorKind.{ErrorKind as IoKind}
+use Rattle.std.specs.declared.io.ErrorKind.TheVariants as io-kinds
 use Rattle.clap.specs.declared.error.kind.ErrorKind.{ErrorKind}
 use Rattle.clap.specs.declared.error.kind.ErrorKind.TheVariants as kinds
 use Rattle.bo_feed.specs.declared.fault.Fault.{Fault}
@@ -16,6 +18,11 @@ line_status kinds.OutOfMemory = 1
 line_status kinds.DisplayHelp = 0
 line_status kinds.DisplayVersion = 0
 line_status _ = 2
+
+-- 2 where a word isn't UTF-8, else there is no memory
+abbrev pub words_status : IoKind → ℕ
+words_status io-kinds.InvalidData = 2
+words_status _ = 1
 
 -- `feed` runs with the texts of its two flags, or the line is no command, and then nothing is read or written
 abbrev pub Ran : Option (List ℕ) → Option (List ℕ) → Option (List ℕ) → Option (List ℕ) → ℕ → Type 0

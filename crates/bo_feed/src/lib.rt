@@ -10,5 +10,5 @@ pub mod ticks;
 pub use fault::Fault;
 pub use feeding::{Done, feed, feed_texts, feed_values};
 pub use house::{open_house, serve_house};
-pub use line::run;
+pub use line::{report_words, run};
 pub use ticks::{FeedTicks, Pace};

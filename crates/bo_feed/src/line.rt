@@ -2,13 +2,15 @@
 
 ghost use Rattle.std.specs.Prelude.{◌≡◌};
 ghost use Rattle.clap.specs.Words.{kind_of};
-ghost use Rattle.bo_feed.specs.Line.{Ran, line_status, status_of};
+ghost use Rattle.std.specs.IoError.{error_kind};
+ghost use Rattle.bo_feed.specs.Line.{Ran, line_status, status_of, words_status};
 
 use crate::fault::Fault;
 use crate::feeding::{Done, feed_texts};
 use clap::error::ErrorKind;
 use clap::{Arg, Command, Error};
 use std::alloc::{AllocError, Global};
+use std::io;
 use std::io::{Eprint, Print, Read, Write};
 
 /// The texts that follow `--from` and `--step`.
@@ -59,6 +61,20 @@ fn report<O: Eprint>(rt: &O, fault: Fault) -> u8
 {
     let _ = eprintln!(rt; "boxoffice: fault {}", fault.number());
     1
+}
+
+/// Says why the words of the line can't be had, and answers the program's exit status: 2 where one of them isn't UTF-8, else 1
+/// with fault 6, for want of memory.
+pub fn report_words<O: Eprint>(rt: &O, error: &io::Error) -> u8
+    ensures { result ≡ words_status (error_kind error.now) }
+{
+    match error.kind() {
+        io::ErrorKind::InvalidData => {
+            let _ = eprintln!(rt; "error: a word of the command line is not UTF-8");
+            2
+        }
+        _ => report(rt, Fault::Memory),
+    }
 }
 
 // The status of a run, whose fault is told.

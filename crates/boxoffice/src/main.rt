@@ -1,11 +1,21 @@
 //! The box office as a program.
 #![tactic(auto)]
 
+use std::io;
 use std::process::ExitCode;
 
-fn main(rt: HostRuntime) -> anyhow::Result<ExitCode> {
-    let alloc = rt.alloc();
-    let words: Vec<String> = std::env::args(&rt)?.collect(alloc)?;
-    let done = bo_feed::run(&rt, alloc, words.as_slice(), rt.stdin(), rt.stdout());
-    Ok(ExitCode::from(done.ended))
+// The words of the command line.
+fn words(rt: &HostRuntime) -> io::Result<Vec<String>> {
+    Ok(std::env::args(rt)?.collect(rt.alloc())?)
+}
+
+fn main(rt: HostRuntime) -> ExitCode {
+    let status = match words(&rt) {
+        Ok(words) => {
+            let done = bo_feed::run(&rt, rt.alloc(), words.as_slice(), rt.stdin(), rt.stdout());
+            done.ended
+        }
+        Err(error) => bo_feed::report_words(&rt, &error),
+    };
+    ExitCode::from(status)
 }
