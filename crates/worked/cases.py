@@ -56,11 +56,11 @@ def quota(number, name, size):
     return answer(201, f'{{"id":{number},"items":[1],"name":"{name}","size":{size},"variations":[]}}')
 
 
-def cart(number, tick, made, expires, price="23.00"):
+def cart(number, tick, made, expires, price="23.00", item=1):
     return answer(
         201,
         f'{{"cart_id":"{tick:032x}z{number}@api","datetime":"{made}","expires":"{expires}",'
-        f'"id":{number},"item":1,"price":"{price}","variation":null,"voucher":null}}',
+        f'"id":{number},"item":{item},"price":"{price}","variation":null,"voucher":null}}',
     )
 
 
@@ -171,6 +171,21 @@ case("quota_without_a_size", [
                          '"paid_orders":0,"pending_orders":0,"total_size":null,"waiting_list":0}')),
 ])
 
+case("quota_members_rise", [
+    (T, new_item, item(1, "Stalls", "23.00")),
+    (T, post("/items/", '{"name":"Pit","default_price":"5"}'), item(2, "Pit", "5.00")),
+    (T, post("/quotas/", '{"name":"A","size":null,"items":[2,1,2]}'), answer(201, '{"id":1,"items":[1,2],"name":"A","size":null,"variations":[]}')),
+    (T, post("/cartpositions/", '{"item":2}'), cart(1, 4, T, "2026-05-01T10:30:00Z", "5.00", 2)),
+])
+
+case("inactive_item", [
+    (T, post("/items/", '{"name":"Stalls","default_price":"1","active":false}'),
+     answer(201, '{"active":false,"default_price":"1.00","has_variations":false,"id":1,"name":"Stalls","variations":[]}')),
+    (T, hold, refused(15, "Not active.")),
+    (T, new_quota(1), quota(1, "A", 1)),
+    (T, hold, refused(15, "Not active.")),
+])
+
 short = post("/items/", "x" * 20)
 case("short_body_is_no_answer", [(T, short[:-13], "")])
 
@@ -223,11 +238,18 @@ case("paths", [
     (T, get("/items"), detail(404, "Not found.")),
     (T, get("/quotas/x/availability/"), detail(404, "Not found.")),
     (T, get("/quotas/0000000000000000001/availability/"), detail(404, "Not found.")),
+    (T, request("DELETE", PATH + "/quotas/x/availability/"), detail(404, "Not found.")),
+    (T, get("/quotas/7/availability/?page=2"), detail(404, "Not found.")),
+    (T, request("GET", "http://h" + PATH + "/quotas/1/availability/"), detail(404, "Not found.")),
+    (T, get("/%69tems/"), detail(404, "Not found.")),
     (T, get("/quotas/1/availability/"), detail(404, "Not found.")),
     (T, request("GET", "/api/v1/organizers/other/events/hall/quotas/1/availability/"), detail(404, "Not found.")),
     (T, request("POST", "/api/v1/organizers/house/events/pit/items/", "{}"), detail(404, "Not found.")),
     (T, post("/items/?page=2", "{}"), fault("name", REQUIRED)),
     (T, post("/quotas/1/availability/", "{"), detail(405, 'Method \\"POST\\" not allowed.', allow="GET")),
+    (T, request("PATCH", PATH + "/quotas/7/availability/", "{"), detail(405, 'Method \\"PATCH\\" not allowed.', allow="GET")),
+    (T, request("PUT", PATH + "/items/"), detail(405, 'Method \\"PUT\\" not allowed.', allow="POST")),
+    (T, get("/items/"), detail(405, 'Method \\"GET\\" not allowed.', allow="POST")),
     (T, request("HEAD", PATH + "/quotas/1/availability/"), detail(405, 'Method \\"HEAD\\" not allowed.', allow="GET")),
     (T, request("get", PATH + "/quotas/1/availability/"), detail(405, 'Method \\"get\\" not allowed.', allow="GET")),
 ])
@@ -246,17 +268,27 @@ case("item_fields", [(T, post("/items/", body), told) for body, told in [
     ('{"name":null,"default_price":"x"}', fault("name", NULL)),
     ('{"name":""}', fault("name", BLANK)),
     ('{"name":5}', fault("name", INVALID)),
+    ('{"name":{}}', fault("name", BLANK)),
+    ('{"name":{"de":null,"en":"X"}}', fault("name", INVALID)),
+    ('{"name":{"de":"","en":"X"}}', fault("name", BLANK)),
     ('{"name":"' + "a" * 255 + '"}', fault("name", TEXT)),
     ('{"name":"a\\u0007"}', fault("name", TEXT)),
     ('{"name":"A"}', fault("default_price", REQUIRED)),
     ('{"name":"A","default_price":"1.234"}', fault("default_price", INVALID)),
     ('{"name":"A","default_price":"100000000"}', fault("default_price", RANGE)),
+    ('{"name":"A","default_price":"123456789.55"}', fault("default_price", RANGE)),
+    ('{"name":"A","default_price":"123456789.555"}', fault("default_price", INVALID)),
+    ('{"name":"A","default_price":""}', fault("default_price", INVALID)),
     ('{"name":"A","default_price":1.5}', fault("default_price", INVALID)),
     ('{"name":"A","default_price":-1}', fault("default_price", INVALID)),
     ('{"name":"A","default_price":100000000}', fault("default_price", RANGE)),
     ('{"name":"A","default_price":"1","active":1}', fault("active", INVALID)),
     ('{"name":"A","default_price":"1","active":null}', fault("active", NULL)),
+    ('{"name":"A","default_price":"1","variations":null}', fault("variations", NULL)),
+    ('{"name":"A","default_price":"1","variations":{}}', fault("variations", INVALID)),
+    ('{"name":"A","default_price":"1","variations":[1]}', detail(400, "Invalid data.")),
     ('{"name":{"en":"B","de":"A"},"default_price":"99999999.99"}', item(1, "A", "99999999.99")),
+    ('{"name":"C","default_price":23,"variations":[],"x":1.5}', item(2, "C", "23.00")),
 ]])
 
 case("quota_fields", [(T, post("/quotas/", body), told) for body, told in [
@@ -268,6 +300,10 @@ case("quota_fields", [(T, post("/quotas/", body), told) for body, told in [
     ('{"name":"Q","size":1,"items":{}}', fault("items", INVALID)),
     ('{"name":"Q","size":1,"items":[0]}', fault("items", RANGE)),
     ('{"name":"Q","size":1,"items":[null]}', fault("items", NULL)),
+    ('{"name":"Q","size":1,"items":[1.5]}', fault("items", INVALID)),
+    ('{"name":"Q","size":1,"items":[9007199254740992]}', fault("items", RANGE)),
+    ('{"name":"Q","size":1,"items":null}', fault("items", NULL)),
+    ('{"name":"Q","size":1,"variations":[1]}', detail(400, "Invalid data.")),
     ('{"name":"Q","size":1,"items":[1]}', refused(10, "Item not found.")),
     ('{"name":"Q","size":1000000}', answer(201, '{"id":1,"items":[],"name":"Q","size":1000000,"variations":[]}')),
 ]])
@@ -277,14 +313,21 @@ case("cart_fields", setup(1) + [(T, post("/cartpositions/", body), told) for bod
     ('{"item":0}', fault("item", RANGE)),
     ('{"item":9007199254740992}', fault("item", RANGE)),
     ('{"item":"1"}', fault("item", INVALID)),
+    ('{"item":null}', fault("item", NULL)),
+    ('{"item":1.0}', fault("item", INVALID)),
+    ('{"item":1,"variation":"x"}', fault("variation", INVALID)),
     ('{"item":1,"price":"x"}', fault("price", INVALID)),
+    ('{"item":1,"price":2.5}', fault("price", INVALID)),
     ('{"item":1,"cart_id":""}', fault("cart_id", BLANK)),
     ('{"item":1,"cart_id":"c"}', refused(45, "Wrong cart.")),
     ('{"item":1,"expires":"tomorrow"}', fault("expires", INVALID)),
+    ('{"item":1,"expires":"2026-05-01"}', fault("expires", INVALID)),
+    ('{"item":1,"expires":7}', fault("expires", INVALID)),
+    ('{"item":1,"voucher":"X"}', detail(400, "Invalid data.")),
     ('{"item":1,"expires":"9999-01-01T00:00:00Z"}', fault("expires", RANGE)),
     ('{"item":9}', refused(10, "Item not found.")),
     ('{"item":1,"variation":1}', refused(11, "Variation not found.")),
-    ('{"item":1}', cart(1, 14, T, "2026-05-01T10:30:00Z")),
+    ('{"item":1,"variation":null,"price":null,"cart_id":null,"expires":null,"voucher":null}', cart(1, 21, T, "2026-05-01T10:30:00Z")),
 ]])
 
 

@@ -7,8 +7,6 @@ mod endpoint;
 mod path;
 mod requests;
 mod routes;
-#[cfg(test)]
-mod tests;
 mod token;
 mod verb;
 pub mod words;

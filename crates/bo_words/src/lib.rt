@@ -7,8 +7,6 @@ pub mod laws;
 mod refusals;
 pub mod replies;
 mod rows;
-#[cfg(test)]
-mod tests;
 mod told;
 mod values;
 
