@@ -13,10 +13,10 @@ use Rattle.bo_catalogue.specs.Limits.{last_id}
 use Rattle.bo_catalogue.specs.ItemAdded.{item_added}
 use Rattle.bo_catalogue.specs.QuotaAdded.{quota_added}
 use Rattle.bo_catalogue.proofs.Added.{item_added_is, quota_added_is, taken_id_small}
-use Rattle.bo_usage.specs.declared.rows.CartPos.{CartPos}
-use Rattle.bo_usage.specs.Lists.{State}
-use Rattle.bo_usage.specs.Sound.{IsSound}
-use Rattle.bo_usage.proofs.Sound.{sound_later, sound_item, sound_quota}
+use Rattle.bo_lists.specs.declared.rows.CartPos.{CartPos}
+use Rattle.bo_lists.specs.Lists.{State}
+use Rattle.bo_lists.specs.Sound.{IsSound}
+use Rattle.bo_lists.proofs.Sound.{sound_later, sound_item, sound_quota}
 use Rattle.bo_orders.specs.declared.refusal.OrderRefusal.{OrderRefusal}
 use Rattle.bo_orders.specs.Carts.{position_added}
 use Rattle.bo_orders.specs.Takes.{TakesNoMore}

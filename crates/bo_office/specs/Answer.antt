@@ -3,8 +3,8 @@ use Rattle.std.specs.Prelude.{ℕ, Option, Some, None}
 use Rattle.bo_catalogue.specs.declared.rows.Quota.{Quota}
 use Rattle.bo_catalogue.specs.declared.refusal.CatalogueRefusal.TheVariants.{NoQuota}
 use Rattle.bo_catalogue.specs.CatalogueLists.{quota_at}
-use Rattle.bo_usage.specs.Lists.{Lists, State}
-use Rattle.bo_usage.specs.Available.{availability}
+use Rattle.bo_lists.specs.Lists.{Lists, State}
+use Rattle.bo_lists.specs.Available.{availability}
 use Rattle.bo_office.specs.declared.command.Query.{Query}
 use Rattle.bo_office.specs.declared.command.Query.TheVariants.{Availability}
 use Rattle.bo_office.specs.declared.command.Kind.TheVariants.{Availability as OfAvailability}

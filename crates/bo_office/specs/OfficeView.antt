@@ -1,6 +1,6 @@
 -- What a contract sees of an office.
 use Rattle.std.specs.Prelude.{ℕ, List}
-use Rattle.bo_usage.specs.Lists.{State}
+use Rattle.bo_lists.specs.Lists.{State}
 
 -- the short names of the organizer and the event, the state, and how many changes it has room for
 pub record OfficeView : Type 0 where

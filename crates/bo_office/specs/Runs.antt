@@ -1,9 +1,9 @@
 -- Runs of commands, and what holds of each step of a run.
 use Rattle.std.specs.Prelude.{◌≡◌, ℕ, ◌≤◌, max, List, [], ◌∷◌}
 use Rattle.bo_base.specs.declared.draw.Draw.{Draw}
-use Rattle.bo_usage.specs.declared.rows.CartPos.{CartPos}
-use Rattle.bo_usage.specs.Lists.{State}
-use Rattle.bo_usage.specs.Sound.{IsSound}
+use Rattle.bo_lists.specs.declared.rows.CartPos.{CartPos}
+use Rattle.bo_lists.specs.Lists.{State}
+use Rattle.bo_lists.specs.Sound.{IsSound}
 use Rattle.bo_orders.specs.Takes.{TakesNoMore}
 use Rattle.bo_office.specs.declared.command.Command.{Command}
 use Rattle.bo_office.specs.declared.command.Kind.{Kind}

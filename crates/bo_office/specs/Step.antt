@@ -6,10 +6,10 @@ use Rattle.bo_catalogue.specs.declared.rows.Quota.{Quota}
 use Rattle.bo_catalogue.specs.declared.refusal.CatalogueRefusal.{CatalogueRefusal}
 use Rattle.bo_catalogue.specs.ItemAdded.{item_added}
 use Rattle.bo_catalogue.specs.QuotaAdded.{quota_added}
-use Rattle.bo_usage.specs.declared.rows.CartPos.{CartPos}
-use Rattle.bo_usage.specs.Lists.{State}
-use Rattle.bo_usage.specs.Change.{Changed}
-use Rattle.bo_usage.specs.Numbered.{with_item, with_quota}
+use Rattle.bo_lists.specs.declared.rows.CartPos.{CartPos}
+use Rattle.bo_lists.specs.Lists.{State}
+use Rattle.bo_lists.specs.Change.{Changed}
+use Rattle.bo_lists.specs.Numbered.{with_item, with_quota}
 use Rattle.bo_orders.specs.declared.refusal.OrderRefusal.{OrderRefusal}
 use Rattle.bo_orders.specs.Carts.{position_added}
 use Rattle.bo_office.specs.declared.command.Command.{Command}

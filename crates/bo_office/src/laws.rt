@@ -2,8 +2,8 @@
 
 ghost use Rattle.std.specs.Prelude.{List};
 ghost use Rattle.std.specs.List.{AllByRecursion};
-ghost use Rattle.bo_usage.specs.Lists.{State};
-ghost use Rattle.bo_usage.specs.Sound.{IsSound};
+ghost use Rattle.bo_lists.specs.Lists.{State};
+ghost use Rattle.bo_lists.specs.Sound.{IsSound};
 ghost use Rattle.bo_office.specs.Runs.{Arrival, trace, NoneOver, LeavesSound, StoresItsMoment, ChangesNothingElse, NeverGoesBack};
 
 /// Whatever commands come, no cart position that is added takes too much of a quota.

@@ -2,8 +2,8 @@
 
 ghost use Rattle.std.specs.Prelude.{◌≡◌, ◌≤◌, ℕ, IfOk, OnOk, length};
 ghost use Rattle.bo_base.specs.declared.draw.Draw.{Draw};
-ghost use Rattle.bo_usage.specs.Change.{applied};
-ghost use Rattle.bo_usage.specs.Sound.{IsSound};
+ghost use Rattle.bo_lists.specs.Change.{applied};
+ghost use Rattle.bo_lists.specs.Sound.{IsSound};
 ghost use Rattle.bo_office.specs.Step.{step, no_change};
 ghost use Rattle.bo_office.specs.Answer.{answer};
 
@@ -12,7 +12,9 @@ use crate::reply::{Refusal, Reply};
 use bo_base::{Draw, Moment, Text};
 use bo_catalogue::{CatalogueRefusal, NewItem, NewQuota};
 use bo_orders::{NewCart, OrderRefusal, add_position};
-use bo_usage::{Book, Change, Changes, Draft, NextIds, availability};
+use bo_draft::Draft;
+use bo_lists::{Change, Changes, NextIds};
+use bo_usage::{Book, availability};
 use std::alloc::{AllocError, Global};
 use std::marker::Model;
 
@@ -25,7 +27,7 @@ pub struct Office<B: Book> {
 }
 
 impl<B: Book> Model for Office<B> {
-    ghost use Rattle.bo_usage.specs.Sound.{IsSound};
+    ghost use Rattle.bo_lists.specs.Sound.{IsSound};
     ghost use Rattle.bo_office.specs.OfficeView.{OfficeView};
 
     ghost Value = { OfficeView };

@@ -6,7 +6,7 @@ ghost use Rattle.bo_office.specs.Refusals.{number_of_refusal};
 use crate::command::Kind;
 use bo_catalogue::{CatalogueRefusal, Item, Quota};
 use bo_orders::OrderRefusal;
-use bo_usage::{Availability, CartPos};
+use bo_lists::{Availability, CartPos};
 
 /// Why a request is refused.
 #[derive(Clone, Copy, Debug, PartialEq, Eq)]

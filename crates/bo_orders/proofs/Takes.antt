@@ -5,14 +5,14 @@ use Rattle.std.specs.List.{AllByRecursion}
 use Rattle.std.proofs.lemmas.Bool.Decides.{nat_tests}
 use Rattle.bo_base.proofs.Edits.{row_at-with_row}
 use Rattle.bo_catalogue.specs.declared.rows.Quota.{Quota}
-use Rattle.bo_usage.specs.declared.rows.CartPos.{CartPos}
-use Rattle.bo_usage.specs.declared.changes.Change.TheVariants.{PutCart}
-use Rattle.bo_usage.specs.Lists.{Lists, State, cart_at}
-use Rattle.bo_usage.specs.Change.{after_change}
-use Rattle.bo_usage.specs.Numbered.{with_cart}
-use Rattle.bo_usage.specs.Over.{first_over, is_over, is_over_size, is_free, is_free_cart, ignores, weighed}
-use Rattle.bo_usage.specs.Total.{total}
-use Rattle.bo_usage.specs.Usage.{usage_of, cart_counts}
+use Rattle.bo_lists.specs.declared.rows.CartPos.{CartPos}
+use Rattle.bo_lists.specs.declared.changes.Change.TheVariants.{PutCart}
+use Rattle.bo_lists.specs.Lists.{Lists, State, cart_at}
+use Rattle.bo_lists.specs.Change.{after_change}
+use Rattle.bo_lists.specs.Numbered.{with_cart}
+use Rattle.bo_lists.specs.Over.{first_over, is_over, is_over_size, is_free, is_free_cart, ignores, weighed}
+use Rattle.bo_lists.specs.Total.{total}
+use Rattle.bo_lists.specs.Usage.{usage_of, cart_counts}
 use Rattle.bo_orders.specs.Takes.{used, IsWithin, TakesNoMore}
 
 none_passes : (test : Quota → Bool) (quotas : List Quota) → option_map (λ quota. quota.id) (find test quotas) ≡ None → AllByRecursion (λ quota. test quota ≡ false) quotas

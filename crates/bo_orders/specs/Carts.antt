@@ -6,13 +6,13 @@ use Rattle.bo_catalogue.specs.declared.rows.Product.{Product}
 use Rattle.bo_catalogue.specs.declared.refusal.CatalogueRefusal.{CatalogueRefusal}
 use Rattle.bo_catalogue.specs.declared.refusal.CatalogueRefusal.TheVariants.{NoItem, Inactive, NotSold, Full}
 use Rattle.bo_catalogue.specs.CatalogueLists.{CatalogueLists, product_of, base_price, is_active, is_sold}
-use Rattle.bo_usage.specs.declared.rows.CartPos.{CartPos}
-use Rattle.bo_usage.specs.declared.changes.Change.TheVariants.{PutCart}
-use Rattle.bo_usage.specs.Lists.{State}
-use Rattle.bo_usage.specs.Change.{after_change}
-use Rattle.bo_usage.specs.Full.{takes_cart}
-use Rattle.bo_usage.specs.Numbered.{with_cart}
-use Rattle.bo_usage.specs.Over.{first_over}
+use Rattle.bo_lists.specs.declared.rows.CartPos.{CartPos}
+use Rattle.bo_lists.specs.declared.changes.Change.TheVariants.{PutCart}
+use Rattle.bo_lists.specs.Lists.{State}
+use Rattle.bo_lists.specs.Change.{after_change}
+use Rattle.bo_lists.specs.Full.{takes_cart}
+use Rattle.bo_lists.specs.Numbered.{with_cart}
+use Rattle.bo_lists.specs.Over.{first_over}
 use Rattle.bo_orders.specs.CartId.{cart_id_test, cart_id_of}
 use Rattle.bo_orders.specs.declared.new_cart.NewCart.{NewCart}
 use Rattle.bo_orders.specs.declared.refusal.OrderRefusal.{OrderRefusal}

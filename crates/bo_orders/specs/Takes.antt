@@ -2,9 +2,9 @@
 use Rattle.std.specs.Prelude.{ℕ, ◌≤◌, ◌⊎◌, Option, Some, None}
 use Rattle.std.specs.List.{AllByRecursion}
 use Rattle.bo_catalogue.specs.declared.rows.Quota.{Quota}
-use Rattle.bo_usage.specs.Lists.{State}
-use Rattle.bo_usage.specs.Usage.{usage_of}
-use Rattle.bo_usage.specs.Total.{total}
+use Rattle.bo_lists.specs.Lists.{State}
+use Rattle.bo_lists.specs.Usage.{usage_of}
+use Rattle.bo_lists.specs.Total.{total}
 
 -- how many places of a quota are used
 abbrev pub used : State → Quota → ℕ

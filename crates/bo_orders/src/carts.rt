@@ -1,7 +1,7 @@
 //! Adding cart positions.
 
 ghost use Rattle.std.specs.Prelude.{◌≡◌, ◌≢◌, Ok, Err, IfOk, IfErr, OnErr};
-ghost use Rattle.bo_usage.specs.DraftState.{now, Extends};
+ghost use Rattle.bo_draft.specs.DraftState.{now, Extends};
 ghost use Rattle.bo_orders.specs.Carts.{cart_row, placed, position_added, product_for_sale, price_by};
 ghost use Rattle.bo_catalogue.specs.CatalogueLists.{base_price};
 
@@ -10,7 +10,9 @@ use crate::new_cart::NewCart;
 use crate::refusal::OrderRefusal;
 use bo_base::{Cents, Draw};
 use bo_catalogue::{CatalogueRefusal, Product};
-use bo_usage::{Book, CartPos, Draft};
+use bo_draft::Draft;
+use bo_lists::CartPos;
+use bo_usage::Book;
 use std::alloc::Global;
 
 /// Adds a cart position, and answers a copy of it.

@@ -2,8 +2,8 @@
 
 ghost use Rattle.std.specs.Prelude.{◌≡◌, Ok};
 ghost use Rattle.bo_base.specs.declared.draw.Draw.{Draw};
-ghost use Rattle.bo_usage.specs.Lists.{State};
-ghost use Rattle.bo_usage.specs.declared.rows.CartPos.{CartPos};
+ghost use Rattle.bo_lists.specs.Lists.{State};
+ghost use Rattle.bo_lists.specs.declared.rows.CartPos.{CartPos};
 ghost use Rattle.bo_orders.specs.declared.new_cart.NewCart.{NewCart};
 ghost use Rattle.bo_orders.specs.Carts.{position_added};
 ghost use Rattle.bo_orders.specs.Takes.{TakesNoMore};

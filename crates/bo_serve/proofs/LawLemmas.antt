@@ -9,7 +9,7 @@ use Rattle.bo_base.specs.declared.draw.Draw.{Draw}
 use Rattle.bo_base.specs.Told.{Gives}
 use Rattle.bo_http.specs.Messages.{Message, Messages, closes}
 use Rattle.bo_http.specs.Text.{text}
-use Rattle.bo_usage.specs.Lists.{State}
+use Rattle.bo_lists.specs.Lists.{State}
 use Rattle.bo_office.proofs.Runs.{stores_all}
 use Rattle.bo_api.specs.declared.call.Call.{Call}
 use Rattle.bo_api.specs.declared.call.Call.TheVariants as calls

@@ -1,11 +1,11 @@
 -- Time that passes without a change of rows.
 use Rattle.std.proofs.Common.{◌≡◌, ℕ, ◌≤◌, List, [], sym, ap₂, subst}
-use Rattle.bo_usage.specs.declared.changes.Change.{Change}
-use Rattle.bo_usage.specs.declared.rows.NextIds.{NextIds}
-use Rattle.bo_usage.specs.Lists.{State}
-use Rattle.bo_usage.specs.Change.{Changed, after_all, applied}
-use Rattle.bo_usage.specs.Sound.{IsSound}
-use Rattle.bo_usage.proofs.Sound.{sound_later}
+use Rattle.bo_lists.specs.declared.changes.Change.{Change}
+use Rattle.bo_lists.specs.declared.rows.NextIds.{NextIds}
+use Rattle.bo_lists.specs.Lists.{State}
+use Rattle.bo_lists.specs.Change.{Changed, after_all, applied}
+use Rattle.bo_lists.specs.Sound.{IsSound}
+use Rattle.bo_lists.proofs.Sound.{sound_later}
 
 pub sound_pass : (changes : Changed) (at : ℕ) (state : State) → changes.list ≡ [] → changes.next ≡ state.next → state.moment ≤ at → IsSound state
     → IsSound (applied changes at state)

@@ -7,7 +7,7 @@ use Rattle.bo_base.specs.declared.answer.Told.{Told}
 use Rattle.bo_base.specs.declared.device.Tick.{Tick}
 use Rattle.bo_base.specs.declared.draw.Draw.{Draw}
 use Rattle.bo_http.specs.Messages.{Message}
-use Rattle.bo_usage.specs.Lists.{State}
+use Rattle.bo_lists.specs.Lists.{State}
 use Rattle.bo_office.specs.Answer.{answer}
 use Rattle.bo_office.specs.Runs.{moment_at}
 use Rattle.bo_office.specs.Step.{step}

@@ -2,8 +2,8 @@
 
 ghost use Rattle.std.specs.Prelude.{◌≡◌, ◌≤◌, Ok, IfOk, OnErr, max};
 ghost use Rattle.bo_words.specs.Replies.{words};
-ghost use Rattle.bo_usage.specs.Lists.{State};
-ghost use Rattle.bo_usage.specs.Sound.{IsSound};
+ghost use Rattle.bo_lists.specs.Lists.{State};
+ghost use Rattle.bo_lists.specs.Sound.{IsSound};
 ghost use Rattle.bo_office.specs.Answer.{answer};
 ghost use Rattle.bo_office.specs.Step.{step};
 ghost use Rattle.bo_serve.specs.BoxOfficeView.{BoxOfficeView};
@@ -14,7 +14,8 @@ use bo_api::{Call, Words};
 use bo_base::{Answer, Draw, Moment, Tick, Told};
 use bo_http::frame::Frame;
 use bo_office::{Command, Office, Query};
-use bo_usage::{Book, Changes};
+use bo_lists::Changes;
+use bo_usage::Book;
 use bo_words::words;
 use std::alloc::{AllocError, Global};
 use std::marker::Model;
@@ -29,7 +30,7 @@ pub struct BoxOffice<B: Book> {
 }
 
 impl<B: Book> Model for BoxOffice<B> {
-    ghost use Rattle.bo_usage.specs.Sound.{IsSound};
+    ghost use Rattle.bo_lists.specs.Sound.{IsSound};
     ghost use Rattle.bo_serve.specs.BoxOfficeView.{BoxOfficeView};
 
     ghost Value = { BoxOfficeView };

@@ -1,6 +1,6 @@
 -- What a contract sees of a book: its state, and how many changes it has room for.
 use Rattle.std.specs.Prelude.{ℕ}
-use Rattle.bo_usage.specs.Lists.{State}
+use Rattle.bo_lists.specs.Lists.{State}
 
 pub record BookView : Type 0 where
   pub state : State

@@ -1,16 +1,1 @@
-pub mod Tests
-pub mod Lists
-pub mod Usage
-pub mod Total
-pub mod Available
-pub mod Change
 pub mod BookView
-pub mod Kept
-pub mod Steps
-pub mod DraftState
-pub mod Over
-pub mod Shift
-pub mod Headroom
-pub mod Numbered
-pub mod Sound
-pub mod Full

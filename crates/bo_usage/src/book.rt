@@ -2,16 +2,15 @@
 
 ghost use Rattle.std.specs.Prelude.{◌≡◌, ◌≤◌, ◌↔◌, ℕ, length, OnOk, IsTrue};
 ghost use Rattle.std.specs.Option.{option_copied};
-ghost use Rattle.bo_usage.specs.Lists.{State, voucher_at, cart_at, order_at};
-ghost use Rattle.bo_usage.specs.Usage.{redeemed, usage_of};
-ghost use Rattle.bo_usage.specs.Change.{applied};
-ghost use Rattle.bo_usage.specs.Headroom.{held};
-ghost use Rattle.bo_usage.specs.Kept.{IsKept};
+ghost use Rattle.bo_lists.specs.Lists.{State, voucher_at, cart_at, order_at};
+ghost use Rattle.bo_lists.specs.Usage.{redeemed, usage_of};
+ghost use Rattle.bo_lists.specs.Change.{applied};
+ghost use Rattle.bo_lists.specs.Headroom.{held};
+ghost use Rattle.bo_lists.specs.Kept.{IsKept};
 
-use crate::changes::Changes;
-use crate::rows::{CartPos, NextIds, Order, OrderPos, Usage, Voucher, Waiting};
 use bo_base::{Moment, Steps};
 use bo_catalogue::{Catalogue, Quota};
+use bo_lists::{CartPos, Changes, NextIds, Order, OrderPos, Usage, Voucher, Waiting};
 use std::alloc::AllocError;
 use std::sync::ledger::Ledger;
 

@@ -2,16 +2,17 @@
 
 ghost use Rattle.std.specs.Prelude.{◌≡◌, ◌≤◌, ◌+◌, ◌↔◌, ℕ, length, OnOk, IsTrue, [], min, count_by, sum_by};
 ghost use Rattle.std.specs.Option.{option_copied};
-ghost use Rattle.bo_usage.specs.Lists.{empty, order_at};
-ghost use Rattle.bo_usage.specs.Tests.{is_paid, is_pending, is_in_force};
-ghost use Rattle.bo_usage.specs.Usage.{stands_as, uses, redeemed, usage_of, position_counts, blocked_by, is_covered, cart_counts, waits_for};
-ghost use Rattle.bo_usage.specs.Change.{applied, after_change, after_all};
+ghost use Rattle.bo_lists.specs.Lists.{empty, order_at};
+ghost use Rattle.bo_lists.specs.Tests.{is_paid, is_pending, is_in_force};
+ghost use Rattle.bo_lists.specs.Usage.{stands_as, uses, redeemed, usage_of, position_counts, blocked_by, is_covered, cart_counts, waits_for};
+ghost use Rattle.bo_lists.specs.Change.{applied, after_change, after_all};
 
 use crate::book::Book;
-use crate::changes::{Change, Changes};
-use crate::rows::{CartPos, NextIds, Order, OrderPos, Usage, Voucher, Waiting};
 use bo_base::{Moment, Rows, Steps};
 use bo_catalogue::{Catalogue, Quota};
+use bo_lists::{
+    CartPos, Change, Changes, NextIds, Order, OrderPos, Usage, Voucher, Waiting,
+};
 use std::alloc::{AllocError, Global};
 use std::marker::Model;
 use std::sync::ledger::Ledger;
@@ -147,7 +148,7 @@ impl Recount {
         blocked
     }
 
-    #[tactic(auto, unfolding(crate::specs::Usage::blocked_by))]
+    #[tactic(auto, unfolding(bo_lists::specs::Usage::blocked_by))]
     fn blocked_by(&self, at: Moment, quota: &Quota, voucher: &Voucher) -> u64
         ensures value { result ≡ blocked_by self.now.state.lists at quota.now voucher.now }
         ensures small { result ≤ 4294967295 }
@@ -254,7 +255,7 @@ impl Book for Recount {
         self.waiting.as_slice()
     }
 
-    #[tactic(auto, unfolding(crate::specs::Usage::usage_of))]
+    #[tactic(auto, unfolding(bo_lists::specs::Usage::usage_of))]
     fn usage_at<L: Ledger>(&self, quota: &Quota, at: Moment, _steps: &mut Steps<L>) -> Usage {
         Usage {
             paid: self.paid_in(quota),

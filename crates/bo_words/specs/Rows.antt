@@ -4,8 +4,8 @@ use Rattle.serde_json.specs.Data.{Data, boolean, string, object, member, no_memb
 use Rattle.bo_catalogue.specs.declared.rows.Item.{Item}
 use Rattle.bo_catalogue.specs.declared.rows.Variation.{Variation}
 use Rattle.bo_catalogue.specs.declared.rows.Quota.{Quota}
-use Rattle.bo_usage.specs.declared.rows.CartPos.{CartPos}
-use Rattle.bo_usage.specs.declared.rows.Availability.{Availability}
+use Rattle.bo_lists.specs.declared.rows.CartPos.{CartPos}
+use Rattle.bo_lists.specs.declared.rows.Availability.{Availability}
 use Rattle.bo_words.specs.Values.{count, count_or_null, money, money_or_null, moment, list, counts}
 
 -- a variation of an item that costs price: its own price may be null, and what it costs is its own or the item's

@@ -11,7 +11,7 @@ use crate::told::told_value;
 use bo_base::Told;
 use bo_catalogue::{Item, Quota};
 use bo_office::Reply;
-use bo_usage::{Availability, CartPos};
+use bo_lists::{Availability, CartPos};
 use http::StatusCode;
 use std::alloc::{AllocError, Global};
 

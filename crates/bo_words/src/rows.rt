@@ -8,7 +8,7 @@ ghost use Rattle.bo_words.specs.Rows.{variation_body, item_body, quota_body, car
 use crate::values::{count_or_null, counts, moment, money, money_or_null};
 use bo_base::Cents;
 use bo_catalogue::{Item, Quota, Variation};
-use bo_usage::{Availability, CartPos};
+use bo_lists::{Availability, CartPos};
 use serde_json::{Value, json};
 use std::alloc::{AllocError, Global};
 

@@ -1,7 +1,7 @@
 use Rattle.std.proofs.Common.{◌≡◌, sym, ap, subst}
 use Rattle.std.proofs.lemmas.Result.{IfOk-weaker}
-use Rattle.bo_usage.specs.Lists.{State}
-use Rattle.bo_usage.specs.Sound.{IsSound}
+use Rattle.bo_lists.specs.Lists.{State}
+use Rattle.bo_lists.specs.Sound.{IsSound}
 use Rattle.bo_office.specs.OfficeView.{OfficeView}
 use Rattle.bo_office.specs.declared.reply.Reply.{Reply}
 use Rattle.bo_office.proofs.Runs.{step_sound}

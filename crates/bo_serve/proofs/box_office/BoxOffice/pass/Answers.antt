@@ -1,5 +1,5 @@
 use Rattle.std.proofs.Common.{rules, ◌≡◌, ◌≤◌, [], sym, ◌∙◌, subst}
-use Rattle.bo_usage.specs.Sound.{IsSound}
+use Rattle.bo_lists.specs.Sound.{IsSound}
 use Rattle.bo_serve.proofs.PassLemmas.{sound_pass}
 use Rattle.bo_serve.proofs.box_office.BoxOffice.pass.Goals as goal
 

@@ -1,5 +1,5 @@
 use Rattle.std.proofs.Common.{◌≡◌, ◌≤◌, length, reverse, vec_len}
-use Rattle.bo_usage.specs.Change.{after_all}
+use Rattle.bo_lists.specs.Change.{after_all}
 use Rattle.bo_usage.proofs.recount.Recount.apply_list.Given as goal
 
 -- the changes that are left lead to where all lead

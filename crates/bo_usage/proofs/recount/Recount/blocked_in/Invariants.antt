@@ -1,5 +1,5 @@
 use Rattle.std.proofs.Common.{◌≡◌, ◌≤◌, ◌*◌, take, sum_by}
-use Rattle.bo_usage.specs.Usage.{blocked_by}
+use Rattle.bo_lists.specs.Usage.{blocked_by}
 use Rattle.bo_usage.proofs.recount.Recount.blocked_in.Given as goal
 
 abbrev pub invariant-loop-voucher : goal.invariant-loop-voucher

@@ -1,0 +1,37 @@
+-- What changes of cart positions leave as it is.
+use Rattle.std.proofs.Common.{◌≡◌, ℕ, ◌+◌, ◌⊎◌, inl, inr, List, [], ◌∷◌, ◌++◌, length, take, sym, ap, ◌∙◌, arith, length-append}
+use Rattle.std.proofs.lemmas.Bool.{cases_lt}
+use Rattle.std.proofs.lemmas.List.{take_all, take-append-le}
+use Rattle.bo_lists.specs.declared.changes.Change.{Change}
+use Rattle.bo_lists.specs.Lists.{Lists}
+use Rattle.bo_lists.specs.Change.{after_change, after_all}
+use Rattle.bo_draft.specs.DraftState.{LeavesRest}
+use Rattle.bo_draft.proofs.Steps.{after_all-push}
+
+module _ (log : List Change) (change : Change) (lists : Lists) where
+  all_or : (count : ℕ) → (take count (log ++ change ∷ []) ≡ take count log) ⊎ (after_all (take count (log ++ change ∷ [])) lists ≡ after_change change (after_all (take (length log) log) lists))
+  all_or count = elim (cases_lt count (length log + 1)) [
+    | inl few ↦ inl (take-append-le count log (change ∷ []) (omega arith))
+    | inr many ↦ inr (ap (λ l. after_all l lists) (take_all count (log ++ change ∷ []) (omega (arith, length-append log (change ∷ [])))) ∙ after_all-push log change lists ∙ ap (λ l. after_change change (after_all l lists)) (sym (take_all (length log) log (omega arith))))
+  ]
+
+  -- a part that neither the log nor the change touches
+  stays : {T : Type 0} (part : Lists → T) → ((h : Lists) → part (after_change change h) ≡ part h) → ((count : ℕ) → part (after_all (take count log) lists) ≡ part lists) → (count : ℕ) → part (after_all (take count (log ++ change ∷ [])) lists) ≡ part lists
+  stays part same left count = elim (all_or count) [
+    | inl few ↦ ap (λ l. part (after_all l lists)) few ∙ left count
+    | inr last ↦ ap part last ∙ same (after_all (take (length log) log) lists) ∙ left (length log)
+  ]
+
+  -- a change of cart positions alone
+  pub leaves_more : ((h : Lists) → after_change change h ≡ record h { carts = (after_change change h).carts }) → LeavesRest log lists → LeavesRest (log ++ change ∷ []) lists
+  leaves_more only leaves = record {
+    catalogue = stays (λ h. h.catalogue) (λ h. ap (λ (l : Lists). l.catalogue) (only h)) leaves.catalogue;
+    vouchers = stays (λ h. h.vouchers) (λ h. ap (λ (l : Lists). l.vouchers) (only h)) leaves.vouchers;
+    orders = stays (λ h. h.orders) (λ h. ap (λ (l : Lists). l.orders) (only h)) leaves.orders;
+    positions = stays (λ h. h.positions) (λ h. ap (λ (l : Lists). l.positions) (only h)) leaves.positions;
+    waiting = stays (λ h. h.waiting) (λ h. ap (λ (l : Lists). l.waiting) (only h)) leaves.waiting;
+  }
+
+-- the same after all changes
+pub after_them : {T : Type 0} (part : Lists → T) (log : List Change) (lists : Lists) → ((count : ℕ) → part (after_all (take count log) lists) ≡ part lists) → part (after_all log lists) ≡ part lists
+after_them part log lists left = ap (λ l. part (after_all l lists)) (sym (take_all (length log) log (omega arith))) ∙ left (length log)

@@ -1,0 +1,16 @@
+-- What one change does to a look-up.
+use Rattle.std.specs.Prelude.{ℕ, ◌==◌, if◌then◌else◌, Option, Some, None}
+use Rattle.bo_lists.specs.declared.rows.Voucher.{Voucher}
+use Rattle.bo_lists.specs.declared.rows.CartPos.{CartPos}
+use Rattle.bo_lists.specs.declared.changes.Change.{Change}
+use Rattle.bo_lists.specs.declared.changes.Change.TheVariants.{PutVoucher, PutCart, DropVoucher, DropCart}
+
+abbrev pub voucher_step : ℕ → Change → Option Voucher → Option Voucher
+voucher_step id (PutVoucher row) found = if row.id == id then Some row else found
+voucher_step id (DropVoucher gone) found = if gone == id then None else found
+voucher_step id _ found = found
+
+abbrev pub cart_step : ℕ → Change → Option CartPos → Option CartPos
+cart_step id (PutCart row) found = if row.id == id then Some row else found
+cart_step id (DropCart gone) found = if gone == id then None else found
+cart_step id _ found = found

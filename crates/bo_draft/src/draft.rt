@@ -1,0 +1,282 @@
+//! A book with changes that aren't applied yet.
+
+ghost use Rattle.std.specs.Prelude.{◌≡◌, ◌++◌, [], ◌∷◌, ◌≤◌, ◌<◌, ◌+◌, ◌-◌, ◌^◌, ℕ, IfOk, OnOk, OnErr, length, slice_get, Some, count_by};
+ghost use Rattle.std.specs.Option.{option_copied};
+ghost use Rattle.bo_base.specs.Tables.{sum_at};
+ghost use Rattle.bo_lists.specs.Full.{takes_cart};
+ghost use Rattle.bo_lists.specs.Lists.{voucher_at, cart_at};
+ghost use Rattle.bo_lists.specs.Headroom.{has_use};
+ghost use Rattle.bo_lists.specs.Over.{first_over, is_over, is_free, weighed};
+ghost use Rattle.bo_lists.specs.Change.{changed};
+ghost use Rattle.bo_draft.specs.DraftState.{DraftState, MarkState, IsMarkOf, Extends, now, back, usages_of};
+ghost use Rattle.bo_lists.specs.Usage.{usage_of};
+
+use crate::overlay::Overlay;
+use bo_base::{Moment, Steps};
+use bo_catalogue::{Catalogue, LAST_ID, MOST_ROWS, Quota};
+use bo_lists::{CartPos, Change, Changes, NextIds, Usage, Voucher};
+use bo_usage::Book;
+use std::alloc::{AllocError, Global};
+use std::marker::{Brand, Model};
+use std::sync::ledger::{Blank, Ledger};
+
+/// A place in a draft, to which it can go back.
+#[derive(Drop)]
+pub struct Mark {
+    count: usize,
+    next: NextIds,
+    usages: Vec<Usage>,
+    carts: usize,
+}
+
+impl Model for Mark {
+    ghost use Rattle.bo_draft.specs.DraftState.{MarkState};
+
+    ghost Value = { MarkState };
+
+    ghost view = { λ m. record { count = m.count; next = m.next; usages = m.usages.items; carts = m.carts } };
+}
+
+/// A book at a moment, with changes that aren't applied yet.
+#[derive(Drop)]
+pub struct Draft<'a, B: Book> {
+    overlay: Overlay<'a, B>,
+    next: NextIds,
+    moment: Moment,
+    usages: Vec<Usage>,
+    carts: usize,
+}
+
+impl<'a, B: Book> Model for Draft<'a, B> {
+    ghost use Rattle.std.specs.Prelude.{◌≡◌, length};
+    ghost use Rattle.bo_draft.specs.DraftState.{DraftState, rows_of, usages_of};
+
+    ghost Value = { DraftState };
+
+    ghost view = { λ d. record { log = d.overlay; next = d.next; moment = d.moment } };
+
+    // The usage of each quota and the number of cart positions are what counting afresh gives.
+    ghost invariant = { λ d. (d.usages.items ≡ usages_of (rows_of d.overlay) d.moment) × (d.carts ≡ length (rows_of d.overlay).carts) };
+}
+
+impl<'a, B: Book> Draft<'a, B> {
+    /// The book as it stands, at a moment that isn't before its own.
+    pub fn new(alloc: Global, book: &'a B, moment: Moment) -> Result<Self, AllocError>
+        requires { (B.state book.now).moment ≤ moment }
+        ensures { IfOk result (λ d. d ≡ record {
+          log = record { base = (B.state book.now).lists; changes = [] };
+          next = (B.state book.now).next;
+          moment = moment;
+        }) }
+    {
+        let usages = usages_now(alloc, book, moment)?;
+        Ok(Draft {
+            overlay: Overlay::new(alloc, book),
+            next: book.next_ids(),
+            moment,
+            usages,
+            carts: book.carts().len(),
+        })
+    }
+
+    /// The moment of the changes.
+    pub fn moment(&self) -> Moment
+        ensures { result ≡ (now self.now).moment }
+    {
+        self.moment
+    }
+
+    /// All that is for sale.
+    pub fn catalogue(&self) -> &Catalogue
+        ensures { result.now.lists ≡ (now self.now).lists.catalogue }
+    {
+        self.overlay.catalogue()
+    }
+
+    /// The voucher of an id.
+    pub fn voucher(&self, id: u64) -> Option<&Voucher>
+        ensures { option_copied result ≡ voucher_at id (now self.now).lists }
+    {
+        self.overlay.voucher(id)
+    }
+
+    /// The cart position of an id.
+    pub fn cart(&self, id: u64) -> Option<&CartPos>
+        ensures { option_copied result ≡ cart_at id (now self.now).lists }
+    {
+        self.overlay.cart(id)
+    }
+
+    /// Whether one more cart position may name the voucher.
+    pub fn has_use(&self, voucher: Option<u64>) -> bool
+        ensures { result ≡ has_use (now self.now).moment (now self.now).lists voucher }
+    {
+        let Some(id) = voucher else {
+            return true;
+        };
+        match self.overlay.voucher(id) {
+            None => true,
+            Some(row) => {
+                let used = self.overlay.redeemed(row.id) + self.overlay.held(row.id, self.moment);
+                used < u64::from(row.max_usages)
+            }
+        }
+    }
+
+    /// The id that the next cart position gets.
+    pub fn next_cart(&self) -> u64
+        ensures { result ≡ (now self.now).next.cart }
+    {
+        self.next.cart
+    }
+
+    /// Whether the table of cart positions takes one more row: fewer than 1,000,000 stand,
+    /// and the next id is at most 9,007,199,254,740,991.
+    pub fn takes_cart(&self) -> bool
+        ensures { result ≡ takes_cart (now self.now) }
+    {
+        self.carts < MOST_ROWS && self.next.cart <= LAST_ID
+    }
+
+    /// Counts the id of a cart position as used.
+    pub fn use_cart_id(&mut self)
+        requires { (now self.old).next.cart < 9007199254740992 }
+        ensures now { now self.new ≡ record (now self.old) { next = record (now self.old).next { cart = (now self.old).next.cart + 1 } } }
+        ensures extends { Extends self.old self.new }
+    {
+        self.next.cart += 1;
+    }
+
+    /// Puts a cart position in the place of its id.
+    pub fn put_cart(&mut self, alloc: Global, row: CartPos) -> Result<(), AllocError>
+        ensures ok { OnOk result (now self.new ≡ changed (Change.PutCart row) (now self.old)) }
+        ensures extends { Extends self.old self.new }
+        ensures err { OnErr result (self.new ≡ self.old) }
+    {
+        self.overlay.known();
+        let gone = self.overlay.cart(row.id);
+        let usages = self
+            .overlay
+            .shifted(alloc, self.moment, &self.usages, gone, Some(&row))?;
+        let carts = shifted_count(self.carts, 1, gone);
+        self.overlay.put_cart(row)?;
+        self.usages = usages;
+        self.carts = carts;
+        Ok(())
+    }
+
+    /// Removes the cart position of an id.
+    pub fn drop_cart(&mut self, alloc: Global, id: u64) -> Result<(), AllocError>
+        ensures ok { OnOk result (now self.new ≡ changed (Change.DropCart id) (now self.old)) }
+        ensures extends { Extends self.old self.new }
+        ensures err { OnErr result (self.new ≡ self.old) }
+    {
+        self.overlay.known();
+        let gone = self.overlay.cart(id);
+        let usages = self
+            .overlay
+            .shifted(alloc, self.moment, &self.usages, gone, None)?;
+        let carts = shifted_count(self.carts, 0, gone);
+        self.overlay.drop_cart(id)?;
+        self.usages = usages;
+        self.carts = carts;
+        Ok(())
+    }
+
+    /// The place where the draft is now.
+    pub fn mark(&self, alloc: Global) -> Result<Mark, AllocError>
+        ensures place { IfOk result (IsMarkOf self.now) }
+        ensures here { IfOk result (λ m. back m self.now ≡ self.now) }
+    {
+        Ok(Mark {
+            count: self.overlay.len(),
+            next: self.next,
+            usages: self.usages.to_vec(alloc)?,
+            carts: self.carts,
+        })
+    }
+
+    /// The least quota of which the changes since the mark take too much.
+    pub fn first_over(&self, mark: &Mark, own: &[u64]) -> Option<u64>
+        requires { IsMarkOf self.now mark.now }
+        ensures { result ≡ first_over (now (back mark.now self.now)).lists (now self.now).lists (now self.now).moment own.now }
+    {
+        self.overlay.known();
+        let quotas = self.overlay.catalogue().quotas();
+        self.overlay
+            .first_over(self.moment, quotas, own, &mark.usages, &self.usages)
+    }
+
+    /// Undoes all that came after the mark.
+    pub fn back_to(&mut self, mark: Mark)
+        requires { IsMarkOf self.old mark }
+        ensures { self.new ≡ back mark self.old }
+    {
+        let Mark {
+            count,
+            next,
+            usages,
+            carts,
+        } = mark;
+        self.overlay.truncate(count);
+        self.next = next;
+        self.usages = usages;
+        self.carts = carts;
+    }
+
+    /// The changes, with the next ids that stand afterwards.
+    pub fn finish(self) -> Changes
+        ensures list { result.list ≡ self.entry.log.changes }
+        ensures next { result.next ≡ self.entry.next }
+    {
+        let Draft {
+            overlay,
+            next,
+            moment: _,
+            usages: _,
+            carts: _,
+        } = self;
+        Changes::new(overlay.into_log(), next)
+    }
+}
+
+// A number of rows after some came and one may have gone.
+fn shifted_count(count: usize, come: usize, gone: Option<&CartPos>) -> usize
+    requires { count + come < 2 ^ 64 }
+    ensures { result ≡ count + come - sum_at (λ c. 1) (option_copied gone.entry) }
+{
+    match gone {
+        None => count + come,
+        Some(_) => (count + come).saturating_sub(1),
+    }
+}
+
+// The usage of each quota in the book.
+fn usages_now<B: Book>(alloc: Global, book: &B, moment: Moment) -> Result<Vec<Usage>, AllocError>
+    requires { (B.state book.now).moment ≤ moment }
+    ensures { IfOk result (λ usages. usages.items ≡ usages_of (B.state book.now).lists moment) }
+{
+    usages_in::<B, Brand>(alloc, book, moment, Blank::new(1))
+}
+
+// The same, in a ledger of steps that nobody reads.
+#[tactic(auto, unfolding(crate::specs::DraftState::usages_of))]
+fn usages_in<B: Book, L: Ledger>(
+    alloc: Global,
+    book: &B,
+    moment: Moment,
+    blank: Blank,
+) -> Result<Vec<Usage>, AllocError>
+    requires name { blank.name ≡ L.name }
+    requires parts { blank.parts ≡ L.parts }
+    requires some { 0 < blank.parts }
+    requires moment { (B.state book.now).moment ≤ moment }
+    ensures { IfOk result (λ usages. usages.items ≡ usages_of (B.state book.now).lists moment) }
+{
+    let mut steps = Steps::<L>::new(blank);
+    let mut usages = Vec::new(alloc);
+    for quota in book.catalogue().quotas() {
+        usages.push(book.usage_at(quota, moment, &mut steps))?;
+    }
+    Ok(usages)
+}

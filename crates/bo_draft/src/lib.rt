@@ -1,0 +1,7 @@
+//! A book with changes that aren't applied yet, and what they take of each quota.
+#![tactic(auto)]
+
+pub mod draft;
+mod overlay;
+
+pub use draft::{Draft, Mark};

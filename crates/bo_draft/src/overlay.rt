@@ -1,0 +1,367 @@
+//! The rows of a book, with changes.
+
+ghost use Rattle.std.specs.Prelude.{◌≡◌, ◌++◌, [], ◌∷◌, IfOk, OnOk, OnErr, length, take, ◌≤◌, ◌<◌, ◌+◌, ◌-◌, ◌^◌, count_by, map, if◌then◌else◌};
+ghost use Rattle.std.specs.Option.{option_copied};
+ghost use Rattle.bo_lists.specs.Change.{after_change, after_all};
+ghost use Rattle.bo_lists.specs.Lists.{voucher_at, cart_at};
+ghost use Rattle.bo_lists.specs.Kept.{IsKept};
+ghost use Rattle.bo_draft.specs.Shift.{cart_share, usages_shifted};
+ghost use Rattle.bo_base.specs.Tables.{sum_at};
+ghost use Rattle.bo_lists.specs.Headroom.{held};
+ghost use Rattle.bo_draft.specs.DraftState.{Log, rows_of, rows_at, usages_of, LeavesRest};
+ghost use Rattle.bo_lists.specs.Tests.{holds};
+ghost use Rattle.bo_lists.specs.Over.{is_free, ignores, weighed, is_over_size, first_over_among};
+ghost use Rattle.bo_lists.specs.Total.{total};
+ghost use Rattle.bo_lists.specs.Usage.{usage_of, redeemed, is_covered, cart_counts};
+ghost use Rattle.bo_draft.specs.Steps.{voucher_step, cart_step};
+
+use bo_base::Moment;
+use bo_catalogue::{Catalogue, Quota};
+use bo_lists::{CartPos, Change, Usage, Voucher};
+use bo_usage::Book;
+use std::alloc::{AllocError, Global};
+use std::marker::Model;
+
+/// The rows of a book, with changes that aren't applied yet.
+#[derive(Drop)]
+pub struct Overlay<'a, B: Book> {
+    book: &'a B,
+    log: Vec<Change>,
+}
+
+impl<'a, B: Book> Model for Overlay<'a, B> {
+    ghost use Rattle.std.specs.Prelude.{◌≤◌, length};
+    ghost use Rattle.bo_draft.specs.DraftState.{Log, LeavesRest};
+
+    ghost Value = { Log };
+
+    ghost view = { λ s. record { base = (B.state s.book.now).lists; changes = s.log.items } };
+
+    // All but the cart positions is as in the book.
+    ghost invariant = { λ s. (length s.log.items ≤ 4294967296) × LeavesRest s.log.items (B.state s.book.now).lists };
+}
+
+impl<'a, B: Book> Overlay<'a, B> {
+    pub fn new(alloc: Global, book: &'a B) -> Self
+        ensures base { result.base ≡ (B.state book.now).lists }
+        ensures log { result.changes ≡ [] }
+    {
+        Overlay {
+            book,
+            log: Vec::new(alloc),
+        }
+    }
+
+    pub fn catalogue(&self) -> &Catalogue
+        ensures { result.now.lists ≡ (rows_of self.now).catalogue }
+    {
+        self.book.catalogue()
+    }
+
+    pub fn put_cart(&mut self, row: CartPos) -> Result<(), AllocError>
+        ensures ok { OnOk result (self.new ≡ record self.old { changes = self.old.changes ++ Change.PutCart row ∷ [] }) }
+        ensures err { OnErr result (self.new ≡ self.old) }
+    {
+        if self.log.len() == 4294967296 {
+            return Err(AllocError);
+        }
+        self.log.push(Change::PutCart(row))?;
+        Ok(())
+    }
+
+    pub fn drop_cart(&mut self, id: u64) -> Result<(), AllocError>
+        ensures ok { OnOk result (self.new ≡ record self.old { changes = self.old.changes ++ Change.DropCart id ∷ [] }) }
+        ensures err { OnErr result (self.new ≡ self.old) }
+    {
+        if self.log.len() == 4294967296 {
+            return Err(AllocError);
+        }
+        self.log.push(Change::DropCart(id))?;
+        Ok(())
+    }
+
+    /// How often orders that stand use the voucher.
+    pub fn redeemed(&self, voucher: u64) -> u64
+        ensures value { result ≡ redeemed voucher (rows_of self.now) }
+        ensures few { result ≤ 4294967296 }
+    {
+        self.book.redeemed(voucher)
+    }
+
+    /// How many cart positions that are live at a moment name the voucher.
+    pub fn held(&self, voucher: u64, at: Moment) -> u64
+        ensures value { result ≡ held at voucher (rows_of self.now) }
+        ensures few { result ≤ 8589934592 }
+    {
+        let mut count = self.book.held(voucher, at);
+        for i in 0..self.log.len() {
+            count = self.held_after(i, voucher, at, count);
+        }
+        count
+    }
+
+    // The count after one more change.
+    fn held_after(&self, i: usize, voucher: u64, at: Moment, count: u64) -> u64
+        requires place { i < length self.now.changes }
+        requires before { count ≡ held at voucher (rows_at i self.now) }
+        requires few { count ≤ 4294967296 + i }
+        ensures value { result ≡ held at voucher (rows_at (i + 1) self.now) }
+        ensures few { result ≤ 4294967296 + i + 1 }
+    {
+        self.book.known();
+        match &self.log[i] {
+            Change::PutCart(row) => {
+                let come = u64::from(row.holds(at, voucher));
+                let gone = self.hold_at(i, row.id, voucher, at);
+                (count + come).saturating_sub(gone)
+            }
+            Change::DropCart(id) => count.saturating_sub(self.hold_at(i, *id, voucher, at)),
+            _ => count,
+        }
+    }
+
+    // Whether the row that a cart position had before a change names the voucher.
+    fn hold_at(&self, i: usize, id: u64, voucher: u64, at: Moment) -> u64
+        requires { i ≤ length self.now.changes }
+        ensures { result ≡ sum_at (λ c. if holds at voucher c then 1 else 0) (cart_at id (rows_at i self.now)) }
+    {
+        match self.cart_at(i, id) {
+            None => 0,
+            Some(cart) => u64::from(cart.holds(at, voucher)),
+        }
+    }
+
+    // The cart position as it was before a change.
+    #[tactic(auto, using(crate::proofs::Steps::cart_more))]
+    fn cart_at(&self, i: usize, id: u64) -> Option<&CartPos>
+        requires { i ≤ length self.now.changes }
+        ensures { option_copied result ≡ cart_at id (rows_at i self.now) }
+    {
+        let mut found = self.book.cart(id);
+        let log = &self.log[..i];
+        for change in log {
+            found = cart_after(change, id, found);
+        }
+        found
+    }
+
+    /// Ids rise in each list of sales, no list is too long to be counted, and only cart positions have changed.
+    pub fn known(&self)
+        ensures kept { IsKept (4294967296 + length self.now.changes) (rows_of self.now) }
+        ensures few { length self.now.changes ≤ 4294967296 }
+        ensures rest { LeavesRest self.now.changes self.now.base }
+    {
+        self.book.known();
+    }
+
+    pub fn len(&self) -> usize
+        ensures value { result ≡ length self.now.changes }
+        ensures few { result ≤ 4294967296 }
+    {
+        self.log.len()
+    }
+
+    pub fn is_covered(&self, at: Moment, quota: &Quota, cart: &CartPos) -> bool
+        ensures { result ≡ is_covered (rows_of self.now) at quota.now cart.now }
+    {
+        match cart.voucher {
+            None => false,
+            Some(id) => match self.voucher(id) {
+                None => false,
+                Some(voucher) => voucher.blocks(at, quota),
+            },
+        }
+    }
+
+    pub fn cart_counts(&self, at: Moment, quota: &Quota, cart: &CartPos) -> bool
+        ensures { result ≡ cart_counts (rows_of self.now) at quota.now cart.now }
+    {
+        cart.is_live(at) && quota.has(cart.product) && !self.is_covered(at, quota, cart)
+    }
+
+    fn is_free(&self, at: Moment, quota: &Quota, id: u64) -> bool
+        ensures { result ≡ is_free (rows_of self.now) at quota.now id }
+    {
+        match self.cart(id) {
+            None => false,
+            Some(cart) => self.cart_counts(at, quota, cart) && self.ignores(cart.voucher),
+        }
+    }
+
+    fn ignores(&self, voucher: Option<u64>) -> bool
+        ensures { result ≡ ignores (rows_of self.now) voucher }
+    {
+        match voucher {
+            None => false,
+            Some(id) => self.voucher(id).is_some_and(|v| v.allow_ignore_quota),
+        }
+    }
+
+    fn free_count(&self, at: Moment, quota: &Quota, own: &[u64]) -> usize
+        ensures { result ≡ count_by (is_free (rows_of self.now) at quota.now) own.now }
+    {
+        own.iter()
+            .filter(|id| self.is_free(at, quota, **id))
+            .count()
+    }
+
+    /// Whether a request takes too much of a quota that was used and is used as these say.
+    #[tactic(auto, unfolding(bo_lists::specs::Over::weighed))]
+    pub fn is_over(
+        &self,
+        at: Moment,
+        quota: &Quota,
+        own: &[u64],
+        before: &Usage,
+        after: &Usage,
+    ) -> bool
+        requires { after.now ≡ usage_of (rows_of self.now) at quota.now }
+        ensures { result ≡ is_over_size quota.now.size (total before.now) (weighed (rows_of self.now) at quota.now own.now) }
+    {
+        let Some(size) = quota.size else {
+            return false;
+        };
+        let weight = after
+            .total()
+            .saturating_sub(self.free_count(at, quota, own) as u128);
+        u128::from(size) < weight && before.total() < weight
+    }
+
+    /// The first of the quotas of which a request takes too much, by their usage before and after it.
+    pub fn first_over(
+        &self,
+        at: Moment,
+        quotas: &[Quota],
+        own: &[u64],
+        before: &[Usage],
+        after: &[Usage],
+    ) -> Option<u64>
+        requires before { length before.now ≡ length quotas.now }
+        requires after { after.now ≡ map (usage_of (rows_of self.now) at) quotas.now }
+        ensures { result ≡ first_over_among (rows_of self.now) at own.now before.now quotas.now }
+    {
+        for i in 0..quotas.len() {
+            let quota = &quotas[i];
+            if self.is_over(at, quota, own, &before[i], &after[i]) {
+                return Some(quota.id);
+            }
+        }
+        None
+    }
+
+    // How much a cart position adds to a quota.
+    fn cart_share(&self, at: Moment, quota: &Quota, cart: Option<&CartPos>) -> u64
+        ensures value { result ≡ cart_share (rows_of self.now) at quota.now (option_copied cart.entry) }
+        ensures one { result ≤ 1 }
+    {
+        match cart {
+            None => 0,
+            Some(cart) => u64::from(self.cart_counts(at, quota, cart)),
+        }
+    }
+
+    /// The usage of each quota without one cart position, and with another.
+    pub fn shifted(
+        &self,
+        alloc: Global,
+        at: Moment,
+        usages: &[Usage],
+        gone: Option<&CartPos>,
+        come: Option<&CartPos>,
+    ) -> Result<Vec<Usage>, AllocError>
+        requires { usages.now ≡ usages_of (rows_of self.now) at }
+        ensures { IfOk result (λ new. new.items ≡ usages_shifted (rows_of self.now) at (option_copied gone.entry) (option_copied come.entry)) }
+    {
+        let mut new = usages.to_vec(alloc)?;
+        self.shift(at, &mut new, gone, come);
+        Ok(new)
+    }
+
+    // Turns the usage of each quota into that without one cart position, and with another.
+    fn shift(
+        &self,
+        at: Moment,
+        usages: &mut [Usage],
+        gone: Option<&CartPos>,
+        come: Option<&CartPos>,
+    )
+        requires { usages.old ≡ usages_of (rows_of self.now) at }
+        ensures { usages.new ≡ usages_shifted (rows_of self.now) at (option_copied gone.entry) (option_copied come.entry) }
+    {
+        self.known();
+        let quotas = self.catalogue().quotas();
+        for i in 0..quotas.len() {
+            let quota = &quotas[i];
+            let come = self.cart_share(at, quota, come);
+            let gone = self.cart_share(at, quota, gone);
+            let usage = usages[i];
+            usages[i] = shifted(usage, come, gone);
+        }
+    }
+
+    pub fn truncate(&mut self, count: usize)
+        requires { count ≤ length self.old.changes }
+        ensures { self.new ≡ record self.old { changes = take count self.old.changes } }
+    {
+        self.log.truncate(count);
+    }
+
+    pub fn into_log(self) -> Vec<Change>
+        ensures { result.items ≡ self.entry.changes }
+    {
+        let Overlay { book: _, log } = self;
+        log
+    }
+
+    #[tactic(auto, using(crate::proofs::Steps::voucher_more))]
+    pub fn voucher(&self, id: u64) -> Option<&Voucher>
+        ensures { option_copied result ≡ voucher_at id (rows_of self.now) }
+    {
+        let mut found = self.book.voucher(id);
+        for change in &self.log {
+            found = voucher_after(change, id, found);
+        }
+        found
+    }
+
+    #[tactic(auto, using(crate::proofs::Steps::cart_more))]
+    pub fn cart(&self, id: u64) -> Option<&CartPos>
+        ensures { option_copied result ≡ cart_at id (rows_of self.now) }
+    {
+        let mut found = self.book.cart(id);
+        for change in &self.log {
+            found = cart_after(change, id, found);
+        }
+        found
+    }
+}
+
+fn shifted(usage: Usage, come: u64, gone: u64) -> Usage
+    requires { usage.carts + come < 2 ^ 64 }
+    ensures { result ≡ record usage { carts = usage.carts + come - gone } }
+{
+    Usage {
+        carts: (usage.carts + come).saturating_sub(gone),
+        ..usage
+    }
+}
+
+fn voucher_after<'a>(change: &'a Change, id: u64, found: Option<&'a Voucher>) -> Option<&'a Voucher>
+    ensures { option_copied result ≡ voucher_step id change.now (option_copied found.entry) }
+{
+    match change {
+        Change::PutVoucher(row) if row.id == id => Some(row),
+        Change::DropVoucher(dropped) if *dropped == id => None,
+        _ => found,
+    }
+}
+
+fn cart_after<'a>(change: &'a Change, id: u64, found: Option<&'a CartPos>) -> Option<&'a CartPos>
+    ensures { option_copied result ≡ cart_step id change.now (option_copied found.entry) }
+{
+    match change {
+        Change::PutCart(row) if row.id == id => Some(row),
+        Change::DropCart(dropped) if *dropped == id => None,
+        _ => found,
+    }
+}

@@ -1,0 +1,3 @@
+pub mod Time
+pub mod Headroom
+pub mod Sound

@@ -1,0 +1,27 @@
+-- No voucher is named more often than it may be used.
+use Rattle.std.specs.Prelude.{ℕ, ◌+◌, ◌≤◌, Bool, true, nat_lt, Option, Some, None, count_by}
+use Rattle.std.specs.List.{AllByRecursion}
+use Rattle.bo_lists.specs.declared.rows.Voucher.{Voucher}
+use Rattle.bo_lists.specs.Tests.{holds}
+use Rattle.bo_lists.specs.Lists.{Lists, voucher_at}
+use Rattle.bo_lists.specs.Usage.{redeemed}
+
+-- the uses that are held in carts
+abbrev pub held : ℕ → ℕ → Lists → ℕ
+held at id lists = count_by (holds at id) lists.carts
+
+-- its uses in orders and in live carts are no more than it may have
+abbrev pub HasHeadroom : ℕ → Lists → Voucher → Type 0
+HasHeadroom at lists voucher = redeemed voucher.id lists + held at voucher.id lists ≤ voucher.max_usages
+
+abbrev pub AllHaveHeadroom : ℕ → Lists → Type 0
+AllHaveHeadroom at lists = AllByRecursion (HasHeadroom at lists) lists.vouchers
+
+-- one more cart position may name the voucher
+abbrev pub has_use_by : ℕ → Lists → Option Voucher → Bool
+has_use_by at lists None = true
+has_use_by at lists (Some voucher) = nat_lt (redeemed voucher.id lists + held at voucher.id lists) voucher.max_usages
+
+abbrev pub has_use : ℕ → Lists → Option ℕ → Bool
+has_use at lists None = true
+has_use at lists (Some id) = has_use_by at lists (voucher_at id lists)

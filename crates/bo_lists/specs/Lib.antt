@@ -1,0 +1,12 @@
+pub mod Tests
+pub mod Lists
+pub mod Usage
+pub mod Total
+pub mod Available
+pub mod Change
+pub mod Kept
+pub mod Over
+pub mod Headroom
+pub mod Numbered
+pub mod Sound
+pub mod Full

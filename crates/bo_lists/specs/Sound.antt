@@ -1,0 +1,23 @@
+-- What holds of every box office at its moment.
+use Rattle.std.specs.Prelude.{ℕ, ◌<◌, List}
+use Rattle.std.specs.List.{AllByRecursion}
+use Rattle.bo_base.specs.Tables.{AreInOrder}
+use Rattle.bo_lists.specs.Lists.{State}
+use Rattle.bo_lists.specs.Headroom.{AllHaveHeadroom}
+
+-- ids rise, and each is below the next one
+pub record AreNumbered {T : Type 0} (key : T → ℕ) (next : ℕ) (rows : List T) : Type 0 where
+  pub in_order : AreInOrder key rows
+  pub below : AllByRecursion (λ row. key row < next) rows
+
+pub record IsSound (state : State) : Type 0 where
+  pub items : AreNumbered (λ r. r.id) state.next.item state.lists.catalogue.items
+  pub variations : AreNumbered (λ r. r.id) state.next.variation state.lists.catalogue.variations
+  pub quotas : AreNumbered (λ r. r.id) state.next.quota state.lists.catalogue.quotas
+  pub vouchers : AreNumbered (λ r. r.id) state.next.voucher state.lists.vouchers
+  pub carts : AreNumbered (λ r. r.id) state.next.cart state.lists.carts
+  pub orders : AreNumbered (λ r. r.id) state.next.order state.lists.orders
+  pub positions : AreNumbered (λ r. r.id) state.next.position state.lists.positions
+  pub waiting : AreNumbered (λ r. r.id) state.next.waiting state.lists.waiting
+  -- no voucher is named by more order positions in force and live cart positions than it may be used
+  pub headroom : AllHaveHeadroom state.moment state.lists

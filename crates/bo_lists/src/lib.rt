@@ -1,0 +1,10 @@
+//! The rows of the box office, what they mean as lists, and how much of each quota they use.
+#![tactic(auto)]
+
+mod available;
+pub mod changes;
+pub mod laws;
+pub mod rows;
+
+pub use changes::{Change, Changes};
+pub use rows::{Availability, CartPos, NextIds, Order, OrderPos, Status, Usage, Voucher, Waiting};

@@ -1,0 +1,289 @@
+//! The rows of the box office.
+
+ghost use Rattle.std.specs.Prelude.{◌≡◌, ◌↔◌, IsTrue, IfOk};
+ghost use Rattle.bo_lists.specs.Lists.{first_ids};
+ghost use Rattle.bo_lists.specs.Total.{total};
+ghost use Rattle.bo_lists.specs.Tests.{is_paid, is_pending, is_in_force, is_live_voucher, hits, blocks, is_live_cart, holds};
+ghost use Rattle.bo_lists.specs.Usage.{waits_for};
+
+use bo_base::{Cents, Moment, PriceMode, Row, Text};
+use bo_catalogue::{Product, Quota};
+use std::alloc::{AllocError, Global};
+
+/// A voucher. Its `value` is in cents, or in hundredths of a percent where the mode is percent.
+/// It is live up to and at `valid_until`.
+#[derive(Debug, Drop)]
+pub struct Voucher {
+    pub id: u64,
+    pub code: Text,
+    pub max_usages: u32,
+    pub valid_until: Option<Moment>,
+    pub block_quota: bool,
+    pub allow_ignore_quota: bool,
+    pub price_mode: PriceMode,
+    pub value: Option<Cents>,
+    pub item: Option<u64>,
+    pub variation: Option<u64>,
+    pub quota: Option<u64>,
+    pub tag: Text,
+    pub comment: Text,
+}
+
+/// A place that is held in a cart, up to and at the moment `expires`.
+#[derive(Debug, Drop)]
+pub struct CartPos {
+    pub id: u64,
+    pub cart_id: Text,
+    pub product: Product,
+    pub price: Cents,
+    pub made_at: Moment,
+    pub expires: Moment,
+    pub voucher: Option<u64>,
+}
+
+/// Whether an order is paid, is waited for, or doesn't stand.
+#[derive(Clone, Copy, Debug, PartialEq, Eq)]
+pub enum Status {
+    Pending,
+    Paid,
+    Expired,
+    Cancelled,
+}
+
+/// An order; its positions are rows of their own.
+#[derive(Debug, Drop)]
+pub struct Order {
+    pub id: u64,
+    pub email: Option<Text>,
+    pub status: Status,
+    pub made_at: Moment,
+    pub expires: Moment,
+}
+
+/// One ticket of an order. `positionid` counts an order's positions from 1.
+#[derive(Debug, Drop)]
+pub struct OrderPos {
+    pub id: u64,
+    pub order: u64,
+    pub positionid: u32,
+    pub product: Product,
+    pub price: Cents,
+    pub voucher: Option<u64>,
+    pub secret: Text,
+}
+
+/// An entry of the waiting list. It waits as long as it has no voucher.
+#[derive(Debug, Drop)]
+pub struct Waiting {
+    pub id: u64,
+    pub email: Text,
+    pub product: Product,
+    pub priority: i32,
+    pub created: Moment,
+    pub voucher: Option<u64>,
+}
+
+/// What uses a quota, in places.
+#[derive(Clone, Copy, Debug, PartialEq, Eq)]
+pub struct Usage {
+    pub paid: u64,
+    pub pending: u64,
+    pub blocked: u64,
+    pub carts: u64,
+    pub waiting: u64,
+}
+
+/// The ids that the next row of each table gets.
+#[derive(Clone, Copy, Debug, PartialEq, Eq)]
+pub struct NextIds {
+    pub item: u64,
+    pub variation: u64,
+    pub quota: u64,
+    pub voucher: u64,
+    pub cart: u64,
+    pub order: u64,
+    pub position: u64,
+    pub waiting: u64,
+    pub list: u64,
+    pub checkin: u64,
+}
+
+/// Whether places of a quota are left. No number of places is left where the quota is unlimited.
+#[derive(Clone, Copy, Debug, PartialEq, Eq)]
+pub struct Availability {
+    pub size: Option<u32>,
+    pub usage: Usage,
+    pub available: bool,
+    pub available_number: Option<u64>,
+}
+
+impl Row for Voucher {
+    ghost key = { λ r. r.id };
+
+    fn id(&self) -> u64 {
+        self.id
+    }
+}
+
+impl Row for CartPos {
+    ghost key = { λ r. r.id };
+
+    fn id(&self) -> u64 {
+        self.id
+    }
+}
+
+impl Row for Order {
+    ghost key = { λ r. r.id };
+
+    fn id(&self) -> u64 {
+        self.id
+    }
+}
+
+impl Row for OrderPos {
+    ghost key = { λ r. r.id };
+
+    fn id(&self) -> u64 {
+        self.id
+    }
+}
+
+impl Row for Waiting {
+    ghost key = { λ r. r.id };
+
+    fn id(&self) -> u64 {
+        self.id
+    }
+}
+
+impl NextIds {
+    /// Every next id is 1.
+    pub fn first() -> Self
+        ensures { result ≡ first_ids }
+    {
+        NextIds {
+            item: 1,
+            variation: 1,
+            quota: 1,
+            voucher: 1,
+            cart: 1,
+            order: 1,
+            position: 1,
+            waiting: 1,
+            list: 1,
+            checkin: 1,
+        }
+    }
+}
+
+impl Status {
+    /// Whether the order is paid.
+    pub fn is_paid(self) -> bool
+        ensures { result ≡ is_paid self }
+    {
+        matches!(self, Status::Paid)
+    }
+
+    /// Whether the order waits for its payment.
+    pub fn is_pending(self) -> bool
+        ensures { result ≡ is_pending self }
+    {
+        matches!(self, Status::Pending)
+    }
+
+    /// Whether its positions use vouchers.
+    pub fn is_in_force(self) -> bool
+        ensures { result ≡ is_in_force self }
+    {
+        matches!(self, Status::Paid | Status::Pending)
+    }
+}
+
+impl Voucher {
+    /// Whether it hasn't ended at this moment.
+    pub fn is_live(&self, at: Moment) -> bool
+        ensures { result ≡ is_live_voucher at self.now }
+    {
+        match self.valid_until {
+            None => true,
+            Some(end) => at <= end,
+        }
+    }
+
+    /// Whether it blocks places of this quota, where it blocks any.
+    pub fn hits(&self, quota: &Quota) -> bool
+        ensures { result ≡ hits quota.now self.now }
+    {
+        match self.quota {
+            Some(id) => id == quota.id,
+            None => match self.item {
+                Some(item) => quota.has(Product {
+                    item,
+                    variation: self.variation,
+                }),
+                None => false,
+            },
+        }
+    }
+
+    /// Whether it blocks places of this quota at this moment.
+    pub fn blocks(&self, at: Moment, quota: &Quota) -> bool
+        ensures { result ≡ blocks at quota.now self.now }
+    {
+        self.block_quota && self.is_live(at) && self.hits(quota)
+    }
+}
+
+impl Usage {
+    /// All places that are used.
+    pub fn total(&self) -> u128
+        ensures { result ≡ total self.now }
+    {
+        u128::from(self.paid)
+            + u128::from(self.pending)
+            + u128::from(self.blocked)
+            + u128::from(self.carts)
+            + u128::from(self.waiting)
+    }
+}
+
+impl Waiting {
+    /// Whether it waits, without a voucher, for a place of this quota.
+    pub fn waits_for(&self, quota: &Quota) -> bool
+        ensures { result ≡ waits_for quota.now self.now }
+    {
+        self.voucher.is_none() && quota.has(self.product)
+    }
+}
+
+impl CartPos {
+    /// An equal row.
+    pub fn copy(&self, alloc: Global) -> Result<CartPos, AllocError>
+        ensures { IfOk result (λ row. row ≡ self.now) }
+    {
+        Ok(CartPos {
+            id: self.id,
+            cart_id: self.cart_id.copy(alloc)?,
+            product: self.product,
+            price: self.price,
+            made_at: self.made_at,
+            expires: self.expires,
+            voucher: self.voucher,
+        })
+    }
+
+    /// Whether it is held at this moment.
+    pub fn is_live(&self, at: Moment) -> bool
+        ensures { result ≡ is_live_cart at self.now }
+    {
+        at <= self.expires
+    }
+
+    /// Whether it is live and names the voucher.
+    pub fn holds(&self, at: Moment, voucher: u64) -> bool
+        ensures { result ≡ holds at voucher self.now }
+    {
+        self.is_live(at) && self.voucher == Some(voucher)
+    }
+}

@@ -1,8 +1,0 @@
--- When the cart positions take one more row.
-use Rattle.std.specs.Prelude.{Bool}
-use Rattle.bo_catalogue.specs.Limits.{takes_row}
-use Rattle.bo_usage.specs.Lists.{State}
-
--- fewer stand than a table may have, and there is an id for one more
-abbrev pub takes_cart : State → Bool
-takes_cart state = takes_row state.next.cart state.lists.carts
