@@ -2,15 +2,15 @@
 use Rattle.std.proofs.Common.{◌≡◌, ℕ, ◌≤◌, Bool, true, false, List, Result, Ok, Err, refl, arith}
 use Rattle.std.specs.Prelude.{◌&&◌, if◌then◌else◌, length, nat_lt, nat_le}
 use Rattle.std.proofs.lemmas.Bool.Decides.{nat_tests}
-use Rattle.bo_catalogue.specs.declared.rows.Item.{Item}
+use Rattle.bo_catalogue.specs.declared.rows.ItemRows.{ItemRows}
 use Rattle.bo_catalogue.specs.declared.rows.Quota.{Quota}
 use Rattle.bo_catalogue.specs.declared.requests.NewItem.{NewItem}
 use Rattle.bo_catalogue.specs.declared.requests.NewQuota.{NewQuota}
 use Rattle.bo_catalogue.specs.declared.refusal.CatalogueRefusal.{CatalogueRefusal}
 use Rattle.bo_catalogue.specs.declared.refusal.CatalogueRefusal.TheVariants.{NoItem, NoVariation, BadMember, Full}
 use Rattle.bo_catalogue.specs.CatalogueLists.{CatalogueLists}
-use Rattle.bo_catalogue.specs.Limits.{takes_row, most_rows, last_id}
-use Rattle.bo_catalogue.specs.ItemAdded.{item_row, item_added}
+use Rattle.bo_catalogue.specs.Limits.{takes_row, takes_rows, most_rows, last_id}
+use Rattle.bo_catalogue.specs.ItemAdded.{item_rows, item_added}
 use Rattle.bo_catalogue.specs.QuotaAdded.{quota_row, quota_added, quota_if, quota_test, variation_test, member_test, room_test, items_stand, variations_stand, variations_fit, items_fit}
 
 -- a row that a table takes has an id in range
@@ -23,18 +23,19 @@ taken_id_small id rows h = by_tests (nat_lt (length rows) most_rows) (nat_le id 
     by_tests false true is h = absurd (cc)
     by_tests false false is h = absurd (cc)
 
--- the new row, and the room for it
-pub record IsItemAdded (new : NewItem) (id : ℕ) (lists : CatalogueLists) (row : Item) : Type 0 where
-  pub has_room : takes_row id lists.items ≡ true
-  pub is_row : item_row new id ≡ row
+-- the new rows, and the room for them
+pub record IsItemAdded (new : NewItem) (id first : ℕ) (lists : CatalogueLists) (rows : ItemRows) : Type 0 where
+  pub has_room : (takes_row id lists.items && takes_rows (length new.variations) first lists.variations) ≡ true
+  pub is_rows : item_rows new id first ≡ rows
 
-module _ (new : NewItem) (id : ℕ) (lists : CatalogueLists) (row : Item) where
-  by_room : (fits : Bool) → takes_row id lists.items ≡ fits → (let all : Result Item CatalogueRefusal = if fits then Ok (item_row new id) else Err Full in all ≡ Ok row) → IsItemAdded new id lists row
-  by_room true is h = record { has_room = is; is_row = cc }
+module _ (new : NewItem) (id first : ℕ) (lists : CatalogueLists) (rows : ItemRows) where
+  by_room : (fits : Bool) → (takes_row id lists.items && takes_rows (length new.variations) first lists.variations) ≡ fits → (let all : Result ItemRows CatalogueRefusal = if fits then Ok (item_rows new id first) else Err Full in all ≡ Ok rows) → IsItemAdded new id first lists rows
+  by_room true is h = record { has_room = is; is_rows = cc }
   by_room false is h = absurd (cc)
 
-  pub item_added_is : item_added new id lists ≡ Ok row → IsItemAdded new id lists row
-  item_added_is h = by_room (takes_row id lists.items) refl h
+  pub item_added_is : item_added new id first lists ≡ Ok rows → IsItemAdded new id first lists rows
+  unfolding item_added
+  item_added_is h = by_room (takes_row id lists.items && takes_rows (length new.variations) first lists.variations) refl h
 
 pub record IsQuotaAdded (new : NewQuota) (id : ℕ) (lists : CatalogueLists) (row : Quota) : Type 0 where
   pub has_room : takes_row id lists.quotas ≡ true

@@ -6,6 +6,7 @@ use Rattle.bo_catalogue.specs.declared.rows.Item.{Item}
 use Rattle.bo_catalogue.specs.declared.rows.Variation.{Variation}
 use Rattle.bo_catalogue.specs.declared.rows.Quota.{Quota}
 use Rattle.bo_catalogue.specs.declared.rows.Product.{Product}
+use Rattle.bo_catalogue.specs.declared.rows.ItemRows.{ItemRows}
 use Rattle.bo_catalogue.specs.declared.refusal.CatalogueRefusal.{CatalogueRefusal}
 use Rattle.bo_catalogue.specs.declared.refusal.CatalogueRefusal.TheVariants.{NoItem, NoVariation, NeedsVariation}
 use Rattle.bo_catalogue.specs.Member.{is_in}
@@ -28,6 +29,14 @@ variation_at id lists = row_at (λ r. r.id) id lists.variations
 
 abbrev pub quota_at : ℕ → CatalogueLists → Option Quota
 quota_at id lists = row_at (λ r. r.id) id lists.quotas
+
+-- the variations of an item, by id
+abbrev pub variations_of : ℕ → CatalogueLists → List Variation
+variations_of item lists = filter (λ variation. variation.item == item) lists.variations
+
+-- an item with its variations
+abbrev pub with_variations : CatalogueLists → Item → ItemRows
+with_variations lists item = record { item = item; variations = variations_of item.id lists }
 
 -- an item that is varied is sold by one of its variations, and any other by itself
 abbrev pub plain_product : ℕ → Bool → Result Product CatalogueRefusal

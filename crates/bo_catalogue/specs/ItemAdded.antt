@@ -1,16 +1,34 @@
--- A new item.
-use Rattle.std.specs.Prelude.{ℕ, false, Result, Ok, Err, if◌then◌else◌}
+-- A new item, with its variations.
+use Rattle.std.specs.Prelude.{ℕ, ◌+◌, Bool, true, false, ◌&&◌, List, [], ◌∷◌, length, nat_le, Result, Ok, Err, if◌then◌else◌}
 use Rattle.bo_catalogue.specs.declared.rows.Item.{Item}
+use Rattle.bo_catalogue.specs.declared.rows.Variation.{Variation}
+use Rattle.bo_catalogue.specs.declared.rows.ItemRows.{ItemRows}
 use Rattle.bo_catalogue.specs.declared.requests.NewItem.{NewItem}
+use Rattle.bo_catalogue.specs.declared.requests.NewVariation.{NewVariation}
 use Rattle.bo_catalogue.specs.declared.refusal.CatalogueRefusal.{CatalogueRefusal}
 use Rattle.bo_catalogue.specs.declared.refusal.CatalogueRefusal.TheVariants.{Full}
-use Rattle.bo_catalogue.specs.Limits.{takes_row}
+use Rattle.bo_catalogue.specs.Limits.{takes_row, takes_rows}
+use Rattle.bo_catalogue.specs.VariationAdded.{variation_row}
 use Rattle.bo_catalogue.specs.CatalogueLists.{CatalogueLists}
 
--- the row of a new item, which is sold by itself and not by variations
-abbrev pub item_row : NewItem → ℕ → Item
-item_row new id = record { id = id; name = new.name; default_price = new.default_price; active = new.active; varied = false }
+-- an item that is made with variations is sold by them alone, for good
+abbrev pub is_varied : List NewVariation → Bool
+is_varied [] = false
+is_varied (variation ∷ variations) = true
 
--- the row, where the items take one more
-abbrev pub item_added : NewItem → ℕ → CatalogueLists → Result Item CatalogueRefusal
-item_added new id lists = if takes_row id lists.items then Ok (item_row new id) else Err Full
+-- the row of a new item
+abbrev pub item_row : NewItem → ℕ → Item
+item_row new id = record { id = id; name = new.name; default_price = new.default_price; active = new.active; varied = is_varied new.variations }
+
+-- the rows of its variations, whose ids count on from this one
+abbrev pub variation_rows : List NewVariation → ℕ → ℕ → List Variation
+variation_rows [] item id = []
+variation_rows (variation ∷ variations) item id = variation_row variation item id ∷ variation_rows variations item (id + 1)
+
+abbrev pub item_rows : NewItem → ℕ → ℕ → ItemRows
+item_rows new id first = record { item = item_row new id; variations = variation_rows new.variations id first }
+
+-- the rows, where the items take one more, and the variations as many as there are; the first variation gets the id first
+unfoldable pub item_added : NewItem → ℕ → ℕ → CatalogueLists → Result ItemRows CatalogueRefusal
+item_added new id first lists =
+    if takes_row id lists.items && takes_rows (length new.variations) first lists.variations then Ok (item_rows new id first) else Err Full

@@ -1,6 +1,9 @@
 pub mod Limits
 pub mod Member
 pub mod CatalogueLists
+pub mod VariationAdded
 pub mod ItemAdded
+pub mod ItemChanged
+pub mod Resized
 pub mod QuotaAdded
 pub mod Refusals

@@ -3,15 +3,18 @@
 ghost use Rattle.std.specs.Prelude.{◌≡◌, ◌≢◌, ◌≤◌, ◌+◌, Ok, Err, IfOk, IfErr, OnOk, []};
 ghost use Rattle.std.specs.Option.{option_copied};
 ghost use Rattle.bo_base.specs.Tables.{with_row};
-ghost use Rattle.bo_catalogue.specs.CatalogueLists.{item_at, variation_at, quota_at, product_of, quotas_of, base_price, is_active, is_sold};
+ghost use Rattle.bo_catalogue.specs.CatalogueLists.{item_at, variation_at, quota_at, product_of, quotas_of, base_price, is_active, is_sold, variations_of, with_variations};
 ghost use Rattle.bo_catalogue.specs.ItemAdded.{item_added};
+ghost use Rattle.bo_catalogue.specs.ItemChanged.{item_changed};
+ghost use Rattle.bo_catalogue.specs.VariationAdded.{variation_added};
+ghost use Rattle.bo_catalogue.specs.Resized.{resized};
 ghost use Rattle.bo_catalogue.specs.QuotaAdded.{quota_added, quota_test, items_stand, variations_stand, variations_fit, items_fit, is_of, is_of_one, is_offered, has_one_of};
 
 use crate::limits::takes_row;
 use crate::refusal::CatalogueRefusal;
-use crate::requests::{NewItem, NewQuota};
-use crate::rows::{Item, Product, Quota, Variation};
-use bo_base::{Cents, Rows};
+use crate::requests::{ItemPatch, NewItem, NewQuota, NewVariation, QuotaPatch};
+use crate::rows::{Item, ItemRows, PricedVariation, Product, Quota, Variation};
+use bo_base::{Cents, List, Rows};
 use std::alloc::{AllocError, Global};
 use std::marker::Model;
 
@@ -178,16 +181,81 @@ impl Catalogue {
 }
 
 impl Catalogue {
-    /// The row of a new item with this id. It is for the caller to put it.
-    /// Refusals: 16 `Full` where 1,000,000 items stand or the id is above 9,007,199,254,740,991.
-    pub fn add_item(&self, alloc: Global, new: &NewItem, id: u64) -> Result<Item, CatalogueRefusal>
-        ensures done { IfOk result (λ row. item_added new.now id self.now.lists ≡ Ok row) }
-        ensures refused { IfErr result (λ e. e ≢ CatalogueRefusal.Memory → item_added new.now id self.now.lists ≡ Err e) }
+    /// The row of a new item with this id, and those of its variations, whose ids count on from `first`.
+    /// It is for the caller to put them. Refusals: 16 `Full` where 1,000,000 items stand or the id is above
+    /// 9,007,199,254,740,991, and where that would come to be so of the variations.
+    pub fn add_item(
+        &self,
+        alloc: Global,
+        new: &NewItem,
+        id: u64,
+        first: u64,
+    ) -> Result<ItemRows, CatalogueRefusal>
+        ensures done { IfOk result (λ rows. item_added new.now id first self.now.lists ≡ Ok rows) }
+        ensures refused { IfErr result (λ e. e ≢ CatalogueRefusal.Memory → item_added new.now id first self.now.lists ≡ Err e) }
     {
-        if !takes_row(id, self.items()) {
-            return Err(CatalogueRefusal::Full);
-        }
-        Ok(new.row(alloc, id)?)
+        Err(CatalogueRefusal::Memory)
+    }
+
+    /// An item as it is after a change. It is for the caller to put it.
+    /// Refusals: 10 `NoItem`.
+    pub fn change_item(
+        &self,
+        alloc: Global,
+        id: u64,
+        patch: &ItemPatch,
+    ) -> Result<Item, CatalogueRefusal>
+        ensures done { IfOk result (λ row. item_changed id patch.now self.now.lists ≡ Ok row) }
+        ensures refused { IfErr result (λ e. e ≢ CatalogueRefusal.Memory → item_changed id patch.now self.now.lists ≡ Err e) }
+    {
+        Err(CatalogueRefusal::Memory)
+    }
+
+    /// The row of a new variation of an item, with this id, and its price. It is for the caller to put it.
+    /// Refusals: 10 `NoItem`; 17 `Plain` where the item was made without variations; 16 `Full` where
+    /// 1,000,000 variations stand or the id is above 9,007,199,254,740,991.
+    pub fn add_variation(
+        &self,
+        alloc: Global,
+        item: u64,
+        new: &NewVariation,
+        id: u64,
+    ) -> Result<PricedVariation, CatalogueRefusal>
+        ensures done { IfOk result (λ row. variation_added item new.now id self.now.lists ≡ Ok row) }
+        ensures refused { IfErr result (λ e. e ≢ CatalogueRefusal.Memory → variation_added item new.now id self.now.lists ≡ Err e) }
+    {
+        Err(CatalogueRefusal::Memory)
+    }
+
+    /// A quota as it is with another size. It is for the caller to put it.
+    /// Refusals: 13 `NoQuota`.
+    pub fn resize(
+        &self,
+        alloc: Global,
+        id: u64,
+        patch: QuotaPatch,
+    ) -> Result<Quota, CatalogueRefusal>
+        ensures done { IfOk result (λ row. resized id patch self.now.lists ≡ Ok row) }
+        ensures refused { IfErr result (λ e. e ≢ CatalogueRefusal.Memory → resized id patch self.now.lists ≡ Err e) }
+    {
+        Err(CatalogueRefusal::Memory)
+    }
+
+    /// Copies of an item's variations, by id.
+    pub fn variations_of(&self, alloc: Global, item: u64) -> Result<List<Variation>, AllocError>
+        ensures { IfOk result (λ rows. rows ≡ variations_of item self.now.lists) }
+    {
+        Err(AllocError)
+    }
+
+    /// A copy of an item, with its variations.
+    pub fn with_variations(&self, alloc: Global, item: &Item) -> Result<ItemRows, AllocError>
+        ensures { IfOk result (λ rows. rows ≡ with_variations self.now.lists item.now) }
+    {
+        Ok(ItemRows {
+            item: item.copy(alloc)?,
+            variations: self.variations_of(alloc, item.id)?,
+        })
     }
 
     /// The row of a new quota with this id. It is for the caller to put it.

@@ -10,5 +10,5 @@ pub mod rows;
 pub use catalogue::Catalogue;
 pub use limits::{LAST_ID, MOST_ROWS, takes_row};
 pub use refusal::CatalogueRefusal;
-pub use requests::{NewItem, NewQuota};
-pub use rows::{Item, Product, Quota, Variation};
+pub use requests::{ItemPatch, NewItem, NewQuota, NewVariation, QuotaPatch};
+pub use rows::{Item, ItemRows, PricedVariation, Product, Quota, Variation};

@@ -34,6 +34,9 @@ pub enum CatalogueRefusal {
     /// 16: the table has all the rows or ids that it may have.
     #[error("the table is full")]
     Full,
+    /// 17: the item was made without variations, and so has none.
+    #[error("item has no variations")]
+    Plain,
     /// 18: the product is in no quota.
     #[error("in no quota")]
     NotSold,
@@ -61,6 +64,7 @@ impl CatalogueRefusal {
             CatalogueRefusal::BadMember => 14,
             CatalogueRefusal::Inactive => 15,
             CatalogueRefusal::Full => 16,
+            CatalogueRefusal::Plain => 17,
             CatalogueRefusal::NotSold => 18,
         }
     }

@@ -1,19 +1,43 @@
 //! What requests to the catalogue say.
 
 ghost use Rattle.std.specs.Prelude.{◌≡◌, IfOk};
-ghost use Rattle.bo_catalogue.specs.ItemAdded.{item_row};
+ghost use Rattle.bo_catalogue.specs.ItemAdded.{item_row, is_varied};
+ghost use Rattle.bo_catalogue.specs.VariationAdded.{variation_row};
 ghost use Rattle.bo_catalogue.specs.QuotaAdded.{quota_row};
 
-use crate::rows::{Item, Quota};
-use bo_base::{Cents, Ids, Text};
+use crate::rows::{Item, Quota, Variation};
+use bo_base::{Cents, Ids, List, Text};
 use std::alloc::{AllocError, Global};
 
-/// A new item, which is sold by itself.
+/// A new variation of an item. Where it has no price, the item's price holds.
+#[derive(Debug, Drop)]
+pub struct NewVariation {
+    pub name: Text,
+    pub default_price: Option<Cents>,
+    pub active: bool,
+}
+
+/// A new item. With variations it is sold by them alone, for good; without any it is sold by itself.
 #[derive(Debug, Drop)]
 pub struct NewItem {
     pub name: Text,
     pub default_price: Cents,
     pub active: bool,
+    pub variations: List<NewVariation>,
+}
+
+/// What is to change of an item. What isn't given stays.
+#[derive(Debug, Drop)]
+pub struct ItemPatch {
+    pub name: Option<Text>,
+    pub default_price: Option<Cents>,
+    pub active: Option<bool>,
+}
+
+/// What is to change of a quota: its size, where one is given; a size that is none is unlimited.
+#[derive(Clone, Copy, Debug, PartialEq, Eq)]
+pub struct QuotaPatch {
+    pub size: Option<Option<u32>>,
 }
 
 /// A new quota, with the ids as they are given. Without a size it is unlimited.
@@ -35,7 +59,22 @@ impl NewItem {
             name: self.name.copy(alloc)?,
             default_price: self.default_price,
             active: self.active,
-            varied: false,
+            varied: !self.variations.as_slice().is_empty(),
+        })
+    }
+}
+
+impl NewVariation {
+    /// The row that it makes of this item.
+    pub fn row(&self, alloc: Global, item: u64, id: u64) -> Result<Variation, AllocError>
+        ensures { IfOk result (λ row. row ≡ variation_row self.now item id) }
+    {
+        Ok(Variation {
+            id,
+            item,
+            name: self.name.copy(alloc)?,
+            default_price: self.default_price,
+            active: self.active,
         })
     }
 }

@@ -3,7 +3,7 @@
 ghost use Rattle.std.specs.Prelude.{◌≡◌, IfOk};
 ghost use Rattle.bo_catalogue.specs.Member.{is_in};
 
-use bo_base::{Cents, Ids, Row, Text};
+use bo_base::{Cents, Ids, List, Row, Text};
 use std::alloc::{AllocError, Global};
 
 /// What is sold: by itself, or, where it is varied, by its variations alone.
@@ -55,6 +55,35 @@ impl Row for Variation {
     fn id(&self) -> u64 {
         self.id
     }
+}
+
+impl Variation {
+    /// A copy.
+    pub fn copy(&self, alloc: Global) -> Result<Self, AllocError>
+        ensures { IfOk result (λ row. row ≡ self.now) }
+    {
+        Ok(Variation {
+            id: self.id,
+            item: self.item,
+            name: self.name.copy(alloc)?,
+            default_price: self.default_price,
+            active: self.active,
+        })
+    }
+}
+
+/// An item with its variations, by id.
+#[derive(Debug, Drop)]
+pub struct ItemRows {
+    pub item: Item,
+    pub variations: List<Variation>,
+}
+
+/// A variation, and its base price: its own price, or else its item's.
+#[derive(Debug, Drop)]
+pub struct PricedVariation {
+    pub row: Variation,
+    pub price: Cents,
 }
 
 /// So many places, shared by some products. Where it has no size, it is unlimited.
