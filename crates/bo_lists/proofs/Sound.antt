@@ -4,12 +4,11 @@ use Rattle.std.specs.Prelude.{nat_lt}
 use Rattle.std.specs.List.{AllByRecursion}
 use Rattle.bo_base.specs.Tables.{with_row}
 use Rattle.bo_base.proofs.Places.{with_row_in_order}
-use Rattle.bo_catalogue.specs.declared.rows.Item.{Item}
 use Rattle.bo_catalogue.specs.declared.rows.Quota.{Quota}
 use Rattle.bo_lists.specs.declared.rows.CartPos.{CartPos}
 use Rattle.bo_lists.specs.Lists.{State, empty}
 use Rattle.bo_lists.specs.Headroom.{has_use}
-use Rattle.bo_lists.specs.Numbered.{with_item, with_quota, with_cart}
+use Rattle.bo_lists.specs.Numbered.{with_quota, with_cart}
 use Rattle.bo_lists.specs.Sound.{AreNumbered, IsSound}
 use Rattle.bo_lists.proofs.Headroom.{headroom_later, headroom_put}
 
@@ -74,20 +73,6 @@ sound_cart state row e left h = record {
   positions = h.positions;
   waiting = h.waiting;
   headroom = headroom_put state.moment state.lists row h.carts.in_order h.vouchers.in_order left h.headroom;
-}
-
--- a new item
-pub sound_item : (state : State) (row : Item) → row.id ≡ state.next.item → IsSound state → IsSound (with_item row state)
-sound_item state row e h = record {
-  items = numbered_put (λ r. r.id) row state.next.item state.lists.catalogue.items e h.items;
-  variations = h.variations;
-  quotas = h.quotas;
-  vouchers = h.vouchers;
-  carts = h.carts;
-  orders = h.orders;
-  positions = h.positions;
-  waiting = h.waiting;
-  headroom = h.headroom;
 }
 
 -- a new quota

@@ -1,6 +1,8 @@
 -- No voucher is named more often than it may be used.
-use Rattle.std.specs.Prelude.{ℕ, ◌+◌, ◌≤◌, Bool, true, nat_lt, Option, Some, None, count_by}
+use Rattle.std.specs.Prelude.{ℕ, ◌+◌, ◌≤◌, Bool, true, nat_lt, ◌&&◌, Option, Some, None, count_by}
 use Rattle.std.specs.List.{AllByRecursion}
+use Rattle.bo_catalogue.specs.declared.rows.Quota.{Quota}
+use Rattle.bo_catalogue.specs.Member.{is_in}
 use Rattle.bo_lists.specs.declared.rows.Voucher.{Voucher}
 use Rattle.bo_lists.specs.Tests.{holds}
 use Rattle.bo_lists.specs.Lists.{Lists, voucher_at}
@@ -9,6 +11,10 @@ use Rattle.bo_lists.specs.Usage.{redeemed}
 -- the uses that are held in carts
 abbrev pub held : ℕ → ℕ → Lists → ℕ
 held at id lists = count_by (holds at id) lists.carts
+
+-- those of them that are for a product of the quota
+abbrev pub held_in : ℕ → Quota → ℕ → Lists → ℕ
+held_in at quota id lists = count_by (λ c. holds at id c && is_in quota c.product) lists.carts
 
 -- its uses in orders and in live carts are no more than it may have
 abbrev pub HasHeadroom : ℕ → Lists → Voucher → Type 0

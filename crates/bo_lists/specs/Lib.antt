@@ -7,6 +7,8 @@ pub mod Change
 pub mod Kept
 pub mod Over
 pub mod Headroom
+pub mod Fits
+pub mod Named
 pub mod Numbered
 pub mod Sound
 pub mod Full

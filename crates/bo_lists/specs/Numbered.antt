@@ -1,17 +1,30 @@
--- A new row, whose id is counted as used.
-use Rattle.std.specs.Prelude.{◌+◌}
-use Rattle.bo_catalogue.specs.declared.rows.Item.{Item}
+-- New rows, whose ids are counted as used.
+use Rattle.std.specs.Prelude.{◌+◌, List, ◌∷◌, length, map}
+use Rattle.bo_catalogue.specs.declared.rows.Variation.{Variation}
+use Rattle.bo_catalogue.specs.declared.rows.ItemRows.{ItemRows}
 use Rattle.bo_catalogue.specs.declared.rows.Quota.{Quota}
 use Rattle.bo_lists.specs.declared.rows.CartPos.{CartPos}
-use Rattle.bo_lists.specs.declared.changes.Change.TheVariants.{PutItem, PutQuota, PutCart}
+use Rattle.bo_lists.specs.declared.rows.Voucher.{Voucher}
+use Rattle.bo_lists.specs.declared.changes.Change.{Change}
+use Rattle.bo_lists.specs.declared.changes.Change.TheVariants.{PutItem, PutVariation, PutQuota, PutVoucher, PutCart}
 use Rattle.bo_lists.specs.Lists.{State}
-use Rattle.bo_lists.specs.Change.{after_change}
+use Rattle.bo_lists.specs.Change.{after_change, after_all}
 
-abbrev pub with_item : Item → State → State
-with_item row state = record state { lists = after_change (PutItem row) state.lists; next = record state.next { item = state.next.item + 1 } }
+-- an item is put with its variations
+abbrev pub puts_of : ItemRows → List Change
+puts_of rows = PutItem rows.item ∷ map PutVariation rows.variations
+
+abbrev pub with_item : ItemRows → State → State
+with_item rows state = record state { lists = after_all (puts_of rows) state.lists; next = record state.next { item = state.next.item + 1; variation = state.next.variation + length rows.variations } }
+
+abbrev pub with_variation : Variation → State → State
+with_variation row state = record state { lists = after_change (PutVariation row) state.lists; next = record state.next { variation = state.next.variation + 1 } }
 
 abbrev pub with_quota : Quota → State → State
 with_quota row state = record state { lists = after_change (PutQuota row) state.lists; next = record state.next { quota = state.next.quota + 1 } }
+
+abbrev pub with_voucher : Voucher → State → State
+with_voucher row state = record state { lists = after_change (PutVoucher row) state.lists; next = record state.next { voucher = state.next.voucher + 1 } }
 
 abbrev pub with_cart : CartPos → State → State
 with_cart row state = record state { lists = after_change (PutCart row) state.lists; next = record state.next { cart = state.next.cart + 1 } }

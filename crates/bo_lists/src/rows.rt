@@ -5,9 +5,10 @@ ghost use Rattle.bo_lists.specs.Lists.{first_ids};
 ghost use Rattle.bo_lists.specs.Total.{total};
 ghost use Rattle.bo_lists.specs.Tests.{is_paid, is_pending, is_in_force, is_live_voucher, hits, blocks, is_live_cart, holds};
 ghost use Rattle.bo_lists.specs.Usage.{waits_for};
+ghost use Rattle.bo_lists.specs.Fits.{has_variation, fits_item, fits_by, fits};
 
 use bo_base::{Cents, Moment, PriceMode, Row, Text};
-use bo_catalogue::{Product, Quota};
+use bo_catalogue::{Catalogue, Product, Quota};
 use std::alloc::{AllocError, Global};
 
 /// A voucher. Its `value` is in cents, or in hundredths of a percent where the mode is percent.
@@ -224,6 +225,60 @@ impl Voucher {
                 }),
                 None => false,
             },
+        }
+    }
+
+    /// An equal row.
+    pub fn copy(&self, alloc: Global) -> Result<Voucher, AllocError>
+        ensures { IfOk result (λ row. row ≡ self.now) }
+    {
+        Ok(Voucher {
+            id: self.id,
+            code: self.code.copy(alloc)?,
+            max_usages: self.max_usages,
+            valid_until: self.valid_until,
+            block_quota: self.block_quota,
+            allow_ignore_quota: self.allow_ignore_quota,
+            price_mode: self.price_mode,
+            value: self.value,
+            item: self.item,
+            variation: self.variation,
+            quota: self.quota,
+            tag: self.tag.copy(alloc)?,
+            comment: self.comment.copy(alloc)?,
+        })
+    }
+
+    /// Whether it is for this product: one in its quota, of its item, of its item and variation, or any.
+    pub fn fits(&self, catalogue: &Catalogue, product: Product) -> bool
+        ensures { result ≡ fits catalogue.now.lists self.now product }
+    {
+        match self.quota {
+            Some(id) => match catalogue.quota(id) {
+                None => false,
+                Some(quota) => quota.has(product),
+            },
+            None => self.fits_item(product),
+        }
+    }
+
+    // Whether it is for the product by its item and variation, where it names any.
+    fn fits_item(&self, product: Product) -> bool
+        ensures { result ≡ fits_item self.now.item self.now.variation product }
+    {
+        match self.item {
+            None => true,
+            Some(item) => item == product.item && self.has_variation(product),
+        }
+    }
+
+    // Whether it is for the product's variation.
+    fn has_variation(&self, product: Product) -> bool
+        ensures { result ≡ has_variation self.now.variation product }
+    {
+        match self.variation {
+            None => true,
+            Some(id) => product.variation == Some(id),
         }
     }
 

@@ -5,7 +5,8 @@ ghost use Rattle.std.specs.Option.{option_copied};
 ghost use Rattle.bo_lists.specs.Lists.{State, voucher_at, cart_at, order_at};
 ghost use Rattle.bo_lists.specs.Usage.{redeemed, usage_of};
 ghost use Rattle.bo_lists.specs.Change.{applied};
-ghost use Rattle.bo_lists.specs.Headroom.{held};
+ghost use Rattle.bo_lists.specs.Headroom.{held, held_in};
+ghost use Rattle.bo_lists.specs.Named.{voucher_of, is_used};
 ghost use Rattle.bo_lists.specs.Kept.{IsKept};
 
 use bo_base::{Moment, Steps};
@@ -41,6 +42,14 @@ pub trait Book {
     /// The voucher of an id.
     fn voucher(&self, id: u64) -> Option<&Voucher>
         ensures { option_copied result ≡ voucher_at id (state self.now).lists };
+
+    /// The first voucher with that code.
+    fn voucher_of(&self, code: &str) -> Option<&Voucher>
+        ensures { option_copied result ≡ voucher_of code.now (state self.now).lists };
+
+    /// Whether an order position, a cart position or a waiting entry names the voucher.
+    fn is_used(&self, voucher: u64) -> bool
+        ensures { result ≡ is_used voucher (state self.now).lists };
 
     /// The cart position of an id.
     fn cart(&self, id: u64) -> Option<&CartPos>
@@ -83,6 +92,11 @@ pub trait Book {
     /// How many cart positions that are live at a moment name the voucher.
     fn held(&self, voucher: u64, at: Moment) -> u64
         ensures value { result ≡ held at voucher (state self.now).lists }
+        ensures few { result ≤ 4294967296 };
+
+    /// How many of them are for a product of the quota.
+    fn held_in(&self, voucher: u64, quota: &Quota, at: Moment) -> u64
+        ensures value { result ≡ held_in at quota.now voucher (state self.now).lists }
         ensures few { result ≤ 4294967296 };
 
     /// Takes the memory that these changes need.

@@ -5,6 +5,7 @@ ghost use Rattle.std.specs.Option.{option_copied};
 ghost use Rattle.bo_lists.specs.Lists.{empty, order_at};
 ghost use Rattle.bo_lists.specs.Tests.{is_paid, is_pending, is_in_force};
 ghost use Rattle.bo_lists.specs.Usage.{stands_as, uses, redeemed, usage_of, position_counts, blocked_by, is_covered, cart_counts, waits_for};
+ghost use Rattle.bo_lists.specs.Named.{is_ordered, is_in_cart, is_sent};
 ghost use Rattle.bo_lists.specs.Change.{applied, after_change, after_all};
 
 use crate::book::Book;
@@ -190,6 +191,27 @@ impl Recount {
             .count() as u64
     }
 
+    fn is_ordered(&self, voucher: u64) -> bool
+        ensures { result ≡ is_ordered voucher self.now.state.lists }
+    {
+        let positions = self.positions.as_slice();
+        positions.iter().any(|p| p.voucher == Some(voucher))
+    }
+
+    fn is_in_cart(&self, voucher: u64) -> bool
+        ensures { result ≡ is_in_cart voucher self.now.state.lists }
+    {
+        let carts = self.carts.as_slice();
+        carts.iter().any(|c| c.voucher == Some(voucher))
+    }
+
+    fn is_sent(&self, voucher: u64) -> bool
+        ensures { result ≡ is_sent voucher self.now.state.lists }
+    {
+        let entries = self.waiting.as_slice();
+        entries.iter().any(|e| e.voucher == Some(voucher))
+    }
+
     fn waiting_in(&self, quota: &Quota) -> u64
         ensures { result ≡ count_by (waits_for quota.now) self.now.state.lists.waiting }
     {
@@ -225,6 +247,14 @@ impl Book for Recount {
 
     fn voucher(&self, id: u64) -> Option<&Voucher> {
         self.vouchers.get(id)
+    }
+
+    fn voucher_of(&self, code: &str) -> Option<&Voucher> {
+        self.vouchers.as_slice().iter().find(|v| v.code.same(code))
+    }
+
+    fn is_used(&self, voucher: u64) -> bool {
+        self.is_ordered(voucher) || self.is_in_cart(voucher) || self.is_sent(voucher)
     }
 
     fn cart(&self, id: u64) -> Option<&CartPos> {
@@ -273,6 +303,14 @@ impl Book for Recount {
     fn held(&self, voucher: u64, at: Moment) -> u64 {
         let carts = self.carts.as_slice();
         carts.iter().filter(|c| c.holds(at, voucher)).count() as u64
+    }
+
+    fn held_in(&self, voucher: u64, quota: &Quota, at: Moment) -> u64 {
+        let carts = self.carts.as_slice();
+        carts
+            .iter()
+            .filter(|c| c.holds(at, voucher) && quota.has(c.product))
+            .count() as u64
     }
 
     fn reserve(&mut self, changes: &Changes) -> Result<(), AllocError> {

@@ -1,0 +1,46 @@
+-- Which products a voucher is for.
+use Rattle.std.specs.Prelude.{◌≡◌, ℕ, Bool, true, false, ◌&&◌, ◌==◌, Option, Some, None}
+use Rattle.std.specs.List.{AllByRecursion}
+use Rattle.bo_catalogue.specs.declared.rows.Product.{Product}
+use Rattle.bo_catalogue.specs.declared.rows.Quota.{Quota}
+use Rattle.bo_catalogue.specs.Member.{is_in}
+use Rattle.bo_catalogue.specs.CatalogueLists.{CatalogueLists, quota_at}
+use Rattle.bo_lists.specs.declared.rows.Voucher.{Voucher}
+use Rattle.bo_lists.specs.Tests.{names}
+use Rattle.bo_lists.specs.Lists.{Lists, voucher_at}
+
+-- any variation, or the one that is named
+abbrev pub has_variation : Option ℕ → Product → Bool
+has_variation None product = true
+has_variation (Some id) product = names id product.variation
+
+-- any product, or those of the item that is named
+abbrev pub fits_item : Option ℕ → Option ℕ → Product → Bool
+fits_item None variation product = true
+fits_item (Some item) variation product = item == product.item && has_variation variation product
+
+abbrev pub fits_quota : Option Quota → Product → Bool
+fits_quota None product = false
+fits_quota (Some quota) product = is_in quota product
+
+abbrev pub fits_by : CatalogueLists → Voucher → Product → Option ℕ → Bool
+fits_by catalogue voucher product (Some quota) = fits_quota (quota_at quota catalogue) product
+fits_by catalogue voucher product None = fits_item voucher.item voucher.variation product
+
+-- a voucher is for the products in its quota, or of its item, or of its item and variation, or for any
+abbrev pub fits : CatalogueLists → Voucher → Product → Bool
+fits catalogue voucher product = fits_by catalogue voucher product voucher.quota
+
+abbrev pub fits_if : CatalogueLists → Product → Option Voucher → Bool
+fits_if catalogue product None = false
+fits_if catalogue product (Some voucher) = fits catalogue voucher product
+
+-- a row names no voucher, or one that stands and is for the row's product
+abbrev pub is_fit : Lists → Product → Option ℕ → Bool
+is_fit lists product None = true
+is_fit lists product (Some id) = fits_if lists.catalogue product (voucher_at id lists)
+
+-- each cart position and each order position, of whatever status, names no voucher or one that is for its product
+pub record AllFit (lists : Lists) : Type 0 where
+  pub carts : AllByRecursion (λ c. is_fit lists c.product c.voucher ≡ true) lists.carts
+  pub positions : AllByRecursion (λ p. is_fit lists p.product p.voucher ≡ true) lists.positions

@@ -1,0 +1,24 @@
+-- Vouchers by their codes, and what names a voucher.
+use Rattle.std.specs.Prelude.{ℕ, Bool, ◌||◌, List, Option, find}
+use Rattle.std.specs.List.{list_any}
+use Rattle.bo_base.specs.Texts.{same_text}
+use Rattle.bo_lists.specs.declared.rows.Voucher.{Voucher}
+use Rattle.bo_lists.specs.Tests.{names}
+use Rattle.bo_lists.specs.Lists.{Lists}
+
+-- the first voucher with that code
+abbrev pub voucher_of : List ℕ → Lists → Option Voucher
+voucher_of code lists = find (λ v. same_text v.code code) lists.vouchers
+
+abbrev pub is_ordered : ℕ → Lists → Bool
+is_ordered id lists = list_any (λ p. names id p.voucher) lists.positions
+
+abbrev pub is_in_cart : ℕ → Lists → Bool
+is_in_cart id lists = list_any (λ c. names id c.voucher) lists.carts
+
+abbrev pub is_sent : ℕ → Lists → Bool
+is_sent id lists = list_any (λ w. names id w.voucher) lists.waiting
+
+-- a voucher is in use once an order position of any status, a cart position, dead ones too, or a waiting entry names it
+abbrev pub is_used : ℕ → Lists → Bool
+is_used id lists = is_ordered id lists || (is_in_cart id lists || is_sent id lists)
