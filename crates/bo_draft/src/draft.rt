@@ -3,13 +3,14 @@
 ghost use Rattle.std.specs.Prelude.{◌≡◌, ◌++◌, [], ◌∷◌, ◌≤◌, ◌<◌, ◌+◌, ◌-◌, ◌^◌, ℕ, IfOk, OnOk, OnErr, length, slice_get, Some, count_by};
 ghost use Rattle.std.specs.Option.{option_copied};
 ghost use Rattle.bo_base.specs.Tables.{sum_at};
-ghost use Rattle.bo_lists.specs.Full.{takes_cart};
+ghost use Rattle.bo_lists.specs.Full.{takes_cart, takes_voucher};
 ghost use Rattle.bo_lists.specs.Lists.{voucher_at, cart_at};
-ghost use Rattle.bo_lists.specs.Headroom.{has_use};
+ghost use Rattle.bo_lists.specs.Headroom.{has_use, held};
+ghost use Rattle.bo_lists.specs.Named.{voucher_of, is_used};
 ghost use Rattle.bo_lists.specs.Over.{first_over, is_over, is_free, weighed};
 ghost use Rattle.bo_lists.specs.Change.{changed};
 ghost use Rattle.bo_draft.specs.DraftState.{DraftState, MarkState, IsMarkOf, Extends, now, back, usages_of};
-ghost use Rattle.bo_lists.specs.Usage.{usage_of};
+ghost use Rattle.bo_lists.specs.Usage.{usage_of, redeemed};
 
 use crate::overlay::Overlay;
 use bo_base::{Moment, Steps};
@@ -100,6 +101,29 @@ impl<'a, B: Book> Draft<'a, B> {
         self.overlay.voucher(id)
     }
 
+    /// The first voucher with that code, in a draft without changes.
+    pub fn voucher_of(&self, code: &str) -> Option<&Voucher>
+        requires { self.now.log.changes ≡ [] }
+        ensures { option_copied result ≡ voucher_of code.now (now self.now).lists }
+    {
+        self.overlay.voucher_of(code)
+    }
+
+    /// Whether an order position, a cart position or a waiting entry names the voucher, in a draft without changes.
+    pub fn is_used(&self, voucher: u64) -> bool
+        requires { self.now.log.changes ≡ [] }
+        ensures { result ≡ is_used voucher (now self.now).lists }
+    {
+        self.overlay.is_used(voucher)
+    }
+
+    /// How often the voucher is used: by the positions of pending and paid orders, and by live cart positions.
+    pub fn uses(&self, voucher: u64) -> u64
+        ensures { result ≡ redeemed voucher (now self.now).lists + held (now self.now).moment voucher (now self.now).lists }
+    {
+        self.overlay.redeemed(voucher) + self.overlay.held(voucher, self.moment)
+    }
+
     /// The cart position of an id.
     pub fn cart(&self, id: u64) -> Option<&CartPos>
         ensures { option_copied result ≡ cart_at id (now self.now).lists }
@@ -145,6 +169,51 @@ impl<'a, B: Book> Draft<'a, B> {
         ensures extends { Extends self.old self.new }
     {
         self.next.cart += 1;
+    }
+
+    /// The id that the next voucher gets.
+    pub fn next_voucher(&self) -> u64
+        ensures { result ≡ (now self.now).next.voucher }
+    {
+        self.next.voucher
+    }
+
+    /// Whether the table of vouchers takes one more row, in a draft without changes: fewer than 1,000,000 stand,
+    /// and the next id is at most 9,007,199,254,740,991.
+    pub fn takes_voucher(&self) -> bool
+        requires { self.now.log.changes ≡ [] }
+        ensures { result ≡ takes_voucher (now self.now) }
+    {
+        self.overlay.voucher_count() < MOST_ROWS && self.next.voucher <= LAST_ID
+    }
+
+    /// Counts the id of a voucher as used.
+    pub fn use_voucher_id(&mut self)
+        requires { (now self.old).next.voucher < 9007199254740992 }
+        ensures now { now self.new ≡ record (now self.old) { next = record (now self.old).next { voucher = (now self.old).next.voucher + 1 } } }
+        ensures extends { Extends self.old self.new }
+    {
+        self.next.voucher += 1;
+    }
+
+    /// Puts a voucher in the place of its id, as the first change.
+    pub fn put_voucher(&mut self, _alloc: Global, _row: Voucher) -> Result<(), AllocError>
+        requires { self.old.log.changes ≡ [] }
+        ensures ok { OnOk result (now self.new ≡ changed (Change.PutVoucher _row) (now self.old)) }
+        ensures extends { Extends self.old self.new }
+        ensures err { OnErr result (self.new ≡ self.old) }
+    {
+        Err(AllocError)
+    }
+
+    /// Removes the voucher of an id, as the first change.
+    pub fn drop_voucher(&mut self, _alloc: Global, _id: u64) -> Result<(), AllocError>
+        requires { self.old.log.changes ≡ [] }
+        ensures ok { OnOk result (now self.new ≡ changed (Change.DropVoucher _id) (now self.old)) }
+        ensures extends { Extends self.old self.new }
+        ensures err { OnErr result (self.new ≡ self.old) }
+    {
+        Err(AllocError)
     }
 
     /// Puts a cart position in the place of its id.

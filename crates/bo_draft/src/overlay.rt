@@ -4,6 +4,7 @@ ghost use Rattle.std.specs.Prelude.{◌≡◌, ◌++◌, [], ◌∷◌, IfOk, On
 ghost use Rattle.std.specs.Option.{option_copied};
 ghost use Rattle.bo_lists.specs.Change.{after_change, after_all};
 ghost use Rattle.bo_lists.specs.Lists.{voucher_at, cart_at};
+ghost use Rattle.bo_lists.specs.Named.{voucher_of, is_used};
 ghost use Rattle.bo_lists.specs.Kept.{IsKept};
 ghost use Rattle.bo_draft.specs.Shift.{cart_share, usages_shifted};
 ghost use Rattle.bo_base.specs.Tables.{sum_at};
@@ -56,6 +57,30 @@ impl<'a, B: Book> Overlay<'a, B> {
         ensures { result.now.lists ≡ (rows_of self.now).catalogue }
     {
         self.book.catalogue()
+    }
+
+    /// The first voucher with that code, where nothing has changed.
+    pub fn voucher_of(&self, code: &str) -> Option<&Voucher>
+        requires { self.now.changes ≡ [] }
+        ensures { option_copied result ≡ voucher_of code.now (rows_of self.now) }
+    {
+        self.book.voucher_of(code)
+    }
+
+    /// Whether a row names the voucher, where nothing has changed.
+    pub fn is_used(&self, voucher: u64) -> bool
+        requires { self.now.changes ≡ [] }
+        ensures { result ≡ is_used voucher (rows_of self.now) }
+    {
+        self.book.is_used(voucher)
+    }
+
+    /// How many vouchers there are, where nothing has changed.
+    pub fn voucher_count(&self) -> usize
+        requires { self.now.changes ≡ [] }
+        ensures { result ≡ length (rows_of self.now).vouchers }
+    {
+        self.book.vouchers().len()
     }
 
     pub fn put_cart(&mut self, row: CartPos) -> Result<(), AllocError>
