@@ -1,0 +1,9 @@
+pub mod Refusals
+pub mod Codes
+pub mod Rows
+pub mod Tests
+pub mod Placed
+pub mod Made
+pub mod Changed
+pub mod Deleted
+pub mod Usable
