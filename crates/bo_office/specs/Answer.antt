@@ -1,21 +1,77 @@
 -- What each query is answered.
 use Rattle.std.specs.Prelude.{ℕ, Option, Some, None}
+use Rattle.bo_catalogue.specs.declared.rows.Item.{Item}
 use Rattle.bo_catalogue.specs.declared.rows.Quota.{Quota}
-use Rattle.bo_catalogue.specs.declared.refusal.CatalogueRefusal.TheVariants.{NoQuota}
-use Rattle.bo_catalogue.specs.CatalogueLists.{quota_at}
-use Rattle.bo_lists.specs.Lists.{Lists, State}
+use Rattle.bo_catalogue.specs.declared.refusal.CatalogueRefusal.TheVariants.{NoItem, NoQuota}
+use Rattle.bo_catalogue.specs.CatalogueLists.{item_at, quota_at, with_variations}
+use Rattle.bo_lists.specs.declared.rows.CartPos.{CartPos}
+use Rattle.bo_lists.specs.declared.rows.Voucher.{Voucher}
+use Rattle.bo_lists.specs.Lists.{Lists, State, voucher_at, cart_at}
 use Rattle.bo_lists.specs.Available.{availability}
+use Rattle.bo_lists.specs.Usage.{redeemed}
+use Rattle.bo_vouchers.specs.declared.refusal.VoucherRefusal.TheVariants.{NoVoucher}
+use Rattle.bo_orders.specs.declared.refusal.OrderRefusal.TheVariants.{NoPosition}
 use Rattle.bo_office.specs.declared.command.Query.{Query}
-use Rattle.bo_office.specs.declared.command.Query.TheVariants.{Availability}
-use Rattle.bo_office.specs.declared.command.Kind.TheVariants.{Availability as OfAvailability}
-use Rattle.bo_office.specs.declared.reply.Refusal.TheVariants.{Catalogue}
+use Rattle.bo_office.specs.declared.command.Query.TheVariants as queries
+use Rattle.bo_office.specs.declared.command.Resource.{Resource}
+use Rattle.bo_office.specs.declared.command.Resource.TheVariants.{Items, Quotas, Vouchers, Carts}
+use Rattle.bo_office.specs.declared.command.Kind.TheVariants as kinds
+use Rattle.bo_office.specs.declared.reply.Refusal.TheVariants as refusals
 use Rattle.bo_office.specs.declared.reply.Reply.{Reply}
-use Rattle.bo_office.specs.declared.reply.Reply.TheVariants.{Availability as TheAvailability, Refused}
+use Rattle.bo_office.specs.declared.reply.Reply.TheVariants.{Availability as TheAvailability, Found, Refused}
+use Rattle.bo_office.specs.declared.reply.Shown.{Shown}
+use Rattle.bo_office.specs.declared.reply.Shown.TheVariants as rows
+use Rattle.bo_office.specs.Pages.{listed}
+
+-- how each row is shown
+abbrev pub show_item : Lists → Item → Shown
+show_item lists item = rows.Item (with_variations lists.catalogue item)
+
+abbrev pub show_quota : Quota → Shown
+show_quota quota = rows.Quota quota
+
+abbrev pub show_voucher : Lists → Voucher → Shown
+show_voucher lists voucher = rows.Voucher voucher (redeemed voucher.id lists)
+
+abbrev pub show_cart : CartPos → Shown
+show_cart cart = rows.Cart cart
+
+-- a page of a list
+abbrev pub list_of : Resource → ℕ → Lists → Reply
+list_of Items number lists = listed Items (show_item lists) number lists.catalogue.items
+list_of Quotas number lists = listed Quotas show_quota number lists.catalogue.quotas
+list_of Vouchers number lists = listed Vouchers (show_voucher lists) number lists.vouchers
+list_of Carts number lists = listed Carts show_cart number lists.carts
+
+abbrev pub item_found : Lists → Option Item → Reply
+item_found lists None = Refused kinds.One (refusals.Catalogue NoItem)
+item_found lists (Some item) = Found (show_item lists item)
+
+abbrev pub quota_found : Option Quota → Reply
+quota_found None = Refused kinds.One (refusals.Catalogue NoQuota)
+quota_found (Some quota) = Found (show_quota quota)
+
+abbrev pub voucher_found : Lists → Option Voucher → Reply
+voucher_found lists None = Refused kinds.One (refusals.Voucher NoVoucher)
+voucher_found lists (Some voucher) = Found (show_voucher lists voucher)
+
+abbrev pub cart_found : Option CartPos → Reply
+cart_found None = Refused kinds.One (refusals.Order NoPosition)
+cart_found (Some cart) = Found (show_cart cart)
+
+-- one row
+abbrev pub one_of : Resource → ℕ → Lists → Reply
+one_of Items id lists = item_found lists (item_at id lists.catalogue)
+one_of Quotas id lists = quota_found (quota_at id lists.catalogue)
+one_of Vouchers id lists = voucher_found lists (voucher_at id lists)
+one_of Carts id lists = cart_found (cart_at id lists)
 
 abbrev pub availability_of : Lists → ℕ → Option Quota → Reply
-availability_of lists at None = Refused OfAvailability (Catalogue NoQuota)
+availability_of lists at None = Refused kinds.Availability (refusals.Catalogue NoQuota)
 availability_of lists at (Some quota) = TheAvailability (availability lists at quota)
 
 -- what a query is answered at a moment
 abbrev pub answer : Query → ℕ → State → Reply
-answer (Availability id) at state = availability_of state.lists at (quota_at id state.lists.catalogue)
+answer (queries.List resource number) at state = list_of resource number state.lists
+answer (queries.One resource id) at state = one_of resource id state.lists
+answer (queries.Availability id) at state = availability_of state.lists at (quota_at id state.lists.catalogue)

@@ -9,7 +9,8 @@ use Rattle.bo_office.specs.declared.command.Command.{Command}
 use Rattle.bo_office.specs.declared.command.Kind.{Kind}
 use Rattle.bo_office.specs.declared.reply.Refusal.{Refusal}
 use Rattle.bo_office.specs.declared.reply.Reply.{Reply}
-use Rattle.bo_office.specs.declared.reply.Reply.TheVariants.{Cart, Refused}
+use Rattle.bo_office.specs.declared.reply.Reply.TheVariants.{Made, Refused}
+use Rattle.bo_office.specs.declared.reply.Shown.TheVariants.{Cart}
 use Rattle.bo_office.specs.Step.{step}
 
 -- a command as it comes: with the clock's moment and a draw
@@ -42,7 +43,7 @@ trace (arrival ∷ arrivals) state = stepped arrival state ∷ trace arrivals (s
 
 -- where a cart position was added, no quota's usage went above its size
 abbrev pub NoneOver : Stepped → Type 0
-NoneOver s = (row : CartPos) → s.reply ≡ Cart row → TakesNoMore (record s.before { moment = s.at }) s.after
+NoneOver s = (row : CartPos) → s.reply ≡ Made (Cart row) → TakesNoMore (record s.before { moment = s.at }) s.after
 
 abbrev pub LeavesSound : Stepped → Type 0
 LeavesSound s = IsSound s.after

@@ -2,44 +2,100 @@
 use Rattle.std.specs.Prelude.{ℕ, [], Result, Ok, Err}
 use Rattle.bo_base.specs.declared.draw.Draw.{Draw}
 use Rattle.bo_catalogue.specs.declared.rows.Item.{Item}
+use Rattle.bo_catalogue.specs.declared.rows.ItemRows.{ItemRows}
+use Rattle.bo_catalogue.specs.declared.rows.PricedVariation.{PricedVariation}
 use Rattle.bo_catalogue.specs.declared.rows.Quota.{Quota}
 use Rattle.bo_catalogue.specs.declared.refusal.CatalogueRefusal.{CatalogueRefusal}
+use Rattle.bo_catalogue.specs.CatalogueLists.{with_variations}
 use Rattle.bo_catalogue.specs.ItemAdded.{item_added}
+use Rattle.bo_catalogue.specs.ItemChanged.{item_changed}
+use Rattle.bo_catalogue.specs.VariationAdded.{variation_added}
 use Rattle.bo_catalogue.specs.QuotaAdded.{quota_added}
+use Rattle.bo_catalogue.specs.Resized.{resized}
 use Rattle.bo_lists.specs.declared.rows.CartPos.{CartPos}
+use Rattle.bo_lists.specs.declared.rows.Voucher.{Voucher}
+use Rattle.bo_lists.specs.declared.changes.Change.TheVariants.{PutItem, PutQuota}
 use Rattle.bo_lists.specs.Lists.{State}
-use Rattle.bo_lists.specs.Change.{Changed}
-use Rattle.bo_lists.specs.Numbered.{with_item, with_quota}
+use Rattle.bo_lists.specs.Change.{Changed, changed}
+use Rattle.bo_lists.specs.Numbered.{with_item, with_variation, with_quota}
+use Rattle.bo_lists.specs.Usage.{redeemed}
+use Rattle.bo_vouchers.specs.declared.refusal.VoucherRefusal.{VoucherRefusal}
+use Rattle.bo_vouchers.specs.Made.{voucher_made}
+use Rattle.bo_vouchers.specs.Changed.{voucher_changed}
+use Rattle.bo_vouchers.specs.Deleted.{voucher_deleted}
 use Rattle.bo_orders.specs.declared.refusal.OrderRefusal.{OrderRefusal}
 use Rattle.bo_orders.specs.Carts.{position_added}
+use Rattle.bo_orders.specs.Dropped.{position_dropped}
 use Rattle.bo_office.specs.declared.command.Command.{Command}
-use Rattle.bo_office.specs.declared.command.Command.TheVariants.{AddItem, AddQuota, AddCart}
-use Rattle.bo_office.specs.declared.command.Kind.TheVariants.{AddItem as OfAddItem, AddQuota as OfAddQuota, AddCart as OfAddCart}
-use Rattle.bo_office.specs.declared.reply.Refusal.TheVariants.{Catalogue, Order}
+use Rattle.bo_office.specs.declared.command.Command.TheVariants as commands
+use Rattle.bo_office.specs.declared.command.Kind.{Kind}
+use Rattle.bo_office.specs.declared.command.Kind.TheVariants as kinds
+use Rattle.bo_office.specs.declared.reply.Refusal.TheVariants as refusals
 use Rattle.bo_office.specs.declared.reply.Reply.{Reply}
-use Rattle.bo_office.specs.declared.reply.Reply.TheVariants.{Item as TheItem, Quota as TheQuota, Cart as TheCart, Refused}
+use Rattle.bo_office.specs.declared.reply.Reply.TheVariants.{Made, Found, Gone, Refused}
+use Rattle.bo_office.specs.declared.reply.Shown.{Shown}
+use Rattle.bo_office.specs.declared.reply.Shown.TheVariants as rows
 
 -- no row is put, and the next ids stay
 abbrev pub no_change : State → Changed
 no_change state = record { list = []; next = state.next }
 
-abbrev pub item_step : State → Result Item CatalogueRefusal → State × Reply
-item_step state (Ok row) = (with_item row state, TheItem row)
-item_step state (Err refusal) = (state, Refused OfAddItem (Catalogue refusal))
+abbrev pub item_step : State → Result ItemRows CatalogueRefusal → State × Reply
+item_step state (Ok made) = (with_item made state, Made (rows.Item made))
+item_step state (Err refusal) = (state, Refused kinds.AddItem (refusals.Catalogue refusal))
+
+abbrev pub item_change_step : State → Result Item CatalogueRefusal → State × Reply
+item_change_step state (Ok row) = (changed (PutItem row) state, Found (rows.Item (with_variations state.lists.catalogue row)))
+item_change_step state (Err refusal) = (state, Refused kinds.ChangeItem (refusals.Catalogue refusal))
+
+abbrev pub variation_step : State → Result PricedVariation CatalogueRefusal → State × Reply
+variation_step state (Ok made) = (with_variation made.row state, Made (rows.Variation made))
+variation_step state (Err refusal) = (state, Refused kinds.AddVariation (refusals.Catalogue refusal))
 
 abbrev pub quota_step : State → Result Quota CatalogueRefusal → State × Reply
-quota_step state (Ok row) = (with_quota row state, TheQuota row)
-quota_step state (Err refusal) = (state, Refused OfAddQuota (Catalogue refusal))
+quota_step state (Ok row) = (with_quota row state, Made (rows.Quota row))
+quota_step state (Err refusal) = (state, Refused kinds.AddQuota (refusals.Catalogue refusal))
+
+abbrev pub resize_step : State → Result Quota CatalogueRefusal → State × Reply
+resize_step state (Ok row) = (changed (PutQuota row) state, Found (rows.Quota row))
+resize_step state (Err refusal) = (state, Refused kinds.ResizeQuota (refusals.Catalogue refusal))
+
+-- a voucher is shown with the number of its uses in orders
+abbrev pub shown_voucher : State → Voucher → Shown
+shown_voucher state row = rows.Voucher row (redeemed row.id state.lists)
+
+abbrev pub voucher_step : State → Result (State × Voucher) VoucherRefusal → State × Reply
+voucher_step state (Ok (new, row)) = (new, Made (shown_voucher new row))
+voucher_step state (Err refusal) = (state, Refused kinds.AddVoucher (refusals.Voucher refusal))
+
+abbrev pub voucher_change_step : State → Result (State × Voucher) VoucherRefusal → State × Reply
+voucher_change_step state (Ok (new, row)) = (new, Found (shown_voucher new row))
+voucher_change_step state (Err refusal) = (state, Refused kinds.ChangeVoucher (refusals.Voucher refusal))
+
+abbrev pub voucher_drop_step : State → Result State VoucherRefusal → State × Reply
+voucher_drop_step state (Ok new) = (new, Gone)
+voucher_drop_step state (Err refusal) = (state, Refused kinds.DropVoucher (refusals.Voucher refusal))
 
 abbrev pub cart_step : State → Result (State × CartPos) OrderRefusal → State × Reply
-cart_step state (Ok (new, row)) = (new, TheCart row)
-cart_step state (Err refusal) = (state, Refused OfAddCart (Order refusal))
+cart_step state (Ok (new, row)) = (new, Made (rows.Cart row))
+cart_step state (Err refusal) = (state, Refused kinds.AddCart (refusals.Order refusal))
+
+abbrev pub cart_drop_step : State → Result State OrderRefusal → State × Reply
+cart_drop_step state (Ok new) = (new, Gone)
+cart_drop_step state (Err refusal) = (state, Refused kinds.DropCart (refusals.Order refusal))
 
 -- one command, in the office at its moment; a refusal changes nothing
 abbrev pub step_now : Command → Draw → State → State × Reply
-step_now (AddItem new) draw state = item_step state (item_added new state.next.item state.lists.catalogue)
-step_now (AddQuota new) draw state = quota_step state (quota_added new state.next.quota state.lists.catalogue)
-step_now (AddCart new) draw state = cart_step state (position_added new draw state)
+step_now (commands.AddItem new) draw state = item_step state (item_added new state.next.item state.next.variation state.lists.catalogue)
+step_now (commands.ChangeItem id patch) draw state = item_change_step state (item_changed id patch state.lists.catalogue)
+step_now (commands.AddVariation item new) draw state = variation_step state (variation_added item new state.next.variation state.lists.catalogue)
+step_now (commands.AddQuota new) draw state = quota_step state (quota_added new state.next.quota state.lists.catalogue)
+step_now (commands.ResizeQuota id patch) draw state = resize_step state (resized id patch state.lists.catalogue)
+step_now (commands.AddVoucher new) draw state = voucher_step state (voucher_made new draw state)
+step_now (commands.ChangeVoucher id patch) draw state = voucher_change_step state (voucher_changed id patch state)
+step_now (commands.DropVoucher id) draw state = voucher_drop_step state (voucher_deleted id state)
+step_now (commands.AddCart new) draw state = cart_step state (position_added new draw state)
+step_now (commands.DropCart id) draw state = cart_drop_step state (position_dropped id state)
 
 -- one command at a moment, with a draw: the office after it, and its reply; the moment is stored in any case
 abbrev pub step : Command → ℕ → Draw → State → State × Reply

@@ -1,22 +1,50 @@
 //! What a request asks for.
 
-use bo_catalogue::{NewItem, NewQuota};
+use bo_catalogue::{ItemPatch, NewItem, NewQuota, NewVariation, QuotaPatch};
 use bo_orders::NewCart;
+use bo_vouchers::{NewVoucher, VoucherPatch};
 
 /// A request that may change the box office.
 #[derive(Debug, Drop)]
 pub enum Command {
-    /// Adds an item.
+    /// Adds an item, with its variations.
     AddItem(NewItem),
+    /// Changes the item with this id.
+    ChangeItem(u64, ItemPatch),
+    /// Adds a variation to the item with this id.
+    AddVariation(u64, NewVariation),
     /// Adds a quota.
     AddQuota(NewQuota),
+    /// Gives the quota with this id another size.
+    ResizeQuota(u64, QuotaPatch),
+    /// Makes a voucher.
+    AddVoucher(NewVoucher),
+    /// Changes the voucher with this id.
+    ChangeVoucher(u64, VoucherPatch),
+    /// Deletes the voucher with this id.
+    DropVoucher(u64),
     /// Adds a cart position.
     AddCart(NewCart),
+    /// Deletes the cart position with this id.
+    DropCart(u64),
+}
+
+/// Rows of one kind, which are listed by id, 50 a page.
+#[derive(Clone, Copy, Debug, PartialEq, Eq)]
+pub enum Resource {
+    Items,
+    Quotas,
+    Vouchers,
+    Carts,
 }
 
 /// A request that only reads.
 #[derive(Clone, Copy, Debug, PartialEq, Eq)]
 pub enum Query {
+    /// A page of a list; pages count from 1.
+    List(Resource, u64),
+    /// The row with this id.
+    One(Resource, u64),
     /// What is left of the quota with this id.
     Availability(u64),
 }
@@ -25,7 +53,16 @@ pub enum Query {
 #[derive(Clone, Copy, Debug, PartialEq, Eq)]
 pub enum Kind {
     AddItem,
+    ChangeItem,
+    AddVariation,
     AddQuota,
+    ResizeQuota,
+    AddVoucher,
+    ChangeVoucher,
+    DropVoucher,
     AddCart,
+    DropCart,
+    List,
+    One,
     Availability,
 }

@@ -2,10 +2,9 @@
 #![tactic(auto)]
 
 pub mod command;
-pub mod laws;
 pub mod office;
 pub mod reply;
 
-pub use command::{Command, Kind, Query};
+pub use command::{Command, Kind, Query, Resource};
 pub use office::Office;
-pub use reply::{Refusal, Reply};
+pub use reply::{Page, Refusal, Reply, Shown};

