@@ -30,6 +30,9 @@ invalid_token = told 401 None (detail_body (codes "Invalid token."))
 unfoldable pub not_found : Told
 not_found = told 404 None (detail_body (codes "Not found."))
 
+unfoldable pub invalid_page : Told
+invalid_page = told 404 None (detail_body (codes "Invalid page."))
+
 -- the method stands in the text as it stands in the head
 abbrev pub method_text : List ℕ → List ℕ
 method_text method = codes "Method \"" ++ utf8_lossy method ++ codes "\" not allowed."

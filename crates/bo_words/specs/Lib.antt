@@ -4,4 +4,5 @@ pub mod Rows
 pub mod Told
 pub mod Faults
 pub mod Refusals
+pub mod Pages
 pub mod Replies

@@ -4,6 +4,8 @@ use Rattle.serde_json.specs.Data.{Data, string, object, member, no_members}
 use Rattle.bo_base.specs.declared.answer.Told.{Told}
 use Rattle.bo_catalogue.specs.declared.refusal.CatalogueRefusal.{CatalogueRefusal}
 use Rattle.bo_catalogue.specs.declared.refusal.CatalogueRefusal.TheVariants as catalogue
+use Rattle.bo_vouchers.specs.declared.refusal.VoucherRefusal.{VoucherRefusal}
+use Rattle.bo_vouchers.specs.declared.refusal.VoucherRefusal.TheVariants as voucher
 use Rattle.bo_orders.specs.declared.refusal.OrderRefusal.{OrderRefusal}
 use Rattle.bo_orders.specs.declared.refusal.OrderRefusal.TheVariants as order
 use Rattle.bo_office.specs.Refusals.{number_of_refusal}
@@ -13,7 +15,9 @@ use Rattle.bo_office.specs.declared.reply.Refusal.{Refusal}
 use Rattle.bo_office.specs.declared.reply.Refusal.TheVariants as refusals
 use Rattle.bo_words.specs.Values.{count}
 use Rattle.bo_words.specs.Told.{told, empty_body}
-use Rattle.bo_words.specs.Faults.{not_found}
+use Rattle.bo_words.specs.declared.fields.Field.TheVariants as fields
+use Rattle.bo_words.specs.declared.fields.Problem.TheVariants as problems
+use Rattle.bo_words.specs.Faults.{not_found, invalid_page, field_fault}
 
 -- the sentence that tells a refusal; want of memory is never told as a refusal
 abbrev pub catalogue_detail : CatalogueRefusal → Option (List ℕ)
@@ -25,26 +29,71 @@ catalogue_detail catalogue.NoQuota = Some (codes "Quota not found.")
 catalogue_detail catalogue.BadMember = Some (codes "Wrong members.")
 catalogue_detail catalogue.Inactive = Some (codes "Not active.")
 catalogue_detail catalogue.Full = Some (codes "Shop is full.")
+catalogue_detail catalogue.Plain = Some (codes "Item has no variations.")
 catalogue_detail catalogue.NotSold = Some (codes "In no quota.")
+
+abbrev pub voucher_detail : VoucherRefusal → Option (List ℕ)
+voucher_detail voucher.Memory = None
+voucher_detail (voucher.Catalogue refusal) = catalogue_detail refusal
+voucher_detail voucher.TooLarge = Some (codes "Value out of range.")
+voucher_detail voucher.CodeTaken = Some (codes "Code is taken.")
+voucher_detail voucher.BadTarget = Some (codes "Wrong target.")
+voucher_detail voucher.CannotBlock = Some (codes "Cannot block.")
+voucher_detail voucher.NoVoucher = Some (codes "Voucher not found.")
+voucher_detail voucher.VoucherExpired = Some (codes "Voucher is expired.")
+voucher_detail voucher.NoHeadroom = Some (codes "Voucher has no uses left.")
+voucher_detail voucher.WrongProduct = Some (codes "Voucher does not fit.")
+voucher_detail voucher.InUse = Some (codes "In use.")
+voucher_detail (voucher.SoldOut quota) = Some (codes "Sold out.")
+voucher_detail voucher.ReservedCode = Some (codes "Code is reserved.")
 
 abbrev pub order_detail : OrderRefusal → Option (List ℕ)
 order_detail order.Memory = None
-order_detail (order.Catalogue refusal) = catalogue_detail refusal
-order_detail (order.SoldOut quota) = Some (codes "Sold out.")
+order_detail (order.Voucher refusal) = voucher_detail refusal
+order_detail order.NoPosition = Some (codes "Position not found.")
 order_detail order.BadCart = Some (codes "Wrong cart.")
 
 abbrev pub detail : Refusal → Option (List ℕ)
 detail (refusals.Catalogue refusal) = catalogue_detail refusal
+detail (refusals.Voucher refusal) = voucher_detail refusal
 detail (refusals.Order refusal) = order_detail refusal
+detail refusals.NoPage = Some (codes "Invalid page.")
 
 -- the quota that is sold out
+abbrev pub quota_of : VoucherRefusal → Option ℕ
+quota_of (voucher.SoldOut quota) = Some quota
+quota_of refusal = None
+
 abbrev pub quota_named : Refusal → Option ℕ
-quota_named (refusals.Order (order.SoldOut quota)) = Some quota
+quota_named (refusals.Voucher refusal) = quota_of refusal
+quota_named (refusals.Order (order.Voucher refusal)) = quota_of refusal
 quota_named refusal = None
+
+-- whether the path of a request of that kind names the item, the quota, the voucher or the cart position
+abbrev pub names_item : Kind → Bool
+names_item kinds.ChangeItem = true
+names_item kinds.AddVariation = true
+names_item kinds.One = true
+names_item kind = false
+
+abbrev pub names_quota : Kind → Bool
+names_quota kinds.ResizeQuota = true
+names_quota kinds.Availability = true
+names_quota kinds.One = true
+names_quota kind = false
+
+abbrev pub names_voucher : Kind → Bool
+names_voucher kinds.ChangeVoucher = true
+names_voucher kinds.DropVoucher = true
+names_voucher kinds.One = true
+names_voucher kind = false
 
 -- whether the path of a request of that kind names what wasn't found
 abbrev pub is_of_path : Kind → Refusal → Bool
-is_of_path kinds.Availability (refusals.Catalogue catalogue.NoQuota) = true
+is_of_path kind (refusals.Catalogue catalogue.NoItem) = names_item kind
+is_of_path kind (refusals.Catalogue catalogue.NoQuota) = names_quota kind
+is_of_path kind (refusals.Voucher voucher.NoVoucher) = names_voucher kind
+is_of_path kind (refusals.Order order.NoPosition) = true
 is_of_path kind refusal = false
 
 -- `{"code":N,"detail":"text"}`, and `{"code":N,"detail":"text","quota":Q}` where a quota is named
@@ -59,12 +108,18 @@ refusal_body number text (Some quota) = object (
     (member (codes "quota") (count quota)
     no_members)))
 
--- a refusal that no request is told has status 200 and `{}`
-abbrev pub refused_by : ℕ → Option (List ℕ) → Option ℕ → Told
-refused_by number None quota = told 200 None empty_body
-refused_by number (Some text) quota = told 400 None (refusal_body number text quota)
+-- what is forbidden has 403, and any other refusal 400
+abbrev pub status_of : Refusal → ℕ
+status_of (refusals.Voucher voucher.InUse) = 403
+status_of refusal = 400
 
+-- a refusal that no request is told has status 200 and `{}`
+abbrev pub refused_by : Refusal → Option (List ℕ) → Told
+refused_by refusal None = told 200 None empty_body
+refused_by refusal (Some text) = told (status_of refusal) None (refusal_body (number_of_refusal refusal) text (quota_named refusal))
+
+-- more than 100 percent is told as a fault of the field, and a page that isn't there as a path that isn't there
 unfoldable pub refused : Kind → Refusal → Told
-refused kind refusal =
-    if is_of_path kind refusal then not_found
-    else refused_by (number_of_refusal refusal) (detail refusal) (quota_named refusal)
+refused kind (refusals.Voucher voucher.TooLarge) = field_fault (record { field = fields.Value; problem = problems.OutOfRange })
+refused kind refusals.NoPage = invalid_page
+refused kind refusal = if is_of_path kind refusal then not_found else refused_by refusal (detail refusal)

@@ -3,10 +3,16 @@ use Rattle.std.specs.Prelude.{ℕ, List, map, unwrap_or, codes}
 use Rattle.serde_json.specs.Data.{Data, boolean, string, object, member, no_members}
 use Rattle.bo_catalogue.specs.declared.rows.Item.{Item}
 use Rattle.bo_catalogue.specs.declared.rows.Variation.{Variation}
+use Rattle.bo_catalogue.specs.declared.rows.PricedVariation.{PricedVariation}
 use Rattle.bo_catalogue.specs.declared.rows.Quota.{Quota}
+use Rattle.bo_base.specs.declared.price_mode.PriceMode.{PriceMode}
+use Rattle.bo_base.specs.declared.price_mode.PriceMode.TheVariants as modes
 use Rattle.bo_lists.specs.declared.rows.CartPos.{CartPos}
+use Rattle.bo_lists.specs.declared.rows.Voucher.{Voucher}
+use Rattle.bo_office.specs.declared.reply.Shown.{Shown}
+use Rattle.bo_office.specs.declared.reply.Shown.TheVariants as shown
 use Rattle.bo_lists.specs.declared.rows.Availability.{Availability}
-use Rattle.bo_words.specs.Values.{count, count_or_null, money, money_or_null, moment, list, counts}
+use Rattle.bo_words.specs.Values.{count, count_or_null, money, money_or_null, moment, moment_or_null, list, counts}
 
 -- a variation of an item that costs price: its own price may be null, and what it costs is its own or the item's
 abbrev pub variation_body : ℕ → Variation → Data
@@ -16,6 +22,16 @@ variation_body price variation = object (
     (member (codes "id") (count variation.id)
     (member (codes "price") (money (unwrap_or variation.default_price price))
     (member (codes "value") (string variation.name)
+    no_members)))))
+
+-- a variation, with the price that it costs
+abbrev pub priced_body : PricedVariation → Data
+priced_body priced = object (
+    member (codes "active") (boolean priced.row.active)
+    (member (codes "default_price") (money_or_null priced.row.default_price)
+    (member (codes "id") (count priced.row.id)
+    (member (codes "price") (money priced.price)
+    (member (codes "value") (string priced.row.name)
     no_members)))))
 
 -- an item with its variations
@@ -51,6 +67,40 @@ cart_body cart = object (
     (member (codes "variation") (count_or_null cart.product.variation)
     (member (codes "voucher") (count_or_null cart.voucher)
     no_members))))))))
+
+-- the word of a voucher's price mode
+abbrev pub mode_word : PriceMode → List ℕ
+mode_word modes.None = codes "none"
+mode_word modes.Set = codes "set"
+mode_word modes.Subtract = codes "subtract"
+mode_word modes.Percent = codes "percent"
+
+-- a voucher, with the number of its uses in orders; its value has two decimals, for percent too
+abbrev pub voucher_body : Voucher → ℕ → Data
+voucher_body voucher redeemed = object (
+    member (codes "allow_ignore_quota") (boolean voucher.allow_ignore_quota)
+    (member (codes "block_quota") (boolean voucher.block_quota)
+    (member (codes "code") (string voucher.code)
+    (member (codes "comment") (string voucher.comment)
+    (member (codes "id") (count voucher.id)
+    (member (codes "item") (count_or_null voucher.item)
+    (member (codes "max_usages") (count voucher.max_usages)
+    (member (codes "price_mode") (string (mode_word voucher.price_mode))
+    (member (codes "quota") (count_or_null voucher.quota)
+    (member (codes "redeemed") (count redeemed)
+    (member (codes "tag") (string voucher.tag)
+    (member (codes "valid_until") (moment_or_null voucher.valid_until)
+    (member (codes "value") (money_or_null voucher.value)
+    (member (codes "variation") (count_or_null voucher.variation)
+    no_members))))))))))))))
+
+-- a row as it is shown
+abbrev pub shown_body : Shown → Data
+shown_body (shown.Item rows) = item_body rows.item rows.variations
+shown_body (shown.Variation priced) = priced_body priced
+shown_body (shown.Quota quota) = quota_body quota
+shown_body (shown.Voucher voucher redeemed) = voucher_body voucher redeemed
+shown_body (shown.Cart cart) = cart_body cart
 
 -- what is left of a quota, and what uses it; size and what is left are null where it is unlimited
 abbrev pub availability_body : Availability → Data

@@ -24,6 +24,10 @@ money_or_null (Some cents) = money cents
 abbrev pub moment : ℕ → Data
 moment seconds = string (moment_text seconds)
 
+abbrev pub moment_or_null : Option ℕ → Data
+moment_or_null None = null
+moment_or_null (Some seconds) = moment seconds
+
 abbrev pub list : List Data → Data
 list values = array (items_of values)
 

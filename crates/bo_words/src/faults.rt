@@ -2,7 +2,7 @@
 
 ghost use Rattle.std.specs.Prelude.{◌≡◌, IfOk, string_bytes};
 ghost use Rattle.serde_json.specs.View.{view};
-ghost use Rattle.bo_words.specs.Faults.{fault_body, field_fault, parse_error, invalid_data, no_credentials, invalid_token, not_found, method_text, method_not_allowed};
+ghost use Rattle.bo_words.specs.Faults.{fault_body, field_fault, parse_error, invalid_data, no_credentials, invalid_token, not_found, invalid_page, method_text, method_not_allowed};
 
 use crate::fields::Fault;
 use crate::told::{detailed, told};
@@ -71,6 +71,14 @@ pub fn not_found(alloc: Global) -> Result<Told, AllocError>
     ensures { IfOk result (λ told. told ≡ not_found) }
 {
     detailed(alloc, StatusCode::NOT_FOUND, None, "Not found.")
+}
+
+/// 404 `Invalid page.`
+#[tactic(auto, unfolding(crate::specs::Faults::invalid_page))]
+pub fn invalid_page(alloc: Global) -> Result<Told, AllocError>
+    ensures { IfOk result (λ told. told ≡ invalid_page) }
+{
+    detailed(alloc, StatusCode::NOT_FOUND, None, "Invalid page.")
 }
 
 /// `Method "M" not allowed.`

@@ -18,6 +18,16 @@ pub enum Field {
     CartId,
     Expires,
     Voucher,
+    Value,
+    Code,
+    MaxUsages,
+    ValidUntil,
+    BlockQuota,
+    AllowIgnoreQuota,
+    PriceMode,
+    Quota,
+    Tag,
+    Comment,
 }
 
 /// What is wrong with a field.
@@ -62,6 +72,16 @@ impl Field {
             Field::CartId => "cart_id",
             Field::Expires => "expires",
             Field::Voucher => "voucher",
+            Field::Value => "value",
+            Field::Code => "code",
+            Field::MaxUsages => "max_usages",
+            Field::ValidUntil => "valid_until",
+            Field::BlockQuota => "block_quota",
+            Field::AllowIgnoreQuota => "allow_ignore_quota",
+            Field::PriceMode => "price_mode",
+            Field::Quota => "quota",
+            Field::Tag => "tag",
+            Field::Comment => "comment",
         }
     }
 }

@@ -4,14 +4,11 @@
 pub mod faults;
 pub mod fields;
 pub mod laws;
-mod refusals;
 pub mod replies;
-mod rows;
 mod told;
-mod values;
 
 pub use faults::{
-    field_fault, invalid_data, invalid_token, method_not_allowed, no_credentials, not_found,
+    field_fault, invalid_data, invalid_page, invalid_token, method_not_allowed, no_credentials, not_found,
     parse_error,
 };
 pub use fields::{Fault, Field, Problem};

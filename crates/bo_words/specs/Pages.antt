@@ -1,0 +1,37 @@
+-- A page of a list, and the paths of the pages beside it.
+use Rattle.std.specs.Prelude.{ℕ, ◌+◌, ◌-◌, ◌*◌, List, ◌++◌, map, nat_lt, if◌then◌else◌, codes}
+use Rattle.std.specs.Fmt.{decimal}
+use Rattle.serde_json.specs.Data.{Data, string, null, object, member, no_members}
+use Rattle.bo_office.specs.declared.command.Resource.{Resource}
+use Rattle.bo_office.specs.declared.command.Resource.TheVariants.{Items, Quotas, Vouchers, Carts}
+use Rattle.bo_office.specs.declared.reply.Page.{Page}
+use Rattle.bo_words.specs.Values.{count, list}
+use Rattle.bo_words.specs.Rows.{shown_body}
+
+-- the part of a list's path that is its own
+abbrev pub resource_path : Resource → List ℕ
+resource_path Items = codes "/items/"
+resource_path Quotas = codes "/quotas/"
+resource_path Vouchers = codes "/vouchers/"
+resource_path Carts = codes "/cartpositions/"
+
+-- the path of a page: that of the list, and its number
+unfoldable pub page_path : List ℕ → List ℕ → Resource → ℕ → List ℕ
+page_path organizer event resource number =
+    codes "/api/v1/organizers/" ++ organizer ++ codes "/events/" ++ event ++ resource_path resource ++ codes "?page=" ++ decimal number
+
+-- the next page, if rows are left for it
+abbrev pub next_path : List ℕ → List ℕ → Page → Data
+next_path organizer event page = if nat_lt (page.number * 50) page.count then string (page_path organizer event page.resource (page.number + 1)) else null
+
+-- the page before it, if there is one
+abbrev pub previous_path : List ℕ → List ℕ → Page → Data
+previous_path organizer event page = if nat_lt 1 page.number then string (page_path organizer event page.resource (page.number - 1)) else null
+
+abbrev pub page_body : List ℕ → List ℕ → Page → Data
+page_body organizer event page = object (
+    member (codes "count") (count page.count)
+    (member (codes "next") (next_path organizer event page)
+    (member (codes "previous") (previous_path organizer event page)
+    (member (codes "results") (list (map shown_body page.rows))
+    no_members))))
