@@ -1,114 +1,6 @@
-#!/usr/bin/env python3
-"""Writes the case files under data/ and the file stdout, from the texts of the requests and of their answers.
+"""The first path: items, quotas, cart positions, what is left; framing, tokens, paths, bodies, fields."""
 
-A case file begins with a line of moments, one for each request, with a space between two. The rest are the bytes of the
-stream. What stdout has of a case is its name, how it ends, and the bytes that are written.
-
-Nothing here comes from the program: the answers are written out, or built from a status, a body and the form of a head.
-"""
-
-from pathlib import Path
-
-HERE = Path(__file__).parent
-PATH = "/api/v1/organizers/house/events/hall"
-T = "2026-05-01T10:00:00Z"
-PHRASES = {
-    200: "OK", 201: "Created", 400: "Bad Request", 401: "Unauthorized", 404: "Not Found",
-    405: "Method Not Allowed", 413: "Payload Too Large", 431: "Request Header Fields Too Large",
-    501: "Not Implemented",
-}
-cases = []
-
-
-def request(method, path, body="", token="Authorization: Token feed\r\n", fields="", version="1.1"):
-    length = f"Content-Length: {len(body.encode())}\r\n" if body else ""
-    return f"{method} {path} HTTP/{version}\r\nHost: h\r\n{token}{fields}{length}\r\n{body}"
-
-
-def post(path, body, **more):
-    return request("POST", PATH + path, body, **more)
-
-
-def get(path, **more):
-    return request("GET", PATH + path, **more)
-
-
-def answer(status, body, allow="", closes=False):
-    challenge = "WWW-Authenticate: Token\r\n" if status == 401 else ""
-    allowed = f"Allow: {allow}\r\n" if allow else ""
-    close = "Connection: close\r\n" if closes else ""
-    return (
-        f"HTTP/1.1 {status} {PHRASES[status]}\r\nContent-Type: application/json\r\n"
-        f"Content-Length: {len(body.encode())}\r\n{challenge}{allowed}{close}\r\n{body}"
-    )
-
-
-def case(name, exchanges, ending="ended"):
-    """A case of requests with their moments and answers; an answer may be empty."""
-    cases.append((name, exchanges, ending))
-
-
-def item(number, name, price):
-    return answer(201, f'{{"active":true,"default_price":"{price}","has_variations":false,"id":{number},"name":"{name}","variations":[]}}')
-
-
-def quota(number, name, size):
-    return answer(201, f'{{"id":{number},"items":[1],"name":"{name}","size":{size},"variations":[]}}')
-
-
-def cart(number, tick, made, expires, price="23.00", item=1):
-    return answer(
-        201,
-        f'{{"cart_id":"{tick:032x}z{number}@api","datetime":"{made}","expires":"{expires}",'
-        f'"id":{number},"item":{item},"price":"{price}","variation":null,"voucher":null}}',
-    )
-
-
-def left(size, carts):
-    number = size - carts
-    return answer(
-        200,
-        f'{{"available":{"true" if number else "false"},"available_number":{number},"blocking_vouchers":0,'
-        f'"cart_positions":{carts},"paid_orders":0,"pending_orders":0,"total_size":{size},"waiting_list":0}}',
-    )
-
-
-def sold_out(number):
-    return answer(400, f'{{"code":28,"detail":"Sold out.","quota":{number}}}')
-
-
-def detail(status, text, **more):
-    return answer(status, f'{{"detail":"{text}"}}', **more)
-
-
-def refused(number, text):
-    return answer(400, f'{{"code":{number},"detail":"{text}"}}')
-
-
-def fault(field, text):
-    return answer(400, f'{{"{field}":["{text}"]}}')
-
-
-REQUIRED = "This field is required."
-NULL = "This field may not be null."
-BLANK = "This field may not be blank."
-INVALID = "A valid value is required."
-RANGE = "Value out of range."
-TEXT = "Text not allowed."
-
-new_item = post("/items/", '{"name":"Stalls","default_price":"23.00"}')
-hold = post("/cartpositions/", '{"item":1}')
-ask = get("/quotas/1/availability/")
-
-
-def new_quota(size, name="A"):
-    return post("/quotas/", f'{{"name":"{name}","size":{size},"items":[1],"variations":[]}}')
-
-
-def setup(size):
-    """An item, and a quota of that size with it."""
-    return [(T, new_item, item(1, "Stalls", "23.00")), (T, new_quota(size), quota(1, "A", size))]
-
+from forms import *
 
 case("empty_stream", [])
 
@@ -248,8 +140,7 @@ case("paths", [
     (T, post("/items/?page=2", "{}"), fault("name", REQUIRED)),
     (T, post("/quotas/1/availability/", "{"), detail(405, 'Method \\"POST\\" not allowed.', allow="GET")),
     (T, request("PATCH", PATH + "/quotas/7/availability/", "{"), detail(405, 'Method \\"PATCH\\" not allowed.', allow="GET")),
-    (T, request("PUT", PATH + "/items/"), detail(405, 'Method \\"PUT\\" not allowed.', allow="POST")),
-    (T, get("/items/"), detail(405, 'Method \\"GET\\" not allowed.', allow="POST")),
+    (T, request("PUT", PATH + "/items/"), detail(405, 'Method \\"PUT\\" not allowed.', allow="GET, POST")),
     (T, request("HEAD", PATH + "/quotas/1/availability/"), detail(405, 'Method \\"HEAD\\" not allowed.', allow="GET")),
     (T, request("get", PATH + "/quotas/1/availability/"), detail(405, 'Method \\"get\\" not allowed.', allow="GET")),
 ])
@@ -286,7 +177,7 @@ case("item_fields", [(T, post("/items/", body), told) for body, told in [
     ('{"name":"A","default_price":"1","active":null}', fault("active", NULL)),
     ('{"name":"A","default_price":"1","variations":null}', fault("variations", NULL)),
     ('{"name":"A","default_price":"1","variations":{}}', fault("variations", INVALID)),
-    ('{"name":"A","default_price":"1","variations":[1]}', detail(400, "Invalid data.")),
+    ('{"name":"A","default_price":"1","variations":[1]}', fault("variations", INVALID)),
     ('{"name":{"en":"B","de":"A"},"default_price":"99999999.99"}', item(1, "A", "99999999.99")),
     ('{"name":"C","default_price":23,"variations":[],"x":1.5}', item(2, "C", "23.00")),
 ]])
@@ -303,7 +194,7 @@ case("quota_fields", [(T, post("/quotas/", body), told) for body, told in [
     ('{"name":"Q","size":1,"items":[1.5]}', fault("items", INVALID)),
     ('{"name":"Q","size":1,"items":[9007199254740992]}', fault("items", RANGE)),
     ('{"name":"Q","size":1,"items":null}', fault("items", NULL)),
-    ('{"name":"Q","size":1,"variations":[1]}', detail(400, "Invalid data.")),
+    ('{"name":"Q","size":1,"variations":[1]}', refused(11, "Variation not found.")),
     ('{"name":"Q","size":1,"items":[1]}', refused(10, "Item not found.")),
     ('{"name":"Q","size":1000000}', answer(201, '{"id":1,"items":[],"name":"Q","size":1000000,"variations":[]}')),
 ]])
@@ -323,27 +214,9 @@ case("cart_fields", setup(1) + [(T, post("/cartpositions/", body), told) for bod
     ('{"item":1,"expires":"tomorrow"}', fault("expires", INVALID)),
     ('{"item":1,"expires":"2026-05-01"}', fault("expires", INVALID)),
     ('{"item":1,"expires":7}', fault("expires", INVALID)),
-    ('{"item":1,"voucher":"X"}', detail(400, "Invalid data.")),
+    ('{"item":1,"voucher":"X"}', refused(23, "Voucher not found.")),
     ('{"item":1,"expires":"9999-01-01T00:00:00Z"}', fault("expires", RANGE)),
     ('{"item":9}', refused(10, "Item not found.")),
     ('{"item":1,"variation":1}', refused(11, "Variation not found.")),
     ('{"item":1,"variation":null,"price":null,"cart_id":null,"expires":null,"voucher":null}', cart(1, 21, T, "2026-05-01T10:30:00Z")),
 ]])
-
-
-def main():
-    data = HERE / "data"
-    for old in data.glob("*.case"):
-        old.unlink()
-    out = []
-    for name, exchanges, ending in cases:
-        moments = " ".join(moment for moment, _, _ in exchanges if moment)
-        stream = "".join(sent for _, sent, _ in exchanges)
-        (data / f"{name}.case").write_bytes(f"{moments}\n{stream}".encode())
-        told = "".join(told for _, _, told in exchanges)
-        out.append(f"== {name}: {ending}\n{told}\n")
-    (data / "names").write_text("".join(f"{name}\n" for name, _, _ in cases))
-    (HERE / "stdout").write_bytes("".join(out).encode())
-
-
-main()

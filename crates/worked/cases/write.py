@@ -1,0 +1,35 @@
+#!/usr/bin/env python3
+"""Writes the case files under data/ and the file stdout, from the texts of the requests and of their answers.
+
+A case file begins with a line of moments, one for each request, with a space between two. The rest are the bytes of the
+stream. What stdout has of a case is its name, how it ends, and the bytes that are written.
+
+Nothing here comes from the program: the answers are written out, or built from a status, a body and the form of a head.
+"""
+
+from pathlib import Path
+
+from forms import cases
+import first_path  # noqa: F401
+import catalogue  # noqa: F401
+import vouchers  # noqa: F401
+
+HERE = Path(__file__).parent.parent
+
+
+def main():
+    data = HERE / "data"
+    for old in data.glob("*.case"):
+        old.unlink()
+    out = []
+    for name, exchanges, ending in cases:
+        moments = " ".join(moment for moment, _, _ in exchanges if moment)
+        stream = "".join(sent for _, sent, _ in exchanges)
+        (data / f"{name}.case").write_bytes(f"{moments}\n{stream}".encode())
+        told = "".join(told for _, _, told in exchanges)
+        out.append(f"== {name}: {ending}\n{told}\n")
+    (data / "names").write_text("".join(f"{name}\n" for name, _, _ in cases))
+    (HERE / "stdout").write_bytes("".join(out).encode())
+
+
+main()
