@@ -2,7 +2,7 @@
 //! byte by byte. Printed are its name, how it ends, and what is written.
 //!
 //! A case file begins with a line of moments, one for each whole request, with a space between two. What follows are the
-//! bytes of the stream. `data/names` has the names of the cases, one a line. `cases.py` writes them, and `stdout`, from the
+//! bytes of the stream. `data/names` has the names of the cases, one a line. `cases/write.py` writes them, and `stdout`, from the
 //! texts of the requests and of their answers.
 #![tactic(auto)]
 
