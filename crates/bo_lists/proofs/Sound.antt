@@ -1,6 +1,5 @@
 -- What keeps a box office sound.
 use Rattle.std.proofs.Common.{◌≡◌, ℕ, ◌+◌, ◌≤◌, ◌⊎◌, inl, inr, true, false, List, [], ◌∷◌, length, map, Option, Some, None, refl, sym, ap, ◌∙◌, subst, arith}
-use Rattle.bo_base.specs.Tables.{row_at}
 use Rattle.bo_catalogue.specs.declared.rows.Item.{Item}
 use Rattle.bo_catalogue.specs.declared.rows.Variation.{Variation}
 use Rattle.bo_catalogue.specs.declared.rows.ItemRows.{ItemRows}
@@ -17,10 +16,10 @@ use Rattle.bo_lists.specs.Lists.{Lists, State, empty, voucher_at}
 use Rattle.bo_lists.specs.Change.{after_change, after_all, changed}
 use Rattle.bo_lists.specs.Usage.{redeemed}
 use Rattle.bo_lists.specs.Headroom.{held, HasHeadroom, AllHaveHeadroom, has_use}
-use Rattle.bo_lists.specs.Fits.{fits_quota, fits_by, fits_if, is_fit, AllFit}
+use Rattle.bo_lists.specs.Fits.{fits_quota, fits_by, fits, fits_if, is_fit, AllFit}
 use Rattle.bo_lists.specs.Named.{is_taken, is_used}
 use Rattle.bo_lists.specs.Numbered.{AreFrom, with_item, with_variation, with_quota, with_voucher, with_cart}
-use Rattle.bo_lists.specs.Sound.{AreNumbered, IsSound}
+use Rattle.bo_lists.specs.Sound.{IsSound}
 use Rattle.bo_lists.proofs.EachRow.{all-with_row, all-without_row, next_absent, numbered_put, numbered_changed, numbered_dropped}
 use Rattle.bo_lists.proofs.Headroom.{headroom_later, headroom_put, headroom_drop}
 use Rattle.bo_lists.proofs.Fit.{carts_stay, positions_stay, fit_same, fit_quota, fit_voucher, fit_put_other, fit_drop_other, carts_unless, positions_unless, all_fit_cart, all_fit_drop_cart}
@@ -223,3 +222,106 @@ sound_resized state row old e items variations h = record {
 
     same : (product : Product) → fits_quota (quota_at row.id state.lists.catalogue) product ≡ true → is_in row product ≡ true
     same product fits = by_variation product.variation product.item (ap (λ (found : Option Quota). fits_quota found product) (sym e) ∙ fits)
+
+-- a voucher that is put
+module _ (lists : Lists) (row : Voucher) where
+  -- the row is for what the one in its place was for
+  fit_alike : ((product : Product) → fits_if lists.catalogue product (voucher_at row.id lists) ≡ true → fits lists.catalogue row product ≡ true) → AllFit lists → AllFit (after_change (PutVoucher row) lists)
+  fit_alike has h = record {
+    carts = carts_stay lists (after_change (PutVoucher row) lists) (fit_voucher lists row has) lists.carts h.carts;
+    positions = positions_stay lists (after_change (PutVoucher row) lists) (fit_voucher lists row has) lists.positions h.positions;
+  }
+
+  -- or nothing names it
+  fit_unused : is_used row.id lists ≡ false → AllFit lists → AllFit (after_change (PutVoucher row) lists)
+  fit_unused unused h = record {
+    carts = carts_unless row.id lists (after_change (PutVoucher row) lists) unused (fit_put_other lists row) h.carts;
+    positions = positions_unless row.id lists (after_change (PutVoucher row) lists) unused (fit_put_other lists row) h.positions;
+  }
+
+  headroom_voucher : (at : ℕ) → redeemed row.id lists + held at row.id lists ≤ row.max_usages → AllHaveHeadroom at lists → AllHaveHeadroom at (after_change (PutVoucher row) lists)
+  headroom_voucher at room h = all-with_row (λ r. r.id) (HasHeadroom at lists) row lists.vouchers room h
+
+-- a new voucher whose code no other one has
+pub sound_voucher : (state : State) (row : Voucher) → row.id ≡ state.next.voucher → is_taken row.id row.code state.lists ≡ false → redeemed row.id state.lists + held state.moment row.id state.lists ≤ row.max_usages → IsSound state → IsSound (with_voucher row state)
+sound_voucher state row e code room h = record {
+  items = h.items;
+  variations = h.variations;
+  quotas = h.quotas;
+  vouchers = numbered_put (λ r. r.id) row state.next.voucher state.lists.vouchers e h.vouchers;
+  carts = h.carts;
+  orders = h.orders;
+  positions = h.positions;
+  waiting = h.waiting;
+  headroom = headroom_voucher state.lists row state.moment room h.headroom;
+  fit = fit_alike state.lists row nothing h.fit;
+  codes = unlike_put row 0 state.lists.vouchers h.vouchers.in_order code h.codes;
+}
+  where
+    absent : voucher_at row.id state.lists ≡ None
+    absent = ap (λ (n : ℕ). voucher_at n state.lists) e ∙ next_absent (λ (r : Voucher). r.id) state.next.voucher state.lists.vouchers h.vouchers.below
+
+    nothing : (product : Product) → fits_if state.lists.catalogue product (voucher_at row.id state.lists) ≡ true → fits state.lists.catalogue row product ≡ true
+    nothing product fit =
+        let never : false ≡ true = ap (fits_if state.lists.catalogue product) (sym absent) ∙ fit in
+        absurd (cc)
+
+-- it has headroom, since nothing names an id that wasn't given yet
+pub sound_new_voucher : (state : State) (row : Voucher) → row.id ≡ state.next.voucher → is_taken row.id row.code state.lists ≡ false → IsSound state → IsSound (with_voucher row state)
+sound_new_voucher state row e code h = sound_voucher state row e code (rw e (fresh_headroom state.lists state.next.voucher h.vouchers state.moment row.max_usages h.fit)) h
+
+-- a voucher that is changed: its code is its own, and it has headroom
+module _ (state : State) (row old : Voucher) (stands : voucher_at row.id state.lists ≡ Some old) (code : is_taken row.id row.code state.lists ≡ false) (room : redeemed row.id state.lists + held state.moment row.id state.lists ≤ row.max_usages) (h : IsSound state) where
+  by_fit : AllFit (after_change (PutVoucher row) state.lists) → IsSound (changed (PutVoucher row) state)
+  by_fit fit = record {
+    items = h.items;
+    variations = h.variations;
+    quotas = h.quotas;
+    vouchers = numbered_changed (λ r. r.id) row old state.next.voucher state.lists.vouchers stands h.vouchers;
+    carts = h.carts;
+    orders = h.orders;
+    positions = h.positions;
+    waiting = h.waiting;
+    headroom = headroom_voucher state.lists row state.moment room h.headroom;
+    fit = fit;
+    codes = unlike_put row 0 state.lists.vouchers h.vouchers.in_order code h.codes;
+  }
+
+  -- where nothing names it
+  pub sound_unused_voucher : is_used row.id state.lists ≡ false → IsSound (changed (PutVoucher row) state)
+  sound_unused_voucher unused = by_fit (fit_unused state.lists row unused h.fit)
+
+  -- where it is for the same products as before
+  pub sound_alike_voucher : row.item ≡ old.item → row.variation ≡ old.variation → row.quota ≡ old.quota → IsSound (changed (PutVoucher row) state)
+  sound_alike_voucher item variation quota = by_fit (fit_alike state.lists row same h.fit)
+    where
+      by_quota : (product : Product) (q : Option ℕ) → fits_by state.lists.catalogue old product q ≡ true → fits_by state.lists.catalogue row product q ≡ true
+      by_quota product None fit = rw (item, variation) fit
+      by_quota product (Some id) fit = fit
+
+      same : (product : Product) → fits_if state.lists.catalogue product (voucher_at row.id state.lists) ≡ true → fits state.lists.catalogue row product ≡ true
+      same product fit = rw quota (by_quota product old.quota (ap (fits_if state.lists.catalogue product) (sym stands) ∙ fit))
+
+  -- either of them
+  pub sound_changed_voucher : (is_used row.id state.lists ≡ false) ⊎ ((row.item ≡ old.item) × ((row.variation ≡ old.variation) × (row.quota ≡ old.quota))) → IsSound (changed (PutVoucher row) state)
+  sound_changed_voucher (inl unused) = sound_unused_voucher unused
+  sound_changed_voucher (inr same) = sound_alike_voucher same.0 same.1.0 same.1.1
+
+-- a voucher that nothing names goes
+pub sound_drop_voucher : (state : State) (id : ℕ) → is_used id state.lists ≡ false → IsSound state → IsSound (changed (DropVoucher id) state)
+sound_drop_voucher state id unused h = record {
+  items = h.items;
+  variations = h.variations;
+  quotas = h.quotas;
+  vouchers = numbered_dropped (λ r. r.id) id state.next.voucher state.lists.vouchers h.vouchers;
+  carts = h.carts;
+  orders = h.orders;
+  positions = h.positions;
+  waiting = h.waiting;
+  headroom = all-without_row (λ r. r.id) (HasHeadroom state.moment state.lists) id state.lists.vouchers h.headroom;
+  fit = record {
+    carts = carts_unless id state.lists (after_change (DropVoucher id) state.lists) unused (fit_drop_other state.lists id) h.fit.carts;
+    positions = positions_unless id state.lists (after_change (DropVoucher id) state.lists) unused (fit_drop_other state.lists id) h.fit.positions;
+  };
+  codes = unlike_drop id state.lists.vouchers h.codes;
+}
