@@ -1,5 +1,6 @@
 -- What keeps a box office sound.
-use Rattle.std.proofs.Common.{◌≡◌, ℕ, ◌+◌, ◌≤◌, ◌⊎◌, inl, inr, true, ◌||◌, not, false, List, [], ◌∷◌, length, map, Option, Some, None, refl, sym, ap, ◌∙◌, subst, arith}
+use Rattle.std.proofs.Common.{◌≡◌, ℕ, ◌+◌, ◌≤◌, ◌⊎◌, inl, inr, true, false, List, [], ◌∷◌, length, map, Option, Some, None, refl, sym, ap, ◌∙◌, subst, arith}
+use Rattle.std.specs.Prelude.{◌||◌, not}
 use Rattle.bo_catalogue.specs.declared.rows.Item.{Item}
 use Rattle.bo_catalogue.specs.declared.rows.Variation.{Variation}
 use Rattle.bo_catalogue.specs.declared.rows.ItemRows.{ItemRows}
@@ -68,7 +69,7 @@ sound_later state at le h = record {
   codes = h.codes;
 }
 
--- a new cart position that names no voucher, or one for its product, with a use left unless the position is dead already
+-- a new cart position that names no voucher, or one for its product, with a use left where the position is live
 pub sound_cart : (state : State) (row : CartPos) → row.id ≡ state.next.cart → (not (is_live_cart state.moment row) || has_use state.moment state.lists row.voucher) ≡ true → is_fit state.lists row.product row.voucher ≡ true → IsSound state → IsSound (with_cart row state)
 sound_cart state row e left fits h = record {
   items = h.items;
