@@ -1,19 +1,20 @@
--- What keeps headroom: time, and a cart position whose voucher has a use left.
+-- What keeps headroom: time, a cart position that is dead or whose voucher has a use left, and one that goes.
 use Rattle.std.proofs.Common.{◌≡◌, ℕ, ◌+◌, ◌<◌, ◌≤◌, ◌≢◌, ◌⊎◌, inl, inr, Bool, true, false, ◌&&◌, eqb, leb, List, [], ◌∷◌, Option, Some, None, refl, sym, ap, ◌∙◌, arith}
-use Rattle.std.specs.Prelude.{if◌then◌else◌}
+use Rattle.std.specs.Prelude.{◌||◌, not, if◌then◌else◌}
 use Rattle.std.specs.List.{AllByRecursion}
 use Rattle.std.proofs.lemmas.Bool.Decides.{nat_tests, eqb_tells}
 use Rattle.std.proofs.lemmas.List.Sums.{sum_by-le-sum_by}
 use Rattle.bo_base.specs.Tables.{row_at, InOrderFrom, AreInOrder}
-use Rattle.bo_base.proofs.Edits.{sum_by-with_row}
+use Rattle.bo_base.proofs.Edits.{sum_by-with_row, sum_by-without_row}
 use Rattle.bo_lists.specs.declared.rows.Voucher.{Voucher}
 use Rattle.bo_lists.specs.declared.rows.CartPos.{CartPos}
-use Rattle.bo_lists.specs.declared.changes.Change.TheVariants.{PutCart}
+use Rattle.bo_lists.specs.declared.changes.Change.TheVariants.{PutCart, DropCart}
 use Rattle.bo_lists.specs.Tests.{is_live_cart, names, holds}
 use Rattle.bo_lists.specs.Lists.{Lists}
 use Rattle.bo_lists.specs.Change.{after_change}
 use Rattle.bo_lists.specs.Usage.{redeemed}
 use Rattle.bo_lists.specs.Headroom.{held, HasHeadroom, AllHaveHeadroom, has_use, has_use_by}
+use Rattle.bo_lists.proofs.EachRow.{all_weaker}
 use Rattle.bo_lists.proofs.Time.{one}
 
 -- as time goes on, fewer cart positions are live
@@ -84,9 +85,27 @@ module _ (at : ℕ) (lists : Lists) (row : CartPos) (order : AreInOrder (λ r. r
           let left' = sym (ap (λ b. has_use_by at lists (if b then Some v else row_at (λ r. r.id) id vs)) other.0) ∙ left in
           (room_other v (ap (names v.id) e ∙ flip id v.id ∙ other.0) h.0, rest left' o.1 h.1)
 
-  pub headroom_put : AreInOrder (λ r. r.id) lists.vouchers → has_use at lists row.voucher ≡ true → AllHaveHeadroom at lists → AllHaveHeadroom at (after_change (PutCart row) lists)
-  headroom_put o left h = by_name row.voucher refl
+  headroom_live : AreInOrder (λ r. r.id) lists.vouchers → has_use at lists row.voucher ≡ true → AllHaveHeadroom at lists → AllHaveHeadroom at (after_change (PutCart row) lists)
+  headroom_live o left h = by_name row.voucher refl
     where
       by_name : (name : Option ℕ) → row.voucher ≡ name → AllHaveHeadroom at (after_change (PutCart row) lists)
       by_name None e = all_none lists.vouchers e h
       by_name (Some id) e = all_some 0 lists.vouchers id e (sym (ap (has_use at lists) e) ∙ left) o h
+
+  -- a row that is dead holds no use
+  unheld : (v : Voucher) → is_live_cart at row ≡ false → HasHeadroom at lists v → HasHeadroom at (after_change (PutCart row) lists) v
+  unheld v dead h = omega (arith, h, held_put v.id, ap (λ b. one (b && names v.id row.voucher)) dead)
+
+  pub headroom_put : AreInOrder (λ r. r.id) lists.vouchers → (not (is_live_cart at row) || has_use at lists row.voucher) ≡ true → AllHaveHeadroom at lists → AllHaveHeadroom at (after_change (PutCart row) lists)
+  headroom_put o test h = by_life (is_live_cart at row) refl
+    where
+      by_life : (live : Bool) → is_live_cart at row ≡ live → AllHaveHeadroom at (after_change (PutCart row) lists)
+      by_life false dead = all_weaker (HasHeadroom at lists) (HasHeadroom at (after_change (PutCart row) lists)) (λ v. unheld v dead) lists.vouchers h
+      by_life true live = headroom_live o (sym (ap (λ b. not b || has_use at lists row.voucher) live) ∙ test) h
+
+-- a cart position that goes
+pub headroom_drop : (at : ℕ) (lists : Lists) (id : ℕ) → AreInOrder (λ r. r.id) lists.carts → AllHaveHeadroom at lists → AllHaveHeadroom at (after_change (DropCart id) lists)
+headroom_drop at lists id o h = all_weaker (HasHeadroom at lists) (HasHeadroom at (after_change (DropCart id) lists)) fewer lists.vouchers h
+  where
+    fewer : (v : Voucher) → HasHeadroom at lists v → HasHeadroom at (after_change (DropCart id) lists) v
+    fewer v room = omega (arith, room, sum_by-without_row (λ r. r.id) (λ c. one (holds at v.id c)) 0 id lists.carts o)
