@@ -28,10 +28,14 @@ abbrev pub ends_as_made : List ℕ → Bool
 ends_as_made [] = false
 ends_as_made (b ∷ digits) = b == 122 && (nat_lt 0 (length digits) && is_digits digits)
 
+-- 32 lower case hex digits, `z` and one or more digits
+abbrev pub goes_on_as_made : List ℕ → Bool
+goes_on_as_made text = nat_le 32 (length text) && (list_all is_lower_hex (take 32 text) && ends_as_made (drop 32 text))
+
 -- `W`, 32 lower case hex digits, `z` and one or more digits: the form of the codes that the shop makes
 abbrev pub is_reserved : List ℕ → Bool
 is_reserved [] = false
-is_reserved (b ∷ rest) = b == 87 && (list_all is_lower_hex (take 32 rest) && ends_as_made (drop 32 rest))
+is_reserved (b ∷ rest) = b == 87 && goes_on_as_made rest
 
 -- a code that is given
 abbrev pub is_reserved_if : Option (List ℕ) → Bool
