@@ -1,6 +1,7 @@
 //! The codes of vouchers.
 
 ghost use Rattle.std.specs.Prelude.{◌≡◌, IfOk, []};
+ghost use Rattle.std.specs.List.{list_all};
 ghost use Rattle.std.specs.Option.{option_copied};
 ghost use Rattle.bo_draft.specs.DraftState.{now};
 ghost use Rattle.bo_vouchers.specs.Codes.{made_code, code_of, is_lower_hex, ends_as_made, goes_on_as_made, is_reserved, is_reserved_if, new_code, is_another, is_taken};
@@ -42,6 +43,12 @@ fn is_lower_hex(b: u8) -> bool
     b'0' <= b && b <= b'9' || b'a' <= b && b <= b'f'
 }
 
+fn are_lower_hex(text: &[u8]) -> bool
+    ensures { result ≡ list_all is_lower_hex text.now }
+{
+    text.iter().all(|b| is_lower_hex(*b))
+}
+
 // Whether it is `z` and one or more digits.
 fn ends_as_made(text: &[u8]) -> bool
     ensures { result ≡ ends_as_made text.now }
@@ -56,7 +63,11 @@ fn ends_as_made(text: &[u8]) -> bool
 fn goes_on_as_made(text: &[u8]) -> bool
     ensures { result ≡ goes_on_as_made text.now }
 {
-    text.len() >= 32 && text[..32].iter().all(|b| is_lower_hex(*b)) && ends_as_made(&text[32..])
+    if text.len() < 32 {
+        return false;
+    }
+    let (digits, end) = text.split_at(32);
+    are_lower_hex(digits) && ends_as_made(end)
 }
 
 /// Whether a code has the form of those that the shop makes: `W`, 32 lower case hex digits, `z` and
