@@ -51,6 +51,6 @@ abbrev pub is_another : ℕ → Option Voucher → Bool
 is_another id None = false
 is_another id (Some voucher) = not (voucher.id == id)
 
--- another voucher has this one's code
-abbrev pub is_taken : Voucher → Lists → Bool
-is_taken row lists = is_another row.id (voucher_of row.code lists)
+-- the voucher of this one's code is another
+abbrev pub has_anothers_code : Voucher → Lists → Bool
+has_anothers_code row lists = is_another row.id (voucher_of row.code lists)

@@ -4,7 +4,7 @@ ghost use Rattle.std.specs.Prelude.{◌≡◌, IfOk, []};
 ghost use Rattle.std.specs.List.{list_all};
 ghost use Rattle.std.specs.Option.{option_copied};
 ghost use Rattle.bo_draft.specs.DraftState.{now};
-ghost use Rattle.bo_vouchers.specs.Codes.{made_code, code_of, is_lower_hex, ends_as_made, goes_on_as_made, is_reserved, is_reserved_if, new_code, is_another, is_taken};
+ghost use Rattle.bo_vouchers.specs.Codes.{made_code, code_of, is_lower_hex, ends_as_made, goes_on_as_made, is_reserved, is_reserved_if, new_code, is_another, has_anothers_code};
 
 use bo_base::{Draw, Text};
 use bo_base::digits::is_digits;
@@ -102,9 +102,9 @@ pub fn new_code<'a>(given: &'a Option<Text>, old: &Text) -> Option<&'a Text>
 }
 
 /// Whether another voucher has this one's code, in a draft without changes.
-pub fn is_taken<B: Book>(draft: &Draft<'_, B>, row: &Voucher) -> bool
+pub fn has_anothers_code<B: Book>(draft: &Draft<'_, B>, row: &Voucher) -> bool
     requires { draft.now.log.changes ≡ [] }
-    ensures { result ≡ is_taken row.now (now draft.now).lists }
+    ensures { result ≡ has_anothers_code row.now (now draft.now).lists }
 {
     match draft.voucher_of(row.code.as_str()) {
         None => false,

@@ -5,7 +5,7 @@ ghost use Rattle.std.specs.Option.{option_copied};
 ghost use Rattle.bo_draft.specs.DraftState.{now};
 ghost use Rattle.bo_vouchers.specs.Tests.{value_fits, item_stands, is_of_item, variation_stands, quota_stands, has_one_target, item_named_can_block, can_block, names_test, row_test};
 
-use crate::codes::{is_reserved_if, is_taken};
+use crate::codes::{is_reserved_if, has_anothers_code};
 use crate::refusal::VoucherRefusal;
 use bo_base::{Cents, PriceMode, Text};
 use bo_catalogue::{Catalogue, CatalogueRefusal, Variation};
@@ -135,7 +135,7 @@ pub fn test_row<B: Book>(
     if is_reserved_if(given) {
         return Err(VoucherRefusal::ReservedCode);
     }
-    if is_taken(draft, row) {
+    if has_anothers_code(draft, row) {
         return Err(VoucherRefusal::CodeTaken);
     }
     test_names(draft.catalogue(), row)
