@@ -5,3 +5,4 @@ pub mod Fit
 pub mod Fresh
 pub mod Codes
 pub mod Sound
+pub mod Takes
