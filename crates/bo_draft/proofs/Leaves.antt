@@ -1,11 +1,11 @@
--- What changes of cart positions leave as it is.
+-- What changes of sales leave as it is.
 use Rattle.std.proofs.Common.{◌≡◌, ℕ, ◌+◌, ◌⊎◌, inl, inr, List, [], ◌∷◌, ◌++◌, length, take, sym, ap, ◌∙◌, arith, length-append}
 use Rattle.std.proofs.lemmas.Bool.{cases_lt}
 use Rattle.std.proofs.lemmas.List.{take_all, take-append-le}
 use Rattle.bo_lists.specs.declared.changes.Change.{Change}
 use Rattle.bo_lists.specs.Lists.{Lists}
 use Rattle.bo_lists.specs.Change.{after_change, after_all}
-use Rattle.bo_draft.specs.DraftState.{LeavesRest}
+use Rattle.bo_draft.specs.DraftState.{LeavesRest, Leaves}
 use Rattle.bo_draft.proofs.Steps.{after_all-push}
 
 module _ (log : List Change) (change : Change) (lists : Lists) where
@@ -22,14 +22,12 @@ module _ (log : List Change) (change : Change) (lists : Lists) where
     | inr last ↦ ap part last ∙ same (after_all (take (length log) log) lists) ∙ left (length log)
   ]
 
-  -- a change of cart positions alone
-  pub leaves_more : ((h : Lists) → after_change change h ≡ record h { carts = (after_change change h).carts }) → LeavesRest log lists → LeavesRest (log ++ change ∷ []) lists
-  leaves_more only leaves = record {
-    catalogue = stays (λ h. h.catalogue) (λ h. ap (λ (l : Lists). l.catalogue) (only h)) leaves.catalogue;
-    vouchers = stays (λ h. h.vouchers) (λ h. ap (λ (l : Lists). l.vouchers) (only h)) leaves.vouchers;
-    orders = stays (λ h. h.orders) (λ h. ap (λ (l : Lists). l.orders) (only h)) leaves.orders;
-    positions = stays (λ h. h.positions) (λ h. ap (λ (l : Lists). l.positions) (only h)) leaves.positions;
-    waiting = stays (λ h. h.waiting) (λ h. ap (λ (l : Lists). l.waiting) (only h)) leaves.waiting;
+  -- a change that leaves the rest
+  pub leaves_more : Leaves change → LeavesRest log lists → LeavesRest (log ++ change ∷ []) lists
+  leaves_more one leaves = record {
+    catalogue = stays (λ h. h.catalogue) one.catalogue leaves.catalogue;
+    orders = stays (λ h. h.orders) one.orders leaves.orders;
+    positions = stays (λ h. h.positions) one.positions leaves.positions;
   }
 
 -- the same after all changes

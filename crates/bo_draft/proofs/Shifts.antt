@@ -14,7 +14,7 @@ use Rattle.bo_draft.specs.DraftState.{Log, rows_of, usages_of}
 use Rattle.bo_draft.proofs.Steps.{after_all-push}
 use Rattle.bo_draft.specs.Shift.{cart_share, usage_shifted, usages_shifted}
 
-same_map : {X Y : Type 0} (f g : X → Y) (xs : List X) → ((x : X) → f x ≡ g x) → map f xs ≡ map g xs
+pub same_map : {X Y : Type 0} (f g : X → Y) (xs : List X) → ((x : X) → f x ≡ g x) → map f xs ≡ map g xs
 same_map f g [] h = refl
 same_map f g (x ∷ xs) h = λ i. h x i ∷ same_map f g xs h i
 
@@ -41,6 +41,12 @@ drop_one lists at id h quota =
 pub usages_drop : (lists : Lists) (at id : ℕ) → AreInOrder (λ r. r.id) lists.carts → usages_of (after_change (DropCart id) lists) at ≡ usages_shifted lists at (cart_at id lists) None
 unfolding usages_of usages_shifted
 usages_drop lists at id h = same_map _ _ lists.catalogue.quotas (drop_one lists at id h)
+
+-- a loop that pushes one item after another
+pub map_more : {X Y : Type 0} (f : X → Y) (xs : List X) (i : ℕ) (d : X) → i < length xs → map f (take i xs) ++ f (get_or xs i d) ∷ [] ≡ map f (take (i + 1) xs)
+map_more f [] i d lt = absurd (omega arith)
+map_more f (x ∷ xs) zero d lt = refl
+map_more f (x ∷ xs) (suc i) d lt = rw add-one (ap (λ l. f x ∷ l) (rw add-one at (map_more f xs i d (omega arith))))
 
 -- a loop that writes over the old list's items, in order
 pub over_more : {X Y : Type 0} (f g : X → Y) (xs : List X) (i : ℕ) (d : X) → i < length xs → set (map g (take i xs) ++ drop i (map f xs)) i (g (get_or xs i d)) ≡ map g (take (i + 1) xs) ++ drop (i + 1) (map f xs)

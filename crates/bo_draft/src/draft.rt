@@ -197,23 +197,35 @@ impl<'a, B: Book> Draft<'a, B> {
     }
 
     /// Puts a voucher in the place of its id, as the first change.
-    pub fn put_voucher(&mut self, _alloc: Global, _row: Voucher) -> Result<(), AllocError>
+    pub fn put_voucher(&mut self, alloc: Global, row: Voucher) -> Result<(), AllocError>
         requires { self.old.log.changes ≡ [] }
-        ensures ok { OnOk result (now self.new ≡ changed (Change.PutVoucher _row) (now self.old)) }
+        ensures ok { OnOk result (now self.new ≡ changed (Change.PutVoucher row) (now self.old)) }
         ensures extends { Extends self.old self.new }
         ensures err { OnErr result (self.new ≡ self.old) }
     {
-        Err(AllocError)
+        self.overlay.known();
+        let usages = self
+            .overlay
+            .with_voucher(alloc, self.moment, &self.usages, row.id, Some(&row))?;
+        self.overlay.put_voucher(row)?;
+        self.usages = usages;
+        Ok(())
     }
 
     /// Removes the voucher of an id, as the first change.
-    pub fn drop_voucher(&mut self, _alloc: Global, _id: u64) -> Result<(), AllocError>
+    pub fn drop_voucher(&mut self, alloc: Global, id: u64) -> Result<(), AllocError>
         requires { self.old.log.changes ≡ [] }
-        ensures ok { OnOk result (now self.new ≡ changed (Change.DropVoucher _id) (now self.old)) }
+        ensures ok { OnOk result (now self.new ≡ changed (Change.DropVoucher id) (now self.old)) }
         ensures extends { Extends self.old self.new }
         ensures err { OnErr result (self.new ≡ self.old) }
     {
-        Err(AllocError)
+        self.overlay.known();
+        let usages = self
+            .overlay
+            .with_voucher(alloc, self.moment, &self.usages, id, None)?;
+        self.overlay.drop_voucher(id)?;
+        self.usages = usages;
+        Ok(())
     }
 
     /// Puts a cart position in the place of its id.

@@ -6,10 +6,10 @@ ghost use Rattle.bo_lists.specs.Change.{after_change, after_all};
 ghost use Rattle.bo_lists.specs.Lists.{voucher_at, cart_at};
 ghost use Rattle.bo_lists.specs.Named.{voucher_of, is_used};
 ghost use Rattle.bo_lists.specs.Kept.{IsKept};
-ghost use Rattle.bo_draft.specs.Shift.{cart_share, usages_shifted};
+ghost use Rattle.bo_draft.specs.Shift.{cart_share, usages_shifted, voucher_share, uncovered, usage_with_voucher, usages_with_voucher};
 ghost use Rattle.bo_base.specs.Tables.{sum_at};
 ghost use Rattle.bo_lists.specs.Headroom.{held};
-ghost use Rattle.bo_draft.specs.DraftState.{Log, rows_of, rows_at, usages_of, LeavesRest};
+ghost use Rattle.bo_draft.specs.DraftState.{Log, rows_of, rows_at, usages_of, LeavesRest, Leaves};
 ghost use Rattle.bo_lists.specs.Tests.{holds};
 ghost use Rattle.bo_lists.specs.Over.{is_free, ignores, weighed, is_over_size, first_over_among};
 ghost use Rattle.bo_lists.specs.Total.{total};
@@ -38,7 +38,7 @@ impl<'a, B: Book> Model for Overlay<'a, B> {
 
     ghost view = { λ s. record { base = (B.state s.book.now).lists; changes = s.log.items } };
 
-    // All but the cart positions is as in the book.
+    // What is for sale, the orders and their positions are as in the book.
     ghost invariant = { λ s. (length s.log.items ≤ 4294967296) × LeavesRest s.log.items (B.state s.book.now).lists };
 }
 
@@ -87,21 +87,40 @@ impl<'a, B: Book> Overlay<'a, B> {
         ensures ok { OnOk result (self.new ≡ record self.old { changes = self.old.changes ++ Change.PutCart row ∷ [] }) }
         ensures err { OnErr result (self.new ≡ self.old) }
     {
-        if self.log.len() == 4294967296 {
-            return Err(AllocError);
-        }
-        self.log.push(Change::PutCart(row))?;
-        Ok(())
+        self.push(Change::PutCart(row))
     }
 
     pub fn drop_cart(&mut self, id: u64) -> Result<(), AllocError>
         ensures ok { OnOk result (self.new ≡ record self.old { changes = self.old.changes ++ Change.DropCart id ∷ [] }) }
         ensures err { OnErr result (self.new ≡ self.old) }
     {
+        self.push(Change::DropCart(id))
+    }
+
+    pub fn put_voucher(&mut self, row: Voucher) -> Result<(), AllocError>
+        ensures ok { OnOk result (self.new ≡ record self.old { changes = self.old.changes ++ Change.PutVoucher row ∷ [] }) }
+        ensures err { OnErr result (self.new ≡ self.old) }
+    {
+        self.push(Change::PutVoucher(row))
+    }
+
+    pub fn drop_voucher(&mut self, id: u64) -> Result<(), AllocError>
+        ensures ok { OnOk result (self.new ≡ record self.old { changes = self.old.changes ++ Change.DropVoucher id ∷ [] }) }
+        ensures err { OnErr result (self.new ≡ self.old) }
+    {
+        self.push(Change::DropVoucher(id))
+    }
+
+    // One more change.
+    fn push(&mut self, change: Change) -> Result<(), AllocError>
+        requires { Leaves change }
+        ensures ok { OnOk result (self.new ≡ record self.old { changes = self.old.changes ++ change ∷ [] }) }
+        ensures err { OnErr result (self.new ≡ self.old) }
+    {
         if self.log.len() == 4294967296 {
             return Err(AllocError);
         }
-        self.log.push(Change::DropCart(id))?;
+        self.log.push(change)?;
         Ok(())
     }
 
@@ -321,6 +340,109 @@ impl<'a, B: Book> Overlay<'a, B> {
             let gone = self.cart_share(at, quota, gone);
             let usage = usages[i];
             usages[i] = shifted(usage, come, gone);
+        }
+    }
+
+    /// The usage of each quota with this voucher, or none, in the place of the id, where nothing has changed.
+    #[tactic(auto, unfolding(crate::specs::DraftState::usages_of, crate::specs::Shift::usages_with_voucher))]
+    pub fn with_voucher(
+        &self,
+        alloc: Global,
+        at: Moment,
+        usages: &[Usage],
+        id: u64,
+        come: Option<&Voucher>,
+    ) -> Result<Vec<Usage>, AllocError>
+        requires first { self.now.changes ≡ [] }
+        requires usages { usages.now ≡ usages_of (rows_of self.now) at }
+        ensures { IfOk result (λ new. new.items ≡ usages_with_voucher (rows_of self.now) at id (option_copied come.entry)) }
+    {
+        let quotas = self.catalogue().quotas();
+        self.usages_with_voucher(alloc, at, quotas, usages, id, come)
+    }
+
+    // The same of some quotas.
+    fn usages_with_voucher(
+        &self,
+        alloc: Global,
+        at: Moment,
+        quotas: &[Quota],
+        usages: &[Usage],
+        id: u64,
+        come: Option<&Voucher>,
+    ) -> Result<Vec<Usage>, AllocError>
+        requires first { self.now.changes ≡ [] }
+        requires usages { usages.now ≡ map (usage_of (rows_of self.now) at) quotas.now }
+        ensures { IfOk result (λ new. new.items ≡ map (usage_with_voucher (rows_of self.now) at id (option_copied come.entry)) quotas.now) }
+    {
+        let mut new = Vec::new(alloc);
+        for i in 0..quotas.len() {
+            new.push(self.usage_with_voucher(at, &quotas[i], usages[i], id, come)?)?;
+        }
+        Ok(new)
+    }
+
+    // The usage of one quota with this voucher, or none, in the place of the id, where nothing has changed.
+    // A usage of 2^64 places, which no book has, is refused as a want of memory.
+    fn usage_with_voucher(
+        &self,
+        at: Moment,
+        quota: &Quota,
+        usage: Usage,
+        id: u64,
+        come: Option<&Voucher>,
+    ) -> Result<Usage, AllocError>
+        requires first { self.now.changes ≡ [] }
+        requires usage { usage ≡ usage_of (rows_of self.now) at quota.now }
+        ensures { IfOk result (λ new. new ≡ usage_with_voucher (rows_of self.now) at id (option_copied come.entry) quota.now) }
+    {
+        let gone = self.voucher(id);
+        let Some(blocked) = usage
+            .blocked
+            .checked_add(self.voucher_share(at, quota, come))
+        else {
+            return Err(AllocError);
+        };
+        let Some(carts) = usage.carts.checked_add(self.uncovered(at, quota, id, come)) else {
+            return Err(AllocError);
+        };
+        Ok(Usage {
+            blocked: blocked.saturating_sub(self.voucher_share(at, quota, gone)),
+            carts: carts.saturating_sub(self.uncovered(at, quota, id, gone)),
+            ..usage
+        })
+    }
+
+    // What a voucher blocks of a quota.
+    #[tactic(auto, unfolding(bo_lists::specs::Usage::blocked_by))]
+    fn voucher_share(&self, at: Moment, quota: &Quota, voucher: Option<&Voucher>) -> u64
+        ensures { result ≡ voucher_share (rows_of self.now) at quota.now (option_copied voucher.entry) }
+    {
+        match voucher {
+            None => 0,
+            Some(voucher) => {
+                if voucher.blocks(at, quota) {
+                    u64::from(voucher.max_usages).saturating_sub(self.redeemed(voucher.id))
+                } else {
+                    0
+                }
+            }
+        }
+    }
+
+    // How many cart positions that name the id count, where this voucher, or none, covers them.
+    fn uncovered(&self, at: Moment, quota: &Quota, id: u64, voucher: Option<&Voucher>) -> u64
+        requires { self.now.changes ≡ [] }
+        ensures { result ≡ uncovered (rows_of self.now) at quota.now id (option_copied voucher.entry) }
+    {
+        let covers = match voucher {
+            None => false,
+            Some(voucher) => voucher.blocks(at, quota),
+        };
+        if covers {
+            0
+        } else {
+            self.book.held_in(id, quota, at)
         }
     }
 
