@@ -1,5 +1,5 @@
 -- The usage after a voucher came, changed or went.
-use Rattle.std.proofs.Common.{◌≡◌, ℕ, ◌+◌, Bool, true, false, not, ◌&&◌, eqb, List, [], ◌∷◌, ◌++◌, Option, Some, None, refl, sym, ap, ◌∙◌, count_by, arith}
+use Rattle.std.proofs.Common.{◌≡◌, ℕ, ◌+◌, Bool, true, false, not, ◌&&◌, eqb, List, Option, Some, None, refl, sym, ap, ◌∙◌, count_by, arith}
 use Rattle.std.specs.Prelude.{if◌then◌else◌}
 use Rattle.std.proofs.lemmas.Bool.Decides.{nat_tests}
 use Rattle.bo_base.specs.Tables.{row_at, with_row, without_row, AreInOrder}
@@ -14,10 +14,7 @@ use Rattle.bo_lists.specs.Lists.{Lists, voucher_at}
 use Rattle.bo_lists.specs.Change.{after_change}
 use Rattle.bo_lists.specs.Usage.{usage_of, cart_counts, blocked_by, blocks_if, is_covered_by}
 use Rattle.bo_lists.proofs.Time.{one, eqb_flip, gated, same_sums, sum_by_split}
-use Rattle.bo_draft.specs.DraftState.{Log, rows_of, usages_of}
-use Rattle.bo_draft.specs.Shift.{uncovered, usage_with_voucher, usages_with_voucher}
-use Rattle.bo_draft.proofs.Steps.{after_all-push}
-use Rattle.bo_draft.proofs.Shifts.{same_map}
+use Rattle.bo_draft.specs.Shift.{uncovered, usage_with_voucher}
 
 -- what passes unless a test holds
 unless : {X : Type 0} (b : Bool) (p : X → Bool) (xs : List X) → count_by (λ x. not b && p x) xs ≡ (if b then 0 else count_by p xs)
@@ -64,9 +61,9 @@ module _ (lists : Lists) (at : ℕ) (quota : Quota) (id : ℕ) (come : Option Vo
       ∙ ap (λ n. count_by (cart_counts lists at quota) lists.carts + n) (unless new claims lists.carts)
 
 module _ (lists : Lists) (at : ℕ) (order : AreInOrder (λ r. r.id) lists.vouchers) where
-  put_one : (row : Voucher) (quota : Quota) → usage_of (after_change (PutVoucher row) lists) at quota ≡ usage_with_voucher lists at row.id (Some row) quota
-  unfolding usage_of blocked_by
-  put_one row quota =
+  pub voucher_put : (row : Voucher) (quota : Quota) → usage_of (after_change (PutVoucher row) lists) at quota ≡ usage_with_voucher lists at row.id (Some row) quota
+  unfolding usage_of blocked_by usage_with_voucher
+  voucher_put row quota =
       let sum = sum_by-with_row (λ r. r.id) (blocked_by lists at quota) 0 row lists.vouchers order in
       let carts = carts_with lists at quota row.id (Some row) (with_row (λ r. r.id) row lists.vouchers) (λ x. row_at-with_row (λ r. r.id) x row lists.vouchers) in
       let new = usage_of (after_change (PutVoucher row) lists) at quota in
@@ -75,9 +72,9 @@ module _ (lists : Lists) (at : ℕ) (order : AreInOrder (λ r. r.id) lists.vouch
       let n : new.carts ≡ want.carts = omega (arith, carts) in
       λ i. record (usage_of lists at quota) { blocked = b i; carts = n i }
 
-  drop_one : (id : ℕ) (quota : Quota) → usage_of (after_change (DropVoucher id) lists) at quota ≡ usage_with_voucher lists at id None quota
-  unfolding usage_of blocked_by
-  drop_one id quota =
+  pub voucher_drop : (id : ℕ) (quota : Quota) → usage_of (after_change (DropVoucher id) lists) at quota ≡ usage_with_voucher lists at id None quota
+  unfolding usage_of blocked_by usage_with_voucher
+  voucher_drop id quota =
       let sum = sum_by-without_row (λ r. r.id) (blocked_by lists at quota) 0 id lists.vouchers order in
       let carts = carts_with lists at quota id None (without_row (λ r. r.id) id lists.vouchers) (λ x. row_at-without_row (λ r. r.id) x id lists.vouchers) in
       let new = usage_of (after_change (DropVoucher id) lists) at quota in
@@ -85,26 +82,3 @@ module _ (lists : Lists) (at : ℕ) (order : AreInOrder (λ r. r.id) lists.vouch
       let b : new.blocked ≡ want.blocked = omega (arith, sum) in
       let n : new.carts ≡ want.carts = omega (arith, carts) in
       λ i. record (usage_of lists at quota) { blocked = b i; carts = n i }
-
-  usages_put : (row : Voucher) → usages_of (after_change (PutVoucher row) lists) at ≡ usages_with_voucher lists at row.id (Some row)
-  unfolding usages_of usages_with_voucher
-  usages_put row = same_map _ _ lists.catalogue.quotas (put_one row)
-
-  usages_drop : (id : ℕ) → usages_of (after_change (DropVoucher id) lists) at ≡ usages_with_voucher lists at id None
-  unfolding usages_of usages_with_voucher
-  usages_drop id = same_map _ _ lists.catalogue.quotas (drop_one id)
-
--- the same of a log
-module _ (log : Log) (at : ℕ) (order : AreInOrder (λ r. r.id) (rows_of log).vouchers) where
-  pub usages_after_put : (row : Voucher) → usages_of (rows_of (record log { changes = log.changes ++ PutVoucher row ∷ [] })) at ≡ usages_with_voucher (rows_of log) at row.id (Some row)
-  usages_after_put row = ap (λ lists. usages_of lists at) (after_all-push log.changes (PutVoucher row) log.base) ∙ usages_put (rows_of log) at order row
-
-  pub usages_after_drop : (id : ℕ) → usages_of (rows_of (record log { changes = log.changes ++ DropVoucher id ∷ [] })) at ≡ usages_with_voucher (rows_of log) at id None
-  usages_after_drop id = ap (λ lists. usages_of lists at) (after_all-push log.changes (DropVoucher id) log.base) ∙ usages_drop (rows_of log) at order id
-
-  -- no cart position comes or goes
-  pub carts_after_put : (row : Voucher) → (rows_of (record log { changes = log.changes ++ PutVoucher row ∷ [] })).carts ≡ (rows_of log).carts
-  carts_after_put row = ap (λ lists. lists.carts) (after_all-push log.changes (PutVoucher row) log.base)
-
-  pub carts_after_drop : (id : ℕ) → (rows_of (record log { changes = log.changes ++ DropVoucher id ∷ [] })).carts ≡ (rows_of log).carts
-  carts_after_drop id = ap (λ lists. lists.carts) (after_all-push log.changes (DropVoucher id) log.base)

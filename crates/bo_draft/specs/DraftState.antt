@@ -5,7 +5,7 @@ use Rattle.bo_lists.specs.declared.rows.Usage.{Usage}
 use Rattle.bo_lists.specs.declared.changes.Change.{Change}
 use Rattle.bo_lists.specs.Lists.{Lists, State}
 use Rattle.bo_lists.specs.Usage.{usage_of}
-use Rattle.bo_lists.specs.Change.{after_change, after_all}
+use Rattle.bo_lists.specs.Change.{after_all}
 
 -- the rows in the book, and the changes since
 pub record Log : Type 0 where
@@ -25,12 +25,6 @@ pub record LeavesRest (changes : List Change) (lists : Lists) : Type 0 where
   pub catalogue : (count : ℕ) → (after_all (take count changes) lists).catalogue ≡ lists.catalogue
   pub orders : (count : ℕ) → (after_all (take count changes) lists).orders ≡ lists.orders
   pub positions : (count : ℕ) → (after_all (take count changes) lists).positions ≡ lists.positions
-
--- one change that leaves them as they are
-pub record Leaves (change : Change) : Type 0 where
-  pub catalogue : (lists : Lists) → (after_change change lists).catalogue ≡ lists.catalogue
-  pub orders : (lists : Lists) → (after_change change lists).orders ≡ lists.orders
-  pub positions : (lists : Lists) → (after_change change lists).positions ≡ lists.positions
 
 -- a draft, which contracts see as its log, the next ids and its moment
 pub record DraftState : Type 0 where
