@@ -250,7 +250,7 @@ impl Book for Recount {
     }
 
     fn voucher_of(&self, code: &str) -> Option<&Voucher> {
-        self.vouchers.as_slice().iter().find(|v| v.code.same(code))
+        self.vouchers().iter().find(|v| v.code.same(code))
     }
 
     fn is_used(&self, voucher: u64) -> bool {
