@@ -13,9 +13,9 @@ use std::alloc::{AllocError, Global};
 use std::io;
 use std::io::{Eprint, Print, Read, Write};
 
-/// The texts that follow `--from` and `--step`.
+// The texts that follow `--from` and `--step`.
 #[derive(Clone, Copy, Debug)]
-pub struct FeedLine<'a> {
+struct FeedLine<'a> {
     pub from: &'a str,
     pub step: &'a str,
 }
@@ -43,8 +43,8 @@ fn commands<'a>(alloc: Global) -> Result<Command<'a>, AllocError> {
         .subcommand(feed)
 }
 
-/// Reads a command line, whose first word is the program.
-pub fn read_line<'a>(alloc: Global, words: &'a [String]) -> Result<FeedLine<'a>, Error> {
+// Reads a command line, whose first word is the program.
+fn read_line<'a>(alloc: Global, words: &'a [String]) -> Result<FeedLine<'a>, Error> {
     let matches = commands(alloc)?.try_get_matches_from(words)?;
     let Some((_, feed)) = matches.subcommand() else {
         return Ok(FeedLine { from: "", step: "" });
