@@ -6,3 +6,4 @@ pub mod Fresh
 pub mod Codes
 pub mod Sound
 pub mod Takes
+pub mod Lowers
