@@ -101,9 +101,9 @@ impl<'a, B: Book> Draft<'a, B> {
         self.overlay.voucher(id)
     }
 
-    /// The first voucher with that code, in a draft without changes.
+    /// The first voucher with that code, in a draft that has changed no voucher.
     pub fn voucher_of(&self, code: &str) -> Option<&Voucher>
-        requires { self.now.log.changes ≡ [] }
+        requires { (now self.now).lists.vouchers ≡ self.now.log.base.vouchers }
         ensures { option_copied result ≡ voucher_of code.now (now self.now).lists }
     {
         self.overlay.voucher_of(code)

@@ -59,9 +59,9 @@ impl<'a, B: Book> Overlay<'a, B> {
         self.book.catalogue()
     }
 
-    /// The first voucher with that code, where nothing has changed.
+    /// The first voucher with that code, where no voucher has changed.
     pub fn voucher_of(&self, code: &str) -> Option<&Voucher>
-        requires { self.now.changes ≡ [] }
+        requires { (rows_of self.now).vouchers ≡ self.now.base.vouchers }
         ensures { option_copied result ≡ voucher_of code.now (rows_of self.now) }
     {
         self.book.voucher_of(code)

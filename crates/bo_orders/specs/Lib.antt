@@ -1,4 +1,5 @@
 pub mod CartId
 pub mod Carts
+pub mod Dropped
 pub mod Refusals
 pub mod Takes

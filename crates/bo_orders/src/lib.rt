@@ -7,6 +7,6 @@ pub mod laws;
 pub mod new_cart;
 pub mod refusal;
 
-pub use carts::add_position;
+pub use carts::{add_position, drop_position};
 pub use new_cart::NewCart;
 pub use refusal::OrderRefusal;

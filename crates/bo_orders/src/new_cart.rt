@@ -2,8 +2,8 @@
 
 use bo_base::{Cents, Moment, Text};
 
-/// A new cart position. Without a price it gets the product's, without a cart id one that is made,
-/// and without an end it is held for 1800 seconds.
+/// A new cart position. Without a price it gets the product's, changed by the voucher whose code is given,
+/// without a cart id one that is made, and without an end it is held for 1800 seconds.
 #[derive(Debug, Drop)]
 pub struct NewCart {
     pub item: u64,
@@ -11,4 +11,5 @@ pub struct NewCart {
     pub price: Option<Cents>,
     pub cart_id: Option<Text>,
     pub expires: Option<Moment>,
+    pub voucher: Option<Text>,
 }

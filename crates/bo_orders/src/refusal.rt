@@ -2,9 +2,11 @@
 
 ghost use Rattle.std.specs.Prelude.{◌≡◌};
 ghost use Rattle.bo_orders.specs.Refusals.{number_of_refusal};
-ghost use Rattle.bo_orders.specs.declared.refusal.OrderRefusal.TheVariants.{Memory, Catalogue};
+ghost use Rattle.bo_orders.specs.declared.refusal.OrderRefusal.TheVariants.{Memory, Voucher};
+ghost use Rattle.bo_vouchers.specs.declared.refusal.VoucherRefusal.TheVariants.{Catalogue};
 
 use bo_catalogue::CatalogueRefusal;
+use bo_vouchers::VoucherRefusal;
 use std::alloc::AllocError;
 use thiserror::Error;
 
@@ -14,12 +16,12 @@ pub enum OrderRefusal {
     /// 6: there is no memory.
     #[error("out of memory")]
     Memory,
-    /// The catalogue's refusal, with its number.
+    /// The refusal of a voucher, of a quota or of the catalogue, with its number.
     #[error("{0}")]
-    Catalogue(CatalogueRefusal),
-    /// 28: too much would be taken of the quota with this id.
-    #[error("quota {0} is sold out")]
-    SoldOut(u64),
+    Voucher(VoucherRefusal),
+    /// 40: there is no such cart position.
+    #[error("cart position not found")]
+    NoPosition,
     /// 45: the cart id doesn't end in `@api`.
     #[error("wrong cart")]
     BadCart,
@@ -33,11 +35,19 @@ impl From<AllocError> for OrderRefusal {
     }
 }
 
+impl From<VoucherRefusal> for OrderRefusal {
+    ghost from_gives = { λ r e. e ≡ Voucher r };
+
+    fn from(refusal: VoucherRefusal) -> OrderRefusal {
+        OrderRefusal::Voucher(refusal)
+    }
+}
+
 impl From<CatalogueRefusal> for OrderRefusal {
-    ghost from_gives = { λ r e. e ≡ Catalogue r };
+    ghost from_gives = { λ r e. e ≡ Voucher (Catalogue r) };
 
     fn from(refusal: CatalogueRefusal) -> OrderRefusal {
-        OrderRefusal::Catalogue(refusal)
+        OrderRefusal::Voucher(VoucherRefusal::Catalogue(refusal))
     }
 }
 
@@ -48,8 +58,8 @@ impl OrderRefusal {
     {
         match self {
             OrderRefusal::Memory => 6,
-            OrderRefusal::Catalogue(refusal) => refusal.number(),
-            OrderRefusal::SoldOut(_) => 28,
+            OrderRefusal::Voucher(refusal) => refusal.number(),
+            OrderRefusal::NoPosition => 40,
             OrderRefusal::BadCart => 45,
         }
     }
