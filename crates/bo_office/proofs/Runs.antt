@@ -19,7 +19,7 @@ use Rattle.bo_lists.specs.Sound.{IsSound}
 use Rattle.bo_lists.proofs.Sound.{sound_later, sound_item, sound_quota}
 use Rattle.bo_orders.specs.declared.refusal.OrderRefusal.{OrderRefusal}
 use Rattle.bo_orders.specs.Carts.{position_added}
-use Rattle.bo_orders.specs.Takes.{TakesNoMore}
+use Rattle.bo_lists.specs.Takes.{TakesNoMore}
 use Rattle.bo_orders.proofs.Added.{added_takes_no_more, added_sound, added_moment}
 use Rattle.bo_office.specs.declared.command.Command.{Command}
 use Rattle.bo_office.specs.declared.command.Command.TheVariants.{AddItem, AddQuota, AddCart}

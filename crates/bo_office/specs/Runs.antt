@@ -4,7 +4,7 @@ use Rattle.bo_base.specs.declared.draw.Draw.{Draw}
 use Rattle.bo_lists.specs.declared.rows.CartPos.{CartPos}
 use Rattle.bo_lists.specs.Lists.{State}
 use Rattle.bo_lists.specs.Sound.{IsSound}
-use Rattle.bo_orders.specs.Takes.{TakesNoMore}
+use Rattle.bo_lists.specs.Takes.{TakesNoMore}
 use Rattle.bo_office.specs.declared.command.Command.{Command}
 use Rattle.bo_office.specs.declared.command.Kind.{Kind}
 use Rattle.bo_office.specs.declared.reply.Refusal.{Refusal}
