@@ -1,11 +1,12 @@
 //! Laws of the decisions on vouchers.
 
-ghost use Rattle.std.specs.Prelude.{◌≡◌, ℕ, false, None, Ok, []};
+ghost use Rattle.std.specs.Prelude.{◌≡◌, ◌≤◌, ℕ, false, None, Ok, []};
 ghost use Rattle.bo_base.specs.declared.draw.Draw.{Draw};
+ghost use Rattle.bo_catalogue.specs.declared.rows.Quota.{Quota};
 ghost use Rattle.bo_lists.specs.Lists.{State};
 ghost use Rattle.bo_lists.specs.Over.{first_over};
 ghost use Rattle.bo_lists.specs.Sound.{IsSound};
-ghost use Rattle.bo_lists.specs.Takes.{TakesNoMore};
+ghost use Rattle.bo_lists.specs.Takes.{used, TakesNoMore};
 ghost use Rattle.bo_lists.specs.declared.rows.Voucher.{Voucher};
 ghost use Rattle.bo_vouchers.specs.declared.requests.NewVoucher.{NewVoucher};
 ghost use Rattle.bo_vouchers.specs.declared.requests.VoucherPatch.{VoucherPatch};
@@ -31,6 +32,12 @@ pub fn changing_takes_no_more()
         first_over before.lists after.lists before.moment [] ≡ None }
     ensures takes { (id : ℕ) (patch : VoucherPatch) (before after : State) (row : Voucher) →
         voucher_changed id patch before ≡ Ok (after, row) → row.allow_ignore_quota ≡ false → TakesNoMore before after }
+{}
+
+/// A voucher that is deleted raises no quota's usage.
+pub fn deleting_lowers()
+    ensures { (id : ℕ) (before after : State) (quota : Quota) →
+        voucher_deleted id before ≡ Ok after → used after quota ≤ used before quota }
 {}
 
 /// A sound box office stays sound where a voucher is made, changed or deleted.
