@@ -38,9 +38,9 @@ module _ (row : Voucher) where
       let none = neither_second (shares v) (list_any shares vs) h in
       let more = unlike_put (v.id + 1) vs o.1 none u.1 in
       with_row_cases (λ r. r.id) AreUnlike row v vs
-          (λ lt. (all-with_row (λ r. r.id) (λ w. same_text v.code w.code ≡ false) row vs (differ (same_text v.code row.code) (eqb v.id row.id) (neither_first (shares v) (list_any shares vs) h) (grind (arith, nat_tests, lt))) u.0, more))
-          (λ e. (above (v.id + 1) vs (omega (arith, e)) o.1 none, u.1))
-          (λ lt. (above v.id (v ∷ vs) lt (omega arith, o.1) h, u))
+      (λ lt. (all-with_row (λ r. r.id) (λ w. same_text v.code w.code ≡ false) row vs (differ (same_text v.code row.code) (eqb v.id row.id) (neither_first (shares v) (list_any shares vs) h) (grind (arith, nat_tests, lt))) u.0, more))
+      (λ e. (above (v.id + 1) vs (omega (arith, e)) o.1 none, u.1))
+      (λ lt. (above v.id (v ∷ vs) lt (omega arith, o.1) h, u))
 
 pub unlike_drop : (id : ℕ) (vs : List Voucher) → AreUnlike vs → AreUnlike (without_row (λ r. r.id) id vs)
 unlike_drop id [] u = tt

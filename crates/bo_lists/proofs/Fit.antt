@@ -43,9 +43,9 @@ pub fit_same : (a b : Lists) → a.catalogue.quotas ≡ b.catalogue.quotas → a
 fit_same a b q v product None h = refl
 fit_same a b q v product (Some id) h =
     fits_if_quotas a.catalogue b.catalogue product
-        (λ id e. subst (λ (rows : List Quota). fits_quota (row_at (λ r. r.id) id rows) product ≡ true) q e)
-        (voucher_at id b)
-        (subst (λ (rows : List Voucher). fits_if a.catalogue product (row_at (λ r. r.id) id rows) ≡ true) v h)
+    (λ id e. subst (λ (rows : List Quota). fits_quota (row_at (λ r. r.id) id rows) product ≡ true) q e)
+    (voucher_at id b)
+    (subst (λ (rows : List Voucher). fits_if a.catalogue product (row_at (λ r. r.id) id rows) ≡ true) v h)
 
 -- a quota that has what the one in its place had
 pub fit_quota : (lists : Lists) (row : Quota) → ((product : Product) → fits_quota (quota_at row.id lists.catalogue) product ≡ true → is_in row product ≡ true) → (product : Product) (name : Option ℕ) → is_fit lists product name ≡ true → is_fit (after_change (PutQuota row) lists) product name ≡ true
