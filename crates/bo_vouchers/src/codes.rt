@@ -23,6 +23,7 @@ pub fn code_of(alloc: Global, given: &Option<Text>, draw: Draw, id: u64) -> Resu
     }
 }
 
+// `W`, the draw in hex, `z` and the id.
 #[tactic(auto, unfolding(crate::specs::Codes::made_code))]
 fn made_code(alloc: Global, draw: Draw, id: u64) -> Result<Text, AllocError>
     ensures { IfOk result (λ text. text ≡ made_code draw id) }
@@ -35,9 +36,10 @@ fn made_code(alloc: Global, draw: Draw, id: u64) -> Result<Text, AllocError>
 fn is_lower_hex(b: u8) -> bool
     ensures { result ≡ is_lower_hex b }
 {
-    b'0' <= b && b <= b'9' || b'a' <= b && b <= b'f'
+    matches!(b, b'0'..=b'9' | b'a'..=b'f')
 }
 
+// Whether each byte is.
 fn are_lower_hex(text: &[u8]) -> bool
     ensures { result ≡ list_all is_lower_hex text.now }
 {
