@@ -4,3 +4,4 @@ pub mod ToldLemmas
 mod CivilLemmas
 mod TextLemmas
 mod DigitLemmas
+pub mod CodeLemmas

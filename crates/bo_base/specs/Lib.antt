@@ -9,3 +9,5 @@ pub mod Civil
 pub mod Rising
 pub mod Percent
 pub mod Price
+pub mod Codes
+pub mod Secrets

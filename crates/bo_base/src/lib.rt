@@ -3,6 +3,7 @@
 
 pub mod answer;
 pub mod cents;
+pub mod codes;
 pub mod device;
 pub mod digits;
 pub mod draw;
@@ -13,6 +14,7 @@ pub mod percent;
 pub mod price_mode;
 pub mod refusal;
 pub mod rows;
+pub mod secrets;
 pub mod std_device;
 pub mod steps;
 #[cfg(test)]
@@ -21,16 +23,18 @@ pub mod text;
 
 pub use answer::{Answer, Body, Methods, Told};
 pub use cents::{Cents, cents_text, read_cents};
+pub use codes::{order_code, read_code};
 pub use device::{Drain, Refused, Source, Tick, Ticks};
 pub use digits::number_of;
 pub use draw::Draw;
 pub use ids::Ids;
 pub use list::List;
-pub use moment::{Moment, moment_text, read_moment};
+pub use moment::{Moment, moment_text, read_day, read_moment};
 pub use percent::Percent;
 pub use price_mode::{PriceMode, price};
 pub use refusal::ValueRefusal;
 pub use rows::{Row, Rows};
+pub use secrets::secret;
 pub use std_device::Device;
 pub use steps::Steps;
 pub use text::Text;

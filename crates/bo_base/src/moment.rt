@@ -1,11 +1,13 @@
 //! Moments, and their texts.
 
 ghost use Rattle.std.specs.Prelude.{◌≡◌, ◌≤◌, ◌+◌, ◌<◌, ◌↔◌, IsTrue, min, IfOk, string_bytes};
-ghost use Rattle.bo_base.specs.Moments.{moment_of, last_moment};
+ghost use Rattle.jiff_core.specs.Date.{epoch_day};
+ghost use Rattle.bo_base.specs.Moments.{moment_of, last_second, day_of, last_moment};
 ghost use Rattle.bo_base.specs.Civil.{moment_text};
 
 use crate::refusal::ValueRefusal;
 use jiff::Timestamp;
+use jiff::civil::Date;
 use jiff::tz::Offset;
 use std::alloc::{AllocError, Global};
 use std::marker::Model;
@@ -88,6 +90,28 @@ pub fn read_moment(text: &str) -> Result<Moment, ValueRefusal>
     }
     let second = nanoseconds / 1_000_000_000;
     if second > LAST_MOMENT as i128 {
+        return Err(ValueRefusal::OutOfRange);
+    }
+    Ok(Moment::new(second as u64))
+}
+
+/// The last second in UTC of the day that ten bytes write, as `2026-05-01`.
+/// Refusals: 3 `NotMoment` where they write none or aren't ten, 4 `OutOfRange` before 1970 or after 9998.
+pub fn read_day(text: &str) -> Result<Moment, ValueRefusal>
+    ensures { result ≡ day_of text.now }
+{
+    let read: Result<Date, jiff::Error> = text.parse();
+    match read {
+        Ok(date) if text.len() == 10 => last_second(date),
+        _ => Err(ValueRefusal::NotMoment),
+    }
+}
+
+fn last_second(date: Date) -> Result<Moment, ValueRefusal>
+    ensures { result ≡ last_second (epoch_day date) }
+{
+    let second = date.to_plain().to_unix_epoch_day() as i64 * 86_400 + 86_399;
+    if second < 0 || second > LAST_MOMENT as i64 {
         return Err(ValueRefusal::OutOfRange);
     }
     Ok(Moment::new(second as u64))

@@ -16,12 +16,15 @@ pub enum ValueRefusal {
     /// 2: the amount is more than 99,999,999.99.
     #[error("the amount is too large")]
     TooLarge,
-    /// 3: the text isn't an instant.
+    /// 3: the text isn't an instant or a day.
     #[error("not a moment")]
     NotMoment,
     /// 4: the instant is before 1970 or after 9998.
     #[error("the moment is out of range")]
     OutOfRange,
+    /// 5: the text is no order's code.
+    #[error("not a code")]
+    NotCode,
     /// 6: there is no memory.
     #[error("out of memory")]
     Memory,
@@ -45,6 +48,7 @@ impl ValueRefusal {
             ValueRefusal::TooLarge => 2,
             ValueRefusal::NotMoment => 3,
             ValueRefusal::OutOfRange => 4,
+            ValueRefusal::NotCode => 5,
             ValueRefusal::Memory => 6,
         }
     }

@@ -1,7 +1,10 @@
 use crate::cents::{Cents, cents_text, read_cents};
-use crate::moment::{Moment, moment_text, read_moment};
+use crate::codes::{order_code, read_code};
+use crate::draw::Draw;
+use crate::moment::{Moment, moment_text, read_day, read_moment};
 use crate::price_mode::{PriceMode, price};
 use crate::refusal::ValueRefusal;
+use crate::secrets::secret;
 use std::test::Fail;
 
 #[test]
@@ -86,4 +89,62 @@ fn prices(rt: HostRuntime) {
     assert_eq!(rt; unchanged.get(), 500);
     let unset = price(PriceMode::Set, None, base);
     assert_eq!(rt; unset.get(), 500);
+}
+
+#[test]
+fn codes(rt: HostRuntime) -> Result<(), Fail> {
+    let alloc = rt.alloc();
+    for (number, text) in [
+        (1, "AAAAB"),
+        (28, "AAABA"),
+        (17_210_366, "99998"),
+        (17_210_367, "99999"),
+    ] {
+        assert_eq!(rt; order_code(alloc, number)?.as_str(), text);
+        assert_eq!(rt; read_code(text), Ok(number), "{text}");
+    }
+    for text in [
+        "AAAAA", "AAAA0", "aaaab", "AAAb", "AAAB", "AAAAAB", "", "AAAÄ",
+    ] {
+        assert_eq!(rt; read_code(text), Err(ValueRefusal::NotCode), "{text}");
+    }
+    Ok(())
+}
+
+#[test]
+fn secrets(rt: HostRuntime) -> Result<(), Fail> {
+    let draw = Draw {
+        bytes: [0, 0, 0, 0, 0, 0, 0, 0, 0, 0, 0, 0, 0, 0, 171, 4],
+    };
+    let text = secret(rt.alloc(), draw, 1, 12)?;
+    assert_eq!(rt; text.as_str(), "0000000000000000000000000000ab04z1z12");
+    Ok(())
+}
+
+#[test]
+fn days(rt: HostRuntime) {
+    for (text, seconds) in [
+        ("2026-06-01", 1_780_358_399),
+        ("1970-01-01", 86_399),
+        ("2024-02-29", 1_709_251_199),
+        ("9998-12-31", 253_370_764_799),
+    ] {
+        assert_eq!(rt; read_day(text).map(|m| m.get()), Ok(seconds), "{text}");
+    }
+    for text in [
+        "2026-02-29",
+        "20260601",
+        "2026-6-1",
+        "2026-06-1",
+        "26-06-0001",
+        "2026-06-01T00:00:00",
+        "+002026-06-01",
+        "2026/06/01",
+        "",
+    ] {
+        assert_eq!(rt; read_day(text), Err(ValueRefusal::NotMoment), "{text}");
+    }
+    for text in ["1969-12-31", "9999-01-01"] {
+        assert_eq!(rt; read_day(text), Err(ValueRefusal::OutOfRange), "{text}");
+    }
 }
