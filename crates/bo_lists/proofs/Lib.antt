@@ -1,3 +1,4 @@
 pub mod Time
 pub mod Headroom
 pub mod Sound
+pub mod Orders
