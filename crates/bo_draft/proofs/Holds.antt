@@ -1,24 +1,18 @@
 -- How many cart positions name a voucher, one change after another.
-use Rattle.std.proofs.Common.{◌≡◌, ℕ, ◌+◌, ◌<◌, Bool, true, false, ◌&&◌, length, get_or, refl, ap, ◌∙◌, count_by}
+use Rattle.std.proofs.Common.{◌≡◌, ℕ, ◌+◌, ◌<◌, Bool, true, false, length, get_or, refl, ap, ◌∙◌}
 use mir.Val.{bool_byte}
 use Rattle.std.specs.Prelude.{if◌then◌else◌}
-use Rattle.bo_base.specs.Tables.{row_at, sum_at, AreInOrder}
+use Rattle.bo_base.specs.Tables.{sum_at, AreInOrder}
 use Rattle.bo_base.proofs.Edits.{sum_by-with_row, sum_by-without_row}
-use Rattle.bo_lists.specs.declared.rows.Order.{Order}
-use Rattle.bo_lists.specs.declared.rows.OrderPos.{OrderPos}
 use Rattle.bo_lists.specs.declared.rows.CartPos.{CartPos}
 use Rattle.bo_lists.specs.declared.changes.Change.{Change}
 use Rattle.bo_lists.specs.declared.changes.Change.TheVariants.{PutCart, DropCart}
-use Rattle.bo_lists.specs.Tests.{is_in_force, names, holds}
+use Rattle.bo_lists.specs.Tests.{holds}
 use Rattle.bo_lists.specs.Lists.{Lists, cart_at}
 use Rattle.bo_lists.specs.Change.{after_change}
-use Rattle.bo_lists.specs.Usage.{stands_as, redeemed}
 use Rattle.bo_lists.specs.Headroom.{held}
 use Rattle.bo_draft.specs.DraftState.{Log, rows_at}
 use Rattle.bo_draft.proofs.Steps.{after_all_more}
-
-pub redeemed_same : (id : ℕ) (h k : Lists) → k.orders ≡ h.orders → k.positions ≡ h.positions → redeemed id k ≡ redeemed id h
-redeemed_same id h k orders positions = λ i. count_by (λ (p : OrderPos). names id p.voucher && stands_as is_in_force (row_at (λ (r : Order). r.id) p.order (orders i))) (positions i)
 
 module _ (at id : ℕ) (log : Log) (i : ℕ) (d : Change) (lt : i < length log.changes) where
   pub held_put : (row : CartPos) → get_or log.changes i d ≡ PutCart row → AreInOrder (λ r. r.id) (rows_at i log).carts → held at id (rows_at (i + 1) log) + sum_at (λ c. if holds at id c then 1 else 0) (cart_at row.id (rows_at i log)) ≡ held at id (rows_at i log) + (if holds at id row then 1 else 0)

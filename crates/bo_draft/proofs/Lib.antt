@@ -1,9 +1,11 @@
 pub mod Steps
-pub mod Leaves
+pub mod Sales
 pub mod Kept
 pub mod Counts
 pub mod Shifts
 pub mod VoucherShifts
+pub mod OrderShifts
 pub mod Overs
 pub mod Extensions
 pub mod Holds
+pub mod Redeems

@@ -1,11 +1,11 @@
 -- Which quota is over, by its usage before.
-use Rattle.std.proofs.Common.{◌≡◌, ℕ, List, [], ◌∷◌, map, sym, refl, ap, ◌∙◌, Bool, true, false, Some}
+use Rattle.std.proofs.Common.{◌≡◌, ℕ, List, [], ◌∷◌, take, map, sym, refl, ap, ◌∙◌, Bool, true, false, Some}
 use Rattle.std.specs.Prelude.{find, option_map, if◌then◌else◌}
 use Rattle.bo_catalogue.specs.declared.rows.Quota.{Quota}
 use Rattle.bo_catalogue.specs.CatalogueLists.{CatalogueLists}
 use Rattle.bo_lists.specs.Lists.{Lists}
-use Rattle.bo_draft.specs.DraftState.{DraftState, MarkState, IsMarkOf, LeavesRest, now, back, usages_of}
-use Rattle.bo_draft.proofs.Leaves.{after_them}
+use Rattle.bo_draft.specs.DraftState.{DraftState, MarkState, IsMarkOf, AreSales, now, back, usages_of}
+use Rattle.bo_draft.proofs.Sales.{sales_catalogue, sales_front}
 use Rattle.bo_lists.specs.Usage.{usage_of}
 use Rattle.bo_lists.specs.Over.{first_over_among, is_over}
 
@@ -18,6 +18,8 @@ among_all before after at own (q ∷ qs) = by_test (is_over before after at own 
     by_test false rest = rest
 
 -- what a mark keeps is the usage of each quota there
-pub usages_at : (draft : DraftState) (mark : MarkState) → LeavesRest draft.log.changes draft.log.base → IsMarkOf draft mark → mark.usages ≡ map (usage_of (now (back mark draft)).lists draft.moment) (now draft).lists.catalogue.quotas
+pub usages_at : (draft : DraftState) (mark : MarkState) → AreSales draft.log.changes draft.log.base → IsMarkOf draft mark → mark.usages ≡ map (usage_of (now (back mark draft)).lists draft.moment) (now draft).lists.catalogue.quotas
 unfolding usages_of
-usages_at draft mark left is = is.usages ∙ ap (λ (catalogue : CatalogueLists). map (usage_of (now (back mark draft)).lists draft.moment) catalogue.quotas) (left.catalogue mark.count ∙ sym (after_them (λ (h : Lists). h.catalogue) draft.log.changes draft.log.base left.catalogue))
+usages_at draft mark sales is =
+    let log = draft.log in
+    is.usages ∙ ap (λ (catalogue : CatalogueLists). map (usage_of (now (back mark draft)).lists draft.moment) catalogue.quotas) (sales_catalogue (take mark.count log.changes) log.base (sales_front mark.count log.changes log.base sales) ∙ sym (sales_catalogue log.changes log.base sales))

@@ -8,15 +8,16 @@ use Rattle.bo_catalogue.specs.CatalogueLists.{CatalogueLists}
 use Rattle.bo_lists.specs.declared.rows.CartPos.{CartPos}
 use Rattle.bo_lists.specs.declared.rows.Waiting.{Waiting}
 use Rattle.bo_lists.specs.declared.changes.Change.{Change}
-use Rattle.bo_lists.specs.declared.changes.Change.TheVariants.{PutVoucher, PutCart, PutWaiting, DropVoucher, DropCart, DropWaiting}
+use Rattle.bo_lists.specs.declared.changes.Change.TheVariants.{PutItem, PutVariation, PutQuota, PutVoucher, PutCart, PutOrder, PutPosition, PutWaiting, DropVoucher, DropCart, DropWaiting}
 use Rattle.bo_lists.specs.Lists.{Lists}
 use Rattle.bo_lists.specs.Kept.{IsKept}
 use Rattle.bo_lists.specs.Change.{after_change}
 use Rattle.bo_lists.specs.Usage.{usage_of, cart_counts, blocked_by, waits_for}
 use Rattle.bo_draft.specs.DraftState.{Log, rows_of, usages_of}
 use Rattle.bo_draft.specs.Shift.{CanCome, usage_after, usage_with_cart, usage_with_waiting}
-use Rattle.bo_draft.proofs.Leaves.{catalogue_same}
+use Rattle.bo_draft.proofs.Sales.{can_sale, sale_catalogue}
 use Rattle.bo_draft.proofs.VoucherShifts.{voucher_put, voucher_drop}
+use Rattle.bo_draft.proofs.OrderShifts.{order_put, position_put}
 
 pub same_map : {X Y : Type 0} (f g : X → Y) (xs : List X) → ((x : X) → f x ≡ g x) → map f xs ≡ map g xs
 same_map f g [] h = refl
@@ -51,23 +52,27 @@ module _ (lists : Lists) (at : ℕ) (quota : Quota) where
       let n : (usage_of (after_change (DropWaiting id) lists) at quota).waiting ≡ (usage_with_waiting lists at id None quota).waiting = omega (arith, sum_by-without_row (λ r. r.id) f 0 id lists.waiting order) in
       ap (λ (c : ℕ). record (usage_of lists at quota) { waiting = c }) n
 
-  -- any change that can come
-  one_step : (log : Log) (limit : ℕ) → IsKept limit lists → (change : Change) → CanCome log change → usage_after lists at change quota ≡ usage_of (after_change change lists) at quota
-  one_step log limit kept (PutVoucher row) can = sym (voucher_put lists at kept.vouchers.in_order row quota)
-  one_step log limit kept (DropVoucher id) can = sym (voucher_drop lists at kept.vouchers.in_order id quota)
-  one_step log limit kept (PutCart row) can = sym (cart_put row kept.carts.in_order)
-  one_step log limit kept (DropCart id) can = sym (cart_drop id kept.carts.in_order)
-  one_step log limit kept (PutWaiting row) can = sym (waiting_put row kept.waiting.in_order)
-  one_step log limit kept (DropWaiting id) can = sym (waiting_drop id kept.waiting.in_order)
-  one_step log limit kept _ can = absurd can
+-- any change that can come
+one_step : (log : Log) (at limit : ℕ) (quota : Quota) → IsKept limit (rows_of log) → (change : Change) → CanCome at log change → usage_after (rows_of log) at change quota ≡ usage_of (after_change change (rows_of log)) at quota
+one_step log at limit quota kept (PutItem row) can = absurd can
+one_step log at limit quota kept (PutVariation row) can = absurd can
+one_step log at limit quota kept (PutQuota row) can = absurd can
+one_step log at limit quota kept (PutVoucher row) can = sym (voucher_put (rows_of log) at kept.vouchers.in_order row quota)
+one_step log at limit quota kept (DropVoucher id) can = sym (voucher_drop (rows_of log) at kept.vouchers.in_order id quota)
+one_step log at limit quota kept (PutCart row) can = sym (cart_put (rows_of log) at quota row kept.carts.in_order)
+one_step log at limit quota kept (DropCart id) can = sym (cart_drop (rows_of log) at quota id kept.carts.in_order)
+one_step log at limit quota kept (PutOrder row) can = sym (order_put (rows_of log) at limit kept quota row can)
+one_step log at limit quota kept (PutPosition row) can = sym (position_put (rows_of log) at limit kept quota row can.0 can.1)
+one_step log at limit quota kept (PutWaiting row) can = sym (waiting_put (rows_of log) at quota row kept.waiting.in_order)
+one_step log at limit quota kept (DropWaiting id) can = sym (waiting_drop (rows_of log) at quota id kept.waiting.in_order)
 
 -- the usage of each quota
-pub usages_step : (log : Log) (at limit : ℕ) → IsKept limit (rows_of log) → (change : Change) → CanCome log change → map (usage_after (rows_of log) at change) (rows_of log).catalogue.quotas ≡ usages_of (after_change change (rows_of log)) at
+pub usages_step : (log : Log) (at limit : ℕ) → IsKept limit (rows_of log) → (change : Change) → CanCome at log change → map (usage_after (rows_of log) at change) (rows_of log).catalogue.quotas ≡ usages_of (after_change change (rows_of log)) at
 unfolding usages_of
 usages_step log at limit kept change can =
     let lists = rows_of log in
-    same_map _ _ lists.catalogue.quotas (λ quota. one_step lists at quota log limit kept change can)
-    ∙ ap (λ (catalogue : CatalogueLists). map (usage_of (after_change change lists) at) catalogue.quotas) (sym (catalogue_same log change can lists))
+    same_map _ _ lists.catalogue.quotas (λ quota. one_step log at limit quota kept change can)
+    ∙ ap (λ (catalogue : CatalogueLists). map (usage_of (after_change change lists) at) catalogue.quotas) (sym (sale_catalogue change lists (can_sale at log change can)))
 
 -- a loop that pushes one item after another
 pub map_more : {X Y : Type 0} (f : X → Y) (xs : List X) (i : ℕ) (d : X) → i < length xs → map f (take i xs) ++ f (get_or xs i d) ∷ [] ≡ map f (take (i + 1) xs)

@@ -1,11 +1,12 @@
 -- A draft: a box office as it stands in the book, and changes that aren't applied yet.
-use Rattle.std.specs.Prelude.{◌≡◌, ℕ, ◌≤◌, List, [], ◌∷◌, ◌++◌, length, take, map}
+use Rattle.std.specs.Prelude.{◌≡◌, ℕ, ◌≤◌, List, [], ◌∷◌, ◌++◌, length, take, map, None}
 use Rattle.bo_lists.specs.declared.rows.NextIds.{NextIds}
 use Rattle.bo_lists.specs.declared.rows.Usage.{Usage}
 use Rattle.bo_lists.specs.declared.changes.Change.{Change}
-use Rattle.bo_lists.specs.Lists.{Lists, State}
+use Rattle.bo_lists.specs.declared.changes.Change.TheVariants.{PutItem, PutVariation, PutQuota, PutPosition}
+use Rattle.bo_lists.specs.Lists.{Lists, State, position_at}
 use Rattle.bo_lists.specs.Usage.{usage_of}
-use Rattle.bo_lists.specs.Change.{after_all}
+use Rattle.bo_lists.specs.Change.{after_change, after_all}
 
 -- the rows in the book, and the changes since
 pub record Log : Type 0 where
@@ -20,11 +21,18 @@ rows_of log = after_all log.changes log.base
 abbrev pub rows_at : ℕ → Log → Lists
 rows_at count log = after_all (take count log.changes) log.base
 
--- after any front of these changes, what is for sale, the orders and their positions are as they were
-pub record LeavesRest (changes : List Change) (lists : Lists) : Type 0 where
-  pub catalogue : (count : ℕ) → (after_all (take count changes) lists).catalogue ≡ lists.catalogue
-  pub orders : (count : ℕ) → (after_all (take count changes) lists).orders ≡ lists.orders
-  pub positions : (count : ℕ) → (after_all (take count changes) lists).positions ≡ lists.positions
+-- a change of sales, where an order position is a new one
+abbrev pub IsSale : Change → Lists → Type 0
+IsSale (PutItem row) lists = ⊥
+IsSale (PutVariation row) lists = ⊥
+IsSale (PutQuota row) lists = ⊥
+IsSale (PutPosition row) lists = position_at row.id lists ≡ None
+IsSale _ lists = Unit {0}
+
+-- each of these changes, one after another
+abbrev pub AreSales : List Change → Lists → Type 0
+AreSales [] lists = Unit {0}
+AreSales (change ∷ changes) lists = IsSale change lists × AreSales changes (after_change change lists)
 
 -- a draft, which contracts see as its log, the next ids and its moment
 pub record DraftState : Type 0 where

@@ -1,10 +1,10 @@
 //! A book with changes that aren't applied yet.
 
-ghost use Rattle.std.specs.Prelude.{◌≡◌, ◌++◌, [], ◌∷◌, ◌≤◌, ◌<◌, ◌+◌, ◌-◌, ◌^◌, ℕ, IfOk, OnOk, OnErr, length, slice_get, Some, count_by};
+ghost use Rattle.std.specs.Prelude.{◌≡◌, ◌++◌, [], ◌∷◌, ◌≤◌, ◌<◌, ◌+◌, ◌-◌, ◌^◌, ℕ, IfOk, OnOk, OnErr, length, slice_get, Some, None, count_by};
 ghost use Rattle.std.specs.Option.{option_copied};
 ghost use Rattle.bo_lists.specs.Full.{takes_cart, takes_voucher};
-ghost use Rattle.bo_lists.specs.Lists.{voucher_at, cart_at, waiting_at};
-ghost use Rattle.bo_lists.specs.Headroom.{has_use, held};
+ghost use Rattle.bo_lists.specs.Lists.{voucher_at, cart_at, order_at, position_at, waiting_at};
+ghost use Rattle.bo_lists.specs.Headroom.{has_use, held, AllHaveHeadroom};
 ghost use Rattle.bo_lists.specs.Named.{voucher_of, is_used};
 ghost use Rattle.bo_lists.specs.Over.{first_over, is_over, is_free, weighed};
 ghost use Rattle.bo_lists.specs.Change.{changed};
@@ -15,7 +15,7 @@ ghost use Rattle.bo_lists.specs.Usage.{usage_of, redeemed};
 use crate::overlay::Overlay;
 use bo_base::{Moment, Steps};
 use bo_catalogue::{Catalogue, LAST_ID, MOST_ROWS, Quota};
-use bo_lists::{CartPos, Change, Changes, NextIds, Usage, Voucher, Waiting};
+use bo_lists::{CartPos, Change, Changes, NextIds, Order, OrderPos, Usage, Voucher, Waiting};
 use bo_usage::Book;
 use std::alloc::{AllocError, Global};
 use std::marker::{Brand, Model};
@@ -129,6 +129,13 @@ impl<'a, B: Book> Draft<'a, B> {
         ensures { option_copied result ≡ cart_at id (now self.now).lists }
     {
         self.overlay.cart(id)
+    }
+
+    /// The order of an id.
+    pub fn order(&self, id: u64) -> Option<&Order>
+        ensures { option_copied result ≡ order_at id (now self.now).lists }
+    {
+        self.overlay.order(id)
     }
 
     /// The waiting entry of an id.
@@ -259,9 +266,34 @@ impl<'a, B: Book> Draft<'a, B> {
         self.change(alloc, Change::DropWaiting(id))
     }
 
+    /// Puts an order in the place of its id: a new one, or one whose status changed.
+    /// No voucher may be used too often, before it or after it.
+    pub fn put_order(&mut self, alloc: Global, row: Order) -> Result<(), AllocError>
+        requires before { AllHaveHeadroom (now self.old).moment (now self.old).lists }
+        requires after { AllHaveHeadroom (now self.old).moment (changed (Change.PutOrder row) (now self.old)).lists }
+        ensures ok { OnOk result (now self.new ≡ changed (Change.PutOrder row) (now self.old)) }
+        ensures extends { Extends self.old self.new }
+        ensures err { OnErr result (self.new ≡ self.old) }
+    {
+        self.change(alloc, Change::PutOrder(row))
+    }
+
+    /// Puts a new order position.
+    /// No voucher may be used too often, before it or after it.
+    pub fn put_position(&mut self, alloc: Global, row: OrderPos) -> Result<(), AllocError>
+        requires new { position_at row.id (now self.old).lists ≡ None }
+        requires before { AllHaveHeadroom (now self.old).moment (now self.old).lists }
+        requires after { AllHaveHeadroom (now self.old).moment (changed (Change.PutPosition row) (now self.old)).lists }
+        ensures ok { OnOk result (now self.new ≡ changed (Change.PutPosition row) (now self.old)) }
+        ensures extends { Extends self.old self.new }
+        ensures err { OnErr result (self.new ≡ self.old) }
+    {
+        self.change(alloc, Change::PutPosition(row))
+    }
+
     // Makes one change, with what it does to the usage of each quota and to the number of cart positions.
     fn change(&mut self, alloc: Global, change: Change) -> Result<(), AllocError>
-        requires { CanCome self.old.log change }
+        requires { CanCome self.old.moment self.old.log change }
         ensures ok { OnOk result (now self.new ≡ changed change (now self.old)) }
         ensures extends { Extends self.old self.new }
         ensures err { OnErr result (self.new ≡ self.old) }

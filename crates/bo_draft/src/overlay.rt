@@ -1,25 +1,25 @@
 //! The rows of a book, with changes.
 
-ghost use Rattle.std.specs.Prelude.{◌≡◌, ◌++◌, [], ◌∷◌, IfOk, OnOk, OnErr, length, take, ◌≤◌, ◌<◌, ◌+◌, ◌-◌, ◌^◌, count_by, map, if◌then◌else◌};
+ghost use Rattle.std.specs.Prelude.{◌≡◌, ◌++◌, [], ◌∷◌, IfOk, OnOk, OnErr, length, take, ◌≤◌, ◌<◌, ◌+◌, ◌-◌, ◌^◌, ◌==◌, ◌&&◌, count_by, map, if◌then◌else◌};
 ghost use Rattle.std.specs.Option.{option_copied};
 ghost use Rattle.bo_lists.specs.Change.{after_change, after_all};
-ghost use Rattle.bo_lists.specs.Lists.{voucher_at, cart_at, waiting_at};
+ghost use Rattle.bo_lists.specs.Lists.{voucher_at, cart_at, order_at, waiting_at};
 ghost use Rattle.bo_lists.specs.Named.{voucher_of, is_used};
 ghost use Rattle.bo_lists.specs.Kept.{IsKept};
-ghost use Rattle.bo_draft.specs.Shift.{CanCome};
 ghost use Rattle.bo_base.specs.Tables.{sum_at};
 ghost use Rattle.bo_lists.specs.Headroom.{held, held_in};
-ghost use Rattle.bo_draft.specs.DraftState.{Log, rows_of, rows_at, LeavesRest};
-ghost use Rattle.bo_lists.specs.Tests.{holds};
+ghost use Rattle.bo_draft.specs.DraftState.{Log, rows_of, rows_at, IsSale, AreSales};
+ghost use Rattle.bo_lists.specs.Tests.{is_in_force, names, holds};
+ghost use Rattle.bo_draft.specs.Shift.{count_ordered};
 ghost use Rattle.bo_lists.specs.Over.{is_free, ignores, weighed, is_over_size, first_over_among};
 ghost use Rattle.bo_lists.specs.Total.{total};
-ghost use Rattle.bo_lists.specs.Usage.{usage_of, redeemed, is_covered, cart_counts};
-ghost use Rattle.bo_draft.specs.Steps.{voucher_step, cart_step, waiting_step};
+ghost use Rattle.bo_lists.specs.Usage.{usage_of, stands_as, uses, redeemed, is_covered_by, is_covered, cart_counts};
+ghost use Rattle.bo_draft.specs.Steps.{voucher_step, cart_step, order_step, waiting_step, puts};
 
 use bo_base::Moment;
 use bo_catalogue::{Catalogue, Quota};
-use bo_lists::{CartPos, Change, Usage, Voucher, Waiting};
-use bo_usage::Book;
+use bo_lists::{CartPos, Change, Order, OrderPos, Usage, Voucher, Waiting};
+use bo_usage::{Book, PositionTest};
 use std::alloc::{AllocError, Global};
 use std::marker::Model;
 
@@ -32,14 +32,14 @@ pub struct Overlay<'a, B: Book> {
 
 impl<'a, B: Book> Model for Overlay<'a, B> {
     ghost use Rattle.std.specs.Prelude.{◌≤◌, length};
-    ghost use Rattle.bo_draft.specs.DraftState.{Log, LeavesRest};
+    ghost use Rattle.bo_draft.specs.DraftState.{Log, AreSales};
 
     ghost Value = { Log };
 
     ghost view = { λ s. record { base = (B.state s.book.now).lists; changes = s.log.items } };
 
-    // What is for sale, the orders and their positions are as in the book.
-    ghost invariant = { λ s. (length s.log.items ≤ 4294967296) × LeavesRest s.log.items (B.state s.book.now).lists };
+    // What is for sale is as in the book, and each order position that is put is a new one.
+    ghost invariant = { λ s. (length s.log.items ≤ 4294967296) × AreSales s.log.items (B.state s.book.now).lists };
 }
 
 impl<'a, B: Book> Overlay<'a, B> {
@@ -85,7 +85,7 @@ impl<'a, B: Book> Overlay<'a, B> {
 
     /// One more change, or a refusal where 2^32 stand.
     pub fn push(&mut self, change: Change) -> Result<(), AllocError>
-        requires { CanCome self.old change }
+        requires { IsSale change (rows_of self.old) }
         ensures ok { OnOk result (self.new ≡ record self.old { changes = self.old.changes ++ change ∷ [] }) }
         ensures err { OnErr result (self.new ≡ self.old) }
     {
@@ -99,9 +99,90 @@ impl<'a, B: Book> Overlay<'a, B> {
     /// How often orders that stand use the voucher.
     pub fn redeemed(&self, voucher: u64) -> u64
         ensures value { result ≡ redeemed voucher (rows_of self.now) }
+        ensures few { result ≤ 8589934592 }
+    {
+        let mut count = self.book.redeemed(voucher);
+        for i in 0..self.log.len() {
+            count = self.redeemed_after(i, voucher, count);
+        }
+        count
+    }
+
+    // The count after one more change.
+    fn redeemed_after(&self, i: usize, voucher: u64, count: u64) -> u64
+        requires place { i < length self.now.changes }
+        requires before { count ≡ redeemed voucher (rows_at i self.now) }
+        requires few { count ≤ 4294967296 + i }
+        ensures value { result ≡ redeemed voucher (rows_at (i + 1) self.now) }
+        ensures few { result ≤ 4294967296 + i + 1 }
+    {
+        self.book.known();
+        match &self.log[i] {
+            Change::PutOrder(row) => {
+                let own = self.count_ordered(i, row.id, &Names { voucher });
+                let more = count_if(row.status.is_in_force(), own);
+                let less = count_if(self.is_in_force_at(i, row.id), own);
+                (count + more).saturating_sub(less)
+            }
+            Change::PutPosition(row) => count + u64::from(self.uses_at(i, voucher, row)),
+            _ => count,
+        }
+    }
+
+    // Whether an order position used the voucher before a change.
+    fn uses_at(&self, i: usize, voucher: u64, position: &OrderPos) -> bool
+        requires { i ≤ length self.now.changes }
+        ensures { result ≡ uses voucher (rows_at i self.now) position.now }
+    {
+        position.voucher == Some(voucher) && self.is_in_force_at(i, position.order)
+    }
+
+    // Whether the order stood before a change, so that its positions used vouchers.
+    fn is_in_force_at(&self, i: usize, id: u64) -> bool
+        requires { i ≤ length self.now.changes }
+        ensures { result ≡ stands_as is_in_force (order_at id (rows_at i self.now)) }
+    {
+        match self.order_at(i, id) {
+            None => false,
+            Some(order) => order.status.is_in_force(),
+        }
+    }
+
+    // The order as it was before a change.
+    #[tactic(auto, using(crate::proofs::Steps::order_more))]
+    fn order_at(&self, i: usize, id: u64) -> Option<&Order>
+        requires { i ≤ length self.now.changes }
+        ensures { option_copied result ≡ order_at id (rows_at i self.now) }
+    {
+        let mut found = self.book.order(id);
+        let log = &self.log[..i];
+        for change in log {
+            found = order_after(change, id, found);
+        }
+        found
+    }
+
+    /// How many positions of the order, as they were before a change, pass the test.
+    pub fn count_ordered<T: PositionTest>(&self, i: usize, order: u64, test: &T) -> u64
+        requires { i ≤ length self.now.changes }
+        ensures value { result ≡ count_ordered order (T.passes test.now) (rows_at i self.now) }
+        ensures few { result ≤ 8589934592 }
+    {
+        self.book.known();
+        let kept = self.book.count_ordered(order, test);
+        kept + self.count_put(i, order, test)
+    }
+
+    // How many of them the changes before that one put.
+    fn count_put<T: PositionTest>(&self, i: usize, order: u64, test: &T) -> u64
+        requires { i ≤ length self.now.changes }
+        ensures value { result ≡ count_by (puts (λ p. order == p.order && T.passes test.now p)) (take i self.now.changes) }
         ensures few { result ≤ 4294967296 }
     {
-        self.book.redeemed(voucher)
+        let log = &self.log[..i];
+        log.iter()
+            .filter(|change| puts_ordered(change, order, test))
+            .count() as u64
     }
 
     /// How many cart positions that are live at a moment name the voucher.
@@ -161,11 +242,11 @@ impl<'a, B: Book> Overlay<'a, B> {
         found
     }
 
-    /// Ids rise in each list of sales, no list is too long to be counted, and neither what is for sale nor orders have changed.
+    /// Ids rise in each list of sales, no list is too long to be counted, and what is for sale hasn't changed.
     pub fn known(&self)
         ensures kept { IsKept (4294967296 + length self.now.changes) (rows_of self.now) }
         ensures few { length self.now.changes ≤ 4294967296 }
-        ensures rest { LeavesRest self.now.changes self.now.base }
+        ensures sales { AreSales self.now.changes self.now.base }
     {
         self.book.known();
     }
@@ -188,7 +269,14 @@ impl<'a, B: Book> Overlay<'a, B> {
     pub fn is_covered(&self, at: Moment, quota: &Quota, cart: &CartPos) -> bool
         ensures { result ≡ is_covered (rows_of self.now) at quota.now cart.now }
     {
-        match cart.voucher {
+        self.covers(at, quota, cart.voucher)
+    }
+
+    /// Whether a row's voucher blocks places of the quota.
+    pub fn covers(&self, at: Moment, quota: &Quota, voucher: Option<u64>) -> bool
+        ensures { result ≡ is_covered_by (rows_of self.now) at quota.now voucher }
+    {
+        match voucher {
             None => false,
             Some(id) => match self.voucher(id) {
                 None => false,
@@ -309,6 +397,17 @@ impl<'a, B: Book> Overlay<'a, B> {
         found
     }
 
+    #[tactic(auto, using(crate::proofs::Steps::order_more))]
+    pub fn order(&self, id: u64) -> Option<&Order>
+        ensures { option_copied result ≡ order_at id (rows_of self.now) }
+    {
+        let mut found = self.book.order(id);
+        for change in &self.log {
+            found = order_after(change, id, found);
+        }
+        found
+    }
+
     #[tactic(auto, using(crate::proofs::Steps::waiting_more))]
     pub fn waiting(&self, id: u64) -> Option<&Waiting>
         ensures { option_copied result ≡ waiting_at id (rows_of self.now) }
@@ -348,5 +447,45 @@ fn waiting_after<'a>(change: &'a Change, id: u64, found: Option<&'a Waiting>) ->
         Change::PutWaiting(row) if row.id == id => Some(row),
         Change::DropWaiting(dropped) if *dropped == id => None,
         _ => found,
+    }
+}
+
+fn order_after<'a>(change: &'a Change, id: u64, found: Option<&'a Order>) -> Option<&'a Order>
+    ensures { option_copied result ≡ order_step id change.now (option_copied found.entry) }
+{
+    match change {
+        Change::PutOrder(row) if row.id == id => Some(row),
+        _ => found,
+    }
+}
+
+/// All of a count, or nothing.
+pub fn count_if(test: bool, count: u64) -> u64
+    ensures { result ≡ (if test then count else 0) }
+{
+    if test { count } else { 0 }
+}
+
+// Whether the change puts a position of the order that passes the test.
+fn puts_ordered<T: PositionTest>(change: &Change, order: u64, test: &T) -> bool
+    ensures { result ≡ puts (λ p. order == p.order && T.passes test.now p) change.now }
+{
+    match change {
+        Change::PutPosition(row) => row.order == order && test.passes(row),
+        _ => false,
+    }
+}
+
+// A test of order positions: those that name the voucher.
+#[derive(Drop)]
+struct Names {
+    voucher: u64,
+}
+
+impl PositionTest for Names {
+    ghost passes = { λ t p. names t.voucher p.voucher };
+
+    fn passes(&self, position: &OrderPos) -> bool {
+        position.voucher == Some(self.voucher)
     }
 }

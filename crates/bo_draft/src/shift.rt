@@ -1,18 +1,20 @@
 //! What a change of one row does to the usage of each quota.
 
-ghost use Rattle.std.specs.Prelude.{◌≡◌, ℕ, ◌+◌, ◌-◌, IfOk, [], length, map, Some, None};
+ghost use Rattle.std.specs.Prelude.{◌≡◌, ℕ, ◌+◌, ◌-◌, IfOk, [], length, map, Some, None, if◌then◌else◌};
 ghost use Rattle.std.specs.Option.{option_copied};
 ghost use Rattle.bo_base.specs.Tables.{sum_at};
 ghost use Rattle.bo_lists.specs.Change.{after_change};
-ghost use Rattle.bo_lists.specs.Usage.{usage_of};
+ghost use Rattle.bo_lists.specs.Usage.{usage_of, stands_as, is_covered_by};
+ghost use Rattle.bo_lists.specs.Tests.{is_paid, is_pending, is_in_force};
+ghost use Rattle.bo_catalogue.specs.Member.{is_in};
 ghost use Rattle.bo_draft.specs.DraftState.{rows_of, usages_of};
-ghost use Rattle.bo_draft.specs.Shift.{CanCome, usage_after, cart_share, usage_with_cart, waiting_share, usage_with_waiting, voucher_share, uncovered, usage_with_voucher};
+ghost use Rattle.bo_draft.specs.Shift.{CanCome, usage_after, cart_share, usage_with_cart, waiting_share, usage_with_waiting, voucher_share, uncovered, usage_with_voucher, usage_with_position, usage_with_order, ordered_in, ordered_covered};
 
-use crate::overlay::Overlay;
+use crate::overlay::{Overlay, count_if};
 use bo_base::Moment;
 use bo_catalogue::Quota;
-use bo_lists::{CartPos, Change, Usage, Voucher, Waiting};
-use bo_usage::Book;
+use bo_lists::{CartPos, Change, Order, OrderPos, Usage, Voucher, Waiting};
+use bo_usage::{Book, PositionTest};
 use std::alloc::{AllocError, Global};
 
 impl<'a, B: Book> Overlay<'a, B> {
@@ -24,7 +26,7 @@ impl<'a, B: Book> Overlay<'a, B> {
         usages: &[Usage],
         change: &Change,
     ) -> Result<Vec<Usage>, AllocError>
-        requires can { CanCome self.now change.now }
+        requires can { CanCome at self.now change.now }
         requires usages { usages.now ≡ usages_of (rows_of self.now) at }
         ensures { IfOk result (λ new. new.items ≡ usages_of (after_change change.now (rows_of self.now)) at) }
     {
@@ -42,7 +44,7 @@ impl<'a, B: Book> Overlay<'a, B> {
         usages: &[Usage],
         change: &Change,
     ) -> Result<Vec<Usage>, AllocError>
-        requires can { CanCome self.now change.now }
+        requires can { CanCome at self.now change.now }
         requires usages { usages.now ≡ map (usage_of (rows_of self.now) at) quotas.now }
         ensures { IfOk result (λ new. new.items ≡ map (usage_after (rows_of self.now) at change.now) quotas.now) }
     {
@@ -61,7 +63,7 @@ impl<'a, B: Book> Overlay<'a, B> {
         usage: Usage,
         change: &Change,
     ) -> Result<Usage, AllocError>
-        requires can { CanCome self.now change.now }
+        requires can { CanCome at self.now change.now }
         requires usage { usage ≡ usage_of (rows_of self.now) at quota.now }
         ensures { IfOk result (λ new. new ≡ usage_after (rows_of self.now) at change.now quota.now) }
     {
@@ -72,6 +74,8 @@ impl<'a, B: Book> Overlay<'a, B> {
             Change::DropCart(id) => self.with_cart(at, quota, usage, *id, None),
             Change::PutWaiting(row) => self.with_waiting(at, quota, usage, row.id, Some(row)),
             Change::DropWaiting(id) => self.with_waiting(at, quota, usage, *id, None),
+            Change::PutOrder(row) => self.with_order(at, quota, usage, row),
+            Change::PutPosition(row) => self.with_position(at, quota, usage, row),
             _ => Ok(usage),
         }
     }
@@ -193,9 +197,88 @@ impl<'a, B: Book> Overlay<'a, B> {
         }
     }
 
+    // The usage with a new order position.
+    #[tactic(auto, unfolding(crate::specs::Shift::usage_with_position))]
+    fn with_position(
+        &self,
+        at: Moment,
+        quota: &Quota,
+        usage: Usage,
+        row: &OrderPos,
+    ) -> Result<Usage, AllocError>
+        requires { usage ≡ usage_of (rows_of self.now) at quota.now }
+        ensures { IfOk result (λ new. new ≡ usage_with_position (rows_of self.now) at row.now quota.now) }
+    {
+        let order = self.order(row.order);
+        let here = quota.has(row.product);
+        let paid = is_paid(order) && here;
+        let pending = is_pending(order) && here;
+        let taken = is_in_force(order) && self.covers(at, quota, row.voucher);
+        Ok(Usage {
+            paid: moved(usage.paid, u64::from(paid), 0)?,
+            pending: moved(usage.pending, u64::from(pending), 0)?,
+            blocked: moved(usage.blocked, 0, u64::from(taken))?,
+            ..usage
+        })
+    }
+
+    // The usage where this order stands in the place of its id.
+    #[tactic(auto, unfolding(crate::specs::Shift::usage_with_order))]
+    fn with_order(
+        &self,
+        at: Moment,
+        quota: &Quota,
+        usage: Usage,
+        row: &Order,
+    ) -> Result<Usage, AllocError>
+        requires { usage ≡ usage_of (rows_of self.now) at quota.now }
+        ensures { IfOk result (λ new. new ≡ usage_with_order (rows_of self.now) at row.now quota.now) }
+    {
+        let old = self.order(row.id);
+        let new = Some(row);
+        let here = self.ordered_in(quota, row.id);
+        let taken = self.ordered_covered(at, quota, row.id);
+        Ok(Usage {
+            paid: moved(
+                usage.paid,
+                count_if(is_paid(new), here),
+                count_if(is_paid(old), here),
+            )?,
+            pending: moved(
+                usage.pending,
+                count_if(is_pending(new), here),
+                count_if(is_pending(old), here),
+            )?,
+            blocked: moved(
+                usage.blocked,
+                count_if(is_in_force(old), taken),
+                count_if(is_in_force(new), taken),
+            )?,
+            ..usage
+        })
+    }
+
+    // How many positions of the order are for products of the quota.
+    fn ordered_in(&self, quota: &Quota, order: u64) -> u64
+        ensures { result ≡ ordered_in (rows_of self.now) quota.now order }
+    {
+        self.count_ordered(self.len(), order, &InQuota { quota })
+    }
+
+    // How many of its positions have vouchers that block places of the quota.
+    fn ordered_covered(&self, at: Moment, quota: &Quota, order: u64) -> u64
+        ensures { result ≡ ordered_covered (rows_of self.now) at quota.now order }
+    {
+        let test = Covered {
+            overlay: self,
+            at,
+            quota,
+        };
+        self.count_ordered(self.len(), order, &test)
+    }
+
     /// The number of cart positions after one more change, by the number before it.
     pub fn carts_after(&self, carts: usize, change: &Change) -> usize
-        requires can { CanCome self.now change.now }
         requires carts { carts ≡ length (rows_of self.now).carts }
         ensures { result ≡ length (after_change change.now (rows_of self.now)).carts }
     {
@@ -205,6 +288,66 @@ impl<'a, B: Book> Overlay<'a, B> {
             Change::DropCart(id) => without_one(carts, self.cart(*id)),
             _ => carts,
         }
+    }
+}
+
+// A test of order positions: those for products of the quota.
+#[derive(Drop)]
+struct InQuota<'q> {
+    quota: &'q Quota,
+}
+
+impl<'q> PositionTest for InQuota<'q> {
+    ghost passes = { λ t p. is_in t.quota.now p.product };
+
+    fn passes(&self, position: &OrderPos) -> bool {
+        self.quota.has(position.product)
+    }
+}
+
+// A test of order positions: those whose vouchers block places of the quota.
+#[derive(Drop)]
+struct Covered<'o, 'a, B: Book> {
+    overlay: &'o Overlay<'a, B>,
+    at: Moment,
+    quota: &'o Quota,
+}
+
+impl<'o, 'a, B: Book> PositionTest for Covered<'o, 'a, B> {
+    ghost passes = { λ t p. is_covered_by (rows_of t.overlay.now) t.at t.quota.now p.voucher };
+
+    fn passes(&self, position: &OrderPos) -> bool {
+        self.overlay.covers(self.at, self.quota, position.voucher)
+    }
+}
+
+// Whether an order stands and is paid.
+fn is_paid(order: Option<&Order>) -> bool
+    ensures { result ≡ stands_as is_paid (option_copied order.entry) }
+{
+    match order {
+        None => false,
+        Some(order) => order.status.is_paid(),
+    }
+}
+
+// Whether an order stands and waits for its payment.
+fn is_pending(order: Option<&Order>) -> bool
+    ensures { result ≡ stands_as is_pending (option_copied order.entry) }
+{
+    match order {
+        None => false,
+        Some(order) => order.status.is_pending(),
+    }
+}
+
+// Whether an order stands and its positions use vouchers.
+fn is_in_force(order: Option<&Order>) -> bool
+    ensures { result ≡ stands_as is_in_force (option_copied order.entry) }
+{
+    match order {
+        None => false,
+        Some(order) => order.status.is_in_force(),
     }
 }
 

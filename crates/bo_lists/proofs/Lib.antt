@@ -8,3 +8,4 @@ pub mod Codes
 pub mod Sound
 pub mod Takes
 pub mod Lowers
+pub mod Orders

@@ -1,7 +1,8 @@
 //! What keeps the rows.
 
-ghost use Rattle.std.specs.Prelude.{◌≡◌, ◌≤◌, ◌↔◌, ℕ, length, OnOk, IsTrue};
+ghost use Rattle.std.specs.Prelude.{◌≡◌, ◌≤◌, ◌↔◌, ◌==◌, ◌&&◌, ℕ, Bool, length, OnOk, IsTrue, count_by};
 ghost use Rattle.std.specs.Option.{option_copied};
+ghost use Rattle.bo_lists.specs.declared.rows.OrderPos.{OrderPos};
 ghost use Rattle.bo_lists.specs.Lists.{State, voucher_at, cart_at, order_at, waiting_at};
 ghost use Rattle.bo_lists.specs.Usage.{redeemed, usage_of};
 ghost use Rattle.bo_lists.specs.Change.{applied};
@@ -14,6 +15,16 @@ use bo_catalogue::{Catalogue, Quota};
 use bo_lists::{CartPos, Changes, NextIds, Order, OrderPos, Usage, Voucher, Waiting};
 use std::alloc::AllocError;
 use std::sync::ledger::Ledger;
+
+/// A test of order positions.
+pub trait PositionTest {
+    /// Whether this one passes.
+    ghost passes: { Self → OrderPos → Bool };
+
+    /// Whether this one passes.
+    fn passes(&self, position: &OrderPos) -> bool
+        ensures { result ≡ passes self.now position.now };
+}
 
 /// Keeps the rows of a box office, and answers how much of each quota is used.
 pub trait Book {
@@ -62,6 +73,11 @@ pub trait Book {
     /// The waiting entry of an id.
     fn entry(&self, id: u64) -> Option<&Waiting>
         ensures { option_copied result ≡ waiting_at id (state self.now).lists };
+
+    /// How many positions of the order pass the test.
+    fn count_ordered<T: PositionTest>(&self, order: u64, test: &T) -> u64
+        ensures value { result ≡ count_by (λ p. order == p.order && T.passes test.now p) (state self.now).lists.positions }
+        ensures few { result ≤ 4294967296 };
 
     /// All vouchers, by id.
     fn vouchers(&self) -> &[Voucher]

@@ -6,5 +6,5 @@ pub mod book;
 pub mod recount;
 
 pub use available::availability;
-pub use book::Book;
+pub use book::{Book, PositionTest};
 pub use recount::Recount;

@@ -8,12 +8,10 @@ ghost use Rattle.bo_lists.specs.Usage.{stands_as, uses, redeemed, usage_of, posi
 ghost use Rattle.bo_lists.specs.Named.{is_ordered, is_in_cart, is_sent};
 ghost use Rattle.bo_lists.specs.Change.{applied, after_change, after_all};
 
-use crate::book::Book;
+use crate::book::{Book, PositionTest};
 use bo_base::{Moment, Rows, Steps};
 use bo_catalogue::{Catalogue, Quota};
-use bo_lists::{
-    CartPos, Change, Changes, NextIds, Order, OrderPos, Usage, Voucher, Waiting,
-};
+use bo_lists::{CartPos, Change, Changes, NextIds, Order, OrderPos, Usage, Voucher, Waiting};
 use std::alloc::{AllocError, Global};
 use std::marker::Model;
 use std::sync::ledger::Ledger;
@@ -267,6 +265,14 @@ impl Book for Recount {
 
     fn entry(&self, id: u64) -> Option<&Waiting> {
         self.waiting.get(id)
+    }
+
+    fn count_ordered<T: PositionTest>(&self, order: u64, test: &T) -> u64 {
+        let positions = self.positions.as_slice();
+        positions
+            .iter()
+            .filter(|p| p.order == order && test.passes(p))
+            .count() as u64
     }
 
     fn vouchers(&self) -> &[Voucher] {

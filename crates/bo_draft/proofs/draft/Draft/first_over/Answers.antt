@@ -2,14 +2,14 @@ use Rattle.std.proofs.Common.{List, length, map, sym, ap, ◌∙◌, subst}
 use Rattle.std.proofs.lemmas.List.{length-map}
 use Rattle.bo_catalogue.specs.declared.rows.Quota.{Quota}
 use Rattle.bo_lists.specs.Usage.{usage_of}
-use Rattle.bo_draft.specs.DraftState.{DraftState, MarkState, LeavesRest, now, back, usages_of, rows_of}
+use Rattle.bo_draft.specs.DraftState.{DraftState, MarkState, AreSales, now, back, usages_of, rows_of}
 use Rattle.bo_lists.specs.Over.{first_over_among}
 use Rattle.bo_draft.proofs.Overs.{among_all, usages_at}
 use Rattle.bo_draft.proofs.draft.Draft.first_over.Goals as goal
 
 pub first_over-requires-clause-before : goal.first_over-requires-clause-before
 first_over-requires-clause-before g c =
-    let left = subst (λ (d : DraftState). LeavesRest d.log.changes d.log.base) c.self.view_is c.known.ensures.rest in
+    let left = subst (λ (d : DraftState). AreSales d.log.changes d.log.base) c.self.view_is c.known.ensures.sales in
     let quotas = c.quotas-quotas.ensures ∙ ap (λ catalogue. catalogue.quotas) c.catalogue.ensures ∙ ap (λ (d : DraftState). (now d).lists.catalogue.quotas) c.self.view_is in
     ap length (c.deref.ensures.value ∙ ap (λ (m : MarkState). m.usages) c.mark.view_is ∙ usages_at _ _ left c.requires) ∙ length-map _ _ ∙ ap length (sym quotas)
 
@@ -21,7 +21,7 @@ first_over-requires-clause-after g c =
 
 pub returns : goal.returns
 returns g c =
-    let left = subst (λ (d : DraftState). LeavesRest d.log.changes d.log.base) c.self.view_is c.known.ensures.rest in
+    let left = subst (λ (d : DraftState). AreSales d.log.changes d.log.base) c.self.view_is c.known.ensures.sales in
     let draft = c.args.self.now in
     let mark = c.args.mark.now in
     let quotas = c.quotas-quotas.ensures ∙ ap (λ catalogue. catalogue.quotas) c.catalogue.ensures ∙ ap (λ (d : DraftState). (now d).lists.catalogue.quotas) c.self.view_is in
