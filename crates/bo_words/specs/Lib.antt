@@ -1,6 +1,7 @@
 pub mod Fields
 pub mod Values
 pub mod Rows
+pub mod VoucherParts
 pub mod Told
 pub mod Faults
 pub mod Refusals

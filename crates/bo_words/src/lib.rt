@@ -4,12 +4,17 @@
 pub mod faults;
 pub mod fields;
 pub mod laws;
+mod pages;
+mod refusals;
 pub mod replies;
+mod rows;
 mod told;
+mod values;
+mod vouchers;
 
 pub use faults::{
-    field_fault, invalid_data, invalid_page, invalid_token, method_not_allowed, no_credentials, not_found,
-    parse_error,
+    field_fault, invalid_data, invalid_page, invalid_token, method_not_allowed, no_credentials,
+    not_found, parse_error,
 };
 pub use fields::{Fault, Field, Problem};
 pub use replies::words;

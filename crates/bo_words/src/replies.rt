@@ -1,22 +1,69 @@
 //! The words of each reply.
 
-ghost use Rattle.std.specs.Prelude.{◌≡◌, IfOk};
-ghost use Rattle.bo_words.specs.Replies.{words};
+ghost use Rattle.std.specs.Prelude.{◌≡◌, None, IfOk};
+ghost use Rattle.bo_words.specs.Told.{told};
+ghost use Rattle.bo_words.specs.Pages.{page_body};
+ghost use Rattle.bo_words.specs.Rows.{shown_body, availability_body};
+ghost use Rattle.bo_words.specs.Replies.{gone, words};
 
-use bo_base::Told;
-use bo_office::Reply;
+use crate::pages::page_value;
+use crate::refusals::refused;
+use crate::rows::{availability_value, shown_value};
+use crate::told::told_value;
+use bo_base::{Body, Told};
+use bo_lists::Availability;
+use bo_office::{Page, Reply, Shown};
+use http::StatusCode;
 use std::alloc::{AllocError, Global};
+
+/// That status, and a row as it is shown.
+fn row_told(alloc: Global, status: StatusCode, shown: &Shown) -> Result<Told, AllocError>
+    ensures { IfOk result (λ t. t ≡ told status None (shown_body shown.now)) }
+{
+    let value = shown_value(alloc, shown)?;
+    told_value(alloc, status, &value)
+}
+
+/// 200 and a page of a list.
+fn page_told(alloc: Global, organizer: &str, event: &str, page: &Page) -> Result<Told, AllocError>
+    ensures { IfOk result (λ t. t ≡ told 200 None (page_body organizer.now event.now page.now)) }
+{
+    let value = page_value(alloc, organizer, event, page)?;
+    told_value(alloc, StatusCode::OK, &value)
+}
+
+/// 204 with no body.
+fn gone(alloc: Global) -> Told
+    ensures { result ≡ gone }
+{
+    Told {
+        status: StatusCode::NO_CONTENT,
+        allow: None,
+        body: Body::new(Vec::new(alloc)),
+    }
+}
+
+/// 200 and what is left of a quota.
+fn availability_told(alloc: Global, left: &Availability) -> Result<Told, AllocError>
+    ensures { IfOk result (λ t. t ≡ told 200 None (availability_body left.now)) }
+{
+    let value = availability_value(alloc, left)?;
+    told_value(alloc, StatusCode::OK, &value)
+}
 
 /// The words of a reply, in the shop of these slugs: 201 for what was made, 200 for what was asked for, 204 for what
 /// was deleted, and for a refusal its status, its number and its sentence. A refusal for want of memory, which no
 /// request is told, has 200 and `{}`.
-pub fn words(
-    alloc: Global,
-    organizer: &str,
-    event: &str,
-    reply: &Reply,
-) -> Result<Told, AllocError>
+#[tactic(auto, unfolding(crate::specs::Replies::words))]
+pub fn words(alloc: Global, organizer: &str, event: &str, reply: &Reply) -> Result<Told, AllocError>
     ensures { IfOk result (λ told. told ≡ words organizer.now event.now reply.now) }
 {
-    Err(AllocError)
+    match reply {
+        Reply::Made(shown) => row_told(alloc, StatusCode::CREATED, shown),
+        Reply::Found(shown) => row_told(alloc, StatusCode::OK, shown),
+        Reply::Listed(page) => page_told(alloc, organizer, event, page),
+        Reply::Gone => Ok(gone(alloc)),
+        Reply::Availability(left) => availability_told(alloc, left),
+        Reply::Refused(kind, refusal) => refused(alloc, *kind, *refusal),
+    }
 }

@@ -1,0 +1,13 @@
+use Rattle.std.proofs.Common.{ap, ◌∙◌, ◌++◌, codes}
+use Rattle.std.proofs.lemmas.Result.{IfOk-weaker}
+use Rattle.std.specs.Fmt.{decimal}
+use Rattle.bo_words.specs.Pages.{page_path}
+use Rattle.bo_words.proofs.Paths.{pieces_grouped}
+use Rattle.bo_words.proofs.pages.page_path.Goals as goal
+
+pub returns : goal.returns
+unfolding page_path
+returns c =
+    let front = codes "/api/v1/organizers/" ++ c.args.organizer.now ++ codes "/events/" ++ c.args.event.now in
+    IfOk-weaker c.format.result _ _ (λ s h. h ∙ pieces_grouped (codes "/api/v1/organizers/") c.args.organizer.now (codes "/events/") c.args.event.now c.resource_path-path.result.now (codes "?page=") (decimal c.args.number)
+    ∙ ap (λ path. front ++ path ++ codes "?page=" ++ decimal c.args.number) c.resource_path-path.ensures) c.format.ensures.ok

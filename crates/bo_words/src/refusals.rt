@@ -1,0 +1,236 @@
+//! The words for a refusal.
+
+ghost use Rattle.std.specs.Prelude.{◌≡◌, None, IfOk, if◌then◌else◌};
+ghost use Rattle.std.specs.Option.{option_copied};
+ghost use Rattle.serde_json.specs.View.{view};
+ghost use Rattle.bo_words.specs.Told.{told, empty_body};
+ghost use Rattle.bo_words.specs.Faults.{not_found, field_fault};
+ghost use Rattle.bo_words.specs.Refusals.{catalogue_detail, voucher_detail, order_detail, detail, quota_of, quota_named, names_item, names_quota, names_voucher, is_of_path, refusal_body, status_of, refused_by, refused};
+
+use crate::faults::{field_fault, invalid_page, not_found};
+use crate::fields::{Fault, Field, Problem};
+use crate::told::told_value;
+use bo_base::Told;
+use bo_catalogue::CatalogueRefusal;
+use bo_office::{Kind, Refusal};
+use bo_orders::OrderRefusal;
+use bo_vouchers::VoucherRefusal;
+use http::StatusCode;
+use serde_json::{Value, json};
+use std::alloc::{AllocError, Global};
+
+/// The sentence that tells a refusal of the catalogue.
+fn catalogue_detail(refusal: CatalogueRefusal) -> Option<&'static str>
+    ensures { option_copied result ≡ catalogue_detail refusal }
+{
+    match refusal {
+        CatalogueRefusal::Memory => None,
+        CatalogueRefusal::NoItem => Some("Item not found."),
+        CatalogueRefusal::NoVariation => Some("Variation not found."),
+        CatalogueRefusal::NeedsVariation => Some("Variation needed."),
+        CatalogueRefusal::NoQuota => Some("Quota not found."),
+        CatalogueRefusal::BadMember => Some("Wrong members."),
+        CatalogueRefusal::Inactive => Some("Not active."),
+        CatalogueRefusal::Full => Some("Shop is full."),
+        CatalogueRefusal::Plain => Some("Item has no variations."),
+        CatalogueRefusal::NotSold => Some("In no quota."),
+    }
+}
+
+/// The sentence that tells a refusal of a voucher.
+fn voucher_detail(refusal: VoucherRefusal) -> Option<&'static str>
+    ensures { option_copied result ≡ voucher_detail refusal }
+{
+    match refusal {
+        VoucherRefusal::Memory => None,
+        VoucherRefusal::Catalogue(refusal) => catalogue_detail(refusal),
+        VoucherRefusal::TooLarge => Some("Value out of range."),
+        VoucherRefusal::CodeTaken => Some("Code is taken."),
+        VoucherRefusal::BadTarget => Some("Wrong target."),
+        VoucherRefusal::CannotBlock => Some("Cannot block."),
+        VoucherRefusal::NoVoucher => Some("Voucher not found."),
+        VoucherRefusal::VoucherExpired => Some("Voucher is expired."),
+        VoucherRefusal::NoHeadroom => Some("Voucher has no uses left."),
+        VoucherRefusal::WrongProduct => Some("Voucher does not fit."),
+        VoucherRefusal::InUse => Some("In use."),
+        VoucherRefusal::SoldOut(_) => Some("Sold out."),
+        VoucherRefusal::ReservedCode => Some("Code is reserved."),
+    }
+}
+
+/// The sentence that tells a refusal of a cart position.
+fn order_detail(refusal: OrderRefusal) -> Option<&'static str>
+    ensures { option_copied result ≡ order_detail refusal }
+{
+    match refusal {
+        OrderRefusal::Memory => None,
+        OrderRefusal::Voucher(refusal) => voucher_detail(refusal),
+        OrderRefusal::NoPosition => Some("Position not found."),
+        OrderRefusal::BadCart => Some("Wrong cart."),
+    }
+}
+
+/// The sentence that tells a refusal.
+fn detail(refusal: Refusal) -> Option<&'static str>
+    ensures { option_copied result ≡ detail refusal }
+{
+    match refusal {
+        Refusal::Catalogue(refusal) => catalogue_detail(refusal),
+        Refusal::Voucher(refusal) => voucher_detail(refusal),
+        Refusal::Order(refusal) => order_detail(refusal),
+        Refusal::NoPage => Some("Invalid page."),
+    }
+}
+
+/// The quota that is sold out.
+fn quota_of(refusal: VoucherRefusal) -> Option<u64>
+    ensures { result ≡ quota_of refusal }
+{
+    match refusal {
+        VoucherRefusal::SoldOut(quota) => Some(quota),
+        _ => None,
+    }
+}
+
+/// The quota that a refusal names: the one that is sold out.
+fn quota_named(refusal: Refusal) -> Option<u64>
+    ensures { result ≡ quota_named refusal }
+{
+    match refusal {
+        Refusal::Voucher(refusal) => quota_of(refusal),
+        Refusal::Order(OrderRefusal::Voucher(refusal)) => quota_of(refusal),
+        _ => None,
+    }
+}
+
+/// Whether the path of a request of that kind names an item.
+fn names_item(kind: Kind) -> bool
+    ensures { result ≡ names_item kind }
+{
+    matches!(kind, Kind::ChangeItem | Kind::AddVariation | Kind::One)
+}
+
+/// Whether the path of a request of that kind names a quota.
+fn names_quota(kind: Kind) -> bool
+    ensures { result ≡ names_quota kind }
+{
+    matches!(kind, Kind::ResizeQuota | Kind::Availability | Kind::One)
+}
+
+/// Whether the path of a request of that kind names a voucher.
+fn names_voucher(kind: Kind) -> bool
+    ensures { result ≡ names_voucher kind }
+{
+    matches!(kind, Kind::ChangeVoucher | Kind::DropVoucher | Kind::One)
+}
+
+/// Whether the path of a request of that kind names what wasn't found.
+fn is_of_path(kind: Kind, refusal: Refusal) -> bool
+    ensures { result ≡ is_of_path kind refusal }
+{
+    match refusal {
+        Refusal::Catalogue(CatalogueRefusal::NoItem) => names_item(kind),
+        Refusal::Catalogue(CatalogueRefusal::NoQuota) => names_quota(kind),
+        Refusal::Voucher(VoucherRefusal::NoVoucher) => names_voucher(kind),
+        Refusal::Order(OrderRefusal::NoPosition) => true,
+        _ => false,
+    }
+}
+
+/// Number, sentence, and the quota that is named.
+fn refusal_value(
+    alloc: Global,
+    number: u8,
+    text: &str,
+    quota: Option<u64>,
+) -> Result<Value, AllocError>
+    ensures { IfOk result (λ v. view v ≡ refusal_body number text.now quota) }
+{
+    match quota {
+        None => json!(in alloc; {"code": number, "detail": text}),
+        Some(quota) => json!(in alloc; {"code": number, "detail": text, "quota": quota}),
+    }
+}
+
+/// 403 for what is forbidden, else 400.
+fn status_of(refusal: Refusal) -> StatusCode
+    ensures { result ≡ status_of refusal }
+{
+    match refusal {
+        Refusal::Voucher(VoucherRefusal::InUse) => StatusCode::FORBIDDEN,
+        _ => StatusCode::BAD_REQUEST,
+    }
+}
+
+/// That status, number and sentence, and the quota that is named.
+fn told_refusal(
+    alloc: Global,
+    status: StatusCode,
+    number: u8,
+    text: &str,
+    quota: Option<u64>,
+) -> Result<Told, AllocError>
+    ensures { IfOk result (λ t. t ≡ told status None (refusal_body number text.now quota)) }
+{
+    let value = refusal_value(alloc, number, text, quota)?;
+    told_value(alloc, status, &value)
+}
+
+/// 200 and `{}`.
+fn told_nothing(alloc: Global) -> Result<Told, AllocError>
+    ensures { IfOk result (λ t. t ≡ told 200 None empty_body) }
+{
+    let value = json!(in alloc; {})?;
+    told_value(alloc, StatusCode::OK, &value)
+}
+
+/// A refusal by its status, its number and its sentence.
+fn refused_by(alloc: Global, refusal: Refusal) -> Result<Told, AllocError>
+    ensures { IfOk result (λ t. t ≡ refused_by refusal (detail refusal)) }
+{
+    let number = refusal.number();
+    match detail(refusal) {
+        None => told_nothing(alloc),
+        Some(text) => told_refusal(
+            alloc,
+            status_of(refusal),
+            number,
+            text,
+            quota_named(refusal),
+        ),
+    }
+}
+
+/// 404 where the path names what wasn't found, else the refusal.
+fn refused_or_missing(alloc: Global, kind: Kind, refusal: Refusal) -> Result<Told, AllocError>
+    ensures { IfOk result (λ t. t ≡ (if is_of_path kind refusal then not_found else refused_by refusal (detail refusal))) }
+{
+    if is_of_path(kind, refusal) {
+        not_found(alloc)
+    } else {
+        refused_by(alloc, refusal)
+    }
+}
+
+/// A voucher's value is out of range.
+fn too_large(alloc: Global) -> Result<Told, AllocError>
+    ensures { IfOk result (λ t. t ≡ field_fault (record { field = Field.Value; problem = Problem.OutOfRange })) }
+{
+    let fault = Fault {
+        field: Field::Value,
+        problem: Problem::OutOfRange,
+    };
+    field_fault(alloc, fault)
+}
+
+/// The words for a refusal of a request of that kind.
+#[tactic(auto, unfolding(crate::specs::Refusals::refused))]
+pub(crate) fn refused(alloc: Global, kind: Kind, refusal: Refusal) -> Result<Told, AllocError>
+    ensures { IfOk result (λ t. t ≡ refused kind refusal) }
+{
+    match refusal {
+        Refusal::Voucher(VoucherRefusal::TooLarge) => too_large(alloc),
+        Refusal::NoPage => invalid_page(alloc),
+        _ => refused_or_missing(alloc, kind, refusal),
+    }
+}
