@@ -1,9 +1,11 @@
--- What a message asks for: the token, the path, the method, the body as JSON, its fields, in that order.
+-- What a message asks for: the token, the path, the method, the page or the body as JSON and its fields, in that order.
 use Rattle.std.specs.Prelude.{ℕ, Bool, true, false, List, Option, Some, None, Result, Ok, Err}
 use Rattle.bo_base.specs.declared.answer.Told.{Told}
 use Rattle.bo_http.specs.Messages.{Message}
 use Rattle.bo_office.specs.declared.command.Command.{Command}
-use Rattle.bo_words.specs.Faults.{no_credentials, invalid_token, not_found, method_not_allowed, parse_error, invalid_data, field_fault}
+use Rattle.bo_office.specs.declared.command.Query.TheVariants as queries
+use Rattle.bo_office.specs.declared.command.Resource.{Resource}
+use Rattle.bo_words.specs.Faults.{no_credentials, invalid_token, not_found, invalid_page, method_not_allowed, parse_error, invalid_data, field_fault}
 use Rattle.bo_fields.specs.declared.error.BodyFault.{BodyFault}
 use Rattle.bo_fields.specs.declared.error.BodyFault.TheVariants as faults
 use Rattle.bo_api.specs.declared.call.Call.{Call}
@@ -13,6 +15,7 @@ use Rattle.bo_api.specs.declared.endpoint.Endpoint.TheVariants as endpoints
 use Rattle.bo_api.specs.declared.path.Place.{Place}
 use Rattle.bo_api.specs.Token.{token_of}
 use Rattle.bo_api.specs.Path.{place_of}
+use Rattle.bo_api.specs.Page.{page_of}
 use Rattle.bo_api.specs.Verbs.{verb_of, is_write}
 use Rattle.bo_api.specs.Endpoints.{endpoint_of, methods_of}
 use Rattle.bo_api.specs.Body.{read_command}
@@ -32,9 +35,15 @@ abbrev pub written : Result Command BodyFault → Call
 written (Ok command) = calls.Write command
 written (Err fault) = calls.WriteRefused (told_fault fault)
 
+-- a page of a list: 404 where its number can't be read
+abbrev pub listed : Resource → Option ℕ → Call
+listed resource None = calls.ReadRefused invalid_page
+listed resource (Some page) = calls.Read (queries.List resource page)
+
 -- at a place: 405 where the place hasn't that method; the body of a read isn't looked at
 abbrev pub call_by : Message → Place → Option Endpoint → Call
 call_by m place None = refused_by (is_write (verb_of m.method)) (method_not_allowed m.method (methods_of place))
+call_by m place (Some (endpoints.Page resource)) = listed resource (page_of m.target)
 call_by m place (Some (endpoints.Read query)) = calls.Read query
 call_by m place (Some (endpoints.Write form)) = written (read_command form m.body)
 

@@ -1,20 +1,50 @@
 -- What each method asks for at each place.
-use Rattle.std.specs.Prelude.{Option, Some, None, is_some}
+use Rattle.std.specs.Prelude.{ℕ, Option, Some, None, is_some}
 use Rattle.bo_base.specs.declared.answer.Methods.{Methods}
 use Rattle.bo_office.specs.declared.command.Query.TheVariants as queries
+use Rattle.bo_office.specs.declared.command.Resource.{Resource}
+use Rattle.bo_office.specs.declared.command.Resource.TheVariants as resources
 use Rattle.bo_api.specs.declared.path.Place.{Place}
 use Rattle.bo_api.specs.declared.path.Place.TheVariants as places
 use Rattle.bo_api.specs.declared.verb.Verb.{Verb}
 use Rattle.bo_api.specs.declared.verb.Verb.TheVariants as verbs
+use Rattle.bo_api.specs.declared.endpoint.Form.{Form}
 use Rattle.bo_api.specs.declared.endpoint.Form.TheVariants as forms
 use Rattle.bo_api.specs.declared.endpoint.Endpoint.{Endpoint}
 use Rattle.bo_api.specs.declared.endpoint.Endpoint.TheVariants as endpoints
 
+-- the form of a new row; each kind has one
+abbrev pub new_form : Resource → Form
+new_form resources.Items = forms.Item
+new_form resources.Quotas = forms.Quota
+new_form resources.Vouchers = forms.Voucher
+new_form resources.Carts = forms.Cart
+
+-- the form of a change; cart positions have none
+abbrev pub change_form : Resource → ℕ → Option Form
+change_form resources.Items id = Some (forms.ItemPatch id)
+change_form resources.Quotas id = Some (forms.QuotaPatch id)
+change_form resources.Vouchers id = Some (forms.VoucherPatch id)
+change_form resources.Carts id = None
+
+-- the form of a deletion; items and quotas have none
+abbrev pub drop_form : Resource → ℕ → Option Form
+drop_form resources.Vouchers id = Some (forms.DropVoucher id)
+drop_form resources.Carts id = Some (forms.DropCart id)
+drop_form _ id = None
+
+abbrev pub write_of : Option Form → Option Endpoint
+write_of None = None
+write_of (Some form) = Some (endpoints.Write form)
+
 abbrev pub endpoint_of : Place → Verb → Option Endpoint
-endpoint_of places.Items verbs.Post = Some (endpoints.Write forms.Item)
-endpoint_of places.Quotas verbs.Post = Some (endpoints.Write forms.Quota)
-endpoint_of (places.Availability id) verbs.Get = Some (endpoints.Read (queries.Availability id))
-endpoint_of places.CartPositions verbs.Post = Some (endpoints.Write forms.Cart)
+endpoint_of (places.All resource) verbs.Get = Some (endpoints.Page resource)
+endpoint_of (places.All resource) verbs.Post = Some (endpoints.Write (new_form resource))
+endpoint_of (places.One resource id) verbs.Get = Some (endpoints.Read (queries.One resource id))
+endpoint_of (places.One resource id) verbs.Patch = write_of (change_form resource id)
+endpoint_of (places.One resource id) verbs.Delete = write_of (drop_form resource id)
+endpoint_of (places.Variations item) verbs.Post = Some (endpoints.Write (forms.Variation item))
+endpoint_of (places.Availability quota) verbs.Get = Some (endpoints.Read (queries.Availability quota))
 endpoint_of _ _ = None
 
 -- the methods that a place has: those that ask for something there

@@ -1,9 +1,12 @@
 pub mod Slugs
 pub mod Routes
 pub mod Path
+pub mod Page
 pub mod Token
 pub mod Verbs
 pub mod Endpoints
+pub mod CatalogueBodies
+pub mod VoucherBodies
 pub mod Requests
 pub mod Body
 pub mod Call

@@ -1,8 +1,10 @@
 -- What a path names.
-use Rattle.std.specs.Prelude.{ℕ, ◌==◌, List, length, take, drop, position, Option, Some, None, if◌then◌else◌, codes, bytes_eq, slice_get}
+use Rattle.std.specs.Prelude.{ℕ, ◌+◌, ◌==◌, List, [], length, take, drop, position, Option, Some, None, if◌then◌else◌, codes, bytes_eq, slice_get}
 use Rattle.std.specs.Borrow.{Bor}
 use Rattle.std.specs.List.{slice_split}
 use Rattle.bo_base.specs.Digits.{number_of}
+use Rattle.bo_office.specs.declared.command.Resource.{Resource}
+use Rattle.bo_office.specs.declared.command.Resource.TheVariants as resources
 use Rattle.bo_api.specs.declared.routes.Route.{Route}
 use Rattle.bo_api.specs.declared.routes.Route.TheVariants as routes
 use Rattle.bo_api.specs.declared.path.Place.{Place}
@@ -24,9 +26,22 @@ abbrev pub up_to : List ℕ → Option ℕ → List ℕ
 up_to text None = text
 up_to text (Some at) = take at text
 
+-- the text behind a place
+abbrev pub behind : List ℕ → Option ℕ → List ℕ
+behind text None = []
+behind text (Some at) = drop (at + 1) text
+
+-- where the first question mark stands
+abbrev pub mark_of : List ℕ → Option ℕ
+mark_of target = position (λ b. b == 63) target
+
 -- the path of a target: what stands before the first question mark
 abbrev pub path_of : List ℕ → List ℕ
-path_of target = up_to target (position (λ b. b == 63) target)
+path_of target = up_to target (mark_of target)
+
+-- the query of a target: what stands behind the first question mark
+abbrev pub query_of : List ℕ → List ℕ
+query_of target = behind target (mark_of target)
 
 -- what follows the front, where the text begins with it
 abbrev pub after : List ℕ → List ℕ → Option (List ℕ)
@@ -48,12 +63,22 @@ segment n path = slice_get (slice_split (λ b. b == 47) path) n
 abbrev pub id_in : List ℕ → Option ℕ
 id_in path = segment 2 path >>= number_of
 
--- what a path of that route names; an id that isn't one makes it unknown
+-- a row by its id; an id that isn't one makes the path unknown
+abbrev pub one_in : List ℕ → Resource → Option Place
+one_in path resource = id_in path >>= λ id. Some (places.One resource id)
+
+-- what a path of that route names
 abbrev pub place_by : List ℕ → Route → Option Place
-place_by path routes.Items = Some places.Items
-place_by path routes.Quotas = Some places.Quotas
+place_by path routes.Items = Some (places.All resources.Items)
+place_by path routes.Item = one_in path resources.Items
+place_by path routes.Variations = id_in path >>= λ id. Some (places.Variations id)
+place_by path routes.Quotas = Some (places.All resources.Quotas)
+place_by path routes.Quota = one_in path resources.Quotas
 place_by path routes.Availability = id_in path >>= λ id. Some (places.Availability id)
-place_by path routes.CartPositions = Some places.CartPositions
+place_by path routes.Vouchers = Some (places.All resources.Vouchers)
+place_by path routes.Voucher = one_in path resources.Vouchers
+place_by path routes.CartPositions = Some (places.All resources.Carts)
+place_by path routes.CartPosition = one_in path resources.Carts
 
 -- what a target names, in the shop of those slugs
 unfoldable pub place_of : List ℕ → List ℕ → List ℕ → Option Place

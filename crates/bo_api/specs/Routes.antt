@@ -21,13 +21,21 @@ with_read (Err e) route rows = rows
 unfoldable pub with_route : List ℕ → Route → Rows → Rows
 with_route text route rows = with_read (parse_route text) route rows
 
-unfoldable pub first_routes : Rows → Rows
-first_routes rows =
-    with_route (codes "/cartpositions/") routes.CartPositions (with_route (codes "/quotas/{id}/availability/") routes.Availability (with_route (codes "/quotas/") routes.Quotas (with_route (codes "/items/") routes.Items rows)))
+-- the rows with the routes of items and quotas
+unfoldable pub catalogue_routes : Rows → Rows
+catalogue_routes rows =
+    with_route (codes "/quotas/{id}/availability/") routes.Availability (with_route (codes "/quotas/{id}/") routes.Quota (with_route (codes "/quotas/") routes.Quotas
+    (with_route (codes "/items/{id}/variations/") routes.Variations (with_route (codes "/items/{id}/") routes.Item (with_route (codes "/items/") routes.Items rows)))))
+
+-- the rows with the routes of vouchers and cart positions
+unfoldable pub sale_routes : Rows → Rows
+sale_routes rows =
+    with_route (codes "/cartpositions/{id}/") routes.CartPosition (with_route (codes "/cartpositions/") routes.CartPositions
+    (with_route (codes "/vouchers/{id}/") routes.Voucher (with_route (codes "/vouchers/") routes.Vouchers rows)))
 
 -- all routes
 unfoldable pub all_routes : Rows
-all_routes = first_routes []
+all_routes = sale_routes (catalogue_routes [])
 
 -- what stands beside a route that was found
 abbrev pub found : Option (RouteOf Route) → Option Route

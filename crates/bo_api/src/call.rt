@@ -2,18 +2,22 @@
 
 ghost use Rattle.std.specs.Prelude.{◌≡◌, IfOk};
 ghost use Rattle.bo_api.specs.Body.{read_command};
-ghost use Rattle.bo_api.specs.Call.{told_fault, refused_by, written, call_at, call_of};
+ghost use Rattle.bo_api.specs.Call.{told_fault, refused_by, written, listed, call_at, call_of};
+ghost use Rattle.bo_api.specs.Page.{page_of};
 ghost use Rattle.bo_api.specs.Verbs.{is_write, verb_of};
 
 use crate::body::read_command;
 use crate::endpoint::{Endpoint, Form, endpoint_of, methods_of};
+use crate::page::page_of;
 use crate::path::Place;
 use crate::verb::{Verb, verb_of};
 use bo_base::Told;
 use bo_fields::{BodyFault, ReadError};
 use bo_http::Frame;
-use bo_office::{Command, Query};
-use bo_words::{field_fault, invalid_data, method_not_allowed, not_found, parse_error};
+use bo_office::{Command, Query, Resource};
+use bo_words::{
+    field_fault, invalid_data, invalid_page, method_not_allowed, not_found, parse_error,
+};
 use std::alloc::{AllocError, Global};
 
 /// What a message asks for. A message without a known token has no key; a refused write takes one.
@@ -22,7 +26,7 @@ pub enum Call {
     /// 401: there is no token, or an unknown one.
     Unauthorized(Told),
     Read(Query),
-    /// 404 or 405 of a method that doesn't write.
+    /// 404 or 405 of a method that doesn't write, or 404 for the page of a list.
     ReadRefused(Told),
     Write(Command),
     /// 404 or 405 of a POST, PATCH or DELETE, or 400 for its body.
@@ -62,6 +66,16 @@ fn written(alloc: Global, form: Form, body: &[u8]) -> Result<Call, AllocError>
     }
 }
 
+/// The page of a list that a target asks for, or the refusal of the page.
+fn listed(alloc: Global, resource: Resource, target: &[u8]) -> Result<Call, AllocError>
+    ensures { IfOk result (λ call. call ≡ listed resource (page_of target.now)) }
+{
+    match page_of(alloc, target)? {
+        None => Ok(Call::ReadRefused(invalid_page(alloc)?)),
+        Some(page) => Ok(Call::Read(Query::List(resource, page))),
+    }
+}
+
 /// What a message asks for at a place.
 fn call_at(alloc: Global, frame: &Frame<'_>, place: Place) -> Result<Call, AllocError>
     ensures { IfOk result (λ call. call ≡ call_at frame.now place) }
@@ -73,6 +87,7 @@ fn call_at(alloc: Global, frame: &Frame<'_>, place: Place) -> Result<Call, Alloc
             let told = method_not_allowed(alloc, method, methods_of(place))?;
             Ok(refused(verb, told))
         }
+        Some(Endpoint::Page(resource)) => listed(alloc, resource, frame.target()),
         Some(Endpoint::Read(query)) => Ok(Call::Read(query)),
         Some(Endpoint::Write(form)) => written(alloc, form, frame.body()),
     }

@@ -1,28 +1,82 @@
 //! What a method asks for at a place.
 
 ghost use Rattle.std.specs.Prelude.{◌≡◌};
-ghost use Rattle.bo_api.specs.Endpoints.{endpoint_of, methods_of};
+ghost use Rattle.bo_api.specs.Endpoints.{new_form, change_form, drop_form, write_of, endpoint_of, methods_of};
 
 use crate::path::Place;
 use crate::verb::Verb;
 use bo_base::Methods;
-use bo_office::Query;
+use bo_office::{Query, Resource};
 
-/// Which fields a body has.
+/// Which fields a body has, and the id of the row that the path names for them.
 #[derive(Clone, Copy, Debug, PartialEq, Eq)]
 pub enum Form {
     Item,
+    ItemPatch(u64),
+    /// A new variation of the item with this id.
+    Variation(u64),
     Quota,
+    QuotaPatch(u64),
+    Voucher,
+    VoucherPatch(u64),
+    /// No field is read.
+    DropVoucher(u64),
     Cart,
+    /// No field is read.
+    DropCart(u64),
 }
 
 /// What a method asks for at a place.
 #[derive(Clone, Copy, Debug, PartialEq, Eq)]
 pub enum Endpoint {
-    /// A query; the body isn't looked at.
+    /// A page of a list, whose number stands in the target's query; the body isn't looked at.
+    Page(Resource),
+    /// Any other query; neither the target's query nor the body is looked at.
     Read(Query),
     /// A command, whose body has that form.
     Write(Form),
+}
+
+/// The form of a new row.
+fn new_form(resource: Resource) -> Form
+    ensures { result ≡ new_form resource }
+{
+    match resource {
+        Resource::Items => Form::Item,
+        Resource::Quotas => Form::Quota,
+        Resource::Vouchers => Form::Voucher,
+        Resource::Carts => Form::Cart,
+    }
+}
+
+/// The form of a change, if rows of that kind can be changed.
+fn change_form(resource: Resource, id: u64) -> Option<Form>
+    ensures { result ≡ change_form resource id }
+{
+    match resource {
+        Resource::Items => Some(Form::ItemPatch(id)),
+        Resource::Quotas => Some(Form::QuotaPatch(id)),
+        Resource::Vouchers => Some(Form::VoucherPatch(id)),
+        Resource::Carts => None,
+    }
+}
+
+/// The form of a deletion, if rows of that kind can be deleted.
+fn drop_form(resource: Resource, id: u64) -> Option<Form>
+    ensures { result ≡ drop_form resource id }
+{
+    match resource {
+        Resource::Vouchers => Some(Form::DropVoucher(id)),
+        Resource::Carts => Some(Form::DropCart(id)),
+        Resource::Items | Resource::Quotas => None,
+    }
+}
+
+/// The command of a form, if there is one.
+fn write_of(form: Option<Form>) -> Option<Endpoint>
+    ensures { result ≡ write_of form }
+{
+    form.map(Endpoint::Write)
 }
 
 /// What a method asks for at a place, if the place has it.
@@ -30,10 +84,15 @@ pub fn endpoint_of(place: Place, verb: Verb) -> Option<Endpoint>
     ensures { result ≡ endpoint_of place verb }
 {
     match (place, verb) {
-        (Place::Items, Verb::Post) => Some(Endpoint::Write(Form::Item)),
-        (Place::Quotas, Verb::Post) => Some(Endpoint::Write(Form::Quota)),
-        (Place::Availability(id), Verb::Get) => Some(Endpoint::Read(Query::Availability(id))),
-        (Place::CartPositions, Verb::Post) => Some(Endpoint::Write(Form::Cart)),
+        (Place::All(resource), Verb::Get) => Some(Endpoint::Page(resource)),
+        (Place::All(resource), Verb::Post) => Some(Endpoint::Write(new_form(resource))),
+        (Place::One(resource, id), Verb::Get) => Some(Endpoint::Read(Query::One(resource, id))),
+        (Place::One(resource, id), Verb::Patch) => write_of(change_form(resource, id)),
+        (Place::One(resource, id), Verb::Delete) => write_of(drop_form(resource, id)),
+        (Place::Variations(item), Verb::Post) => Some(Endpoint::Write(Form::Variation(item))),
+        (Place::Availability(quota), Verb::Get) => {
+            Some(Endpoint::Read(Query::Availability(quota)))
+        }
         _ => None,
     }
 }

@@ -3,12 +3,16 @@
 
 mod body;
 pub mod call;
+mod catalogue_bodies;
+mod copies;
 mod endpoint;
+mod page;
 mod path;
 mod requests;
 mod routes;
 mod token;
 mod verb;
+mod voucher_bodies;
 pub mod words;
 
 pub use call::Call;

@@ -1,25 +1,30 @@
-//! What a path names.
+//! What a target's path names, and its query.
 
-ghost use Rattle.std.specs.Prelude.{◌≡◌, ◌==◌, ◌<◌, length, position, option_map, IfSome};
-ghost use Rattle.bo_api.specs.Path.{bytes_of, path_of, after, within, segment, id_in, place_by, place_of};
+ghost use Rattle.std.specs.Prelude.{◌≡◌, ◌<◌, length, option_map, IfSome};
+ghost use Rattle.bo_api.specs.Path.{bytes_of, mark_of, path_of, query_of, after, within, segment, id_in, one_in, place_by, place_of};
 ghost use Rattle.bo_api.specs.Routes.{all_routes, route_of};
 
 use crate::routes::{Route, route_of};
 use bo_base::number_of;
+use bo_office::Resource;
 use matchit::Router;
 
 /// What a path names, with the ids that stand in it.
 #[derive(Clone, Copy, Debug, PartialEq, Eq)]
 pub enum Place {
-    Items,
-    Quotas,
+    /// The list of all rows of a kind.
+    All(Resource),
+    /// The row of a kind with this id.
+    One(Resource, u64),
+    /// The variations of the item with this id.
+    Variations(u64),
+    /// What is left of the quota with this id.
     Availability(u64),
-    CartPositions,
 }
 
 /// Where the first question mark stands.
 fn mark_of(target: &[u8]) -> Option<usize>
-    ensures place { result ≡ position (λ b. b == 63) target.now }
+    ensures place { result ≡ mark_of target.now }
     ensures within { IfSome result (λ at. at < length target.now) }
 {
     target.iter().position(|b| *b == b'?')
@@ -32,6 +37,16 @@ fn path_of(target: &[u8]) -> &[u8]
     match mark_of(target) {
         None => target,
         Some(at) => &target[..at],
+    }
+}
+
+/// The bytes of a target behind the first question mark.
+pub(crate) fn query_of(target: &[u8]) -> &[u8]
+    ensures { result.now ≡ query_of target.now }
+{
+    match mark_of(target) {
+        None => b"",
+        Some(at) => &target[at + 1..],
     }
 }
 
@@ -67,15 +82,28 @@ fn id_in(path: &[u8]) -> Option<u64>
     number_of(segment(2, path)?)
 }
 
+/// A row by the id in the path.
+fn one_in(path: &[u8], resource: Resource) -> Option<Place>
+    ensures { result ≡ one_in path.now resource }
+{
+    Some(Place::One(resource, id_in(path)?))
+}
+
 /// What a path of that route names.
 fn place_by(path: &[u8], route: Route) -> Option<Place>
     ensures { result ≡ place_by path.now route }
 {
     match route {
-        Route::Items => Some(Place::Items),
-        Route::Quotas => Some(Place::Quotas),
+        Route::Items => Some(Place::All(Resource::Items)),
+        Route::Item => one_in(path, Resource::Items),
+        Route::Variations => Some(Place::Variations(id_in(path)?)),
+        Route::Quotas => Some(Place::All(Resource::Quotas)),
+        Route::Quota => one_in(path, Resource::Quotas),
         Route::Availability => Some(Place::Availability(id_in(path)?)),
-        Route::CartPositions => Some(Place::CartPositions),
+        Route::Vouchers => Some(Place::All(Resource::Vouchers)),
+        Route::Voucher => one_in(path, Resource::Vouchers),
+        Route::CartPositions => Some(Place::All(Resource::Carts)),
+        Route::CartPosition => one_in(path, Resource::Carts),
     }
 }
 

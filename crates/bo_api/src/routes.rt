@@ -1,7 +1,7 @@
 //! The routes of the shop.
 
 ghost use Rattle.std.specs.Prelude.{◌≡◌, IfOk, OnOk};
-ghost use Rattle.bo_api.specs.Routes.{with_route, first_routes, all_routes, route_of, found};
+ghost use Rattle.bo_api.specs.Routes.{with_route, catalogue_routes, sale_routes, all_routes, route_of, found};
 ghost use Rattle.matchit.specs.Seek.{first};
 
 use matchit::{InsertError, Router};
@@ -11,9 +11,15 @@ use std::alloc::Global;
 #[derive(Clone, Copy, Debug, Drop, PartialEq, Eq)]
 pub enum Route {
     Items,
+    Item,
+    Variations,
     Quotas,
+    Quota,
     Availability,
+    Vouchers,
+    Voucher,
     CartPositions,
+    CartPosition,
 }
 
 /// One more route.
@@ -23,14 +29,29 @@ fn add(router: &mut Router<Route>, text: &str, route: Route) -> Result<(), Inser
     router.insert(text, route)
 }
 
-#[tactic(auto, unfolding(crate::specs::Routes::first_routes))]
-fn add_first(router: &mut Router<Route>) -> Result<(), InsertError>
-    ensures { OnOk result (router.new ≡ first_routes router.old) }
+/// The routes of items and quotas.
+#[tactic(auto, unfolding(crate::specs::Routes::catalogue_routes))]
+fn add_catalogue(router: &mut Router<Route>) -> Result<(), InsertError>
+    ensures { OnOk result (router.new ≡ catalogue_routes router.old) }
 {
     add(router, "/items/", Route::Items)?;
+    add(router, "/items/{id}/", Route::Item)?;
+    add(router, "/items/{id}/variations/", Route::Variations)?;
     add(router, "/quotas/", Route::Quotas)?;
+    add(router, "/quotas/{id}/", Route::Quota)?;
     add(router, "/quotas/{id}/availability/", Route::Availability)?;
+    Ok(())
+}
+
+/// The routes of vouchers and cart positions.
+#[tactic(auto, unfolding(crate::specs::Routes::sale_routes))]
+fn add_sale(router: &mut Router<Route>) -> Result<(), InsertError>
+    ensures { OnOk result (router.new ≡ sale_routes router.old) }
+{
+    add(router, "/vouchers/", Route::Vouchers)?;
+    add(router, "/vouchers/{id}/", Route::Voucher)?;
     add(router, "/cartpositions/", Route::CartPositions)?;
+    add(router, "/cartpositions/{id}/", Route::CartPosition)?;
     Ok(())
 }
 
@@ -40,7 +61,8 @@ pub fn routes(alloc: Global) -> Result<Router<Route>, InsertError>
     ensures { IfOk result (λ r. r ≡ all_routes) }
 {
     let mut router = Router::new(alloc);
-    add_first(&mut router)?;
+    add_catalogue(&mut router)?;
+    add_sale(&mut router)?;
     Ok(router)
 }
 

@@ -65,8 +65,8 @@ impl Words {
     }
 
     /// What a message asks for, where `known` is the row of its token, if the shop has it.
-    /// The tests go in this order: the token (401), the path (404), the method (405),
-    /// and for a write the body as JSON, as an object and by its fields (400).
+    /// The tests go in this order: the token (401), the path (404), the method (405), for a list
+    /// its page (404), and for a write the body as JSON, as an object and by its fields (400).
     #[tactic(auto, unfolding(crate::specs::Call::call))]
     pub fn read_request(
         &self,
@@ -93,8 +93,8 @@ impl Words {
 
     /// The words of a reply.
     pub fn words(&self, alloc: Global, reply: &Reply) -> Result<Told, AllocError>
-        ensures { IfOk result (λ told. told ≡ words reply.now) }
+        ensures { IfOk result (λ told. told ≡ words self.now.organizer self.now.event reply.now) }
     {
-        bo_words::words(alloc, reply)
+        bo_words::words(alloc, self.organizer.as_str(), self.event.as_str(), reply)
     }
 }

@@ -1,10 +1,13 @@
--- What a field's value is: a truth value, a number, a text, an amount of money, a moment.
-use Rattle.std.specs.Prelude.{ℕ, ◌*◌, ◌==◌, ◌&&◌, ◌||◌, Bool, true, false, List, length, Option, Some, None, Result, Ok, Err, if◌then◌else◌, nat_lt, nat_le, is_some, option_and_then}
+-- What a field's value is: a truth value, a number, a text, an amount of money, a moment, a word of a choice.
+use Rattle.std.specs.Prelude.{ℕ, ◌*◌, ◌==◌, ◌&&◌, ◌||◌, Bool, true, false, List, length, Option, Some, None, Result, Ok, Err, if◌then◌else◌, nat_lt, nat_le, is_some, option_and_then, codes}
 use Rattle.std.specs.List.{list_any}
 use Rattle.serde_json.specs.Data.{Data, Members, no_members, member}
 use Rattle.serde_json.specs.Find.{as_bool, as_str, as_number, as_u64, as_i64, as_object}
 use Rattle.bo_base.specs.Money.{money_of}
 use Rattle.bo_base.specs.Moments.{moment_of}
+use Rattle.bo_base.specs.Texts.{same_text}
+use Rattle.bo_base.specs.declared.price_mode.PriceMode.{PriceMode}
+use Rattle.bo_base.specs.declared.price_mode.PriceMode.TheVariants as modes
 use Rattle.bo_base.specs.declared.refusal.ValueRefusal.{ValueRefusal}
 use Rattle.bo_base.specs.declared.refusal.ValueRefusal.TheVariants as refusals
 use Rattle.bo_words.specs.declared.fields.Field.{Field}
@@ -49,12 +52,22 @@ is_control b = nat_lt b 32 || (b == 127)
 abbrev pub is_unfit : List ℕ → Bool
 is_unfit s = nat_lt 254 (length s) || list_any is_control s
 
--- a text that is not blank, of at most 254 bytes and with no control byte
+-- at most 254 bytes, and no control byte
+abbrev pub fit : Field → List ℕ → Result (List ℕ) BodyFault
+fit f s = if is_unfit s then Err (fault f problems.NotAllowed) else Ok s
+
+-- a text of at most 254 bytes and with no control byte, which may be empty
+abbrev pub loose_text_from : Field → Option (List ℕ) → Result (List ℕ) BodyFault
+loose_text_from f None = Err (fault f problems.Invalid)
+loose_text_from f (Some s) = fit f s
+
+abbrev pub loose_text : Field → Data → Result (List ℕ) BodyFault
+loose_text f v = loose_text_from f (as_str v)
+
+-- the same of a text that may not be empty
 abbrev pub text_from : Field → Option (List ℕ) → Result (List ℕ) BodyFault
 text_from f None = Err (fault f problems.Invalid)
-text_from f (Some s) =
-    if length s == 0 then Err (fault f problems.Blank)
-    else (if is_unfit s then Err (fault f problems.NotAllowed) else Ok s)
+text_from f (Some s) = if length s == 0 then Err (fault f problems.Blank) else fit f s
 
 abbrev pub text : Field → Data → Result (List ℕ) BodyFault
 text f v = text_from f (as_str v)
@@ -108,3 +121,19 @@ moment_from f (Some s) = moment_read f (moment_of s)
 
 abbrev pub moment : Field → Data → Result ℕ BodyFault
 moment f v = moment_from f (as_str v)
+
+-- the price mode that a word names
+abbrev pub mode_named : List ℕ → Option PriceMode
+mode_named word =
+    if same_text word (codes "none") then Some modes.None
+    else (if same_text word (codes "set") then Some modes.Set
+    else (if same_text word (codes "subtract") then Some modes.Subtract
+    else (if same_text word (codes "percent") then Some modes.Percent else None)))
+
+-- a price mode: one of four words
+abbrev pub price_mode_from : Field → Option PriceMode → Result PriceMode BodyFault
+price_mode_from f None = Err (fault f problems.Invalid)
+price_mode_from f (Some mode) = Ok mode
+
+abbrev pub price_mode : Field → Data → Result PriceMode BodyFault
+price_mode f v = price_mode_from f (option_and_then mode_named (as_str v))

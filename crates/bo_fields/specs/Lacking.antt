@@ -1,13 +1,13 @@
 -- Fields that may be absent, by their kinds.
-use Rattle.std.specs.Prelude.{ℕ, Bool, List, [], Option, Some, None, Result, Ok, Err}
-use Rattle.serde_json.specs.Data.{Data, Items, no_items, item}
+use Rattle.std.specs.Prelude.{ℕ, Bool, List, [], Option, Some, None, Result, Ok}
+use Rattle.serde_json.specs.Data.{Data}
+use Rattle.bo_base.specs.declared.price_mode.PriceMode.{PriceMode}
 use Rattle.bo_words.specs.declared.fields.Field.{Field}
 use Rattle.bo_fields.specs.declared.error.BodyFault.{BodyFault}
-use Rattle.bo_fields.specs.declared.error.BodyFault.TheVariants as faults
 use Rattle.bo_fields.specs.Reading.{◌>>=◌}
 use Rattle.bo_fields.specs.Modes.{optional, present}
-use Rattle.bo_fields.specs.Kinds.{truth, id, text, money, moment}
-use Rattle.bo_fields.specs.Lists.{list, ids}
+use Rattle.bo_fields.specs.Kinds.{truth, whole, id, loose_text, text, money, moment, price_mode}
+use Rattle.bo_fields.specs.Lists.{ids}
 
 -- the reading of a value that may be lacking
 abbrev pub each : {A : Type 0} → (Data → Result A BodyFault) → Option Data → Result (Option A) BodyFault
@@ -23,6 +23,18 @@ or_else read x (Some v) = read v
 abbrev pub truth_or : Field → Bool → Data → Result Bool BodyFault
 truth_or f x d = present f d >>= or_else (truth f) x
 
+-- a whole number between two bounds that may be absent, and then is x
+abbrev pub whole_or : Field → ℕ → ℕ → ℕ → Data → Result ℕ BodyFault
+whole_or f x low high d = present f d >>= or_else (whole f low high) x
+
+-- a text that may be empty, and may be absent, and then is empty
+abbrev pub text_or_empty : Field → Data → Result (List ℕ) BodyFault
+text_or_empty f d = present f d >>= or_else (loose_text f) []
+
+-- a price mode that may be absent, and then is x
+abbrev pub price_mode_or : Field → PriceMode → Data → Result PriceMode BodyFault
+price_mode_or f x d = present f d >>= or_else (price_mode f) x
+
 -- an id that may be absent or null
 abbrev pub optional_id : Field → Data → Result (Option ℕ) BodyFault
 optional_id f d = each (id f) (optional f d)
@@ -30,6 +42,10 @@ optional_id f d = each (id f) (optional f d)
 -- a text that may be absent or null
 abbrev pub optional_text : Field → Data → Result (Option (List ℕ)) BodyFault
 optional_text f d = each (text f) (optional f d)
+
+-- a text that may be absent or null, and may be empty
+abbrev pub optional_loose_text : Field → Data → Result (Option (List ℕ)) BodyFault
+optional_loose_text f d = each (loose_text f) (optional f d)
 
 -- an amount of money that may be absent or null
 abbrev pub optional_money : Field → Data → Result (Option ℕ) BodyFault
@@ -42,23 +58,3 @@ optional_moment f d = each (moment f) (optional f d)
 -- a list of ids that may be absent, and then is empty
 abbrev pub ids_or_none : Field → Data → Result (List ℕ) BodyFault
 ids_or_none f d = present f d >>= or_else (ids f) []
-
--- a list, of which only the empty one is read yet
-abbrev pub only_empty : Items → Result (Unit {0}) BodyFault
-only_empty no_items = Ok tt
-only_empty (item d ds) = Err faults.InvalidData
-
-abbrev pub empty_of : Field → Data → Result (Unit {0}) BodyFault
-empty_of f v = list f v >>= only_empty
-
--- a list that may be absent, of which only the empty one is read yet
-abbrev pub empty_list : Field → Data → Result (Unit {0}) BodyFault
-empty_list f d = present f d >>= or_else (empty_of f) tt
-
--- a field that may be absent or null, of which no value is read yet
-abbrev pub unset_from : Option Data → Result (Unit {0}) BodyFault
-unset_from None = Ok tt
-unset_from (Some v) = Err faults.InvalidData
-
-abbrev pub unset : Field → Data → Result (Unit {0}) BodyFault
-unset f d = unset_from (optional f d)

@@ -3,3 +3,4 @@ pub mod Modes
 pub mod Kinds
 pub mod Lists
 pub mod Lacking
+pub mod Patched

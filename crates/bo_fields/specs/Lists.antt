@@ -1,7 +1,7 @@
 -- Lists in a body.
 use Rattle.std.specs.Prelude.{ℕ, List, [], ◌∷◌, ◌++◌, Option, Some, None, Result, Ok, Err}
-use Rattle.serde_json.specs.Data.{Data, Items, no_items, item}
-use Rattle.serde_json.specs.Find.{as_array}
+use Rattle.serde_json.specs.Data.{Data, Items, no_items, item, Members}
+use Rattle.serde_json.specs.Find.{as_array, as_object}
 use Rattle.bo_words.specs.declared.fields.Field.{Field}
 use Rattle.bo_words.specs.declared.fields.Problem.TheVariants as problems
 use Rattle.bo_fields.specs.declared.error.BodyFault.{BodyFault}
@@ -25,6 +25,14 @@ all_of read (item d ds) = read d >>= λ x. all_of read ds >>= λ xs. Ok (x ∷ x
 -- an entry that is an id; its faults are the list's
 abbrev pub entry_id : Field → Data → Result ℕ BodyFault
 entry_id f d = not_null f d >>= id f
+
+-- an entry that is an object; its faults are the list's
+abbrev pub object_from : Field → Data → Option Members → Result Data BodyFault
+object_from f v None = Err (fault f problems.Invalid)
+object_from f v (Some _) = Ok v
+
+abbrev pub entry_object : Field → Data → Result Data BodyFault
+entry_object f d = not_null f d >>= λ v. object_from f v (as_object v)
 
 -- a list of ids
 abbrev pub ids : Field → Data → Result (List ℕ) BodyFault

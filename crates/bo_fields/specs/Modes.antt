@@ -47,3 +47,11 @@ present_from f (Some v) = not_null f v >>= λ x. Ok (Some x)
 
 abbrev pub present : Field → Data → Result (Option Data) BodyFault
 present f d = present_from f (get (field_name f) d)
+
+-- a field that may be absent, and may be null: the outer option tells whether it is there
+abbrev pub maybe_from : Option Data → Option (Option Data)
+maybe_from None = None
+maybe_from (Some v) = Some (unless_null v)
+
+abbrev pub maybe : Field → Data → Option (Option Data)
+maybe f d = maybe_from (get (field_name f) d)

@@ -21,6 +21,16 @@ abbrev pub ◌>>=◌ : {A B : Type 0} → Result A BodyFault → (A → Result B
 abbrev pub fault : Field → Problem → BodyFault
 fault f p = faults.Field (record { field = f; problem = p })
 
+-- the same problem of that field
+abbrev pub fault_of : Field → BodyFault → BodyFault
+fault_of f (faults.Field x) = fault f x.problem
+fault_of f e = e
+
+-- the reading, with its fault as one of that field
+abbrev pub renamed : {A : Type 0} → Field → Result A BodyFault → Result A BodyFault
+renamed f (Ok x) = Ok x
+renamed f (Err e) = Err (fault_of f e)
+
 -- What a function returned, seen by show, is what the reading gives.
 abbrev pub Shows : {X Y : Type 0} → (X → Y) → Result X BodyFault → Result Y BodyFault → Type 0
 Shows show (Ok x) read = read ≡ Ok (show x)

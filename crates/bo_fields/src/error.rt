@@ -1,7 +1,7 @@
 //! Why a body isn't read.
 
 ghost use Rattle.std.specs.Prelude.{◌≡◌, Err};
-ghost use Rattle.bo_fields.specs.Reading.{fault};
+ghost use Rattle.bo_fields.specs.Reading.{fault, fault_of};
 ghost use Rattle.bo_fields.specs.declared.error.ReadError.TheVariants.{Memory, Body};
 
 use bo_words::{Fault, Field, Problem};
@@ -12,7 +12,7 @@ use std::alloc::AllocError;
 pub enum BodyFault {
     /// It is no JSON, or nests deeper than 127.
     NotJson,
-    /// It is no object, or a field has a value that isn't read yet.
+    /// It is no object.
     InvalidData,
     /// A field is wrong.
     Field(Fault),
@@ -40,6 +40,18 @@ impl From<BodyFault> for ReadError {
 
     fn from(fault: BodyFault) -> ReadError {
         ReadError::Body(fault)
+    }
+}
+
+impl BodyFault {
+    /// The same problem of that field, as a list names what is wrong with its entries.
+    pub fn of(self, field: Field) -> Self
+        ensures { result ≡ fault_of field self }
+    {
+        match self {
+            BodyFault::Field(Fault { problem, .. }) => BodyFault::Field(Fault { field, problem }),
+            other => other,
+        }
     }
 }
 

@@ -1,15 +1,17 @@
-//! What a field's value is: a truth value, a number, a text, an amount of money, a moment.
+//! What a field's value is: a truth value, a number, a text, an amount of money, a moment,
+//! a word of a choice.
 
 ghost use Rattle.std.specs.Prelude.{◌≡◌, ◌≤◌, IfOk, option_map};
 ghost use Rattle.std.specs.List.{list_any};
 ghost use Rattle.bo_base.specs.Money.{money_of};
 ghost use Rattle.bo_base.specs.Moments.{moment_of};
 ghost use Rattle.bo_fields.specs.Reading.{Shows, text_of, view_of};
-ghost use Rattle.bo_fields.specs.Kinds.{truth, whole, id, is_control, is_unfit, text, first_member, first_name, name, money_read, units_from, count_in, money, moment_read, moment};
+ghost use Rattle.bo_base.specs.Texts.{same_text};
+ghost use Rattle.bo_fields.specs.Kinds.{truth, whole, id, is_control, is_unfit, fit, loose_text, text, first_member, first_name, name, money_read, units_from, count_in, money, moment_read, moment, mode_named, price_mode};
 ghost use Rattle.serde_json.specs.View.{view, members_view};
 
 use crate::error::{BodyFault, fault};
-use bo_base::{Cents, Moment, ValueRefusal, read_cents, read_moment};
+use bo_base::{Cents, Moment, PriceMode, ValueRefusal, read_cents, read_moment};
 use bo_words::{Field, Problem};
 use serde_json::{Map, Value};
 
@@ -74,6 +76,27 @@ fn is_unfit(text: &[u8]) -> bool
     text.len() > 254 || has_control(text)
 }
 
+/// The text, where it has at most 254 bytes and no control byte.
+fn fit(field: Field, text: &str) -> Result<&str, BodyFault>
+    ensures { Shows text_of result (fit field text.now) }
+{
+    if is_unfit(text.as_bytes()) {
+        fault(field, Problem::NotAllowed)
+    } else {
+        Ok(text)
+    }
+}
+
+/// A text of at most 254 bytes and with no control byte, which may be empty.
+pub fn loose_text<'v>(field: Field, value: &'v Value) -> Result<&'v str, BodyFault>
+    ensures { Shows text_of result (loose_text field (view value.now)) }
+{
+    match value.as_str() {
+        None => fault(field, Problem::Invalid),
+        Some(text) => fit(field, text),
+    }
+}
+
 /// A text that is not blank, of at most 254 bytes and with no control byte.
 pub fn text<'v>(field: Field, value: &'v Value) -> Result<&'v str, BodyFault>
     ensures { Shows text_of result (text field (view value.now)) }
@@ -84,10 +107,7 @@ pub fn text<'v>(field: Field, value: &'v Value) -> Result<&'v str, BodyFault>
     if text.is_empty() {
         return fault(field, Problem::Blank);
     }
-    if is_unfit(text.as_bytes()) {
-        return fault(field, Problem::NotAllowed);
-    }
-    Ok(text)
+    fit(field, text)
 }
 
 /// The value of the first member, by the order of the names' bytes.
@@ -175,5 +195,39 @@ pub fn moment(field: Field, value: &Value) -> Result<Moment, BodyFault>
     match value.as_str() {
         None => fault(field, Problem::Invalid),
         Some(text) => moment_read(field, text),
+    }
+}
+
+/// Whether two texts are the same.
+fn is(text: &str, word: &str) -> bool
+    ensures { result ≡ same_text text.now word.now }
+{
+    text == word
+}
+
+/// The price mode that a word names.
+fn mode_named(word: &str) -> Option<PriceMode>
+    ensures { result ≡ mode_named word.now }
+{
+    if is(word, "none") {
+        Some(PriceMode::None)
+    } else if is(word, "set") {
+        Some(PriceMode::Set)
+    } else if is(word, "subtract") {
+        Some(PriceMode::Subtract)
+    } else if is(word, "percent") {
+        Some(PriceMode::Percent)
+    } else {
+        None
+    }
+}
+
+/// A price mode: `none`, `set`, `subtract` or `percent`.
+pub fn price_mode(field: Field, value: &Value) -> Result<PriceMode, BodyFault>
+    ensures { result ≡ price_mode field (view value.now) }
+{
+    match value.as_str().and_then(mode_named) {
+        None => fault(field, Problem::Invalid),
+        Some(mode) => Ok(mode),
     }
 }

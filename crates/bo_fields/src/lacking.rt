@@ -1,15 +1,15 @@
 //! Fields that may be absent, by their kinds.
 
-ghost use Rattle.std.specs.Prelude.{◌≡◌, option_map};
+ghost use Rattle.std.specs.Prelude.{◌≡◌, ◌≤◌, IfOk, option_map};
 ghost use Rattle.bo_fields.specs.Reading.{Reads, Shows, text_of};
-ghost use Rattle.bo_fields.specs.Lacking.{truth_or, optional_id, optional_text, optional_money, optional_moment, ids_or_none, only_empty, empty_of, empty_list, unset};
-ghost use Rattle.serde_json.specs.View.{view, items_view};
+ghost use Rattle.bo_fields.specs.Lacking.{truth_or, whole_or, text_or_empty, price_mode_or, optional_id, optional_text, optional_loose_text, optional_money, optional_moment, ids_or_none};
+ghost use Rattle.serde_json.specs.View.{view};
 
 use crate::error::{BodyFault, ReadError};
-use crate::kinds::{id, moment, money, text, truth};
-use crate::lists::{ids, list};
+use crate::kinds::{id, loose_text, moment, money, price_mode, text, truth, whole};
+use crate::lists::ids;
 use crate::modes::{optional, present};
-use bo_base::{Cents, Ids, Moment};
+use bo_base::{Cents, Ids, Moment, PriceMode};
 use bo_words::Field;
 use serde_json::Value;
 use std::alloc::Global;
@@ -21,6 +21,43 @@ pub fn truth_or(field: Field, default: bool, body: &Value) -> Result<bool, BodyF
     match present(field, body)? {
         None => Ok(default),
         Some(value) => truth(field, value),
+    }
+}
+
+/// A whole number between two bounds that may be absent.
+pub fn whole_or(
+    field: Field,
+    default: u64,
+    low: u64,
+    high: u64,
+    body: &Value,
+) -> Result<u64, BodyFault>
+    ensures value { result ≡ whole_or field default low high (view body.now) }
+    ensures within { default ≤ high → IfOk result (λ n. n ≤ high) }
+{
+    match present(field, body)? {
+        None => Ok(default),
+        Some(value) => whole(field, low, high, value),
+    }
+}
+
+/// A text that may be empty, and may be absent: then it is empty.
+pub fn text_or_empty<'v>(field: Field, body: &'v Value) -> Result<&'v str, BodyFault>
+    ensures { Shows text_of result (text_or_empty field (view body.now)) }
+{
+    match present(field, body)? {
+        None => Ok(""),
+        Some(value) => loose_text(field, value),
+    }
+}
+
+/// A price mode that may be absent.
+pub fn price_mode_or(field: Field, default: PriceMode, body: &Value) -> Result<PriceMode, BodyFault>
+    ensures { result ≡ price_mode_or field default (view body.now) }
+{
+    match present(field, body)? {
+        None => Ok(default),
+        Some(value) => price_mode(field, value),
     }
 }
 
@@ -41,6 +78,16 @@ pub fn optional_text<'v>(field: Field, body: &'v Value) -> Result<Option<&'v str
     match optional(field, body) {
         None => Ok(None),
         Some(value) => Ok(Some(text(field, value)?)),
+    }
+}
+
+/// A text that may be absent or null, and may be empty.
+pub fn optional_loose_text<'v>(field: Field, body: &'v Value) -> Result<Option<&'v str>, BodyFault>
+    ensures { Shows (option_map text_of) result (optional_loose_text field (view body.now)) }
+{
+    match optional(field, body) {
+        None => Ok(None),
+        Some(value) => Ok(Some(loose_text(field, value)?)),
     }
 }
 
@@ -71,42 +118,5 @@ pub fn ids_or_none(alloc: Global, field: Field, body: &Value) -> Result<Ids, Rea
     match present(field, body)? {
         None => Ok(Ids::new(Vec::new(alloc))),
         Some(value) => ids(alloc, field, value),
-    }
-}
-
-/// Whether the list is the empty one, the only one that is read yet.
-fn only_empty(list: &[Value]) -> Result<(), BodyFault>
-    ensures { result ≡ only_empty (items_view list.now) }
-{
-    match list {
-        [] => Ok(()),
-        [_, ..] => Err(BodyFault::InvalidData),
-    }
-}
-
-/// A list, of which only the empty one is read yet.
-fn empty_of(field: Field, value: &Value) -> Result<(), BodyFault>
-    ensures { result ≡ empty_of field (view value.now) }
-{
-    only_empty(list(field, value)?)
-}
-
-/// A list that may be absent, of which only the empty one is read yet.
-pub fn empty_list(field: Field, body: &Value) -> Result<(), BodyFault>
-    ensures { result ≡ empty_list field (view body.now) }
-{
-    match present(field, body)? {
-        None => Ok(()),
-        Some(value) => empty_of(field, value),
-    }
-}
-
-/// A field that may be absent or null, of which no value is read yet.
-pub fn unset(field: Field, body: &Value) -> Result<(), BodyFault>
-    ensures { result ≡ unset field (view body.now) }
-{
-    match optional(field, body) {
-        None => Ok(()),
-        Some(_) => Err(BodyFault::InvalidData),
     }
 }

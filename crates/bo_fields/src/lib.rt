@@ -6,12 +6,18 @@ pub mod kinds;
 pub mod lacking;
 pub mod lists;
 pub mod modes;
+pub mod patched;
 
 pub use error::{BodyFault, ReadError};
-pub use kinds::{id, moment, money, name, text, truth, whole};
+pub use kinds::{id, loose_text, moment, money, name, price_mode, text, truth, whole};
 pub use lacking::{
-    empty_list, ids_or_none, optional_id, optional_moment, optional_money, optional_text, truth_or,
-    unset,
+    ids_or_none, optional_id, optional_loose_text, optional_moment, optional_money, optional_text,
+    price_mode_or, text_or_empty, truth_or, whole_or,
 };
-pub use lists::{ids, list};
-pub use modes::{nullable, optional, present, required};
+pub use lists::{entry_object, ids, list};
+pub use modes::{maybe, nullable, optional, present, required};
+pub use patched::{
+    patched_id_or_null, patched_loose_text, patched_moment_or_null, patched_money,
+    patched_money_or_null, patched_name, patched_price_mode, patched_text, patched_truth,
+    patched_whole, patched_whole_or_null,
+};

@@ -1,8 +1,8 @@
 //! Lists in a body.
 
 ghost use Rattle.std.specs.Prelude.{◌≡◌};
-ghost use Rattle.bo_fields.specs.Reading.{Reads, Shows, items_of_slice};
-ghost use Rattle.bo_fields.specs.Lists.{list, entry_id, all_of, ids};
+ghost use Rattle.bo_fields.specs.Reading.{Reads, Shows, items_of_slice, view_of};
+ghost use Rattle.bo_fields.specs.Lists.{list, entry_id, entry_object, all_of, ids};
 ghost use Rattle.serde_json.specs.View.{view, items_view};
 
 use crate::error::{BodyFault, ReadError, fault};
@@ -28,6 +28,17 @@ fn entry_id(field: Field, entry: &Value) -> Result<u64, BodyFault>
     ensures { result ≡ entry_id field (view entry.now) }
 {
     id(field, not_null(field, entry)?)
+}
+
+/// An entry that is an object.
+pub fn entry_object<'v>(field: Field, entry: &'v Value) -> Result<&'v Value, BodyFault>
+    ensures { Shows view_of result (entry_object field (view entry.now)) }
+{
+    let value = not_null(field, entry)?;
+    match value.as_object() {
+        None => fault(field, Problem::Invalid),
+        Some(_) => Ok(value),
+    }
 }
 
 /// The ids that a list's entries are.

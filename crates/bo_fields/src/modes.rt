@@ -2,7 +2,7 @@
 
 ghost use Rattle.std.specs.Prelude.{◌≡◌, option_map};
 ghost use Rattle.bo_fields.specs.Reading.{Shows, view_of};
-ghost use Rattle.bo_fields.specs.Modes.{not_null, required, nullable, optional, present, unless_null};
+ghost use Rattle.bo_fields.specs.Modes.{not_null, required, nullable, optional, present, unless_null, maybe};
 ghost use Rattle.serde_json.specs.View.{view};
 
 use crate::error::{BodyFault, fault};
@@ -64,5 +64,15 @@ pub fn present<'v>(field: Field, body: &'v Value) -> Result<Option<&'v Value>, B
     match body.get(field.name()) {
         None => Ok(None),
         Some(value) => Ok(Some(not_null(field, value)?)),
+    }
+}
+
+/// The value of a field that may be absent, and may be null: the outer option tells whether it is there.
+pub fn maybe<'v>(field: Field, body: &'v Value) -> Option<Option<&'v Value>>
+    ensures { option_map (option_map view_of) result ≡ maybe field (view body.now) }
+{
+    match body.get(field.name()) {
+        None => None,
+        Some(value) => Some(unless_null(value)),
     }
 }

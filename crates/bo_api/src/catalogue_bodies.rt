@@ -1,0 +1,155 @@
+//! The bodies of items, variations and quotas, field by field. Only the first fault is answered.
+
+ghost use Rattle.std.specs.Prelude.{◌≡◌};
+ghost use Rattle.bo_fields.specs.Reading.{Reads};
+ghost use Rattle.bo_fields.specs.Lists.{all_of};
+ghost use Rattle.bo_api.specs.CatalogueBodies.{variation_of, variation_entry, variation_list, variations_of, item_of, item_patch_of, size_of, quota_of, new_size, quota_patch_of};
+ghost use Rattle.serde_json.specs.View.{view, items_view};
+
+use crate::copies::copied;
+use bo_base::{List, Text};
+use bo_catalogue::{ItemPatch, NewItem, NewQuota, NewVariation, QuotaPatch};
+use bo_fields::{
+    BodyFault, ReadError, entry_object, ids_or_none, list, money, name, nullable, optional_money,
+    patched_money, patched_name, patched_truth, patched_whole_or_null, present, required, truth_or,
+    whole,
+};
+use bo_words::Field;
+use serde_json::Value;
+use std::alloc::Global;
+
+/// A new variation.
+#[tactic(auto, unfolding(crate::specs::CatalogueBodies::variation_of))]
+pub fn variation_of(alloc: Global, body: &Value) -> Result<NewVariation, ReadError>
+    ensures { Reads result (variation_of (view body.now)) }
+{
+    let name = name(Field::Value, required(Field::Value, body)?)?;
+    let default_price = optional_money(Field::DefaultPrice, body)?;
+    let active = truth_or(Field::Active, true, body)?;
+    Ok(NewVariation {
+        name: Text::copy_of(alloc, name)?,
+        default_price,
+        active,
+    })
+}
+
+/// An entry of an item's variations. All its faults are faults of the list.
+fn variation_entry(alloc: Global, entry: &Value) -> Result<NewVariation, ReadError>
+    ensures { Reads result (variation_entry (view entry.now)) }
+{
+    let body = entry_object(Field::Variations, entry)?;
+    match variation_of(alloc, body) {
+        Ok(new) => Ok(new),
+        Err(ReadError::Memory) => Err(ReadError::Memory),
+        Err(ReadError::Body(fault)) => Err(ReadError::Body(fault.of(Field::Variations))),
+    }
+}
+
+/// The variations that a list's entries are.
+fn entries(alloc: Global, list: &[Value]) -> Result<List<NewVariation>, ReadError>
+    ensures { Reads result (all_of variation_entry (items_view list.now)) }
+{
+    let mut found = Vec::new(alloc);
+    for entry in list {
+        let new = variation_entry(alloc, entry)?;
+        if found.push(new).is_err() {
+            return Err(ReadError::Memory);
+        }
+    }
+    Ok(List::new(found))
+}
+
+/// A list of variations.
+fn variation_list(alloc: Global, value: &Value) -> Result<List<NewVariation>, ReadError>
+    ensures { Reads result (variation_list (view value.now)) }
+{
+    entries(alloc, list(Field::Variations, value)?)
+}
+
+/// The variations of a new item.
+fn variations_of(alloc: Global, body: &Value) -> Result<List<NewVariation>, ReadError>
+    ensures { Reads result (variations_of (view body.now)) }
+{
+    match present(Field::Variations, body)? {
+        None => Ok(List::new(Vec::new(alloc))),
+        Some(value) => variation_list(alloc, value),
+    }
+}
+
+/// A new item.
+#[tactic(auto, unfolding(crate::specs::CatalogueBodies::item_of))]
+pub fn item_of(alloc: Global, body: &Value) -> Result<NewItem, ReadError>
+    ensures { Reads result (item_of (view body.now)) }
+{
+    let name = name(Field::Name, required(Field::Name, body)?)?;
+    let default_price = money(Field::DefaultPrice, required(Field::DefaultPrice, body)?)?;
+    let active = truth_or(Field::Active, true, body)?;
+    let variations = variations_of(alloc, body)?;
+    Ok(NewItem {
+        name: Text::copy_of(alloc, name)?,
+        default_price,
+        active,
+        variations,
+    })
+}
+
+/// A change of an item.
+#[tactic(auto, unfolding(crate::specs::CatalogueBodies::item_patch_of))]
+pub fn item_patch_of(alloc: Global, body: &Value) -> Result<ItemPatch, ReadError>
+    ensures { Reads result (item_patch_of (view body.now)) }
+{
+    let name = patched_name(Field::Name, body)?;
+    let default_price = patched_money(Field::DefaultPrice, body)?;
+    let active = patched_truth(Field::Active, body)?;
+    Ok(ItemPatch {
+        name: copied(alloc, name)?,
+        default_price,
+        active,
+    })
+}
+
+/// The size of a quota: none where it is null.
+fn size_of(body: &Value) -> Result<Option<u32>, BodyFault>
+    ensures { result ≡ size_of (view body.now) }
+{
+    match nullable(Field::Size, body)? {
+        None => Ok(None),
+        Some(value) => Ok(Some(whole(Field::Size, 0, 1_000_000, value)? as u32)),
+    }
+}
+
+/// A new quota.
+#[tactic(auto, unfolding(crate::specs::CatalogueBodies::quota_of))]
+pub fn quota_of(alloc: Global, body: &Value) -> Result<NewQuota, ReadError>
+    ensures { Reads result (quota_of (view body.now)) }
+{
+    let name = name(Field::Name, required(Field::Name, body)?)?;
+    let size = size_of(body)?;
+    let items = ids_or_none(alloc, Field::Items, body)?;
+    let variations = ids_or_none(alloc, Field::Variations, body)?;
+    Ok(NewQuota {
+        name: Text::copy_of(alloc, name)?,
+        size,
+        items,
+        variations,
+    })
+}
+
+/// The new size of a quota, where it is given: none where it is null.
+fn new_size(body: &Value) -> Result<Option<Option<u32>>, BodyFault>
+    ensures { result ≡ new_size (view body.now) }
+{
+    match patched_whole_or_null(Field::Size, 0, 1_000_000, body)? {
+        None => Ok(None),
+        Some(None) => Ok(Some(None)),
+        Some(Some(size)) => Ok(Some(Some(size as u32))),
+    }
+}
+
+/// A change of a quota. Its size alone is read.
+pub fn quota_patch_of(body: &Value) -> Result<QuotaPatch, BodyFault>
+    ensures { result ≡ quota_patch_of (view body.now) }
+{
+    let size = new_size(body)?;
+    Ok(QuotaPatch { size })
+}

@@ -1,0 +1,17 @@
+//! Copies of texts that a body lends.
+
+ghost use Rattle.std.specs.Prelude.{◌≡◌, option_map, IfOk};
+ghost use Rattle.bo_fields.specs.Reading.{text_of};
+
+use bo_base::Text;
+use std::alloc::{AllocError, Global};
+
+/// A copy of a text that may be lacking.
+pub fn copied(alloc: Global, text: Option<&str>) -> Result<Option<Text>, AllocError>
+    ensures { IfOk result (λ copy. copy ≡ option_map text_of text.entry) }
+{
+    match text {
+        None => Ok(None),
+        Some(text) => Ok(Some(Text::copy_of(alloc, text)?)),
+    }
+}

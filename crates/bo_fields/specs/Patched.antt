@@ -1,0 +1,55 @@
+-- Fields of a change: what is absent stays as it is, and is none here.
+use Rattle.std.specs.Prelude.{ℕ, Bool, List, Option, Some, None, Result, Ok}
+use Rattle.serde_json.specs.Data.{Data}
+use Rattle.bo_base.specs.declared.price_mode.PriceMode.{PriceMode}
+use Rattle.bo_words.specs.declared.fields.Field.{Field}
+use Rattle.bo_fields.specs.declared.error.BodyFault.{BodyFault}
+use Rattle.bo_fields.specs.Reading.{◌>>=◌}
+use Rattle.bo_fields.specs.Modes.{present, maybe}
+use Rattle.bo_fields.specs.Kinds.{truth, whole, id, loose_text, text, name, money, moment, price_mode}
+use Rattle.bo_fields.specs.Lacking.{each}
+
+-- a field that may not be null
+abbrev pub patched : {A : Type 0} → (Data → Result A BodyFault) → Field → Data → Result (Option A) BodyFault
+patched read f d = present f d >>= each read
+
+-- the reading of a field that may be null; null is a value too, the inner none
+abbrev pub each_given : {A : Type 0} → (Data → Result A BodyFault) → Option (Option Data) → Result (Option (Option A)) BodyFault
+each_given read None = Ok None
+each_given read (Some v) = each read v >>= λ x. Ok (Some x)
+
+abbrev pub patched_or_null : {A : Type 0} → (Data → Result A BodyFault) → Field → Data → Result (Option (Option A)) BodyFault
+patched_or_null read f d = each_given read (maybe f d)
+
+abbrev pub patched_truth : Field → Data → Result (Option Bool) BodyFault
+patched_truth f = patched (truth f) f
+
+abbrev pub patched_whole : Field → ℕ → ℕ → Data → Result (Option ℕ) BodyFault
+patched_whole f low high = patched (whole f low high) f
+
+abbrev pub patched_text : Field → Data → Result (Option (List ℕ)) BodyFault
+patched_text f = patched (text f) f
+
+abbrev pub patched_loose_text : Field → Data → Result (Option (List ℕ)) BodyFault
+patched_loose_text f = patched (loose_text f) f
+
+abbrev pub patched_name : Field → Data → Result (Option (List ℕ)) BodyFault
+patched_name f = patched (name f) f
+
+abbrev pub patched_money : Field → Data → Result (Option ℕ) BodyFault
+patched_money f = patched (money f) f
+
+abbrev pub patched_price_mode : Field → Data → Result (Option PriceMode) BodyFault
+patched_price_mode f = patched (price_mode f) f
+
+abbrev pub patched_whole_or_null : Field → ℕ → ℕ → Data → Result (Option (Option ℕ)) BodyFault
+patched_whole_or_null f low high = patched_or_null (whole f low high) f
+
+abbrev pub patched_id_or_null : Field → Data → Result (Option (Option ℕ)) BodyFault
+patched_id_or_null f = patched_or_null (id f) f
+
+abbrev pub patched_money_or_null : Field → Data → Result (Option (Option ℕ)) BodyFault
+patched_money_or_null f = patched_or_null (money f) f
+
+abbrev pub patched_moment_or_null : Field → Data → Result (Option (Option ℕ)) BodyFault
+patched_moment_or_null f = patched_or_null (moment f) f
