@@ -30,7 +30,7 @@ show_item lists item = rows.Item (with_variations lists.catalogue item)
 abbrev pub show_quota : Quota → Shown
 show_quota quota = rows.Quota quota
 
-abbrev pub show_voucher : Lists → Voucher → Shown
+unfoldable pub show_voucher : Lists → Voucher → Shown
 show_voucher lists voucher = rows.Voucher voucher (redeemed voucher.id lists)
 
 abbrev pub show_cart : CartPos → Shown
