@@ -5,15 +5,16 @@ use Rattle.std.specs.List.{AllByRecursion}
 use Rattle.std.proofs.lemmas.Bool.Decides.{nat_tests, eqb_tells}
 use Rattle.std.proofs.lemmas.List.Sums.{sum_by-le-sum_by}
 use Rattle.bo_base.specs.Tables.{row_at, InOrderFrom, AreInOrder}
-use Rattle.bo_base.proofs.Edits.{sum_by-with_row}
+use Rattle.bo_base.proofs.Edits.{sum_by-with_row, sum_by-without_row}
 use Rattle.bo_lists.specs.declared.rows.Voucher.{Voucher}
 use Rattle.bo_lists.specs.declared.rows.CartPos.{CartPos}
-use Rattle.bo_lists.specs.declared.changes.Change.TheVariants.{PutCart}
+use Rattle.bo_lists.specs.declared.changes.Change.TheVariants.{PutCart, DropCart}
 use Rattle.bo_lists.specs.Tests.{is_live_cart, names, holds}
 use Rattle.bo_lists.specs.Lists.{Lists}
 use Rattle.bo_lists.specs.Change.{after_change}
 use Rattle.bo_lists.specs.Usage.{redeemed}
 use Rattle.bo_lists.specs.Headroom.{held, HasHeadroom, AllHaveHeadroom, has_use, has_use_by}
+use Rattle.bo_lists.proofs.EachRow.{all_weaker}
 use Rattle.bo_lists.proofs.Time.{one}
 
 -- as time goes on, fewer cart positions are live
@@ -90,3 +91,10 @@ module _ (at : ℕ) (lists : Lists) (row : CartPos) (order : AreInOrder (λ r. r
       by_name : (name : Option ℕ) → row.voucher ≡ name → AllHaveHeadroom at (after_change (PutCart row) lists)
       by_name None e = all_none lists.vouchers e h
       by_name (Some id) e = all_some 0 lists.vouchers id e (sym (ap (has_use at lists) e) ∙ left) o h
+
+-- a cart position that goes
+pub headroom_drop : (at : ℕ) (lists : Lists) (id : ℕ) → AreInOrder (λ r. r.id) lists.carts → AllHaveHeadroom at lists → AllHaveHeadroom at (after_change (DropCart id) lists)
+headroom_drop at lists id o h = all_weaker (HasHeadroom at lists) (HasHeadroom at (after_change (DropCart id) lists)) fewer lists.vouchers h
+  where
+    fewer : (v : Voucher) → HasHeadroom at lists v → HasHeadroom at (after_change (DropCart id) lists) v
+    fewer v room = omega (arith, room, sum_by-without_row (λ r. r.id) (λ c. one (holds at v.id c)) 0 id lists.carts o)

@@ -12,3 +12,4 @@ pub mod Named
 pub mod Numbered
 pub mod Sound
 pub mod Full
+pub mod Takes

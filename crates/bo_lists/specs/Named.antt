@@ -1,6 +1,6 @@
 -- Vouchers by their codes, and what names a voucher.
-use Rattle.std.specs.Prelude.{ℕ, Bool, ◌||◌, List, Option, find}
-use Rattle.std.specs.List.{list_any}
+use Rattle.std.specs.Prelude.{◌≡◌, ℕ, Bool, false, ◌&&◌, ◌||◌, not, ◌==◌, List, [], ◌∷◌, Option, find}
+use Rattle.std.specs.List.{list_any, AllByRecursion}
 use Rattle.bo_base.specs.Texts.{same_text}
 use Rattle.bo_lists.specs.declared.rows.Voucher.{Voucher}
 use Rattle.bo_lists.specs.Tests.{names}
@@ -9,6 +9,15 @@ use Rattle.bo_lists.specs.Lists.{Lists}
 -- the first voucher with that code
 abbrev pub voucher_of : List ℕ → Lists → Option Voucher
 voucher_of code lists = find (λ v. same_text v.code code) lists.vouchers
+
+-- a voucher other than this one has the code
+abbrev pub is_taken : ℕ → List ℕ → Lists → Bool
+is_taken id code lists = list_any (λ v. same_text v.code code && not (v.id == id)) lists.vouchers
+
+-- no two vouchers have one code
+abbrev pub AreUnlike : List Voucher → Type 0
+AreUnlike [] = Unit {0}
+AreUnlike (v ∷ vs) = AllByRecursion (λ w. same_text v.code w.code ≡ false) vs × AreUnlike vs
 
 abbrev pub is_ordered : ℕ → Lists → Bool
 is_ordered id lists = list_any (λ p. names id p.voucher) lists.positions

@@ -1,5 +1,5 @@
 -- New rows, whose ids are counted as used.
-use Rattle.std.specs.Prelude.{◌+◌, List, ◌∷◌, length, map}
+use Rattle.std.specs.Prelude.{◌≡◌, ℕ, ◌+◌, List, [], ◌∷◌, length, map}
 use Rattle.bo_catalogue.specs.declared.rows.Variation.{Variation}
 use Rattle.bo_catalogue.specs.declared.rows.ItemRows.{ItemRows}
 use Rattle.bo_catalogue.specs.declared.rows.Quota.{Quota}
@@ -9,6 +9,11 @@ use Rattle.bo_lists.specs.declared.changes.Change.{Change}
 use Rattle.bo_lists.specs.declared.changes.Change.TheVariants.{PutItem, PutVariation, PutQuota, PutVoucher, PutCart}
 use Rattle.bo_lists.specs.Lists.{State}
 use Rattle.bo_lists.specs.Change.{after_change, after_all}
+
+-- the ids of these variations count on from n
+abbrev pub AreFrom : ℕ → List Variation → Type 0
+AreFrom n [] = Unit {0}
+AreFrom n (v ∷ vs) = (v.id ≡ n) × AreFrom (n + 1) vs
 
 -- an item is put with its variations
 abbrev pub puts_of : ItemRows → List Change

@@ -4,6 +4,8 @@ use Rattle.std.specs.List.{AllByRecursion}
 use Rattle.bo_base.specs.Tables.{AreInOrder}
 use Rattle.bo_lists.specs.Lists.{State}
 use Rattle.bo_lists.specs.Headroom.{AllHaveHeadroom}
+use Rattle.bo_lists.specs.Fits.{AllFit}
+use Rattle.bo_lists.specs.Named.{AreUnlike}
 
 -- ids rise, and each is below the next one
 pub record AreNumbered {T : Type 0} (key : T → ℕ) (next : ℕ) (rows : List T) : Type 0 where
@@ -21,3 +23,7 @@ pub record IsSound (state : State) : Type 0 where
   pub waiting : AreNumbered (λ r. r.id) state.next.waiting state.lists.waiting
   -- no voucher is named by more order positions in force and live cart positions than it may be used
   pub headroom : AllHaveHeadroom state.moment state.lists
+  -- what a cart position or an order position names is a voucher that stands and is for its product
+  pub fit : AllFit state.lists
+  -- a code tells which voucher it is
+  pub codes : AreUnlike state.lists.vouchers
