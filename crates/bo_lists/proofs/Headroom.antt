@@ -1,6 +1,6 @@
--- What keeps headroom: time, and a cart position whose voucher has a use left.
+-- What keeps headroom: time, a cart position that is dead or whose voucher has a use left, and one that goes.
 use Rattle.std.proofs.Common.{◌≡◌, ℕ, ◌+◌, ◌<◌, ◌≤◌, ◌≢◌, ◌⊎◌, inl, inr, Bool, true, false, ◌&&◌, eqb, leb, List, [], ◌∷◌, Option, Some, None, refl, sym, ap, ◌∙◌, arith}
-use Rattle.std.specs.Prelude.{if◌then◌else◌}
+use Rattle.std.specs.Prelude.{◌||◌, not, if◌then◌else◌}
 use Rattle.std.specs.List.{AllByRecursion}
 use Rattle.std.proofs.lemmas.Bool.Decides.{nat_tests, eqb_tells}
 use Rattle.std.proofs.lemmas.List.Sums.{sum_by-le-sum_by}
@@ -85,12 +85,23 @@ module _ (at : ℕ) (lists : Lists) (row : CartPos) (order : AreInOrder (λ r. r
           let left' = sym (ap (λ b. has_use_by at lists (if b then Some v else row_at (λ r. r.id) id vs)) other.0) ∙ left in
           (room_other v (ap (names v.id) e ∙ flip id v.id ∙ other.0) h.0, rest left' o.1 h.1)
 
-  pub headroom_put : AreInOrder (λ r. r.id) lists.vouchers → has_use at lists row.voucher ≡ true → AllHaveHeadroom at lists → AllHaveHeadroom at (after_change (PutCart row) lists)
-  headroom_put o left h = by_name row.voucher refl
+  headroom_live : AreInOrder (λ r. r.id) lists.vouchers → has_use at lists row.voucher ≡ true → AllHaveHeadroom at lists → AllHaveHeadroom at (after_change (PutCart row) lists)
+  headroom_live o left h = by_name row.voucher refl
     where
       by_name : (name : Option ℕ) → row.voucher ≡ name → AllHaveHeadroom at (after_change (PutCart row) lists)
       by_name None e = all_none lists.vouchers e h
       by_name (Some id) e = all_some 0 lists.vouchers id e (sym (ap (has_use at lists) e) ∙ left) o h
+
+  -- a row that is dead holds no use
+  unheld : (v : Voucher) → is_live_cart at row ≡ false → HasHeadroom at lists v → HasHeadroom at (after_change (PutCart row) lists) v
+  unheld v dead h = omega (arith, h, held_put v.id, ap (λ b. one (b && names v.id row.voucher)) dead)
+
+  pub headroom_put : AreInOrder (λ r. r.id) lists.vouchers → (not (is_live_cart at row) || has_use at lists row.voucher) ≡ true → AllHaveHeadroom at lists → AllHaveHeadroom at (after_change (PutCart row) lists)
+  headroom_put o test h = by_life (is_live_cart at row) refl
+    where
+      by_life : (live : Bool) → is_live_cart at row ≡ live → AllHaveHeadroom at (after_change (PutCart row) lists)
+      by_life false dead = all_weaker (HasHeadroom at lists) (HasHeadroom at (after_change (PutCart row) lists)) (λ v. unheld v dead) lists.vouchers h
+      by_life true live = headroom_live o (sym (ap (λ b. not b || has_use at lists row.voucher) live) ∙ test) h
 
 -- a cart position that goes
 pub headroom_drop : (at : ℕ) (lists : Lists) (id : ℕ) → AreInOrder (λ r. r.id) lists.carts → AllHaveHeadroom at lists → AllHaveHeadroom at (after_change (DropCart id) lists)

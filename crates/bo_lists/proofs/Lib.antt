@@ -1,4 +1,5 @@
 pub mod EachRow
+pub mod Found
 pub mod Time
 pub mod Headroom
 pub mod Fit

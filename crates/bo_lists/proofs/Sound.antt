@@ -1,5 +1,6 @@
 -- What keeps a box office sound.
 use Rattle.std.proofs.Common.{◌≡◌, ℕ, ◌+◌, ◌≤◌, ◌⊎◌, inl, inr, true, false, List, [], ◌∷◌, length, map, Option, Some, None, refl, sym, ap, ◌∙◌, subst, arith}
+use Rattle.std.specs.Prelude.{◌||◌, not}
 use Rattle.bo_catalogue.specs.declared.rows.Item.{Item}
 use Rattle.bo_catalogue.specs.declared.rows.Variation.{Variation}
 use Rattle.bo_catalogue.specs.declared.rows.ItemRows.{ItemRows}
@@ -12,6 +13,7 @@ use Rattle.bo_catalogue.specs.Member.{is_in}
 use Rattle.bo_lists.specs.declared.rows.CartPos.{CartPos}
 use Rattle.bo_lists.specs.declared.rows.Voucher.{Voucher}
 use Rattle.bo_lists.specs.declared.changes.Change.TheVariants.{PutItem, PutVariation, PutQuota, PutVoucher, DropVoucher, DropCart}
+use Rattle.bo_lists.specs.Tests.{is_live_cart}
 use Rattle.bo_lists.specs.Lists.{Lists, State, empty, voucher_at}
 use Rattle.bo_lists.specs.Change.{after_change, after_all, changed}
 use Rattle.bo_lists.specs.Usage.{redeemed}
@@ -67,8 +69,8 @@ sound_later state at le h = record {
   codes = h.codes;
 }
 
--- a new cart position that names no voucher, or one for its product with a use left
-pub sound_cart : (state : State) (row : CartPos) → row.id ≡ state.next.cart → has_use state.moment state.lists row.voucher ≡ true → is_fit state.lists row.product row.voucher ≡ true → IsSound state → IsSound (with_cart row state)
+-- a new cart position that names no voucher, or one for its product, with a use left where the position is live
+pub sound_cart : (state : State) (row : CartPos) → row.id ≡ state.next.cart → (not (is_live_cart state.moment row) || has_use state.moment state.lists row.voucher) ≡ true → is_fit state.lists row.product row.voucher ≡ true → IsSound state → IsSound (with_cart row state)
 sound_cart state row e left fits h = record {
   items = h.items;
   variations = h.variations;

@@ -36,30 +36,30 @@ and_false : (b : Bool) → (b && false) ≡ false
 and_false true = refl
 and_false false = refl
 
--- a new row without a voucher ignores no quota
+-- a new row whose voucher heeds quotas is weighed in each
 module _ (lists : Lists) (at : ℕ) (quota : Quota) (row : CartPos) where
   is_found : cart_at row.id (after_change (PutCart row) lists) ≡ Some row
   is_found = let e = row_at-with_row (λ (r : CartPos). r.id) row.id row lists.carts in grind (arith, nat_tests, e)
 
-  not_free : row.voucher ≡ None → is_free (after_change (PutCart row) lists) at quota row.id ≡ false
-  not_free none =
+  not_free : ignores (after_change (PutCart row) lists) row.voucher ≡ false → is_free (after_change (PutCart row) lists) at quota row.id ≡ false
+  not_free heeds =
       ap (λ (c : Option CartPos). is_free_cart (after_change (PutCart row) lists) at quota c) is_found
-      ∙ ap (λ (v : Option ℕ). cart_counts (after_change (PutCart row) lists) at quota row && ignores (after_change (PutCart row) lists) v) none
+      ∙ ap (λ (free : Bool). cart_counts (after_change (PutCart row) lists) at quota row && free) heeds
       ∙ and_false (cart_counts (after_change (PutCart row) lists) at quota row)
 
 less_none : (test : ℕ → Bool) (id n : ℕ) → test id ≡ false → n - count_by test (id ∷ []) ≡ n
 less_none test id n h = rw h (omega arith)
 
-weighs_all : (lists : Lists) (at : ℕ) (quota : Quota) (row : CartPos) → row.voucher ≡ None → weighed (after_change (PutCart row) lists) at quota (row.id ∷ []) ≡ total (usage_of (after_change (PutCart row) lists) at quota)
+weighs_all : (lists : Lists) (at : ℕ) (quota : Quota) (row : CartPos) → ignores (after_change (PutCart row) lists) row.voucher ≡ false → weighed (after_change (PutCart row) lists) at quota (row.id ∷ []) ≡ total (usage_of (after_change (PutCart row) lists) at quota)
 unfolding weighed
-weighs_all lists at quota row none =
-    less_none (is_free (after_change (PutCart row) lists) at quota) row.id (total (usage_of (after_change (PutCart row) lists) at quota)) (not_free lists at quota row none)
+weighs_all lists at quota row heeds =
+    less_none (is_free (after_change (PutCart row) lists) at quota) row.id (total (usage_of (after_change (PutCart row) lists) at quota)) (not_free lists at quota row heeds)
 
-all_within : (before : State) (row : CartPos) (quotas : List Quota) → row.voucher ≡ None → AllByRecursion (λ quota. is_over before.lists (after_change (PutCart row) before.lists) before.moment (row.id ∷ []) quota ≡ false) quotas → AllByRecursion (λ quota. IsWithin quota.size (used before quota) (used (with_cart row before) quota)) quotas
-all_within before row [] none h = tt
-all_within before row (quota ∷ quotas) none h =
-    (within quota.size (used before quota) (used (with_cart row before) quota) (subst (λ (n : ℕ). is_over_size quota.size (used before quota) n ≡ false) (weighs_all before.lists before.moment quota row none) h.0), all_within before row quotas none h.1)
+all_within : (before : State) (row : CartPos) (quotas : List Quota) → ignores (after_change (PutCart row) before.lists) row.voucher ≡ false → AllByRecursion (λ quota. is_over before.lists (after_change (PutCart row) before.lists) before.moment (row.id ∷ []) quota ≡ false) quotas → AllByRecursion (λ quota. IsWithin quota.size (used before quota) (used (with_cart row before) quota)) quotas
+all_within before row [] heeds h = tt
+all_within before row (quota ∷ quotas) heeds h =
+    (within quota.size (used before quota) (used (with_cart row before) quota) (subst (λ (n : ℕ). is_over_size quota.size (used before quota) n ≡ false) (weighs_all before.lists before.moment quota row heeds) h.0), all_within before row quotas heeds h.1)
 
-pub takes_no_more : (before : State) (row : CartPos) → row.voucher ≡ None → first_over before.lists (after_change (PutCart row) before.lists) before.moment (row.id ∷ []) ≡ None → TakesNoMore before (with_cart row before)
-takes_no_more before row none h =
-    all_within before row before.lists.catalogue.quotas none (none_passes (is_over before.lists (after_change (PutCart row) before.lists) before.moment (row.id ∷ [])) before.lists.catalogue.quotas h)
+pub takes_no_more : (before : State) (row : CartPos) → ignores (after_change (PutCart row) before.lists) row.voucher ≡ false → first_over before.lists (after_change (PutCart row) before.lists) before.moment (row.id ∷ []) ≡ None → TakesNoMore before (with_cart row before)
+takes_no_more before row heeds h =
+    all_within before row before.lists.catalogue.quotas heeds (none_passes (is_over before.lists (after_change (PutCart row) before.lists) before.moment (row.id ∷ [])) before.lists.catalogue.quotas h)

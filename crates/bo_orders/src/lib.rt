@@ -3,6 +3,7 @@
 
 pub mod cart_id;
 pub mod carts;
+pub mod laws;
 pub mod new_cart;
 pub mod refusal;
 

@@ -1,0 +1,25 @@
+-- What is known where a cart position was deleted.
+use Rattle.std.proofs.Common.{◌≡◌, ℕ, Option, Some, None, Ok, sym, ap, subst}
+use Rattle.bo_lists.specs.declared.rows.CartPos.{CartPos}
+use Rattle.bo_lists.specs.declared.changes.Change.TheVariants.{DropCart}
+use Rattle.bo_lists.specs.Lists.{State, cart_at}
+use Rattle.bo_lists.specs.Change.{changed}
+use Rattle.bo_lists.specs.Sound.{IsSound}
+use Rattle.bo_lists.proofs.Sound.{sound_drop_cart}
+use Rattle.bo_orders.specs.Dropped.{position_dropped, dropped_at}
+
+module _ (id : ℕ) (before after : State) where
+  by_found : (found : Option CartPos) → dropped_at id before found ≡ Ok after → changed (DropCart id) before ≡ after
+  by_found None h = absurd (cc)
+  by_found (Some cart) h = cc
+
+  pub dropped_is : position_dropped id before ≡ Ok after → changed (DropCart id) before ≡ after
+  unfolding position_dropped
+  dropped_is h = by_found (cart_at id before.lists) h
+
+  pub dropped_moment : position_dropped id before ≡ Ok after → after.moment ≡ before.moment
+  dropped_moment h = sym (ap (λ (s : State). s.moment) (dropped_is h))
+
+  -- the box office stays sound
+  pub dropped_sound : IsSound before → position_dropped id before ≡ Ok after → IsSound after
+  dropped_sound sound h = subst IsSound (dropped_is h) (sound_drop_cart before id sound)

@@ -1,0 +1,26 @@
+//! Laws of the decisions.
+
+ghost use Rattle.std.specs.Prelude.{◌≡◌, false, [], ◌∷◌, None, Ok};
+ghost use Rattle.bo_base.specs.declared.draw.Draw.{Draw};
+ghost use Rattle.bo_lists.specs.Lists.{State};
+ghost use Rattle.bo_lists.specs.Over.{first_over, ignores};
+ghost use Rattle.bo_lists.specs.declared.rows.CartPos.{CartPos};
+ghost use Rattle.bo_orders.specs.declared.new_cart.NewCart.{NewCart};
+ghost use Rattle.bo_orders.specs.Carts.{position_added};
+ghost use Rattle.bo_orders.specs.Takes.{TakesNoMore};
+
+/// Each cart position that is added was weighed: it takes too much of no quota, where the position itself
+/// doesn't weigh if its voucher ignores quotas.
+pub fn added_none_over()
+    ensures { (new : NewCart) (draw : Draw) (before after : State) (row : CartPos) →
+        position_added new draw before ≡ Ok (after, row) →
+        first_over before.lists after.lists before.moment (row.id ∷ []) ≡ None }
+{}
+
+/// Where its voucher, if it names one, heeds quotas, what is used afterwards is within each quota's size, or no
+/// more than was used before.
+pub fn added_takes_no_more()
+    ensures { (new : NewCart) (draw : Draw) (before after : State) (row : CartPos) →
+        position_added new draw before ≡ Ok (after, row) → ignores after.lists row.voucher ≡ false →
+        TakesNoMore before after }
+{}
