@@ -1,11 +1,14 @@
 //! What requests to the catalogue say.
 
-ghost use Rattle.std.specs.Prelude.{◌≡◌, IfOk};
-ghost use Rattle.bo_catalogue.specs.ItemAdded.{item_row, is_varied};
+ghost use Rattle.std.specs.Prelude.{◌≡◌, ◌≤◌, ◌+◌, length, IfOk};
+ghost use Rattle.bo_catalogue.specs.ItemAdded.{item_row, item_rows, variation_rows};
+ghost use Rattle.bo_catalogue.specs.ItemChanged.{patched_item};
 ghost use Rattle.bo_catalogue.specs.VariationAdded.{variation_row};
 ghost use Rattle.bo_catalogue.specs.QuotaAdded.{quota_row};
+ghost use Rattle.bo_catalogue.specs.Resized.{patched_quota};
+ghost use Rattle.bo_catalogue.specs.Limits.{last_id};
 
-use crate::rows::{Item, Quota, Variation};
+use crate::rows::{Item, ItemRows, Quota, Variation};
 use bo_base::{Cents, Ids, List, Text};
 use std::alloc::{AllocError, Global};
 
@@ -62,6 +65,69 @@ impl NewItem {
             varied: !self.variations.as_slice().is_empty(),
         })
     }
+}
+
+impl NewItem {
+    /// The rows that it makes: its own, with this id, and those of its variations, whose ids count on
+    /// from `first`, all within 64 bits.
+    pub fn rows(&self, alloc: Global, id: u64, first: u64) -> Result<ItemRows, AllocError>
+        requires { first + length self.now.variations ≤ last_id + 1 }
+        ensures { IfOk result (λ rows. rows ≡ item_rows self.now id first) }
+    {
+        Ok(ItemRows {
+            item: self.row(alloc, id)?,
+            variations: variation_rows(alloc, self.variations.as_slice(), id, first)?,
+        })
+    }
+}
+
+impl ItemPatch {
+    /// An item as it is afterwards.
+    pub fn row(&self, alloc: Global, row: &Item) -> Result<Item, AllocError>
+        ensures { IfOk result (λ changed. changed ≡ patched_item self.now row.now) }
+    {
+        let name = match &self.name {
+            None => row.name.copy(alloc)?,
+            Some(name) => name.copy(alloc)?,
+        };
+        Ok(Item {
+            id: row.id,
+            name,
+            default_price: self.default_price.unwrap_or(row.default_price),
+            active: self.active.unwrap_or(row.active),
+            varied: row.varied,
+        })
+    }
+}
+
+impl QuotaPatch {
+    /// A quota as it is afterwards.
+    pub fn row(self, alloc: Global, row: &Quota) -> Result<Quota, AllocError>
+        ensures { IfOk result (λ changed. changed ≡ patched_quota self row.now) }
+    {
+        let mut changed = row.copy(alloc)?;
+        changed.size = self.size.unwrap_or(row.size);
+        Ok(changed)
+    }
+}
+
+// The rows of an item's variations, whose ids count on from `first`.
+fn variation_rows(
+    alloc: Global,
+    variations: &[NewVariation],
+    item: u64,
+    first: u64,
+) -> Result<List<Variation>, AllocError>
+    requires { first + length variations.now ≤ last_id + 1 }
+    ensures { IfOk result (λ rows. rows ≡ variation_rows variations.now item first) }
+{
+    let mut rows = Vec::with_capacity(alloc, variations.len())?;
+    let mut id = first;
+    for new in variations {
+        rows.push(new.row(alloc, item, id)?)?;
+        id += 1;
+    }
+    Ok(List::new(rows))
 }
 
 impl NewVariation {
