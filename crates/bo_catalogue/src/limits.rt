@@ -20,5 +20,6 @@ pub fn takes_row<T>(id: u64, rows: &[T]) -> bool
 pub fn takes_rows<T>(count: usize, first: u64, rows: &[T]) -> bool
     ensures { result ≡ takes_rows count first rows.now }
 {
-    rows.len().saturating_add(count) <= MOST_ROWS && first.saturating_add(count as u64) <= LAST_ID + 1
+    rows.len().saturating_add(count) <= MOST_ROWS
+        && first.saturating_add(count as u64) <= LAST_ID + 1
 }
