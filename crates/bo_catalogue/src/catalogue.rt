@@ -12,7 +12,7 @@ ghost use Rattle.bo_catalogue.specs.QuotaAdded.{quota_added, quota_test, items_s
 
 use crate::limits::{takes_row, takes_rows};
 use crate::refusal::CatalogueRefusal;
-use crate::requests::{ItemPatch, NewItem, NewQuota, NewVariation, QuotaPatch};
+use crate::requests::{ItemPatch, NewItem, NewQuota, NewVariation, QuotaPatch, variation_rows};
 use crate::rows::{Item, ItemRows, PricedVariation, Product, Quota, Variation};
 use bo_base::{Cents, List, Rows};
 use std::alloc::{AllocError, Global};
@@ -199,7 +199,10 @@ impl Catalogue {
         if !(takes_row(id, self.items()) && takes_rows(count, first, self.variations())) {
             return Err(CatalogueRefusal::Full);
         }
-        Ok(new.rows(alloc, id, first)?)
+        Ok(ItemRows {
+            item: new.row(alloc, id)?,
+            variations: variation_rows(alloc, new.variations.as_slice(), id, first)?,
+        })
     }
 
     /// An item as it is after a change. It is for the caller to put it.

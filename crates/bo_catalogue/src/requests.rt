@@ -1,14 +1,14 @@
 //! What requests to the catalogue say.
 
 ghost use Rattle.std.specs.Prelude.{◌≡◌, ◌≤◌, ◌+◌, length, IfOk};
-ghost use Rattle.bo_catalogue.specs.ItemAdded.{item_row, item_rows, variation_rows};
+ghost use Rattle.bo_catalogue.specs.ItemAdded.{item_row, variation_rows};
 ghost use Rattle.bo_catalogue.specs.ItemChanged.{patched_item};
 ghost use Rattle.bo_catalogue.specs.VariationAdded.{variation_row};
 ghost use Rattle.bo_catalogue.specs.QuotaAdded.{quota_row};
 ghost use Rattle.bo_catalogue.specs.Resized.{patched_quota};
 ghost use Rattle.bo_catalogue.specs.Limits.{last_id};
 
-use crate::rows::{Item, ItemRows, Quota, Variation};
+use crate::rows::{Item, Quota, Variation};
 use bo_base::{Cents, Ids, List, Text};
 use std::alloc::{AllocError, Global};
 
@@ -67,16 +67,52 @@ impl NewItem {
     }
 }
 
-impl NewItem {
-    /// The rows that it makes: its own, with this id, and those of its variations, whose ids count on
-    /// from `first`, all within 64 bits.
-    pub fn rows(&self, alloc: Global, id: u64, first: u64) -> Result<ItemRows, AllocError>
-        requires { first + length self.now.variations ≤ last_id + 1 }
-        ensures { IfOk result (λ rows. rows ≡ item_rows self.now id first) }
+impl NewVariation {
+    /// The row that it makes of this item.
+    pub fn row(&self, alloc: Global, item: u64, id: u64) -> Result<Variation, AllocError>
+        ensures { IfOk result (λ row. row ≡ variation_row self.now item id) }
     {
-        Ok(ItemRows {
-            item: self.row(alloc, id)?,
-            variations: variation_rows(alloc, self.variations.as_slice(), id, first)?,
+        Ok(Variation {
+            id,
+            item,
+            name: self.name.copy(alloc)?,
+            default_price: self.default_price,
+            active: self.active,
+        })
+    }
+}
+
+/// The rows of an item's variations, whose ids count on from `first`. The last of them must be at most
+/// 9,007,199,254,740,991.
+pub(crate) fn variation_rows(
+    alloc: Global,
+    variations: &[NewVariation],
+    item: u64,
+    first: u64,
+) -> Result<List<Variation>, AllocError>
+    requires { first + length variations.now ≤ last_id + 1 }
+    ensures { IfOk result (λ rows. rows ≡ variation_rows variations.now item first) }
+{
+    let mut rows = Vec::with_capacity(alloc, variations.len())?;
+    let mut id = first;
+    for new in variations {
+        rows.push(new.row(alloc, item, id)?)?;
+        id += 1;
+    }
+    Ok(List::new(rows))
+}
+
+impl NewQuota {
+    /// The row that it makes.
+    pub fn row(&self, alloc: Global, id: u64) -> Result<Quota, AllocError>
+        ensures { IfOk result (λ row. row ≡ quota_row self.now id) }
+    {
+        Ok(Quota {
+            id,
+            name: self.name.copy(alloc)?,
+            size: self.size,
+            items: Ids::rising(alloc, self.items.as_slice())?,
+            variations: Ids::rising(alloc, self.variations.as_slice())?,
         })
     }
 }
@@ -108,54 +144,5 @@ impl QuotaPatch {
         let mut changed = row.copy(alloc)?;
         changed.size = self.size.unwrap_or(row.size);
         Ok(changed)
-    }
-}
-
-// The rows of an item's variations, whose ids count on from `first`.
-fn variation_rows(
-    alloc: Global,
-    variations: &[NewVariation],
-    item: u64,
-    first: u64,
-) -> Result<List<Variation>, AllocError>
-    requires { first + length variations.now ≤ last_id + 1 }
-    ensures { IfOk result (λ rows. rows ≡ variation_rows variations.now item first) }
-{
-    let mut rows = Vec::with_capacity(alloc, variations.len())?;
-    let mut id = first;
-    for new in variations {
-        rows.push(new.row(alloc, item, id)?)?;
-        id += 1;
-    }
-    Ok(List::new(rows))
-}
-
-impl NewVariation {
-    /// The row that it makes of this item.
-    pub fn row(&self, alloc: Global, item: u64, id: u64) -> Result<Variation, AllocError>
-        ensures { IfOk result (λ row. row ≡ variation_row self.now item id) }
-    {
-        Ok(Variation {
-            id,
-            item,
-            name: self.name.copy(alloc)?,
-            default_price: self.default_price,
-            active: self.active,
-        })
-    }
-}
-
-impl NewQuota {
-    /// The row that it makes.
-    pub fn row(&self, alloc: Global, id: u64) -> Result<Quota, AllocError>
-        ensures { IfOk result (λ row. row ≡ quota_row self.now id) }
-    {
-        Ok(Quota {
-            id,
-            name: self.name.copy(alloc)?,
-            size: self.size,
-            items: Ids::rising(alloc, self.items.as_slice())?,
-            variations: Ids::rising(alloc, self.variations.as_slice())?,
-        })
     }
 }
