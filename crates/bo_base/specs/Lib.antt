@@ -7,4 +7,5 @@ pub mod Money
 pub mod Moments
 pub mod Civil
 pub mod Rising
+pub mod Percent
 pub mod Price

@@ -1,14 +1,15 @@
 -- What a product costs with a voucher.
-use Rattle.std.specs.Prelude.{ℕ, ◌+◌, ◌-◌, ◌*◌, ◌/◌, Option, Some, None}
+use Rattle.std.specs.Prelude.{ℕ, ◌-◌, Option, Some, None}
+use Rattle.bo_base.specs.Percent.{left_of}
 use Rattle.bo_base.specs.declared.price_mode.PriceMode.{PriceMode}
 use Rattle.bo_base.specs.declared.price_mode.PriceMode.TheVariants as modes
 
--- the value is cents, and in the mode percent hundredths of a percent; half a cent is rounded up
+-- the value is cents, and in the mode percent hundredths of a percent, of which more than the whole take all
 abbrev pub price_with : PriceMode → ℕ → ℕ → ℕ
 price_with modes.None value base = base
 price_with modes.Set value base = value
 price_with modes.Subtract value base = base - value
-price_with modes.Percent value base = (base * (10000 - value) + 5000) / 10000
+price_with modes.Percent value base = left_of value base
 
 -- the price by the mode, where there is a value, else the base price
 abbrev pub price : PriceMode → Option ℕ → ℕ → ℕ

@@ -4,6 +4,7 @@ ghost use Rattle.std.specs.Prelude.{◌≡◌};
 ghost use Rattle.bo_base.specs.Price.{price, price_with};
 
 use crate::cents::Cents;
+use crate::percent::Percent;
 
 /// How a voucher changes a price.
 #[derive(Clone, Copy, Debug, PartialEq, Eq)]
@@ -36,9 +37,9 @@ fn price_with(mode: PriceMode, value: Cents, base: Cents) -> Cents
         PriceMode::None => base,
         PriceMode::Set => value,
         PriceMode::Subtract => Cents::new(base.get().saturating_sub(value.get())),
-        PriceMode::Percent => {
-            let kept = 10_000u64.saturating_sub(value.get());
-            Cents::new((base.get() * kept + 5000) / 10_000)
-        }
+        PriceMode::Percent => match Percent::new(value.get()) {
+            Some(percent) => percent.left_of(base),
+            None => Cents::new(0),
+        },
     }
 }

@@ -10,9 +10,9 @@ ghost use Rattle.bo_catalogue.specs.VariationAdded.{variation_added};
 ghost use Rattle.bo_catalogue.specs.Resized.{resized};
 ghost use Rattle.bo_catalogue.specs.QuotaAdded.{quota_added, quota_test, items_stand, variations_stand, variations_fit, items_fit, is_of, is_of_one, is_offered, has_one_of};
 
-use crate::limits::takes_row;
+use crate::limits::{takes_row, takes_rows};
 use crate::refusal::CatalogueRefusal;
-use crate::requests::{ItemPatch, NewItem, NewQuota, NewVariation, QuotaPatch};
+use crate::requests::{ItemPatch, NewItem, NewQuota, NewVariation, QuotaPatch, variation_rows};
 use crate::rows::{Item, ItemRows, PricedVariation, Product, Quota, Variation};
 use bo_base::{Cents, List, Rows};
 use std::alloc::{AllocError, Global};
@@ -184,6 +184,7 @@ impl Catalogue {
     /// The row of a new item with this id, and those of its variations, whose ids count on from `first`.
     /// It is for the caller to put them. Refusals: 16 `Full` where 1,000,000 items stand or the id is above
     /// 9,007,199,254,740,991, and where that would come to be so of the variations.
+    #[tactic(auto, unfolding(crate::specs::ItemAdded::item_added))]
     pub fn add_item(
         &self,
         alloc: Global,
@@ -194,7 +195,14 @@ impl Catalogue {
         ensures done { IfOk result (λ rows. item_added new.now id first self.now.lists ≡ Ok rows) }
         ensures refused { IfErr result (λ e. e ≢ CatalogueRefusal.Memory → item_added new.now id first self.now.lists ≡ Err e) }
     {
-        Err(CatalogueRefusal::Memory)
+        let count = new.variations.as_slice().len();
+        if !(takes_row(id, self.items()) && takes_rows(count, first, self.variations())) {
+            return Err(CatalogueRefusal::Full);
+        }
+        Ok(ItemRows {
+            item: new.row(alloc, id)?,
+            variations: variation_rows(alloc, new.variations.as_slice(), id, first)?,
+        })
     }
 
     /// An item as it is after a change. It is for the caller to put it.
@@ -208,12 +216,16 @@ impl Catalogue {
         ensures done { IfOk result (λ row. item_changed id patch.now self.now.lists ≡ Ok row) }
         ensures refused { IfErr result (λ e. e ≢ CatalogueRefusal.Memory → item_changed id patch.now self.now.lists ≡ Err e) }
     {
-        Err(CatalogueRefusal::Memory)
+        match self.item(id) {
+            None => Err(CatalogueRefusal::NoItem),
+            Some(row) => Ok(patch.row(alloc, row)?),
+        }
     }
 
     /// The row of a new variation of an item, with this id, and its price. It is for the caller to put it.
     /// Refusals: 10 `NoItem`; 17 `Plain` where the item was made without variations; 16 `Full` where
     /// 1,000,000 variations stand or the id is above 9,007,199,254,740,991.
+    #[tactic(auto, unfolding(crate::specs::VariationAdded::variation_added))]
     pub fn add_variation(
         &self,
         alloc: Global,
@@ -224,7 +236,19 @@ impl Catalogue {
         ensures done { IfOk result (λ row. variation_added item new.now id self.now.lists ≡ Ok row) }
         ensures refused { IfErr result (λ e. e ≢ CatalogueRefusal.Memory → variation_added item new.now id self.now.lists ≡ Err e) }
     {
-        Err(CatalogueRefusal::Memory)
+        let Some(row) = self.item(item) else {
+            return Err(CatalogueRefusal::NoItem);
+        };
+        if !row.varied {
+            return Err(CatalogueRefusal::Plain);
+        }
+        if !takes_row(id, self.variations()) {
+            return Err(CatalogueRefusal::Full);
+        }
+        Ok(PricedVariation {
+            row: new.row(alloc, row.id, id)?,
+            price: new.default_price.unwrap_or(row.default_price),
+        })
     }
 
     /// A quota as it is with another size. It is for the caller to put it.
@@ -238,14 +262,23 @@ impl Catalogue {
         ensures done { IfOk result (λ row. resized id patch self.now.lists ≡ Ok row) }
         ensures refused { IfErr result (λ e. e ≢ CatalogueRefusal.Memory → resized id patch self.now.lists ≡ Err e) }
     {
-        Err(CatalogueRefusal::Memory)
+        match self.quota(id) {
+            None => Err(CatalogueRefusal::NoQuota),
+            Some(row) => Ok(patch.row(alloc, row)?),
+        }
     }
 
     /// Copies of an item's variations, by id.
     pub fn variations_of(&self, alloc: Global, item: u64) -> Result<List<Variation>, AllocError>
         ensures { IfOk result (λ rows. rows ≡ variations_of item self.now.lists) }
     {
-        Err(AllocError)
+        let mut rows = Vec::new(alloc);
+        for row in self.variations() {
+            if row.item == item {
+                rows.push(row.copy(alloc)?)?;
+            }
+        }
+        Ok(List::new(rows))
     }
 
     /// A copy of an item, with its variations.

@@ -8,7 +8,7 @@ pub mod requests;
 pub mod rows;
 
 pub use catalogue::Catalogue;
-pub use limits::{LAST_ID, MOST_ROWS, takes_row};
+pub use limits::{LAST_ID, MOST_ROWS, takes_row, takes_rows};
 pub use refusal::CatalogueRefusal;
 pub use requests::{ItemPatch, NewItem, NewQuota, NewVariation, QuotaPatch};
 pub use rows::{Item, ItemRows, PricedVariation, Product, Quota, Variation};

@@ -1,9 +1,12 @@
 //! What requests to the catalogue say.
 
-ghost use Rattle.std.specs.Prelude.{◌≡◌, IfOk};
-ghost use Rattle.bo_catalogue.specs.ItemAdded.{item_row, is_varied};
+ghost use Rattle.std.specs.Prelude.{◌≡◌, ◌≤◌, ◌+◌, length, IfOk};
+ghost use Rattle.bo_catalogue.specs.ItemAdded.{item_row, variation_rows};
+ghost use Rattle.bo_catalogue.specs.ItemChanged.{patched_item};
 ghost use Rattle.bo_catalogue.specs.VariationAdded.{variation_row};
 ghost use Rattle.bo_catalogue.specs.QuotaAdded.{quota_row};
+ghost use Rattle.bo_catalogue.specs.Resized.{patched_quota};
+ghost use Rattle.bo_catalogue.specs.Limits.{last_id};
 
 use crate::rows::{Item, Quota, Variation};
 use bo_base::{Cents, Ids, List, Text};
@@ -79,6 +82,26 @@ impl NewVariation {
     }
 }
 
+/// The rows of an item's variations, whose ids count on from `first`. The last of them must be at most
+/// 9,007,199,254,740,991.
+pub(crate) fn variation_rows(
+    alloc: Global,
+    variations: &[NewVariation],
+    item: u64,
+    first: u64,
+) -> Result<List<Variation>, AllocError>
+    requires { first + length variations.now ≤ last_id + 1 }
+    ensures { IfOk result (λ rows. rows ≡ variation_rows variations.now item first) }
+{
+    let mut rows = Vec::with_capacity(alloc, variations.len())?;
+    let mut id = first;
+    for new in variations {
+        rows.push(new.row(alloc, item, id)?)?;
+        id += 1;
+    }
+    Ok(List::new(rows))
+}
+
 impl NewQuota {
     /// The row that it makes.
     pub fn row(&self, alloc: Global, id: u64) -> Result<Quota, AllocError>
@@ -91,5 +114,35 @@ impl NewQuota {
             items: Ids::rising(alloc, self.items.as_slice())?,
             variations: Ids::rising(alloc, self.variations.as_slice())?,
         })
+    }
+}
+
+impl ItemPatch {
+    /// An item as it is afterwards.
+    pub fn row(&self, alloc: Global, row: &Item) -> Result<Item, AllocError>
+        ensures { IfOk result (λ changed. changed ≡ patched_item self.now row.now) }
+    {
+        let name = match &self.name {
+            None => row.name.copy(alloc)?,
+            Some(name) => name.copy(alloc)?,
+        };
+        Ok(Item {
+            id: row.id,
+            name,
+            default_price: self.default_price.unwrap_or(row.default_price),
+            active: self.active.unwrap_or(row.active),
+            varied: row.varied,
+        })
+    }
+}
+
+impl QuotaPatch {
+    /// A quota as it is afterwards.
+    pub fn row(self, alloc: Global, row: &Quota) -> Result<Quota, AllocError>
+        ensures { IfOk result (λ changed. changed ≡ patched_quota self row.now) }
+    {
+        let mut changed = row.copy(alloc)?;
+        changed.size = self.size.unwrap_or(row.size);
+        Ok(changed)
     }
 }
