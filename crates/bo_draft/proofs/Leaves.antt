@@ -1,12 +1,43 @@
--- What changes of cart positions leave as it is.
-use Rattle.std.proofs.Common.{◌≡◌, ℕ, ◌+◌, ◌⊎◌, inl, inr, List, [], ◌∷◌, ◌++◌, length, take, sym, ap, ◌∙◌, arith, length-append}
+-- What changes of sales leave as it is.
+use Rattle.std.proofs.Common.{◌≡◌, ℕ, ◌+◌, ◌⊎◌, inl, inr, List, [], ◌∷◌, ◌++◌, length, take, refl, sym, ap, ◌∙◌, arith, length-append}
 use Rattle.std.proofs.lemmas.Bool.{cases_lt}
 use Rattle.std.proofs.lemmas.List.{take_all, take-append-le}
 use Rattle.bo_lists.specs.declared.changes.Change.{Change}
+use Rattle.bo_lists.specs.declared.changes.Change.TheVariants.{PutVoucher, PutCart, PutWaiting, DropVoucher, DropCart, DropWaiting}
 use Rattle.bo_lists.specs.Lists.{Lists}
 use Rattle.bo_lists.specs.Change.{after_change, after_all}
-use Rattle.bo_draft.specs.DraftState.{LeavesRest}
+use Rattle.bo_draft.specs.DraftState.{Log, LeavesRest}
+use Rattle.bo_draft.specs.Shift.{CanCome}
 use Rattle.bo_draft.proofs.Steps.{after_all-push}
+
+-- a change of sales, but of no order or order position
+module _ (log : Log) where
+  pub catalogue_same : (change : Change) → CanCome log change → (h : Lists) → (after_change change h).catalogue ≡ h.catalogue
+  catalogue_same (PutVoucher row) can h = refl
+  catalogue_same (DropVoucher id) can h = refl
+  catalogue_same (PutCart row) can h = refl
+  catalogue_same (DropCart id) can h = refl
+  catalogue_same (PutWaiting row) can h = refl
+  catalogue_same (DropWaiting id) can h = refl
+  catalogue_same _ can h = absurd can
+
+  orders_same : (change : Change) → CanCome log change → (h : Lists) → (after_change change h).orders ≡ h.orders
+  orders_same (PutVoucher row) can h = refl
+  orders_same (DropVoucher id) can h = refl
+  orders_same (PutCart row) can h = refl
+  orders_same (DropCart id) can h = refl
+  orders_same (PutWaiting row) can h = refl
+  orders_same (DropWaiting id) can h = refl
+  orders_same _ can h = absurd can
+
+  positions_same : (change : Change) → CanCome log change → (h : Lists) → (after_change change h).positions ≡ h.positions
+  positions_same (PutVoucher row) can h = refl
+  positions_same (DropVoucher id) can h = refl
+  positions_same (PutCart row) can h = refl
+  positions_same (DropCart id) can h = refl
+  positions_same (PutWaiting row) can h = refl
+  positions_same (DropWaiting id) can h = refl
+  positions_same _ can h = absurd can
 
 module _ (log : List Change) (change : Change) (lists : Lists) where
   all_or : (count : ℕ) → (take count (log ++ change ∷ []) ≡ take count log) ⊎ (after_all (take count (log ++ change ∷ [])) lists ≡ after_change change (after_all (take (length log) log) lists))
@@ -22,14 +53,11 @@ module _ (log : List Change) (change : Change) (lists : Lists) where
     | inr last ↦ ap part last ∙ same (after_all (take (length log) log) lists) ∙ left (length log)
   ]
 
-  -- a change of cart positions alone
-  pub leaves_more : ((h : Lists) → after_change change h ≡ record h { carts = (after_change change h).carts }) → LeavesRest log lists → LeavesRest (log ++ change ∷ []) lists
-  leaves_more only leaves = record {
-    catalogue = stays (λ h. h.catalogue) (λ h. ap (λ (l : Lists). l.catalogue) (only h)) leaves.catalogue;
-    vouchers = stays (λ h. h.vouchers) (λ h. ap (λ (l : Lists). l.vouchers) (only h)) leaves.vouchers;
-    orders = stays (λ h. h.orders) (λ h. ap (λ (l : Lists). l.orders) (only h)) leaves.orders;
-    positions = stays (λ h. h.positions) (λ h. ap (λ (l : Lists). l.positions) (only h)) leaves.positions;
-    waiting = stays (λ h. h.waiting) (λ h. ap (λ (l : Lists). l.waiting) (only h)) leaves.waiting;
+  pub leaves_more : CanCome (record { base = lists; changes = log }) change → LeavesRest log lists → LeavesRest (log ++ change ∷ []) lists
+  leaves_more can leaves = record {
+    catalogue = stays (λ h. h.catalogue) (λ h. catalogue_same (record { base = lists; changes = log }) change can h) leaves.catalogue;
+    orders = stays (λ h. h.orders) (λ h. orders_same (record { base = lists; changes = log }) change can h) leaves.orders;
+    positions = stays (λ h. h.positions) (λ h. positions_same (record { base = lists; changes = log }) change can h) leaves.positions;
   }
 
 -- the same after all changes

@@ -3,6 +3,7 @@ pub mod Leaves
 pub mod Kept
 pub mod Counts
 pub mod Shifts
+pub mod VoucherShifts
 pub mod Overs
 pub mod Extensions
 pub mod Holds

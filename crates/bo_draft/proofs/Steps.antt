@@ -3,10 +3,10 @@ use Rattle.std.proofs.Common.{◌≡◌, ℕ, ◌+◌, ◌<◌, List, [], ◌∷
 use Rattle.std.proofs.lemmas.List.{take_more}
 use Rattle.bo_base.proofs.Edits.{row_at-with_row, row_at-without_row}
 use Rattle.bo_lists.specs.declared.changes.Change.{Change}
-use Rattle.bo_lists.specs.declared.changes.Change.TheVariants.{PutVoucher, PutCart, DropVoucher, DropCart}
-use Rattle.bo_lists.specs.Lists.{Lists, voucher_at, cart_at}
+use Rattle.bo_lists.specs.declared.changes.Change.TheVariants.{PutVoucher, PutCart, PutWaiting, DropVoucher, DropCart, DropWaiting}
+use Rattle.bo_lists.specs.Lists.{Lists, voucher_at, cart_at, waiting_at}
 use Rattle.bo_lists.specs.Change.{after_change, after_all}
-use Rattle.bo_draft.specs.Steps.{voucher_step, cart_step}
+use Rattle.bo_draft.specs.Steps.{voucher_step, cart_step, waiting_step}
 
 pub after_all-push : (log : List Change) (change : Change) (lists : Lists) → after_all (log ++ change ∷ []) lists ≡ after_change change (after_all log lists)
 after_all-push [] change lists = refl
@@ -30,3 +30,11 @@ cart_at-after_change id _ lists = refl
 
 pub cart_more : (id : ℕ) (log : List Change) (i : ℕ) (d : Change) (lists : Lists) → i < length log → cart_at id (after_all (take (i + 1) log) lists) ≡ cart_step id (get_or log i d) (cart_at id (after_all (take i log) lists))
 cart_more id log i d lists lt = ap (cart_at id) (after_all_more log i d lists lt) ∙ cart_at-after_change id (get_or log i d) (after_all (take i log) lists)
+
+waiting_at-after_change : (id : ℕ) (change : Change) (lists : Lists) → waiting_at id (after_change change lists) ≡ waiting_step id change (waiting_at id lists)
+waiting_at-after_change id (PutWaiting row) lists = row_at-with_row (λ r. r.id) id row lists.waiting
+waiting_at-after_change id (DropWaiting gone) lists = row_at-without_row (λ r. r.id) id gone lists.waiting
+waiting_at-after_change id _ lists = refl
+
+pub waiting_more : (id : ℕ) (log : List Change) (i : ℕ) (d : Change) (lists : Lists) → i < length log → waiting_at id (after_all (take (i + 1) log) lists) ≡ waiting_step id (get_or log i d) (waiting_at id (after_all (take i log) lists))
+waiting_more id log i d lists lt = ap (waiting_at id) (after_all_more log i d lists lt) ∙ waiting_at-after_change id (get_or log i d) (after_all (take i log) lists)

@@ -20,13 +20,11 @@ rows_of log = after_all log.changes log.base
 abbrev pub rows_at : ℕ → Log → Lists
 rows_at count log = after_all (take count log.changes) log.base
 
--- after any front of these changes, all but the cart positions is as it was
+-- after any front of these changes, what is for sale, the orders and their positions are as they were
 pub record LeavesRest (changes : List Change) (lists : Lists) : Type 0 where
   pub catalogue : (count : ℕ) → (after_all (take count changes) lists).catalogue ≡ lists.catalogue
-  pub vouchers : (count : ℕ) → (after_all (take count changes) lists).vouchers ≡ lists.vouchers
   pub orders : (count : ℕ) → (after_all (take count changes) lists).orders ≡ lists.orders
   pub positions : (count : ℕ) → (after_all (take count changes) lists).positions ≡ lists.positions
-  pub waiting : (count : ℕ) → (after_all (take count changes) lists).waiting ≡ lists.waiting
 
 -- a draft, which contracts see as its log, the next ids and its moment
 pub record DraftState : Type 0 where

@@ -2,8 +2,9 @@
 use Rattle.std.specs.Prelude.{ℕ, ◌==◌, if◌then◌else◌, Option, Some, None}
 use Rattle.bo_lists.specs.declared.rows.Voucher.{Voucher}
 use Rattle.bo_lists.specs.declared.rows.CartPos.{CartPos}
+use Rattle.bo_lists.specs.declared.rows.Waiting.{Waiting}
 use Rattle.bo_lists.specs.declared.changes.Change.{Change}
-use Rattle.bo_lists.specs.declared.changes.Change.TheVariants.{PutVoucher, PutCart, DropVoucher, DropCart}
+use Rattle.bo_lists.specs.declared.changes.Change.TheVariants.{PutVoucher, PutCart, PutWaiting, DropVoucher, DropCart, DropWaiting}
 
 abbrev pub voucher_step : ℕ → Change → Option Voucher → Option Voucher
 voucher_step id (PutVoucher row) found = if row.id == id then Some row else found
@@ -14,3 +15,8 @@ abbrev pub cart_step : ℕ → Change → Option CartPos → Option CartPos
 cart_step id (PutCart row) found = if row.id == id then Some row else found
 cart_step id (DropCart gone) found = if gone == id then None else found
 cart_step id _ found = found
+
+abbrev pub waiting_step : ℕ → Change → Option Waiting → Option Waiting
+waiting_step id (PutWaiting row) found = if row.id == id then Some row else found
+waiting_step id (DropWaiting gone) found = if gone == id then None else found
+waiting_step id _ found = found

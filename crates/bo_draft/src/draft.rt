@@ -2,20 +2,20 @@
 
 ghost use Rattle.std.specs.Prelude.{◌≡◌, ◌++◌, [], ◌∷◌, ◌≤◌, ◌<◌, ◌+◌, ◌-◌, ◌^◌, ℕ, IfOk, OnOk, OnErr, length, slice_get, Some, count_by};
 ghost use Rattle.std.specs.Option.{option_copied};
-ghost use Rattle.bo_base.specs.Tables.{sum_at};
 ghost use Rattle.bo_lists.specs.Full.{takes_cart, takes_voucher};
-ghost use Rattle.bo_lists.specs.Lists.{voucher_at, cart_at};
+ghost use Rattle.bo_lists.specs.Lists.{voucher_at, cart_at, waiting_at};
 ghost use Rattle.bo_lists.specs.Headroom.{has_use, held};
 ghost use Rattle.bo_lists.specs.Named.{voucher_of, is_used};
 ghost use Rattle.bo_lists.specs.Over.{first_over, is_over, is_free, weighed};
 ghost use Rattle.bo_lists.specs.Change.{changed};
 ghost use Rattle.bo_draft.specs.DraftState.{DraftState, MarkState, IsMarkOf, Extends, now, back, usages_of};
+ghost use Rattle.bo_draft.specs.Shift.{CanCome};
 ghost use Rattle.bo_lists.specs.Usage.{usage_of, redeemed};
 
 use crate::overlay::Overlay;
 use bo_base::{Moment, Steps};
 use bo_catalogue::{Catalogue, LAST_ID, MOST_ROWS, Quota};
-use bo_lists::{CartPos, Change, Changes, NextIds, Usage, Voucher};
+use bo_lists::{CartPos, Change, Changes, NextIds, Usage, Voucher, Waiting};
 use bo_usage::Book;
 use std::alloc::{AllocError, Global};
 use std::marker::{Brand, Model};
@@ -131,6 +131,13 @@ impl<'a, B: Book> Draft<'a, B> {
         self.overlay.cart(id)
     }
 
+    /// The waiting entry of an id.
+    pub fn waiting(&self, id: u64) -> Option<&Waiting>
+        ensures { option_copied result ≡ waiting_at id (now self.now).lists }
+    {
+        self.overlay.waiting(id)
+    }
+
     /// Whether one more cart position may name the voucher.
     pub fn has_use(&self, voucher: Option<u64>) -> bool
         ensures { result ≡ has_use (now self.now).moment (now self.now).lists voucher }
@@ -197,23 +204,23 @@ impl<'a, B: Book> Draft<'a, B> {
     }
 
     /// Puts a voucher in the place of its id, as the first change.
-    pub fn put_voucher(&mut self, _alloc: Global, _row: Voucher) -> Result<(), AllocError>
+    pub fn put_voucher(&mut self, alloc: Global, row: Voucher) -> Result<(), AllocError>
         requires { self.old.log.changes ≡ [] }
-        ensures ok { OnOk result (now self.new ≡ changed (Change.PutVoucher _row) (now self.old)) }
+        ensures ok { OnOk result (now self.new ≡ changed (Change.PutVoucher row) (now self.old)) }
         ensures extends { Extends self.old self.new }
         ensures err { OnErr result (self.new ≡ self.old) }
     {
-        Err(AllocError)
+        self.change(alloc, Change::PutVoucher(row))
     }
 
     /// Removes the voucher of an id, as the first change.
-    pub fn drop_voucher(&mut self, _alloc: Global, _id: u64) -> Result<(), AllocError>
+    pub fn drop_voucher(&mut self, alloc: Global, id: u64) -> Result<(), AllocError>
         requires { self.old.log.changes ≡ [] }
-        ensures ok { OnOk result (now self.new ≡ changed (Change.DropVoucher _id) (now self.old)) }
+        ensures ok { OnOk result (now self.new ≡ changed (Change.DropVoucher id) (now self.old)) }
         ensures extends { Extends self.old self.new }
         ensures err { OnErr result (self.new ≡ self.old) }
     {
-        Err(AllocError)
+        self.change(alloc, Change::DropVoucher(id))
     }
 
     /// Puts a cart position in the place of its id.
@@ -222,16 +229,7 @@ impl<'a, B: Book> Draft<'a, B> {
         ensures extends { Extends self.old self.new }
         ensures err { OnErr result (self.new ≡ self.old) }
     {
-        self.overlay.known();
-        let gone = self.overlay.cart(row.id);
-        let usages = self
-            .overlay
-            .shifted(alloc, self.moment, &self.usages, gone, Some(&row))?;
-        let carts = shifted_count(self.carts, 1, gone);
-        self.overlay.put_cart(row)?;
-        self.usages = usages;
-        self.carts = carts;
-        Ok(())
+        self.change(alloc, Change::PutCart(row))
     }
 
     /// Removes the cart position of an id.
@@ -240,13 +238,39 @@ impl<'a, B: Book> Draft<'a, B> {
         ensures extends { Extends self.old self.new }
         ensures err { OnErr result (self.new ≡ self.old) }
     {
-        self.overlay.known();
-        let gone = self.overlay.cart(id);
+        self.change(alloc, Change::DropCart(id))
+    }
+
+    /// Puts a waiting entry in the place of its id.
+    pub fn put_waiting(&mut self, alloc: Global, row: Waiting) -> Result<(), AllocError>
+        ensures ok { OnOk result (now self.new ≡ changed (Change.PutWaiting row) (now self.old)) }
+        ensures extends { Extends self.old self.new }
+        ensures err { OnErr result (self.new ≡ self.old) }
+    {
+        self.change(alloc, Change::PutWaiting(row))
+    }
+
+    /// Removes the waiting entry of an id.
+    pub fn drop_waiting(&mut self, alloc: Global, id: u64) -> Result<(), AllocError>
+        ensures ok { OnOk result (now self.new ≡ changed (Change.DropWaiting id) (now self.old)) }
+        ensures extends { Extends self.old self.new }
+        ensures err { OnErr result (self.new ≡ self.old) }
+    {
+        self.change(alloc, Change::DropWaiting(id))
+    }
+
+    // Makes one change, with what it does to the usage of each quota and to the number of cart positions.
+    fn change(&mut self, alloc: Global, change: Change) -> Result<(), AllocError>
+        requires { CanCome self.old.log change }
+        ensures ok { OnOk result (now self.new ≡ changed change (now self.old)) }
+        ensures extends { Extends self.old self.new }
+        ensures err { OnErr result (self.new ≡ self.old) }
+    {
         let usages = self
             .overlay
-            .shifted(alloc, self.moment, &self.usages, gone, None)?;
-        let carts = shifted_count(self.carts, 0, gone);
-        self.overlay.drop_cart(id)?;
+            .usages_after(alloc, self.moment, &self.usages, &change)?;
+        let carts = self.overlay.carts_after(self.carts, &change);
+        self.overlay.push(change)?;
         self.usages = usages;
         self.carts = carts;
         Ok(())
@@ -306,17 +330,6 @@ impl<'a, B: Book> Draft<'a, B> {
             carts: _,
         } = self;
         Changes::new(overlay.into_log(), next)
-    }
-}
-
-// A number of rows after some came and one may have gone.
-fn shifted_count(count: usize, come: usize, gone: Option<&CartPos>) -> usize
-    requires { count + come < 2 ^ 64 }
-    ensures { result ≡ count + come - sum_at (λ c. 1) (option_copied gone.entry) }
-{
-    match gone {
-        None => count + come,
-        Some(_) => (count + come).saturating_sub(1),
     }
 }
 

@@ -3,5 +3,6 @@
 
 pub mod draft;
 mod overlay;
+mod shift;
 
 pub use draft::{Draft, Mark};

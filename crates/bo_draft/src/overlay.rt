@@ -3,22 +3,22 @@
 ghost use Rattle.std.specs.Prelude.{◌≡◌, ◌++◌, [], ◌∷◌, IfOk, OnOk, OnErr, length, take, ◌≤◌, ◌<◌, ◌+◌, ◌-◌, ◌^◌, count_by, map, if◌then◌else◌};
 ghost use Rattle.std.specs.Option.{option_copied};
 ghost use Rattle.bo_lists.specs.Change.{after_change, after_all};
-ghost use Rattle.bo_lists.specs.Lists.{voucher_at, cart_at};
+ghost use Rattle.bo_lists.specs.Lists.{voucher_at, cart_at, waiting_at};
 ghost use Rattle.bo_lists.specs.Named.{voucher_of, is_used};
 ghost use Rattle.bo_lists.specs.Kept.{IsKept};
-ghost use Rattle.bo_draft.specs.Shift.{cart_share, usages_shifted};
+ghost use Rattle.bo_draft.specs.Shift.{CanCome};
 ghost use Rattle.bo_base.specs.Tables.{sum_at};
-ghost use Rattle.bo_lists.specs.Headroom.{held};
-ghost use Rattle.bo_draft.specs.DraftState.{Log, rows_of, rows_at, usages_of, LeavesRest};
+ghost use Rattle.bo_lists.specs.Headroom.{held, held_in};
+ghost use Rattle.bo_draft.specs.DraftState.{Log, rows_of, rows_at, LeavesRest};
 ghost use Rattle.bo_lists.specs.Tests.{holds};
 ghost use Rattle.bo_lists.specs.Over.{is_free, ignores, weighed, is_over_size, first_over_among};
 ghost use Rattle.bo_lists.specs.Total.{total};
 ghost use Rattle.bo_lists.specs.Usage.{usage_of, redeemed, is_covered, cart_counts};
-ghost use Rattle.bo_draft.specs.Steps.{voucher_step, cart_step};
+ghost use Rattle.bo_draft.specs.Steps.{voucher_step, cart_step, waiting_step};
 
 use bo_base::Moment;
 use bo_catalogue::{Catalogue, Quota};
-use bo_lists::{CartPos, Change, Usage, Voucher};
+use bo_lists::{CartPos, Change, Usage, Voucher, Waiting};
 use bo_usage::Book;
 use std::alloc::{AllocError, Global};
 use std::marker::Model;
@@ -38,7 +38,7 @@ impl<'a, B: Book> Model for Overlay<'a, B> {
 
     ghost view = { λ s. record { base = (B.state s.book.now).lists; changes = s.log.items } };
 
-    // All but the cart positions is as in the book.
+    // What is for sale, the orders and their positions are as in the book.
     ghost invariant = { λ s. (length s.log.items ≤ 4294967296) × LeavesRest s.log.items (B.state s.book.now).lists };
 }
 
@@ -83,25 +83,16 @@ impl<'a, B: Book> Overlay<'a, B> {
         self.book.vouchers().len()
     }
 
-    pub fn put_cart(&mut self, row: CartPos) -> Result<(), AllocError>
-        ensures ok { OnOk result (self.new ≡ record self.old { changes = self.old.changes ++ Change.PutCart row ∷ [] }) }
+    /// One more change, or a refusal where 2^32 stand.
+    pub fn push(&mut self, change: Change) -> Result<(), AllocError>
+        requires { CanCome self.old change }
+        ensures ok { OnOk result (self.new ≡ record self.old { changes = self.old.changes ++ change ∷ [] }) }
         ensures err { OnErr result (self.new ≡ self.old) }
     {
         if self.log.len() == 4294967296 {
             return Err(AllocError);
         }
-        self.log.push(Change::PutCart(row))?;
-        Ok(())
-    }
-
-    pub fn drop_cart(&mut self, id: u64) -> Result<(), AllocError>
-        ensures ok { OnOk result (self.new ≡ record self.old { changes = self.old.changes ++ Change.DropCart id ∷ [] }) }
-        ensures err { OnErr result (self.new ≡ self.old) }
-    {
-        if self.log.len() == 4294967296 {
-            return Err(AllocError);
-        }
-        self.log.push(Change::DropCart(id))?;
+        self.log.push(change)?;
         Ok(())
     }
 
@@ -170,13 +161,21 @@ impl<'a, B: Book> Overlay<'a, B> {
         found
     }
 
-    /// Ids rise in each list of sales, no list is too long to be counted, and only cart positions have changed.
+    /// Ids rise in each list of sales, no list is too long to be counted, and neither what is for sale nor orders have changed.
     pub fn known(&self)
         ensures kept { IsKept (4294967296 + length self.now.changes) (rows_of self.now) }
         ensures few { length self.now.changes ≤ 4294967296 }
         ensures rest { LeavesRest self.now.changes self.now.base }
     {
         self.book.known();
+    }
+
+    /// How many live cart positions of the quota's products name the voucher, where nothing has changed.
+    pub fn held_in(&self, voucher: u64, quota: &Quota, at: Moment) -> u64
+        requires { self.now.changes ≡ [] }
+        ensures { result ≡ held_in at quota.now voucher (rows_of self.now) }
+    {
+        self.book.held_in(voucher, quota, at)
     }
 
     pub fn len(&self) -> usize
@@ -274,56 +273,6 @@ impl<'a, B: Book> Overlay<'a, B> {
         None
     }
 
-    // How much a cart position adds to a quota.
-    fn cart_share(&self, at: Moment, quota: &Quota, cart: Option<&CartPos>) -> u64
-        ensures value { result ≡ cart_share (rows_of self.now) at quota.now (option_copied cart.entry) }
-        ensures one { result ≤ 1 }
-    {
-        match cart {
-            None => 0,
-            Some(cart) => u64::from(self.cart_counts(at, quota, cart)),
-        }
-    }
-
-    /// The usage of each quota without one cart position, and with another.
-    pub fn shifted(
-        &self,
-        alloc: Global,
-        at: Moment,
-        usages: &[Usage],
-        gone: Option<&CartPos>,
-        come: Option<&CartPos>,
-    ) -> Result<Vec<Usage>, AllocError>
-        requires { usages.now ≡ usages_of (rows_of self.now) at }
-        ensures { IfOk result (λ new. new.items ≡ usages_shifted (rows_of self.now) at (option_copied gone.entry) (option_copied come.entry)) }
-    {
-        let mut new = usages.to_vec(alloc)?;
-        self.shift(at, &mut new, gone, come);
-        Ok(new)
-    }
-
-    // Turns the usage of each quota into that without one cart position, and with another.
-    fn shift(
-        &self,
-        at: Moment,
-        usages: &mut [Usage],
-        gone: Option<&CartPos>,
-        come: Option<&CartPos>,
-    )
-        requires { usages.old ≡ usages_of (rows_of self.now) at }
-        ensures { usages.new ≡ usages_shifted (rows_of self.now) at (option_copied gone.entry) (option_copied come.entry) }
-    {
-        self.known();
-        let quotas = self.catalogue().quotas();
-        for i in 0..quotas.len() {
-            let quota = &quotas[i];
-            let come = self.cart_share(at, quota, come);
-            let gone = self.cart_share(at, quota, gone);
-            let usage = usages[i];
-            usages[i] = shifted(usage, come, gone);
-        }
-    }
-
     pub fn truncate(&mut self, count: usize)
         requires { count ≤ length self.old.changes }
         ensures { self.new ≡ record self.old { changes = take count self.old.changes } }
@@ -359,15 +308,16 @@ impl<'a, B: Book> Overlay<'a, B> {
         }
         found
     }
-}
 
-fn shifted(usage: Usage, come: u64, gone: u64) -> Usage
-    requires { usage.carts + come < 2 ^ 64 }
-    ensures { result ≡ record usage { carts = usage.carts + come - gone } }
-{
-    Usage {
-        carts: (usage.carts + come).saturating_sub(gone),
-        ..usage
+    #[tactic(auto, using(crate::proofs::Steps::waiting_more))]
+    pub fn waiting(&self, id: u64) -> Option<&Waiting>
+        ensures { option_copied result ≡ waiting_at id (rows_of self.now) }
+    {
+        let mut found = self.book.entry(id);
+        for change in &self.log {
+            found = waiting_after(change, id, found);
+        }
+        found
     }
 }
 
@@ -387,6 +337,16 @@ fn cart_after<'a>(change: &'a Change, id: u64, found: Option<&'a CartPos>) -> Op
     match change {
         Change::PutCart(row) if row.id == id => Some(row),
         Change::DropCart(dropped) if *dropped == id => None,
+        _ => found,
+    }
+}
+
+fn waiting_after<'a>(change: &'a Change, id: u64, found: Option<&'a Waiting>) -> Option<&'a Waiting>
+    ensures { option_copied result ≡ waiting_step id change.now (option_copied found.entry) }
+{
+    match change {
+        Change::PutWaiting(row) if row.id == id => Some(row),
+        Change::DropWaiting(dropped) if *dropped == id => None,
         _ => found,
     }
 }

@@ -2,7 +2,7 @@
 
 ghost use Rattle.std.specs.Prelude.{◌≡◌, ◌≤◌, ◌↔◌, ℕ, length, OnOk, IsTrue};
 ghost use Rattle.std.specs.Option.{option_copied};
-ghost use Rattle.bo_lists.specs.Lists.{State, voucher_at, cart_at, order_at};
+ghost use Rattle.bo_lists.specs.Lists.{State, voucher_at, cart_at, order_at, waiting_at};
 ghost use Rattle.bo_lists.specs.Usage.{redeemed, usage_of};
 ghost use Rattle.bo_lists.specs.Change.{applied};
 ghost use Rattle.bo_lists.specs.Headroom.{held, held_in};
@@ -58,6 +58,10 @@ pub trait Book {
     /// The order of an id.
     fn order(&self, id: u64) -> Option<&Order>
         ensures { option_copied result ≡ order_at id (state self.now).lists };
+
+    /// The waiting entry of an id.
+    fn entry(&self, id: u64) -> Option<&Waiting>
+        ensures { option_copied result ≡ waiting_at id (state self.now).lists };
 
     /// All vouchers, by id.
     fn vouchers(&self) -> &[Voucher]

@@ -265,6 +265,10 @@ impl Book for Recount {
         self.orders.get(id)
     }
 
+    fn entry(&self, id: u64) -> Option<&Waiting> {
+        self.waiting.get(id)
+    }
+
     fn vouchers(&self) -> &[Voucher] {
         self.vouchers.as_slice()
     }

@@ -1,0 +1,24 @@
+use Rattle.std.proofs.Common.{◌≡◌, length, sym, ap, ◌∙◌}
+use Rattle.bo_lists.specs.Lists.{Lists}
+use Rattle.bo_lists.specs.Change.{after_change, changed}
+use Rattle.bo_draft.specs.DraftState.{DraftState, Log, usages_of, rows_of, now}
+use Rattle.bo_draft.proofs.Extensions.{now-with_change}
+use Rattle.bo_draft.proofs.Steps.{after_all-push}
+use Rattle.bo_draft.proofs.draft.Draft.change.Goals as goal
+
+pub invariant_of-self-2 : goal.invariant_of-self-2
+invariant_of-self-2 g c =
+    let inside = c.self.inside in
+    let log = inside.overlay in
+    let rows : rows_of c.push.new.self ≡ after_change c.args.change (rows_of log) = ap rows_of c.in_ok-push.ensures.ok ∙ after_all-push log.changes c.args.change log.base in (
+      c.in_ok-usages.ensures ∙ sym (ap (λ lists. usages_of lists inside.moment) rows),
+      c.carts_after-carts.ensures ∙ sym (ap (λ (lists : Lists). length lists.carts) rows),
+    )
+
+pub returns-clause-ok : goal.returns-clause-ok
+returns-clause-ok g c =
+    let inside = c.self.inside in
+    let draft : DraftState = record { log = inside.overlay; next = inside.next; moment = inside.moment } in
+    ap (λ (log : Log). now (record { log = log; next = inside.next; moment = inside.moment })) c.in_ok-push.ensures.ok
+    ∙ now-with_change draft c.args.change
+    ∙ ap (λ (d : DraftState). changed c.args.change (now d)) c.self.view_is

@@ -1,0 +1,240 @@
+//! What a change of one row does to the usage of each quota.
+
+ghost use Rattle.std.specs.Prelude.{◌≡◌, ℕ, ◌+◌, ◌-◌, IfOk, [], length, map, Some, None};
+ghost use Rattle.std.specs.Option.{option_copied};
+ghost use Rattle.bo_base.specs.Tables.{sum_at};
+ghost use Rattle.bo_lists.specs.Change.{after_change};
+ghost use Rattle.bo_lists.specs.Usage.{usage_of};
+ghost use Rattle.bo_draft.specs.DraftState.{rows_of, usages_of};
+ghost use Rattle.bo_draft.specs.Shift.{CanCome, usage_after, cart_share, usage_with_cart, waiting_share, usage_with_waiting, voucher_share, uncovered, usage_with_voucher};
+
+use crate::overlay::Overlay;
+use bo_base::Moment;
+use bo_catalogue::Quota;
+use bo_lists::{CartPos, Change, Usage, Voucher, Waiting};
+use bo_usage::Book;
+use std::alloc::{AllocError, Global};
+
+impl<'a, B: Book> Overlay<'a, B> {
+    /// The usage of each quota after one more change, by the usage before it.
+    pub fn usages_after(
+        &self,
+        alloc: Global,
+        at: Moment,
+        usages: &[Usage],
+        change: &Change,
+    ) -> Result<Vec<Usage>, AllocError>
+        requires can { CanCome self.now change.now }
+        requires usages { usages.now ≡ usages_of (rows_of self.now) at }
+        ensures { IfOk result (λ new. new.items ≡ usages_of (after_change change.now (rows_of self.now)) at) }
+    {
+        self.known();
+        let quotas = self.catalogue().quotas();
+        self.usages_among(alloc, at, quotas, usages, change)
+    }
+
+    // The same of some quotas.
+    fn usages_among(
+        &self,
+        alloc: Global,
+        at: Moment,
+        quotas: &[Quota],
+        usages: &[Usage],
+        change: &Change,
+    ) -> Result<Vec<Usage>, AllocError>
+        requires can { CanCome self.now change.now }
+        requires usages { usages.now ≡ map (usage_of (rows_of self.now) at) quotas.now }
+        ensures { IfOk result (λ new. new.items ≡ map (usage_after (rows_of self.now) at change.now) quotas.now) }
+    {
+        let mut new = Vec::new(alloc);
+        for i in 0..quotas.len() {
+            new.push(self.usage_after(at, &quotas[i], usages[i], change)?)?;
+        }
+        Ok(new)
+    }
+
+    // The usage of one quota after one more change.
+    fn usage_after(
+        &self,
+        at: Moment,
+        quota: &Quota,
+        usage: Usage,
+        change: &Change,
+    ) -> Result<Usage, AllocError>
+        requires can { CanCome self.now change.now }
+        requires usage { usage ≡ usage_of (rows_of self.now) at quota.now }
+        ensures { IfOk result (λ new. new ≡ usage_after (rows_of self.now) at change.now quota.now) }
+    {
+        match change {
+            Change::PutVoucher(row) => self.with_voucher(at, quota, usage, row.id, Some(row)),
+            Change::DropVoucher(id) => self.with_voucher(at, quota, usage, *id, None),
+            Change::PutCart(row) => self.with_cart(at, quota, usage, row.id, Some(row)),
+            Change::DropCart(id) => self.with_cart(at, quota, usage, *id, None),
+            Change::PutWaiting(row) => self.with_waiting(at, quota, usage, row.id, Some(row)),
+            Change::DropWaiting(id) => self.with_waiting(at, quota, usage, *id, None),
+            _ => Ok(usage),
+        }
+    }
+
+    // The usage where this cart position, or none, stands in the place of the id.
+    #[tactic(auto, unfolding(crate::specs::Shift::usage_with_cart))]
+    fn with_cart(
+        &self,
+        at: Moment,
+        quota: &Quota,
+        usage: Usage,
+        id: u64,
+        come: Option<&CartPos>,
+    ) -> Result<Usage, AllocError>
+        requires { usage ≡ usage_of (rows_of self.now) at quota.now }
+        ensures { IfOk result (λ new. new ≡ usage_with_cart (rows_of self.now) at id (option_copied come.entry) quota.now) }
+    {
+        let gone = self.cart_share(at, quota, self.cart(id));
+        let come = self.cart_share(at, quota, come);
+        Ok(Usage {
+            carts: moved(usage.carts, come, gone)?,
+            ..usage
+        })
+    }
+
+    // How much a cart position adds to a quota.
+    fn cart_share(&self, at: Moment, quota: &Quota, cart: Option<&CartPos>) -> u64
+        ensures { result ≡ cart_share (rows_of self.now) at quota.now (option_copied cart.entry) }
+    {
+        match cart {
+            None => 0,
+            Some(cart) => u64::from(self.cart_counts(at, quota, cart)),
+        }
+    }
+
+    // The usage where this waiting entry, or none, stands in the place of the id.
+    #[tactic(auto, unfolding(crate::specs::Shift::usage_with_waiting))]
+    fn with_waiting(
+        &self,
+        at: Moment,
+        quota: &Quota,
+        usage: Usage,
+        id: u64,
+        come: Option<&Waiting>,
+    ) -> Result<Usage, AllocError>
+        requires { usage ≡ usage_of (rows_of self.now) at quota.now }
+        ensures { IfOk result (λ new. new ≡ usage_with_waiting (rows_of self.now) at id (option_copied come.entry) quota.now) }
+    {
+        let gone = waiting_share(quota, self.waiting(id));
+        let come = waiting_share(quota, come);
+        Ok(Usage {
+            waiting: moved(usage.waiting, come, gone)?,
+            ..usage
+        })
+    }
+
+    // The usage where this voucher, or none, stands in the place of the id.
+    #[tactic(auto, unfolding(crate::specs::Shift::usage_with_voucher))]
+    fn with_voucher(
+        &self,
+        at: Moment,
+        quota: &Quota,
+        usage: Usage,
+        id: u64,
+        come: Option<&Voucher>,
+    ) -> Result<Usage, AllocError>
+        requires first { self.now.changes ≡ [] }
+        requires usage { usage ≡ usage_of (rows_of self.now) at quota.now }
+        ensures { IfOk result (λ new. new ≡ usage_with_voucher (rows_of self.now) at id (option_copied come.entry) quota.now) }
+    {
+        let gone = self.voucher(id);
+        let blocked = moved(
+            usage.blocked,
+            self.voucher_share(at, quota, come),
+            self.voucher_share(at, quota, gone),
+        )?;
+        let carts = moved(
+            usage.carts,
+            self.uncovered(at, quota, id, come),
+            self.uncovered(at, quota, id, gone),
+        )?;
+        Ok(Usage {
+            blocked,
+            carts,
+            ..usage
+        })
+    }
+
+    // What a voucher blocks of a quota.
+    #[tactic(auto, unfolding(bo_lists::specs::Usage::blocked_by))]
+    fn voucher_share(&self, at: Moment, quota: &Quota, voucher: Option<&Voucher>) -> u64
+        ensures { result ≡ voucher_share (rows_of self.now) at quota.now (option_copied voucher.entry) }
+    {
+        match voucher {
+            None => 0,
+            Some(voucher) => {
+                if voucher.blocks(at, quota) {
+                    u64::from(voucher.max_usages).saturating_sub(self.redeemed(voucher.id))
+                } else {
+                    0
+                }
+            }
+        }
+    }
+
+    // How many cart positions that name the id count, where this voucher, or none, covers them.
+    fn uncovered(&self, at: Moment, quota: &Quota, id: u64, voucher: Option<&Voucher>) -> u64
+        requires { self.now.changes ≡ [] }
+        ensures { result ≡ uncovered (rows_of self.now) at quota.now id (option_copied voucher.entry) }
+    {
+        let covers = match voucher {
+            None => false,
+            Some(voucher) => voucher.blocks(at, quota),
+        };
+        if covers {
+            0
+        } else {
+            self.held_in(id, quota, at)
+        }
+    }
+
+    /// The number of cart positions after one more change, by the number before it.
+    pub fn carts_after(&self, carts: usize, change: &Change) -> usize
+        requires can { CanCome self.now change.now }
+        requires carts { carts ≡ length (rows_of self.now).carts }
+        ensures { result ≡ length (after_change change.now (rows_of self.now)).carts }
+    {
+        self.known();
+        match change {
+            Change::PutCart(row) => without_one(carts + 1, self.cart(row.id)),
+            Change::DropCart(id) => without_one(carts, self.cart(*id)),
+            _ => carts,
+        }
+    }
+}
+
+// How much a waiting entry adds to a quota.
+fn waiting_share(quota: &Quota, entry: Option<&Waiting>) -> u64
+    ensures { result ≡ waiting_share quota.now (option_copied entry.entry) }
+{
+    match entry {
+        None => 0,
+        Some(entry) => u64::from(entry.waits_for(quota)),
+    }
+}
+
+// A count that gains some and then loses some.
+// One of 2^64, which no book reaches, is refused as a want of memory.
+fn moved(count: u64, come: u64, gone: u64) -> Result<u64, AllocError>
+    ensures { IfOk result (λ new. new ≡ count + come - gone) }
+{
+    match count.checked_add(come) {
+        None => Err(AllocError),
+        Some(sum) => Ok(sum.saturating_sub(gone)),
+    }
+}
+
+// A number of rows, less one where such a row stood.
+fn without_one(count: usize, gone: Option<&CartPos>) -> usize
+    ensures { result ≡ count - sum_at (λ c. 1) (option_copied gone.entry) }
+{
+    match gone {
+        None => count,
+        Some(_) => count.saturating_sub(1),
+    }
+}
