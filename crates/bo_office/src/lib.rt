@@ -3,6 +3,7 @@
 
 mod catalogue_commands;
 pub mod command;
+pub mod laws;
 pub mod office;
 mod pages;
 mod queries;
