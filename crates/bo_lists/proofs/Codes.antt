@@ -9,7 +9,7 @@ use Rattle.bo_lists.specs.Named.{AreUnlike}
 use Rattle.bo_lists.proofs.EachRow.{with_row_cases, without_row_cases, all-with_row, all-without_row, neither_first, neither_second}
 
 -- either of two texts may be named before the other
-same_text_flip : (a b : List ℕ) → same_text a b ≡ same_text b a
+pub same_text_flip : (a b : List ℕ) → same_text a b ≡ same_text b a
 same_text_flip [] [] = refl
 same_text_flip [] (y ∷ ys) = refl
 same_text_flip (x ∷ xs) [] = refl

@@ -7,3 +7,4 @@ pub mod Fresh
 pub mod Codes
 pub mod Sound
 pub mod Takes
+pub mod Lowers

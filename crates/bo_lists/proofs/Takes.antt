@@ -46,4 +46,4 @@ all_within before after (quota ∷ quotas) h =
 pub takes_no_more_alone : (before after : State) → after.moment ≡ before.moment → first_over before.lists after.lists before.moment [] ≡ None → TakesNoMore before after
 takes_no_more_alone before after same h =
     subst (λ (at : ℕ). AllByRecursion (λ quota. IsWithin quota.size (used before quota) (total (usage_of after.lists at quota))) after.lists.catalogue.quotas) (sym same)
-        (all_within before after after.lists.catalogue.quotas (none_passes (is_over before.lists after.lists before.moment []) after.lists.catalogue.quotas h))
+    (all_within before after after.lists.catalogue.quotas (none_passes (is_over before.lists after.lists before.moment []) after.lists.catalogue.quotas h))

@@ -176,9 +176,7 @@ fn place<B: Book>(
     }
     if !takes_cart {
         draft.back_to(mark);
-        return Err(OrderRefusal::Voucher(VoucherRefusal::Catalogue(
-            CatalogueRefusal::Full,
-        )));
+        return Err(OrderRefusal::Voucher(VoucherRefusal::Catalogue(CatalogueRefusal::Full)));
     }
     draft.use_cart_id();
     Ok(copy)

@@ -6,20 +6,15 @@ ghost use Rattle.std.specs.Option.{option_copied};
 ghost use Rattle.bo_draft.specs.DraftState.{now};
 ghost use Rattle.bo_vouchers.specs.Codes.{made_code, code_of, is_lower_hex, ends_as_made, goes_on_as_made, is_reserved, is_reserved_if, new_code, is_another, has_anothers_code};
 
-use bo_base::{Draw, Text};
 use bo_base::digits::is_digits;
+use bo_base::{Draw, Text};
 use bo_draft::Draft;
 use bo_lists::Voucher;
 use bo_usage::Book;
 use std::alloc::{AllocError, Global};
 
 /// The code that is given, or else one that is made of the draw and the new voucher's id.
-pub fn code_of(
-    alloc: Global,
-    given: &Option<Text>,
-    draw: Draw,
-    id: u64,
-) -> Result<Text, AllocError>
+pub fn code_of(alloc: Global, given: &Option<Text>, draw: Draw, id: u64) -> Result<Text, AllocError>
     ensures { IfOk result (λ text. text ≡ code_of given.now draw id) }
 {
     match given {

@@ -1,12 +1,13 @@
 //! What may be done with vouchers, and what changes.
 #![tactic(auto)]
 
-pub mod codes;
+mod codes;
 pub mod decide_voucher;
-pub mod place;
+pub mod laws;
+mod place;
 pub mod refusal;
 pub mod requests;
-pub mod row_tests;
+mod row_tests;
 pub mod usability;
 
 pub use refusal::VoucherRefusal;

@@ -1,0 +1,51 @@
+//! Laws of the decisions on vouchers.
+
+ghost use Rattle.std.specs.Prelude.{◌≡◌, ◌≤◌, ℕ, false, None, Ok, []};
+ghost use Rattle.bo_base.specs.declared.draw.Draw.{Draw};
+ghost use Rattle.bo_catalogue.specs.declared.rows.Quota.{Quota};
+ghost use Rattle.bo_lists.specs.Lists.{State};
+ghost use Rattle.bo_lists.specs.Over.{first_over};
+ghost use Rattle.bo_lists.specs.Sound.{IsSound};
+ghost use Rattle.bo_lists.specs.Takes.{used, TakesNoMore};
+ghost use Rattle.bo_lists.specs.declared.rows.Voucher.{Voucher};
+ghost use Rattle.bo_vouchers.specs.declared.requests.NewVoucher.{NewVoucher};
+ghost use Rattle.bo_vouchers.specs.declared.requests.VoucherPatch.{VoucherPatch};
+ghost use Rattle.bo_vouchers.specs.Made.{voucher_made};
+ghost use Rattle.bo_vouchers.specs.Changed.{voucher_changed};
+ghost use Rattle.bo_vouchers.specs.Deleted.{voucher_deleted};
+
+/// No voucher that is made, and that doesn't ignore quotas, leaves a quota over: what is used afterwards is within
+/// the quota's size, or no more than was used before.
+pub fn making_takes_no_more()
+    ensures none_over { (new : NewVoucher) (draw : Draw) (before after : State) (row : Voucher) →
+        voucher_made new draw before ≡ Ok (after, row) → row.allow_ignore_quota ≡ false →
+        first_over before.lists after.lists before.moment [] ≡ None }
+    ensures takes { (new : NewVoucher) (draw : Draw) (before after : State) (row : Voucher) →
+        voucher_made new draw before ≡ Ok (after, row) → row.allow_ignore_quota ≡ false → TakesNoMore before after }
+{}
+
+/// No voucher that is changed, and that afterwards doesn't ignore quotas, leaves a quota over: what is used
+/// afterwards is within the quota's size, or no more than was used before.
+pub fn changing_takes_no_more()
+    ensures none_over { (id : ℕ) (patch : VoucherPatch) (before after : State) (row : Voucher) →
+        voucher_changed id patch before ≡ Ok (after, row) → row.allow_ignore_quota ≡ false →
+        first_over before.lists after.lists before.moment [] ≡ None }
+    ensures takes { (id : ℕ) (patch : VoucherPatch) (before after : State) (row : Voucher) →
+        voucher_changed id patch before ≡ Ok (after, row) → row.allow_ignore_quota ≡ false → TakesNoMore before after }
+{}
+
+/// A voucher that is deleted raises no quota's usage.
+pub fn deleting_lowers()
+    ensures { (id : ℕ) (before after : State) (quota : Quota) →
+        voucher_deleted id before ≡ Ok after → used after quota ≤ used before quota }
+{}
+
+/// A sound box office stays sound where a voucher is made, changed or deleted.
+pub fn vouchers_keep_sound()
+    ensures made { (new : NewVoucher) (draw : Draw) (before after : State) (row : Voucher) →
+        IsSound before → voucher_made new draw before ≡ Ok (after, row) → IsSound after }
+    ensures changed { (id : ℕ) (patch : VoucherPatch) (before after : State) (row : Voucher) →
+        IsSound before → voucher_changed id patch before ≡ Ok (after, row) → IsSound after }
+    ensures deleted { (id : ℕ) (before after : State) →
+        IsSound before → voucher_deleted id before ≡ Ok after → IsSound after }
+{}
