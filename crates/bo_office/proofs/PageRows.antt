@@ -1,10 +1,13 @@
 -- What a page of a list is.
-use Rattle.std.proofs.Common.{◌≡◌, ℕ, ◌+◌, ◌-◌, List, length, take, drop, ap, ◌∙◌, arith}
+use Rattle.std.proofs.Common.{◌≡◌, ℕ, ◌-◌, ◌≤◌, List, length, take, drop, ap, ◌∙◌, arith}
 use Rattle.std.specs.Prelude.{min}
-use Rattle.std.proofs.lemmas.List.{take_min, length-drop}
+use Rattle.std.proofs.lemmas.List.{take_min, take_all, length-drop}
 
--- the rows up to the end, or to the fiftieth
-pub up_to_fifty : {T : Type 0} (from to : ℕ) (rows : List T) → to ≡ min (length rows) (from + 50) → take (to - from) (drop from rows) ≡ take 50 (drop from rows)
-up_to_fifty from to rows e =
-    let count : to - from ≡ min 50 (length (drop from rows)) = omega (arith, e, length-drop from rows) in
-    ap (λ (n : ℕ). take n (drop from rows)) count ∙ take_min 50 (drop from rows)
+-- all that is left, up to its fiftieth row
+pub first_fifty : {T : Type 0} (from count : ℕ) (rows : List T) → count ≡ min (length (take (length rows - from) (drop from rows))) 50 → take count (take (length rows - from) (drop from rows)) ≡ take 50 (drop from rows)
+first_fifty from count rows e =
+    let fits : length (drop from rows) ≤ length rows - from = omega (arith, length-drop from rows) in
+    let whole = take_all (length rows - from) (drop from rows) fits in
+    let least : count ≡ min (length (drop from rows)) 50 = e ∙ ap (λ xs. min (length xs) 50) whole in
+    let same : count ≡ min 50 (length (drop from rows)) = omega (arith, least) in
+    ap (λ xs. take count xs) whole ∙ (ap (λ (n : ℕ). take n (drop from rows)) same ∙ take_min 50 (drop from rows))

@@ -46,6 +46,7 @@ use Rattle.bo_office.specs.declared.command.Kind.{Kind}
 use Rattle.bo_office.specs.declared.reply.Refusal.{Refusal}
 use Rattle.bo_office.specs.declared.reply.Reply.{Reply}
 use Rattle.bo_office.specs.declared.reply.Reply.TheVariants.{Refused}
+use Rattle.bo_office.specs.ShownRows.{show_voucher}
 use Rattle.bo_office.specs.Step.{step, step_now, item_step, item_change_step, variation_step, quota_step, resize_step, voucher_step, voucher_change_step, voucher_drop_step, cart_step, cart_drop_step}
 use Rattle.bo_office.specs.Runs.{Arrival, moment_at, stepped, trace, row_told, taken, heeds_if_told, NoneOver, StaysWithin, LeavesSound, NeverGoesBack, StoresItsMoment, ChangesNothingElse}
 use Rattle.bo_office.proofs.Catalogue.{item_sound, item_change_sound, variation_sound, quota_sound, resize_sound}
@@ -145,6 +146,7 @@ module _ (state : State) where
       subst (λ (ids : List ℕ). first_over state.lists after.lists state.moment ids ≡ None) which.1 (known.not_over which.0)
 
   voucher_fine : (r : Result (State × Voucher) VoucherRefusal) → ((after : State) (row : Voucher) → r ≡ Ok (after, row) → IsVoucherFine after row) → IsFine state (voucher_step state r)
+  unfolding show_voucher
   voucher_fine (Err refusal) known = refused_fine _ _
   voucher_fine (Ok (after, row)) known = record {
     sound = (known after row refl).sound;
@@ -155,6 +157,7 @@ module _ (state : State) where
   }
 
   voucher_change_fine : (r : Result (State × Voucher) VoucherRefusal) → ((after : State) (row : Voucher) → r ≡ Ok (after, row) → IsVoucherFine after row) → IsFine state (voucher_change_step state r)
+  unfolding show_voucher
   voucher_change_fine (Err refusal) known = refused_fine _ _
   voucher_change_fine (Ok (after, row)) known = record {
     sound = (known after row refl).sound;

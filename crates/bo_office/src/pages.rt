@@ -15,7 +15,6 @@ pub(crate) fn page_rows<T>(rows: &[T], number: u64) -> &[T]
     requires { IsTrue (is_page number (length rows.now)) }
     ensures { result.now ≡ page_rows number rows.now }
 {
-    let from = (number as usize - 1) * 50;
-    let to = rows.len().min(from + 50);
-    &rows[from..to]
+    let rest = &rows[(number as usize - 1) * 50..];
+    &rest[..rest.len().min(50)]
 }

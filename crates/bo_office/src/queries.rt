@@ -1,9 +1,9 @@
 //! What each query is answered.
 
 ghost use Rattle.std.specs.Prelude.{◌≡◌, ◌≤◌, IfOk, map};
-ghost use Rattle.bo_catalogue.specs.CatalogueLists.{with_variations};
 ghost use Rattle.bo_office.specs.declared.command.Query.{Query};
-ghost use Rattle.bo_office.specs.Answer.{answer, list_of, one_of, show_item, show_quota, show_voucher, show_cart};
+ghost use Rattle.bo_office.specs.Answer.{answer, list_of, one_of};
+ghost use Rattle.bo_office.specs.ShownRows.{show_item, show_quota, show_voucher, show_cart};
 
 use crate::command::{Kind, Resource};
 use crate::office::Office;
@@ -111,12 +111,19 @@ impl<B: Book> Office<B> {
         Ok(List::new(rows))
     }
 
-    #[tactic(auto, unfolding(crate::specs::Answer::show_voucher))]
     fn shown_voucher(&self, alloc: Global, voucher: &Voucher) -> Result<Shown, AllocError>
         ensures { IfOk result (λ shown. shown ≡ show_voucher self.now.state.lists voucher.now) }
     {
-        let redeemed = self.book().redeemed(voucher.id);
-        Ok(Shown::Voucher(voucher.copy(alloc)?, redeemed))
+        Ok(self.show_voucher(voucher.copy(alloc)?))
+    }
+
+    // A voucher as it is shown.
+    #[tactic(auto, unfolding(crate::specs::ShownRows::show_voucher))]
+    pub(crate) fn show_voucher(&self, row: Voucher) -> Shown
+        ensures { result ≡ show_voucher self.now.state.lists row }
+    {
+        let redeemed = self.book().redeemed(row.id);
+        Shown::Voucher(row, redeemed)
     }
 
     fn carts_page(&self, alloc: Global, number: u64) -> Result<Reply, AllocError>

@@ -3,7 +3,6 @@
 ghost use Rattle.std.specs.Prelude.{◌≡◌, ◌≤◌, ℕ, IfOk};
 ghost use Rattle.bo_base.specs.declared.draw.Draw.{Draw};
 ghost use Rattle.bo_lists.specs.Change.{applied};
-ghost use Rattle.bo_lists.specs.Usage.{redeemed};
 ghost use Rattle.bo_office.specs.Step.{step};
 ghost use Rattle.bo_office.specs.declared.command.Command.{Command};
 
@@ -32,10 +31,7 @@ impl<B: Book> Office<B> {
     {
         let mut draft = Draft::new(alloc, self.book(), at)?;
         let reply = match decide_voucher::make(&mut draft, alloc, draw, new) {
-            Ok(row) => {
-                let redeemed = self.book().redeemed(row.id);
-                Reply::Made(Shown::Voucher(row, redeemed))
-            }
+            Ok(row) => Reply::Made(self.show_voucher(row)),
             Err(VoucherRefusal::Memory) => return Err(AllocError),
             Err(refusal) => Reply::Refused(Kind::AddVoucher, Refusal::Voucher(refusal)),
         };
@@ -55,10 +51,7 @@ impl<B: Book> Office<B> {
     {
         let mut draft = Draft::new(alloc, self.book(), at)?;
         let reply = match decide_voucher::patch(&mut draft, alloc, id, patch) {
-            Ok(row) => {
-                let redeemed = self.book().redeemed(row.id);
-                Reply::Found(Shown::Voucher(row, redeemed))
-            }
+            Ok(row) => Reply::Found(self.show_voucher(row)),
             Err(VoucherRefusal::Memory) => return Err(AllocError),
             Err(refusal) => Reply::Refused(Kind::ChangeVoucher, Refusal::Voucher(refusal)),
         };

@@ -1,5 +1,5 @@
 use Rattle.std.proofs.Common.{◌≡◌, map, take}
-use Rattle.bo_office.specs.Answer.{show_cart}
+use Rattle.bo_office.specs.ShownRows.{show_cart}
 use Rattle.bo_office.proofs.queries.shown_carts.Given as goal
 
 abbrev pub invariant-loop-cart : goal.invariant-loop-cart

@@ -1,5 +1,5 @@
 use Rattle.std.proofs.Common.{◌≡◌, map, take}
-use Rattle.bo_office.specs.Answer.{show_quota}
+use Rattle.bo_office.specs.ShownRows.{show_quota}
 use Rattle.bo_office.proofs.queries.shown_quotas.Given as goal
 
 abbrev pub invariant-loop-quota : goal.invariant-loop-quota

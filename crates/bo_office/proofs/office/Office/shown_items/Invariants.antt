@@ -1,5 +1,5 @@
 use Rattle.std.proofs.Common.{◌≡◌, map, take}
-use Rattle.bo_office.specs.Answer.{show_item}
+use Rattle.bo_office.specs.ShownRows.{show_item}
 use Rattle.bo_office.proofs.office.Office.shown_items.Given as goal
 
 abbrev pub invariant-loop-item : goal.invariant-loop-item

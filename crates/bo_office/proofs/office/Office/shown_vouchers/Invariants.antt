@@ -1,5 +1,5 @@
 use Rattle.std.proofs.Common.{◌≡◌, map, take}
-use Rattle.bo_office.specs.Answer.{show_voucher}
+use Rattle.bo_office.specs.ShownRows.{show_voucher}
 use Rattle.bo_office.proofs.office.Office.shown_vouchers.Given as goal
 
 abbrev pub invariant-loop-voucher : goal.invariant-loop-voucher
