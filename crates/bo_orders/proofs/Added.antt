@@ -25,7 +25,7 @@ use Rattle.bo_lists.proofs.Sound.{sound_cart}
 use Rattle.bo_vouchers.specs.declared.refusal.VoucherRefusal.{VoucherRefusal}
 use Rattle.bo_vouchers.specs.declared.refusal.VoucherRefusal.TheVariants.{Catalogue, VoucherExpired, WrongProduct, NoHeadroom}
 use Rattle.bo_orders.specs.CartId.{cart_id_test}
-use Rattle.bo_orders.specs.Takes.{TakesNoMore}
+use Rattle.bo_lists.specs.Takes.{TakesNoMore}
 use Rattle.bo_orders.proofs.Takes.{takes_no_more}
 use Rattle.bo_orders.specs.declared.new_cart.NewCart.{NewCart}
 use Rattle.bo_orders.specs.declared.refusal.OrderRefusal.{OrderRefusal}

@@ -1,6 +1,6 @@
 -- Where no quota is over, no quota is taken too much of.
-use Rattle.std.proofs.Common.{◌≡◌, ℕ, ◌-◌, ◌≤◌, ◌⊎◌, inl, inr, Bool, true, false, List, [], ◌∷◌, Option, Some, None, refl, ap, ◌∙◌, subst, cond, count_by, arith}
-use Rattle.std.specs.Prelude.{◌&&◌, nat_lt, find, option_map}
+use Rattle.std.proofs.Common.{◌≡◌, ℕ, ◌-◌, Bool, true, false, List, [], ◌∷◌, Option, Some, None, refl, ap, ◌∙◌, subst, count_by, arith}
+use Rattle.std.specs.Prelude.{◌&&◌}
 use Rattle.std.specs.List.{AllByRecursion}
 use Rattle.std.proofs.lemmas.Bool.Decides.{nat_tests}
 use Rattle.bo_base.proofs.Edits.{row_at-with_row}
@@ -13,24 +13,8 @@ use Rattle.bo_lists.specs.Numbered.{with_cart}
 use Rattle.bo_lists.specs.Over.{first_over, is_over, is_over_size, is_free, is_free_cart, ignores, weighed}
 use Rattle.bo_lists.specs.Total.{total}
 use Rattle.bo_lists.specs.Usage.{usage_of, cart_counts}
-use Rattle.bo_orders.specs.Takes.{used, IsWithin, TakesNoMore}
-
-none_passes : (test : Quota → Bool) (quotas : List Quota) → option_map (λ quota. quota.id) (find test quotas) ≡ None → AllByRecursion (λ quota. test quota ≡ false) quotas
-none_passes test [] h = tt
-none_passes test (quota ∷ quotas) h = by_test (test quota) refl h (none_passes test quotas)
-  where
-    by_test : (b : Bool) → test quota ≡ b → option_map (λ q. q.id) (cond b (Some quota) (find test quotas)) ≡ None → (option_map (λ q. q.id) (find test quotas) ≡ None → AllByRecursion (λ q. test q ≡ false) quotas) → AllByRecursion (λ q. test q ≡ false) (quota ∷ quotas)
-    by_test true is h more = absurd (cc)
-    by_test false is h more = (is, more h)
-
-within : (size : Option ℕ) (before after : ℕ) → is_over_size size before after ≡ false → IsWithin size before after
-within None before after h = tt
-within (Some size) before after h = by_tests (nat_lt size after) (nat_lt before after) refl refl h
-  where
-    by_tests : (a b : Bool) → nat_lt size after ≡ a → nat_lt before after ≡ b → (a && b) ≡ false → (after ≤ size) ⊎ (after ≤ before)
-    by_tests false b ea eb h = inl (grind (arith, nat_tests))
-    by_tests true false ea eb h = inr (grind (arith, nat_tests))
-    by_tests true true ea eb h = absurd (cc)
+use Rattle.bo_lists.specs.Takes.{used, IsWithin, TakesNoMore}
+use Rattle.bo_lists.proofs.Takes.{none_passes, within}
 
 and_false : (b : Bool) → (b && false) ≡ false
 and_false true = refl

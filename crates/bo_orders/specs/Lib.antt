@@ -2,4 +2,3 @@ pub mod CartId
 pub mod Carts
 pub mod Dropped
 pub mod Refusals
-pub mod Takes

@@ -7,7 +7,7 @@ ghost use Rattle.bo_lists.specs.Over.{first_over, ignores};
 ghost use Rattle.bo_lists.specs.declared.rows.CartPos.{CartPos};
 ghost use Rattle.bo_orders.specs.declared.new_cart.NewCart.{NewCart};
 ghost use Rattle.bo_orders.specs.Carts.{position_added};
-ghost use Rattle.bo_orders.specs.Takes.{TakesNoMore};
+ghost use Rattle.bo_lists.specs.Takes.{TakesNoMore};
 
 /// Each cart position that is added was weighed: it takes too much of no quota, where the position itself
 /// doesn't weigh if its voucher ignores quotas.
