@@ -3,12 +3,11 @@ use Rattle.std.specs.Prelude.{ℕ, Option, Some, None}
 use Rattle.bo_catalogue.specs.declared.rows.Item.{Item}
 use Rattle.bo_catalogue.specs.declared.rows.Quota.{Quota}
 use Rattle.bo_catalogue.specs.declared.refusal.CatalogueRefusal.TheVariants.{NoItem, NoQuota}
-use Rattle.bo_catalogue.specs.CatalogueLists.{item_at, quota_at, with_variations}
+use Rattle.bo_catalogue.specs.CatalogueLists.{item_at, quota_at}
 use Rattle.bo_lists.specs.declared.rows.CartPos.{CartPos}
 use Rattle.bo_lists.specs.declared.rows.Voucher.{Voucher}
 use Rattle.bo_lists.specs.Lists.{Lists, State, voucher_at, cart_at}
 use Rattle.bo_lists.specs.Available.{availability}
-use Rattle.bo_lists.specs.Usage.{redeemed}
 use Rattle.bo_vouchers.specs.declared.refusal.VoucherRefusal.TheVariants.{NoVoucher}
 use Rattle.bo_orders.specs.declared.refusal.OrderRefusal.TheVariants.{NoPosition}
 use Rattle.bo_office.specs.declared.command.Query.{Query}
@@ -19,22 +18,8 @@ use Rattle.bo_office.specs.declared.command.Kind.TheVariants as kinds
 use Rattle.bo_office.specs.declared.reply.Refusal.TheVariants as refusals
 use Rattle.bo_office.specs.declared.reply.Reply.{Reply}
 use Rattle.bo_office.specs.declared.reply.Reply.TheVariants.{Availability as TheAvailability, Found, Refused}
-use Rattle.bo_office.specs.declared.reply.Shown.{Shown}
-use Rattle.bo_office.specs.declared.reply.Shown.TheVariants as rows
+use Rattle.bo_office.specs.ShownRows.{show_item, show_quota, show_voucher, show_cart}
 use Rattle.bo_office.specs.Pages.{listed}
-
--- how each row is shown
-abbrev pub show_item : Lists → Item → Shown
-show_item lists item = rows.Item (with_variations lists.catalogue item)
-
-abbrev pub show_quota : Quota → Shown
-show_quota quota = rows.Quota quota
-
-abbrev pub show_voucher : Lists → Voucher → Shown
-show_voucher lists voucher = rows.Voucher voucher (redeemed voucher.id lists)
-
-abbrev pub show_cart : CartPos → Shown
-show_cart cart = rows.Cart cart
 
 -- a page of a list
 abbrev pub list_of : Resource → ℕ → Lists → Reply

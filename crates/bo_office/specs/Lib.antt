@@ -1,5 +1,6 @@
 pub mod Refusals
 pub mod OfficeView
+pub mod ShownRows
 pub mod Step
 pub mod Pages
 pub mod Answer

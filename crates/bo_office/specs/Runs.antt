@@ -1,16 +1,17 @@
 -- Runs of commands, and what holds of each step of a run.
-use Rattle.std.specs.Prelude.{◌≡◌, ℕ, ◌≤◌, max, List, [], ◌∷◌}
+use Rattle.std.specs.Prelude.{◌≡◌, ℕ, ◌≤◌, max, Bool, true, false, not, List, [], ◌∷◌, Option, Some, None, if◌then◌else◌}
 use Rattle.bo_base.specs.declared.draw.Draw.{Draw}
-use Rattle.bo_lists.specs.declared.rows.CartPos.{CartPos}
-use Rattle.bo_lists.specs.Lists.{State}
+use Rattle.bo_lists.specs.Lists.{Lists, State}
+use Rattle.bo_lists.specs.Over.{first_over, ignores}
 use Rattle.bo_lists.specs.Sound.{IsSound}
 use Rattle.bo_lists.specs.Takes.{TakesNoMore}
 use Rattle.bo_office.specs.declared.command.Command.{Command}
 use Rattle.bo_office.specs.declared.command.Kind.{Kind}
 use Rattle.bo_office.specs.declared.reply.Refusal.{Refusal}
 use Rattle.bo_office.specs.declared.reply.Reply.{Reply}
-use Rattle.bo_office.specs.declared.reply.Reply.TheVariants.{Made, Refused}
-use Rattle.bo_office.specs.declared.reply.Shown.TheVariants.{Cart}
+use Rattle.bo_office.specs.declared.reply.Reply.TheVariants.{Made, Found, Refused}
+use Rattle.bo_office.specs.declared.reply.Shown.{Shown}
+use Rattle.bo_office.specs.declared.reply.Shown.TheVariants.{Cart, Voucher}
 use Rattle.bo_office.specs.Step.{step}
 
 -- a command as it comes: with the clock's moment and a draw
@@ -41,9 +42,44 @@ abbrev pub trace : List Arrival → State → List Stepped
 trace [] state = []
 trace (arrival ∷ arrivals) state = stepped arrival state ∷ trace arrivals (stepped arrival state).after
 
--- where a cart position was added, no quota's usage went above its size
+-- the row that a command made or changed
+abbrev pub row_told : Reply → Option Shown
+row_told (Made shown) = Some shown
+row_told (Found shown) = Some shown
+row_told other = None
+
+-- what takes places is a cart position that was added, which is its request's own,
+-- and a voucher that was made or changed, and then doesn't ignore quotas
+abbrev pub own_of : Shown → Option (List ℕ)
+own_of (Cart row) = Some (row.id ∷ [])
+own_of (Voucher row redeemed) = if row.allow_ignore_quota then None else Some []
+own_of other = None
+
+abbrev pub own_if_told : Option Shown → Option (List ℕ)
+own_if_told None = None
+own_if_told (Some shown) = own_of shown
+
+-- the own positions of a request that was answered so, if it took places
+abbrev pub taken : Reply → Option (List ℕ)
+taken reply = own_if_told (row_told reply)
+
+-- where places were taken, no quota was taken too much of
 abbrev pub NoneOver : Stepped → Type 0
-NoneOver s = (row : CartPos) → s.reply ≡ Made (Cart row) → TakesNoMore (record s.before { moment = s.at }) s.after
+NoneOver s = (own : List ℕ) → taken s.reply ≡ Some own → first_over s.before.lists s.after.lists s.at own ≡ None
+
+-- a cart position or a voucher that is told, and ignores no quota
+abbrev pub heeds : Lists → Shown → Bool
+heeds lists (Cart row) = not (ignores lists row.voucher)
+heeds lists (Voucher row redeemed) = not row.allow_ignore_quota
+heeds lists other = false
+
+abbrev pub heeds_if_told : Lists → Option Shown → Bool
+heeds_if_told lists None = false
+heeds_if_told lists (Some shown) = heeds lists shown
+
+-- where places were taken and no quota was ignored, each quota's usage is within its size, or no more than before
+abbrev pub StaysWithin : Stepped → Type 0
+StaysWithin s = heeds_if_told s.after.lists (row_told s.reply) ≡ true → TakesNoMore (record s.before { moment = s.at }) s.after
 
 abbrev pub LeavesSound : Stepped → Type 0
 LeavesSound s = IsSound s.after

@@ -6,7 +6,6 @@ use Rattle.bo_catalogue.specs.declared.rows.ItemRows.{ItemRows}
 use Rattle.bo_catalogue.specs.declared.rows.PricedVariation.{PricedVariation}
 use Rattle.bo_catalogue.specs.declared.rows.Quota.{Quota}
 use Rattle.bo_catalogue.specs.declared.refusal.CatalogueRefusal.{CatalogueRefusal}
-use Rattle.bo_catalogue.specs.CatalogueLists.{with_variations}
 use Rattle.bo_catalogue.specs.ItemAdded.{item_added}
 use Rattle.bo_catalogue.specs.ItemChanged.{item_changed}
 use Rattle.bo_catalogue.specs.VariationAdded.{variation_added}
@@ -18,7 +17,6 @@ use Rattle.bo_lists.specs.declared.changes.Change.TheVariants.{PutItem, PutQuota
 use Rattle.bo_lists.specs.Lists.{State}
 use Rattle.bo_lists.specs.Change.{Changed, changed}
 use Rattle.bo_lists.specs.Numbered.{with_item, with_variation, with_quota}
-use Rattle.bo_lists.specs.Usage.{redeemed}
 use Rattle.bo_vouchers.specs.declared.refusal.VoucherRefusal.{VoucherRefusal}
 use Rattle.bo_vouchers.specs.Made.{voucher_made}
 use Rattle.bo_vouchers.specs.Changed.{voucher_changed}
@@ -33,8 +31,8 @@ use Rattle.bo_office.specs.declared.command.Kind.TheVariants as kinds
 use Rattle.bo_office.specs.declared.reply.Refusal.TheVariants as refusals
 use Rattle.bo_office.specs.declared.reply.Reply.{Reply}
 use Rattle.bo_office.specs.declared.reply.Reply.TheVariants.{Made, Found, Gone, Refused}
-use Rattle.bo_office.specs.declared.reply.Shown.{Shown}
 use Rattle.bo_office.specs.declared.reply.Shown.TheVariants as rows
+use Rattle.bo_office.specs.ShownRows.{show_item, show_voucher}
 
 -- no row is put, and the next ids stay
 abbrev pub no_change : State → Changed
@@ -45,7 +43,7 @@ item_step state (Ok made) = (with_item made state, Made (rows.Item made))
 item_step state (Err refusal) = (state, Refused kinds.AddItem (refusals.Catalogue refusal))
 
 abbrev pub item_change_step : State → Result Item CatalogueRefusal → State × Reply
-item_change_step state (Ok row) = (changed (PutItem row) state, Found (rows.Item (with_variations state.lists.catalogue row)))
+item_change_step state (Ok row) = (changed (PutItem row) state, Found (show_item state.lists row))
 item_change_step state (Err refusal) = (state, Refused kinds.ChangeItem (refusals.Catalogue refusal))
 
 abbrev pub variation_step : State → Result PricedVariation CatalogueRefusal → State × Reply
@@ -60,16 +58,12 @@ abbrev pub resize_step : State → Result Quota CatalogueRefusal → State × Re
 resize_step state (Ok row) = (changed (PutQuota row) state, Found (rows.Quota row))
 resize_step state (Err refusal) = (state, Refused kinds.ResizeQuota (refusals.Catalogue refusal))
 
--- a voucher is shown with the number of its uses in orders
-abbrev pub shown_voucher : State → Voucher → Shown
-shown_voucher state row = rows.Voucher row (redeemed row.id state.lists)
-
 abbrev pub voucher_step : State → Result (State × Voucher) VoucherRefusal → State × Reply
-voucher_step state (Ok (new, row)) = (new, Made (shown_voucher new row))
+voucher_step state (Ok (new, row)) = (new, Made (show_voucher new.lists row))
 voucher_step state (Err refusal) = (state, Refused kinds.AddVoucher (refusals.Voucher refusal))
 
 abbrev pub voucher_change_step : State → Result (State × Voucher) VoucherRefusal → State × Reply
-voucher_change_step state (Ok (new, row)) = (new, Found (shown_voucher new row))
+voucher_change_step state (Ok (new, row)) = (new, Found (show_voucher new.lists row))
 voucher_change_step state (Err refusal) = (state, Refused kinds.ChangeVoucher (refusals.Voucher refusal))
 
 abbrev pub voucher_drop_step : State → Result State VoucherRefusal → State × Reply

@@ -10,11 +10,8 @@ ghost use Rattle.bo_office.specs.Answer.{answer};
 use crate::command::{Command, Kind, Query};
 use crate::reply::{Refusal, Reply};
 use bo_base::{Draw, Moment, Text};
-use bo_catalogue::{CatalogueRefusal, NewItem, NewQuota};
-use bo_orders::{NewCart, OrderRefusal, add_position};
-use bo_draft::Draft;
-use bo_lists::{Change, Changes, NextIds};
-use bo_usage::{Book, availability};
+use bo_lists::Changes;
+use bo_usage::Book;
 use std::alloc::{AllocError, Global};
 use std::marker::Model;
 
@@ -100,15 +97,54 @@ impl<B: Book> Office<B> {
         ensures step { IfOk result (λ r. (applied r.0 at self.now.state, r.1) ≡ step command.now at draw self.now.state) }
         ensures sound { IfOk result (λ r. IsSound (applied r.0 at self.now.state)) }
     {
-        Err(AllocError)
+        let _ = &self.book;
+        self.decided(alloc, at, draw, command)
+    }
+
+    fn decided(
+        &self,
+        alloc: Global,
+        at: Moment,
+        draw: Draw,
+        command: &Command,
+    ) -> Result<(Changes, Reply), AllocError>
+        requires { self.now.state.moment ≤ at }
+        ensures { IfOk result (λ r. (applied r.0 at self.now.state, r.1) ≡ step command.now at draw self.now.state) }
+    {
+        match command {
+            Command::AddItem(new) => self.add_item(alloc, new),
+            Command::ChangeItem(id, patch) => self.change_item(alloc, *id, patch),
+            Command::AddVariation(item, new) => self.add_variation(alloc, *item, new),
+            Command::AddQuota(new) => self.add_quota(alloc, new),
+            Command::ResizeQuota(id, patch) => self.resize_quota(alloc, *id, *patch),
+            Command::AddVoucher(new) => self.add_voucher(alloc, at, draw, new),
+            Command::ChangeVoucher(id, patch) => self.change_voucher(alloc, at, *id, patch),
+            Command::DropVoucher(id) => self.drop_voucher(alloc, at, *id),
+            Command::AddCart(new) => self.add_cart(alloc, at, draw, new),
+            Command::DropCart(id) => self.drop_cart(alloc, at, *id),
+        }
+    }
+
+    // No change, and a refusal.
+    pub(crate) fn refused(&self, alloc: Global, kind: Kind, refusal: Refusal) -> (Changes, Reply)
+        ensures { result ≡ (no_change self.now.state, Reply.Refused kind refusal) }
+    {
+        (
+            Changes::new(Vec::new(alloc), self.book.next_ids()),
+            Reply::Refused(kind, refusal),
+        )
     }
 
     /// What a query is answered at a moment that isn't before the office's.
-    pub fn ask(&self, _alloc: Global, at: Moment, query: &Query) -> Result<Reply, AllocError>
+    pub fn ask(&self, alloc: Global, at: Moment, query: &Query) -> Result<Reply, AllocError>
         requires { self.now.state.moment ≤ at }
         ensures { IfOk result (λ reply. reply ≡ answer query.now at self.now.state) }
     {
-        Err(AllocError)
+        match query {
+            Query::List(resource, number) => self.list(alloc, *resource, *number),
+            Query::One(resource, id) => self.one(alloc, *resource, *id),
+            Query::Availability(id) => Ok(self.availability(at, *id)),
+        }
     }
 
     /// Takes the memory that these changes need.

@@ -1,0 +1,84 @@
+-- What is known of commands on the catalogue.
+use Rattle.std.proofs.Common.{◌≡◌, ℕ, ◌+◌, ◌≤◌, Bool, true, false, Result, Ok, refl, sym, ap, ◌∙◌, subst}
+use Rattle.std.specs.Prelude.{◌&&◌, length}
+use Rattle.bo_catalogue.specs.declared.rows.Item.{Item}
+use Rattle.bo_catalogue.specs.declared.rows.ItemRows.{ItemRows}
+use Rattle.bo_catalogue.specs.declared.rows.PricedVariation.{PricedVariation}
+use Rattle.bo_catalogue.specs.declared.rows.Quota.{Quota}
+use Rattle.bo_catalogue.specs.declared.requests.ItemPatch.{ItemPatch}
+use Rattle.bo_catalogue.specs.declared.requests.NewItem.{NewItem}
+use Rattle.bo_catalogue.specs.declared.requests.NewQuota.{NewQuota}
+use Rattle.bo_catalogue.specs.declared.requests.NewVariation.{NewVariation}
+use Rattle.bo_catalogue.specs.declared.requests.QuotaPatch.{QuotaPatch}
+use Rattle.bo_catalogue.specs.CatalogueLists.{CatalogueLists, item_at, quota_at}
+use Rattle.bo_catalogue.specs.Limits.{last_id, takes_row, takes_rows}
+use Rattle.bo_catalogue.specs.ItemAdded.{item_rows, item_added}
+use Rattle.bo_catalogue.specs.ItemChanged.{item_changed}
+use Rattle.bo_catalogue.specs.VariationAdded.{variation_added}
+use Rattle.bo_catalogue.specs.QuotaAdded.{quota_added}
+use Rattle.bo_catalogue.specs.Resized.{resized}
+use Rattle.bo_catalogue.proofs.Added.{taken_id_small, taken_ids_small, variation_rows-length, item_added_is, item_changed_is, variation_added_is, quota_added_is, resized_is}
+use Rattle.bo_lists.specs.declared.changes.Change.TheVariants.{PutItem, PutQuota}
+use Rattle.bo_lists.specs.Change.{changed}
+use Rattle.bo_lists.specs.Lists.{State}
+use Rattle.bo_lists.specs.Numbered.{with_item, with_variation, with_quota}
+use Rattle.bo_lists.specs.Sound.{IsSound}
+use Rattle.bo_lists.proofs.EachRow.{key-row_at}
+use Rattle.bo_lists.proofs.Sound.{sound_item, variation_rows_count, sound_changed_item, sound_variation, sound_quota, sound_resized}
+
+and_first : (a b : Bool) → (a && b) ≡ true → a ≡ true
+and_first true b h = refl
+and_first false b h = absurd (cc)
+
+and_second : (a b : Bool) → (a && b) ≡ true → b ≡ true
+and_second true b h = h
+and_second false b h = absurd (cc)
+
+-- the ids of new rows are in range
+module _ (new : NewItem) (id first : ℕ) (lists : CatalogueLists) (rows : ItemRows) where
+  pub item_id_small : item_added new id first lists ≡ Ok rows → id ≤ last_id
+  item_id_small h =
+      let a = item_added_is new id first lists rows h in
+      taken_id_small id lists.items (and_first (takes_row id lists.items) (takes_rows (length new.variations) first lists.variations) a.has_room)
+
+  pub variation_ids_small : item_added new id first lists ≡ Ok rows → first + length rows.variations ≤ last_id + 1
+  variation_ids_small h =
+      let a = item_added_is new id first lists rows h in
+      let count : length new.variations ≡ length rows.variations = sym (variation_rows-length new.variations id first) ∙ ap (λ (r : ItemRows). length r.variations) a.is_rows in
+      let small = taken_ids_small (length new.variations) first lists.variations (and_second (takes_row id lists.items) (takes_rows (length new.variations) first lists.variations) a.has_room) in
+      subst (λ (n : ℕ). first + n ≤ last_id + 1) count small
+
+pub variation_id_small : (item : ℕ) (new : NewVariation) (id : ℕ) (lists : CatalogueLists) (made : PricedVariation) → variation_added item new id lists ≡ Ok made → id ≤ last_id
+variation_id_small item new id lists made h = taken_id_small id lists.variations (variation_added_is item new id lists made h).has_room
+
+pub quota_id_small : (new : NewQuota) (id : ℕ) (lists : CatalogueLists) (row : Quota) → quota_added new id lists ≡ Ok row → id ≤ last_id
+quota_id_small new id lists row h = taken_id_small id lists.quotas (quota_added_is new id lists row h).has_room
+
+-- each of them leads from sound to sound
+pub item_sound : (new : NewItem) (state : State) (rows : ItemRows) → item_added new state.next.item state.next.variation state.lists.catalogue ≡ Ok rows → IsSound state → IsSound (with_item rows state)
+item_sound new state rows h sound =
+    let a = item_added_is new state.next.item state.next.variation state.lists.catalogue rows h in
+    let made = item_rows new state.next.item state.next.variation in
+    subst (λ (r : ItemRows). IsSound (with_item r state)) a.is_rows (sound_item state made refl (variation_rows_count new.variations state.next.item state.next.variation) sound)
+
+pub item_change_sound : (id : ℕ) (patch : ItemPatch) (state : State) (row : Item) → item_changed id patch state.lists.catalogue ≡ Ok row → IsSound state → IsSound (changed (PutItem row) state)
+item_change_sound id patch state row h sound =
+    let c = item_changed_is id patch state.lists.catalogue row h in
+    let own : row.id ≡ id = sym (ap (λ (r : Item). r.id) c.is_row) ∙ key-row_at (λ (r : Item). r.id) id state.lists.catalogue.items c.old c.stood in
+    sound_changed_item state row c.old (ap (λ (n : ℕ). item_at n state.lists.catalogue) own ∙ c.stood) sound
+
+pub variation_sound : (item : ℕ) (new : NewVariation) (state : State) (made : PricedVariation) → variation_added item new state.next.variation state.lists.catalogue ≡ Ok made → IsSound state → IsSound (with_variation made.row state)
+variation_sound item new state made h sound =
+    let a = variation_added_is item new state.next.variation state.lists.catalogue made h in
+    sound_variation state made.row (sym (ap (λ (m : PricedVariation). m.row.id) a.is_made)) sound
+
+pub quota_sound : (new : NewQuota) (state : State) (row : Quota) → quota_added new state.next.quota state.lists.catalogue ≡ Ok row → IsSound state → IsSound (with_quota row state)
+quota_sound new state row h sound =
+    let a = quota_added_is new state.next.quota state.lists.catalogue row h in
+    sound_quota state row (sym (ap (λ (r : Quota). r.id) a.is_row)) sound
+
+pub resize_sound : (id : ℕ) (patch : QuotaPatch) (state : State) (row : Quota) → resized id patch state.lists.catalogue ≡ Ok row → IsSound state → IsSound (changed (PutQuota row) state)
+resize_sound id patch state row h sound =
+    let c = resized_is id patch state.lists.catalogue row h in
+    let own : row.id ≡ id = sym (ap (λ (r : Quota). r.id) c.is_row) ∙ key-row_at (λ (r : Quota). r.id) id state.lists.catalogue.quotas c.old c.stood in
+    sound_resized state row c.old (ap (λ (n : ℕ). quota_at n state.lists.catalogue) own ∙ c.stood) (sym (ap (λ (r : Quota). r.items) c.is_row)) (sym (ap (λ (r : Quota). r.variations) c.is_row)) sound

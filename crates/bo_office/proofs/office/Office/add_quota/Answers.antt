@@ -1,0 +1,9 @@
+use Rattle.std.proofs.Common.{ℕ, ◌≤◌, arith}
+use Rattle.bo_catalogue.specs.Limits.{last_id}
+use Rattle.bo_office.proofs.Catalogue.{quota_id_small}
+use Rattle.bo_office.proofs.office.Office.add_quota.Goals as goal
+
+pub overflow_add-next : goal.overflow_add-next
+overflow_add-next g c =
+    let small : c.next_ids-next.result.quota ≤ last_id = quota_id_small _ _ _ _ c.in-Ok.ensures.done in
+    omega arith

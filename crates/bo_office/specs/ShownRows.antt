@@ -1,0 +1,24 @@
+-- How each row is shown.
+use Rattle.bo_catalogue.specs.declared.rows.Item.{Item}
+use Rattle.bo_catalogue.specs.declared.rows.Quota.{Quota}
+use Rattle.bo_catalogue.specs.CatalogueLists.{with_variations}
+use Rattle.bo_lists.specs.declared.rows.CartPos.{CartPos}
+use Rattle.bo_lists.specs.declared.rows.Voucher.{Voucher}
+use Rattle.bo_lists.specs.Lists.{Lists}
+use Rattle.bo_lists.specs.Usage.{redeemed}
+use Rattle.bo_office.specs.declared.reply.Shown.{Shown}
+use Rattle.bo_office.specs.declared.reply.Shown.TheVariants as rows
+
+-- an item with its variations
+abbrev pub show_item : Lists → Item → Shown
+show_item lists item = rows.Item (with_variations lists.catalogue item)
+
+abbrev pub show_quota : Quota → Shown
+show_quota quota = rows.Quota quota
+
+-- a voucher with the number of its uses in orders
+unfoldable pub show_voucher : Lists → Voucher → Shown
+show_voucher lists voucher = rows.Voucher voucher (redeemed voucher.id lists)
+
+abbrev pub show_cart : CartPos → Shown
+show_cart cart = rows.Cart cart

@@ -1,0 +1,157 @@
+//! Commands on the catalogue. None of them depends on its moment or its draw.
+
+ghost use Rattle.std.specs.Prelude.{◌≡◌, ℕ, IfOk};
+ghost use Rattle.bo_base.specs.declared.draw.Draw.{Draw};
+ghost use Rattle.bo_lists.specs.Change.{applied};
+ghost use Rattle.bo_lists.specs.Numbered.{puts_of};
+ghost use Rattle.bo_office.specs.Step.{step};
+ghost use Rattle.bo_office.specs.declared.command.Command.{Command};
+
+use crate::command::Kind;
+use crate::office::Office;
+use crate::reply::{Refusal, Reply, Shown};
+use bo_catalogue::{
+    CatalogueRefusal, ItemPatch, ItemRows, NewItem, NewQuota, NewVariation, QuotaPatch,
+};
+use bo_lists::{Change, Changes, NextIds};
+use bo_usage::Book;
+use std::alloc::{AllocError, Global};
+
+impl<B: Book> Office<B> {
+    // Adds an item with its variations.
+    pub(crate) fn add_item(
+        &self,
+        alloc: Global,
+        new: &NewItem,
+    ) -> Result<(Changes, Reply), AllocError>
+        ensures { IfOk result (λ r. (at : ℕ) (draw : Draw) → (applied r.0 at self.now.state, r.1) ≡ step (Command.AddItem new.now) at draw self.now.state) }
+    {
+        let next = self.book().next_ids();
+        match self
+            .book()
+            .catalogue()
+            .add_item(alloc, new, next.item, next.variation)
+        {
+            Ok(rows) => {
+                let list = puts_of(alloc, &rows)?;
+                let next = NextIds {
+                    item: next.item + 1,
+                    variation: next.variation + rows.variations.as_slice().len() as u64,
+                    ..next
+                };
+                Ok((Changes::new(list, next), Reply::Made(Shown::Item(rows))))
+            }
+            Err(CatalogueRefusal::Memory) => Err(AllocError),
+            Err(refusal) => Ok(self.refused(alloc, Kind::AddItem, Refusal::Catalogue(refusal))),
+        }
+    }
+
+    // Changes an item.
+    pub(crate) fn change_item(
+        &self,
+        alloc: Global,
+        id: u64,
+        patch: &ItemPatch,
+    ) -> Result<(Changes, Reply), AllocError>
+        ensures { IfOk result (λ r. (at : ℕ) (draw : Draw) → (applied r.0 at self.now.state, r.1) ≡ step (Command.ChangeItem id patch.now) at draw self.now.state) }
+    {
+        let catalogue = self.book().catalogue();
+        match catalogue.change_item(alloc, id, patch) {
+            Ok(row) => {
+                let shown = Shown::Item(catalogue.with_variations(alloc, &row)?);
+                let list = vec![in alloc; Change::PutItem(row)]?;
+                let changes = Changes::new(list, self.book().next_ids());
+                Ok((changes, Reply::Found(shown)))
+            }
+            Err(CatalogueRefusal::Memory) => Err(AllocError),
+            Err(refusal) => Ok(self.refused(alloc, Kind::ChangeItem, Refusal::Catalogue(refusal))),
+        }
+    }
+
+    // Adds a variation to an item.
+    pub(crate) fn add_variation(
+        &self,
+        alloc: Global,
+        item: u64,
+        new: &NewVariation,
+    ) -> Result<(Changes, Reply), AllocError>
+        ensures { IfOk result (λ r. (at : ℕ) (draw : Draw) → (applied r.0 at self.now.state, r.1) ≡ step (Command.AddVariation item new.now) at draw self.now.state) }
+    {
+        let next = self.book().next_ids();
+        match self
+            .book()
+            .catalogue()
+            .add_variation(alloc, item, new, next.variation)
+        {
+            Ok(made) => {
+                let put = Change::PutVariation(made.row.copy(alloc)?);
+                let next = NextIds {
+                    variation: next.variation + 1,
+                    ..next
+                };
+                let list = vec![in alloc; put]?;
+                let reply = Reply::Made(Shown::Variation(made));
+                Ok((Changes::new(list, next), reply))
+            }
+            Err(CatalogueRefusal::Memory) => Err(AllocError),
+            Err(refusal) => {
+                Ok(self.refused(alloc, Kind::AddVariation, Refusal::Catalogue(refusal)))
+            }
+        }
+    }
+
+    // Adds a quota.
+    pub(crate) fn add_quota(
+        &self,
+        alloc: Global,
+        new: &NewQuota,
+    ) -> Result<(Changes, Reply), AllocError>
+        ensures { IfOk result (λ r. (at : ℕ) (draw : Draw) → (applied r.0 at self.now.state, r.1) ≡ step (Command.AddQuota new.now) at draw self.now.state) }
+    {
+        let next = self.book().next_ids();
+        match self.book().catalogue().add_quota(alloc, new, next.quota) {
+            Ok(row) => {
+                let reply = Reply::Made(Shown::Quota(row.copy(alloc)?));
+                let next = NextIds {
+                    quota: next.quota + 1,
+                    ..next
+                };
+                let list = vec![in alloc; Change::PutQuota(row)]?;
+                Ok((Changes::new(list, next), reply))
+            }
+            Err(CatalogueRefusal::Memory) => Err(AllocError),
+            Err(refusal) => Ok(self.refused(alloc, Kind::AddQuota, Refusal::Catalogue(refusal))),
+        }
+    }
+
+    // Gives a quota another size.
+    pub(crate) fn resize_quota(
+        &self,
+        alloc: Global,
+        id: u64,
+        patch: QuotaPatch,
+    ) -> Result<(Changes, Reply), AllocError>
+        ensures { IfOk result (λ r. (at : ℕ) (draw : Draw) → (applied r.0 at self.now.state, r.1) ≡ step (Command.ResizeQuota id patch) at draw self.now.state) }
+    {
+        match self.book().catalogue().resize(alloc, id, patch) {
+            Ok(row) => {
+                let reply = Reply::Found(Shown::Quota(row.copy(alloc)?));
+                let list = vec![in alloc; Change::PutQuota(row)]?;
+                Ok((Changes::new(list, self.book().next_ids()), reply))
+            }
+            Err(CatalogueRefusal::Memory) => Err(AllocError),
+            Err(refusal) => Ok(self.refused(alloc, Kind::ResizeQuota, Refusal::Catalogue(refusal))),
+        }
+    }
+}
+
+// The changes that put an item and its variations.
+fn puts_of(alloc: Global, rows: &ItemRows) -> Result<Vec<Change>, AllocError>
+    ensures { IfOk result (λ list. list.items ≡ puts_of rows.now) }
+{
+    let mut list = vec![in alloc; Change::PutItem(rows.item.copy(alloc)?)]?;
+    for variation in rows.variations.as_slice() {
+        list.push(Change::PutVariation(variation.copy(alloc)?))?;
+    }
+    Ok(list)
+}

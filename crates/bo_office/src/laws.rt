@@ -1,0 +1,39 @@
+//! Laws of every run of commands.
+
+ghost use Rattle.std.specs.Prelude.{List};
+ghost use Rattle.std.specs.List.{AllByRecursion};
+ghost use Rattle.bo_lists.specs.Lists.{State};
+ghost use Rattle.bo_lists.specs.Sound.{IsSound};
+ghost use Rattle.bo_office.specs.Runs.{Arrival, trace, NoneOver, StaysWithin, LeavesSound, StoresItsMoment, ChangesNothingElse, NeverGoesBack};
+
+/// Whatever commands come, no cart position that is added, and no voucher that is made or changed, takes
+/// too much of a quota: neither one that ignores quotas does so by its own places.
+pub fn none_over()
+    ensures { (arrivals : List Arrival) (state : State) → AllByRecursion NoneOver (trace arrivals state) }
+{}
+
+/// Whatever commands come, where a cart position is added, or a voucher made or changed, and quotas aren't
+/// ignored, each quota's usage is within its size, or no more than before.
+pub fn takings_stay_within()
+    ensures { (arrivals : List Arrival) (state : State) → AllByRecursion StaysWithin (trace arrivals state) }
+{}
+
+/// Whatever commands come, a sound office stays sound.
+pub fn always_sound()
+    ensures { (arrivals : List Arrival) (state : State) → IsSound state → AllByRecursion LeavesSound (trace arrivals state) }
+{}
+
+/// Whatever commands come, the office's moment never falls.
+pub fn time_never_falls()
+    ensures { (arrivals : List Arrival) (state : State) → AllByRecursion NeverGoesBack (trace arrivals state) }
+{}
+
+/// Each command stores its moment, refused or not.
+pub fn moments_are_stored()
+    ensures { (arrivals : List Arrival) (state : State) → AllByRecursion StoresItsMoment (trace arrivals state) }
+{}
+
+/// A refused command changes the moment alone.
+pub fn refused_change_nothing_else()
+    ensures { (arrivals : List Arrival) (state : State) → AllByRecursion ChangesNothingElse (trace arrivals state) }
+{}

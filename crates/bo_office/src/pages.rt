@@ -1,0 +1,20 @@
+//! Pages of lists: 50 rows each, and pages count from 1.
+
+ghost use Rattle.std.specs.Prelude.{◌≡◌, length, IsTrue};
+ghost use Rattle.bo_office.specs.Pages.{is_page, page_rows};
+
+/// Whether a list with so many rows has a page of this number. An empty list has page 1 alone.
+pub(crate) fn is_page(number: u64, count: usize) -> bool
+    ensures { result ≡ is_page number count }
+{
+    1 <= number && number <= (count.div_ceil(50) as u64).max(1)
+}
+
+/// The rows of a page.
+pub(crate) fn page_rows<T>(rows: &[T], number: u64) -> &[T]
+    requires { IsTrue (is_page number (length rows.now)) }
+    ensures { result.now ≡ page_rows number rows.now }
+{
+    let rest = &rows[(number as usize - 1) * 50..];
+    &rest[..rest.len().min(50)]
+}

@@ -1,0 +1,118 @@
+//! Commands on vouchers and carts.
+
+ghost use Rattle.std.specs.Prelude.{◌≡◌, ◌≤◌, ℕ, IfOk};
+ghost use Rattle.bo_base.specs.declared.draw.Draw.{Draw};
+ghost use Rattle.bo_lists.specs.Change.{applied};
+ghost use Rattle.bo_office.specs.Step.{step};
+ghost use Rattle.bo_office.specs.declared.command.Command.{Command};
+
+use crate::command::Kind;
+use crate::office::Office;
+use crate::reply::{Refusal, Reply, Shown};
+use bo_base::{Draw, Moment};
+use bo_draft::Draft;
+use bo_lists::Changes;
+use bo_orders::{NewCart, OrderRefusal, add_position, drop_position};
+use bo_usage::Book;
+use bo_vouchers::{NewVoucher, VoucherPatch, VoucherRefusal, decide_voucher};
+use std::alloc::{AllocError, Global};
+
+impl<B: Book> Office<B> {
+    // Makes a voucher.
+    pub(crate) fn add_voucher(
+        &self,
+        alloc: Global,
+        at: Moment,
+        draw: Draw,
+        new: &NewVoucher,
+    ) -> Result<(Changes, Reply), AllocError>
+        requires { self.now.state.moment ≤ at }
+        ensures { IfOk result (λ r. (applied r.0 at self.now.state, r.1) ≡ step (Command.AddVoucher new.now) at draw self.now.state) }
+    {
+        let mut draft = Draft::new(alloc, self.book(), at)?;
+        let reply = match decide_voucher::make(&mut draft, alloc, draw, new) {
+            Ok(row) => Reply::Made(self.show_voucher(row)),
+            Err(VoucherRefusal::Memory) => return Err(AllocError),
+            Err(refusal) => Reply::Refused(Kind::AddVoucher, Refusal::Voucher(refusal)),
+        };
+        Ok((draft.finish(), reply))
+    }
+
+    // Changes a voucher, with whatever draw.
+    pub(crate) fn change_voucher(
+        &self,
+        alloc: Global,
+        at: Moment,
+        id: u64,
+        patch: &VoucherPatch,
+    ) -> Result<(Changes, Reply), AllocError>
+        requires { self.now.state.moment ≤ at }
+        ensures { IfOk result (λ r. (draw : Draw) → (applied r.0 at self.now.state, r.1) ≡ step (Command.ChangeVoucher id patch.now) at draw self.now.state) }
+    {
+        let mut draft = Draft::new(alloc, self.book(), at)?;
+        let reply = match decide_voucher::patch(&mut draft, alloc, id, patch) {
+            Ok(row) => Reply::Found(self.show_voucher(row)),
+            Err(VoucherRefusal::Memory) => return Err(AllocError),
+            Err(refusal) => Reply::Refused(Kind::ChangeVoucher, Refusal::Voucher(refusal)),
+        };
+        Ok((draft.finish(), reply))
+    }
+
+    // Deletes a voucher, with whatever draw.
+    pub(crate) fn drop_voucher(
+        &self,
+        alloc: Global,
+        at: Moment,
+        id: u64,
+    ) -> Result<(Changes, Reply), AllocError>
+        requires { self.now.state.moment ≤ at }
+        ensures { IfOk result (λ r. (draw : Draw) → (applied r.0 at self.now.state, r.1) ≡ step (Command.DropVoucher id) at draw self.now.state) }
+    {
+        let mut draft = Draft::new(alloc, self.book(), at)?;
+        let reply = match decide_voucher::delete(&mut draft, alloc, id) {
+            Ok(()) => Reply::Gone,
+            Err(VoucherRefusal::Memory) => return Err(AllocError),
+            Err(refusal) => Reply::Refused(Kind::DropVoucher, Refusal::Voucher(refusal)),
+        };
+        Ok((draft.finish(), reply))
+    }
+
+    // Adds a cart position.
+    pub(crate) fn add_cart(
+        &self,
+        alloc: Global,
+        at: Moment,
+        draw: Draw,
+        new: &NewCart,
+    ) -> Result<(Changes, Reply), AllocError>
+        requires { self.now.state.moment ≤ at }
+        ensures { IfOk result (λ r. (applied r.0 at self.now.state, r.1) ≡ step (Command.AddCart new.now) at draw self.now.state) }
+    {
+        let mut draft = Draft::new(alloc, self.book(), at)?;
+        let reply = match add_position(&mut draft, alloc, draw, new) {
+            Ok(row) => Reply::Made(Shown::Cart(row)),
+            Err(OrderRefusal::Memory) => return Err(AllocError),
+            Err(refusal) => Reply::Refused(Kind::AddCart, Refusal::Order(refusal)),
+        };
+        Ok((draft.finish(), reply))
+    }
+
+    // Deletes a cart position, with whatever draw.
+    pub(crate) fn drop_cart(
+        &self,
+        alloc: Global,
+        at: Moment,
+        id: u64,
+    ) -> Result<(Changes, Reply), AllocError>
+        requires { self.now.state.moment ≤ at }
+        ensures { IfOk result (λ r. (draw : Draw) → (applied r.0 at self.now.state, r.1) ≡ step (Command.DropCart id) at draw self.now.state) }
+    {
+        let mut draft = Draft::new(alloc, self.book(), at)?;
+        let reply = match drop_position(&mut draft, alloc, id) {
+            Ok(()) => Reply::Gone,
+            Err(OrderRefusal::Memory) => return Err(AllocError),
+            Err(refusal) => Reply::Refused(Kind::DropCart, Refusal::Order(refusal)),
+        };
+        Ok((draft.finish(), reply))
+    }
+}
