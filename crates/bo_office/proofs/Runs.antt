@@ -1,5 +1,5 @@
 -- Laws of every step, and of every run by induction.
-use Rattle.std.proofs.Common.{◌≡◌, ℕ, ◌≤◌, Bool, true, false, List, [], ◌∷◌, Option, Some, None, Result, Ok, Err, refl, sym, ap, ◌∙◌, subst, arith}
+use Rattle.std.proofs.Common.{◌≡◌, ℕ, ◌≤◌, Bool, true, false, List, [], ◌∷◌, Option, Some, None, Result, Ok, Err, refl, sym, subst, arith}
 use Rattle.std.specs.Prelude.{max, not, if◌then◌else◌}
 use Rattle.std.specs.List.{AllByRecursion}
 use Rattle.bo_base.specs.declared.draw.Draw.{Draw}
@@ -7,11 +7,6 @@ use Rattle.bo_catalogue.specs.declared.rows.Item.{Item}
 use Rattle.bo_catalogue.specs.declared.rows.ItemRows.{ItemRows}
 use Rattle.bo_catalogue.specs.declared.rows.PricedVariation.{PricedVariation}
 use Rattle.bo_catalogue.specs.declared.rows.Quota.{Quota}
-use Rattle.bo_catalogue.specs.declared.requests.ItemPatch.{ItemPatch}
-use Rattle.bo_catalogue.specs.declared.requests.NewItem.{NewItem}
-use Rattle.bo_catalogue.specs.declared.requests.NewQuota.{NewQuota}
-use Rattle.bo_catalogue.specs.declared.requests.NewVariation.{NewVariation}
-use Rattle.bo_catalogue.specs.declared.requests.QuotaPatch.{QuotaPatch}
 use Rattle.bo_catalogue.specs.declared.refusal.CatalogueRefusal.{CatalogueRefusal}
 use Rattle.bo_catalogue.specs.ItemAdded.{item_added}
 use Rattle.bo_catalogue.specs.ItemChanged.{item_changed}
