@@ -93,8 +93,8 @@ impl Words {
 
     /// The words of a reply.
     pub fn words(&self, alloc: Global, reply: &Reply) -> Result<Told, AllocError>
-        ensures { IfOk result (λ told. told ≡ words reply.now) }
+        ensures { IfOk result (λ told. told ≡ words self.now.organizer self.now.event reply.now) }
     {
-        bo_words::words(alloc, reply)
+        bo_words::words(alloc, self.organizer.as_str(), self.event.as_str(), reply)
     }
 }
