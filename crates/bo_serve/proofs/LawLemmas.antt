@@ -1,9 +1,7 @@
 -- Runs over one stream are alike, and time never falls.
-use Rattle.std.proofs.Common.{◌≡◌, ℕ, ◌≤◌, ◌⊎◌, max, List, [], ◌∷◌, ◌++◌, Option, Some, None, Result, Ok, Err, inl, inr, refl, sym, ap, ap₂, ◌∙◌, subst, arith, append-nil}
-use Rattle.std.specs.Io.KnownBytes.{IsAtEnd}
+use Rattle.std.proofs.Common.{◌≡◌, ℕ, ◌≤◌, max, List, [], ◌∷◌, ◌++◌, Option, Some, None, Ok, Err, inl, inr, sym, ap, ap₂, ◌∙◌, subst, arith, append-nil}
 use Rattle.bo_base.specs.declared.answer.Answer.{Answer}
 use Rattle.bo_base.specs.declared.answer.Answer.TheVariants as answers
-use Rattle.bo_base.specs.declared.answer.Told.{Told}
 use Rattle.bo_base.specs.declared.device.Tick.{Tick}
 use Rattle.bo_base.specs.declared.draw.Draw.{Draw}
 use Rattle.bo_base.specs.Told.{Gives}
@@ -14,8 +12,8 @@ use Rattle.bo_office.proofs.Runs.{stores_all}
 use Rattle.bo_api.specs.declared.call.Call.{Call}
 use Rattle.bo_api.specs.declared.call.Call.TheVariants as calls
 use Rattle.bo_serve.specs.BoxOfficeView.{BoxOfficeView}
-use Rattle.bo_serve.specs.Run.{Item, AreAlways, AreAll, Runs}
-use Rattle.bo_serve.specs.Served.{Serves, Tells, Leads, told_of, served}
+use Rattle.bo_serve.specs.Run.{Item, AreAll, Runs}
+use Rattle.bo_serve.specs.Served.{Serves, Tells, told_of}
 
 -- ---- the whole stream
 
