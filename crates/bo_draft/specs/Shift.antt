@@ -1,5 +1,5 @@
 -- What a change of one row does to the usage of a quota.
-use Rattle.std.specs.Prelude.{◌≡◌, ℕ, ◌+◌, ◌-◌, Bool, ◌&&◌, ◌==◌, [], Option, Some, None, if◌then◌else◌, count_by}
+use Rattle.std.specs.Prelude.{◌≡◌, ℕ, ◌+◌, ◌-◌, Bool, ◌&&◌, ◌==◌, Option, Some, None, if◌then◌else◌, count_by}
 use Rattle.bo_base.specs.Tables.{sum_at}
 use Rattle.bo_catalogue.specs.declared.rows.Quota.{Quota}
 use Rattle.bo_catalogue.specs.Member.{is_in}
@@ -101,14 +101,11 @@ pub record KeepsHeadroom (at : ℕ) (change : Change) (lists : Lists) : Type 0 w
   pub before : AllHaveHeadroom at lists
   pub after : AllHaveHeadroom at (after_change change lists)
 
--- what a draft can change after these changes: nothing that is for sale, vouchers only before all others,
--- orders and new order positions only with headroom
+-- what a draft can change after these changes: nothing that is for sale, and orders and new order positions only with headroom
 abbrev pub CanCome : ℕ → Log → Change → Type 0
 CanCome at log (PutItem row) = ⊥
 CanCome at log (PutVariation row) = ⊥
 CanCome at log (PutQuota row) = ⊥
-CanCome at log (PutVoucher row) = log.changes ≡ []
-CanCome at log (DropVoucher id) = log.changes ≡ []
 CanCome at log (PutOrder row) = KeepsHeadroom at (PutOrder row) (rows_of log)
 CanCome at log (PutPosition row) = (position_at row.id (rows_of log) ≡ None) × KeepsHeadroom at (PutPosition row) (rows_of log)
 CanCome at log _ = Unit {0}

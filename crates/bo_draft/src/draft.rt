@@ -210,9 +210,8 @@ impl<'a, B: Book> Draft<'a, B> {
         self.next.voucher += 1;
     }
 
-    /// Puts a voucher in the place of its id, as the first change.
+    /// Puts a voucher in the place of its id.
     pub fn put_voucher(&mut self, alloc: Global, row: Voucher) -> Result<(), AllocError>
-        requires { self.old.log.changes ≡ [] }
         ensures ok { OnOk result (now self.new ≡ changed (Change.PutVoucher row) (now self.old)) }
         ensures extends { Extends self.old self.new }
         ensures err { OnErr result (self.new ≡ self.old) }
@@ -220,9 +219,8 @@ impl<'a, B: Book> Draft<'a, B> {
         self.change(alloc, Change::PutVoucher(row))
     }
 
-    /// Removes the voucher of an id, as the first change.
+    /// Removes the voucher of an id.
     pub fn drop_voucher(&mut self, alloc: Global, id: u64) -> Result<(), AllocError>
-        requires { self.old.log.changes ≡ [] }
         ensures ok { OnOk result (now self.new ≡ changed (Change.DropVoucher id) (now self.old)) }
         ensures extends { Extends self.old self.new }
         ensures err { OnErr result (self.new ≡ self.old) }

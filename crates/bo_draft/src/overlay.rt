@@ -16,6 +16,7 @@ ghost use Rattle.bo_lists.specs.Total.{total};
 ghost use Rattle.bo_lists.specs.Usage.{usage_of, stands_as, uses, redeemed, is_covered_by, is_covered, cart_counts};
 ghost use Rattle.bo_draft.specs.Steps.{voucher_step, cart_step, order_step, waiting_step, puts};
 
+use crate::cart_tests::{CartTest, Holds, HoldsIn};
 use bo_base::Moment;
 use bo_catalogue::{Catalogue, Quota};
 use bo_lists::{CartPos, Change, Order, OrderPos, Usage, Voucher, Waiting};
@@ -190,41 +191,60 @@ impl<'a, B: Book> Overlay<'a, B> {
         ensures value { result ≡ held at voucher (rows_of self.now) }
         ensures few { result ≤ 8589934592 }
     {
-        let mut count = self.book.held(voucher, at);
+        let count = self.book.held(voucher, at);
+        self.count_carts(count, &Holds { at, voucher })
+    }
+
+    /// How many of them are for a product of the quota.
+    pub fn held_in(&self, voucher: u64, quota: &Quota, at: Moment) -> u64
+        ensures { result ≡ held_in at quota.now voucher (rows_of self.now) }
+    {
+        let count = self.book.held_in(voucher, quota, at);
+        self.count_carts(count, &HoldsIn { at, voucher, quota })
+    }
+
+    // How many cart positions pass the test, by the number in the book.
+    fn count_carts<T: CartTest>(&self, book: u64, test: &T) -> u64
+        requires before { book ≡ count_by (T.passes test.now) self.now.base.carts }
+        requires few { book ≤ 4294967296 }
+        ensures value { result ≡ count_by (T.passes test.now) (rows_of self.now).carts }
+        ensures few { result ≤ 8589934592 }
+    {
+        let mut count = book;
         for i in 0..self.log.len() {
-            count = self.held_after(i, voucher, at, count);
+            count = self.count_after(i, test, count);
         }
         count
     }
 
     // The count after one more change.
-    fn held_after(&self, i: usize, voucher: u64, at: Moment, count: u64) -> u64
+    fn count_after<T: CartTest>(&self, i: usize, test: &T, count: u64) -> u64
         requires place { i < length self.now.changes }
-        requires before { count ≡ held at voucher (rows_at i self.now) }
+        requires before { count ≡ count_by (T.passes test.now) (rows_at i self.now).carts }
         requires few { count ≤ 4294967296 + i }
-        ensures value { result ≡ held at voucher (rows_at (i + 1) self.now) }
+        ensures value { result ≡ count_by (T.passes test.now) (rows_at (i + 1) self.now).carts }
         ensures few { result ≤ 4294967296 + i + 1 }
     {
         self.book.known();
         match &self.log[i] {
             Change::PutCart(row) => {
-                let come = u64::from(row.holds(at, voucher));
-                let gone = self.hold_at(i, row.id, voucher, at);
+                let come = u64::from(test.passes(row));
+                let gone = self.count_at(i, row.id, test);
                 (count + come).saturating_sub(gone)
             }
-            Change::DropCart(id) => count.saturating_sub(self.hold_at(i, *id, voucher, at)),
+            Change::DropCart(id) => count.saturating_sub(self.count_at(i, *id, test)),
             _ => count,
         }
     }
 
-    // Whether the row that a cart position had before a change names the voucher.
-    fn hold_at(&self, i: usize, id: u64, voucher: u64, at: Moment) -> u64
+    // Whether the row that a cart position had before a change passes the test.
+    fn count_at<T: CartTest>(&self, i: usize, id: u64, test: &T) -> u64
         requires { i ≤ length self.now.changes }
-        ensures { result ≡ sum_at (λ c. if holds at voucher c then 1 else 0) (cart_at id (rows_at i self.now)) }
+        ensures { result ≡ sum_at (λ c. if T.passes test.now c then 1 else 0) (cart_at id (rows_at i self.now)) }
     {
         match self.cart_at(i, id) {
             None => 0,
-            Some(cart) => u64::from(cart.holds(at, voucher)),
+            Some(cart) => u64::from(test.passes(cart)),
         }
     }
 
@@ -249,14 +269,6 @@ impl<'a, B: Book> Overlay<'a, B> {
         ensures sales { AreSales self.now.changes self.now.base }
     {
         self.book.known();
-    }
-
-    /// How many live cart positions of the quota's products name the voucher, where nothing has changed.
-    pub fn held_in(&self, voucher: u64, quota: &Quota, at: Moment) -> u64
-        requires { self.now.changes ≡ [] }
-        ensures { result ≡ held_in at quota.now voucher (rows_of self.now) }
-    {
-        self.book.held_in(voucher, quota, at)
     }
 
     pub fn len(&self) -> usize

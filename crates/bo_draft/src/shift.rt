@@ -142,8 +142,7 @@ impl<'a, B: Book> Overlay<'a, B> {
         id: u64,
         come: Option<&Voucher>,
     ) -> Result<Usage, AllocError>
-        requires first { self.now.changes ≡ [] }
-        requires usage { usage ≡ usage_of (rows_of self.now) at quota.now }
+        requires { usage ≡ usage_of (rows_of self.now) at quota.now }
         ensures { IfOk result (λ new. new ≡ usage_with_voucher (rows_of self.now) at id (option_copied come.entry) quota.now) }
     {
         let gone = self.voucher(id);
@@ -183,7 +182,6 @@ impl<'a, B: Book> Overlay<'a, B> {
 
     // How many cart positions that name the id count, where this voucher, or none, covers them.
     fn uncovered(&self, at: Moment, quota: &Quota, id: u64, voucher: Option<&Voucher>) -> u64
-        requires { self.now.changes ≡ [] }
         ensures { result ≡ uncovered (rows_of self.now) at quota.now id (option_copied voucher.entry) }
     {
         let covers = match voucher {

@@ -1,5 +1,5 @@
 -- One more tick of `feed`.
-use Rattle.std.proofs.Common.{◌≡◌, ℕ, suc, ◌+◌, ◌*◌, ◌-◌, ◌^◌, ◌≤◌, min, List, [], ◌∷◌, ◌++◌, Option, Some, refl, sym, ap, ap₂, ◌∙◌, subst, add-one, arith}
+use Rattle.std.proofs.Common.{◌≡◌, ℕ, ◌+◌, ◌*◌, ◌-◌, ◌^◌, min, List, [], ◌∷◌, ◌++◌, Option, Some, sym, ap, ap₂, ◌∙◌, add-one, arith}
 use Rattle.std.specs.Int.{bytes_high_first}
 use Rattle.bo_base.specs.Moments.{last_moment}
 use Rattle.bo_base.specs.declared.device.Tick.{Tick}

@@ -1,5 +1,5 @@
--- A voucher that nothing names goes: that raises no usage.
-use Rattle.std.proofs.Common.{◌≡◌, ℕ, ◌≤◌, Bool, false, not, ◌&&◌, eqb, cond, List, [], ◌∷◌, Option, Some, None, refl, ap, ◌∙◌, sum_by, arith}
+-- What raises no usage: a cart position that goes, a voucher that nothing names and that goes, and what is put into the catalogue.
+use Rattle.std.proofs.Common.{◌≡◌, ℕ, ◌≤◌, Bool, false, not, ◌&&◌, eqb, cond, List, [], ◌∷◌, Option, Some, None, refl, ap, ◌∙◌, map, sum_by, arith}
 use Rattle.std.specs.Prelude.{◌||◌, if◌then◌else◌}
 use Rattle.std.specs.List.{list_any}
 use Rattle.std.proofs.lemmas.Bool.Decides.{nat_tests}
@@ -7,13 +7,15 @@ use Rattle.std.proofs.lemmas.List.Sums.{sum_by-cons}
 use Rattle.bo_base.specs.Tables.{without_row}
 use Rattle.bo_base.proofs.Edits.{row_at-without_row}
 use Rattle.bo_catalogue.specs.declared.rows.Quota.{Quota}
+use Rattle.bo_catalogue.specs.declared.rows.Variation.{Variation}
+use Rattle.bo_catalogue.specs.CatalogueLists.{CatalogueLists}
 use Rattle.bo_catalogue.specs.Member.{is_in}
 use Rattle.bo_lists.specs.declared.rows.CartPos.{CartPos}
-use Rattle.bo_lists.specs.declared.changes.Change.TheVariants.{DropVoucher}
+use Rattle.bo_lists.specs.declared.changes.Change.TheVariants.{PutVariation, DropVoucher, DropCart}
 use Rattle.bo_lists.specs.Tests.{is_live_cart, names}
 use Rattle.bo_lists.specs.Lists.{Lists, voucher_at}
 use Rattle.bo_lists.specs.Named.{is_ordered, is_in_cart, is_sent, is_used}
-use Rattle.bo_lists.specs.Change.{after_change}
+use Rattle.bo_lists.specs.Change.{after_change, after_all}
 use Rattle.bo_lists.specs.Usage.{usage_of, blocked_by, blocks_if, is_covered_by, cart_counts}
 use Rattle.bo_lists.specs.Total.{total}
 use Rattle.bo_lists.proofs.EachRow.{neither_first, neither_second}
@@ -47,3 +49,17 @@ module _ (lists : Lists) (at id : ℕ) (quota : Quota) where
   drop_voucher_lowers unused =
       let in_cart = neither_first (is_in_cart id lists) (is_sent id lists) (neither_second (is_ordered id lists) (is_in_cart id lists || is_sent id lists) unused) in
       omega (arith, same_carts lists.carts in_cart, sum_by-without_row-le (λ r. r.id) (blocked_by lists at quota) id lists.vouchers)
+
+  pub drop_cart_lowers : total (usage_of (after_change (DropCart id) lists) at quota) ≤ total (usage_of lists at quota)
+  unfolding usage_of blocked_by
+  drop_cart_lowers = omega (arith, sum_by-without_row-le (λ r. r.id) (counts lists) id lists.carts)
+
+-- usage doesn't depend on what is for sale, but for the quota itself
+pub catalogue_apart : (lists : Lists) (catalogue : CatalogueLists) (at : ℕ) (quota : Quota) → usage_of (record lists { catalogue = catalogue }) at quota ≡ usage_of lists at quota
+unfolding usage_of blocked_by
+catalogue_apart lists catalogue at quota = refl
+
+pub put_variations_apart : (rows : List Variation) (lists : Lists) (at : ℕ) (quota : Quota) → usage_of (after_all (map PutVariation rows) lists) at quota ≡ usage_of lists at quota
+put_variations_apart [] lists at quota = refl
+put_variations_apart (row ∷ rows) lists at quota =
+    put_variations_apart rows (after_change (PutVariation row) lists) at quota ∙ catalogue_apart lists (after_change (PutVariation row) lists).catalogue at quota

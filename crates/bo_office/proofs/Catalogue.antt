@@ -1,10 +1,11 @@
 -- What is known of commands on the catalogue.
-use Rattle.std.proofs.Common.{◌≡◌, ℕ, ◌+◌, ◌≤◌, Bool, true, false, Result, Ok, refl, sym, ap, ◌∙◌, subst}
+use Rattle.std.proofs.Common.{◌≡◌, ℕ, ◌+◌, ◌≤◌, Bool, true, false, Ok, refl, sym, ap, ◌∙◌, subst, arith}
 use Rattle.std.specs.Prelude.{◌&&◌, length}
 use Rattle.bo_catalogue.specs.declared.rows.Item.{Item}
 use Rattle.bo_catalogue.specs.declared.rows.ItemRows.{ItemRows}
 use Rattle.bo_catalogue.specs.declared.rows.PricedVariation.{PricedVariation}
 use Rattle.bo_catalogue.specs.declared.rows.Quota.{Quota}
+use Rattle.bo_catalogue.specs.declared.rows.Variation.{Variation}
 use Rattle.bo_catalogue.specs.declared.requests.ItemPatch.{ItemPatch}
 use Rattle.bo_catalogue.specs.declared.requests.NewItem.{NewItem}
 use Rattle.bo_catalogue.specs.declared.requests.NewQuota.{NewQuota}
@@ -18,12 +19,16 @@ use Rattle.bo_catalogue.specs.VariationAdded.{variation_added}
 use Rattle.bo_catalogue.specs.QuotaAdded.{quota_added}
 use Rattle.bo_catalogue.specs.Resized.{resized}
 use Rattle.bo_catalogue.proofs.Added.{taken_id_small, taken_ids_small, variation_rows-length, item_added_is, item_changed_is, variation_added_is, quota_added_is, resized_is}
-use Rattle.bo_lists.specs.declared.changes.Change.TheVariants.{PutItem, PutQuota}
-use Rattle.bo_lists.specs.Change.{changed}
+use Rattle.bo_lists.specs.declared.changes.Change.TheVariants.{PutItem, PutVariation, PutQuota}
+use Rattle.bo_lists.specs.Change.{after_change, changed}
 use Rattle.bo_lists.specs.Lists.{State}
 use Rattle.bo_lists.specs.Numbered.{with_item, with_variation, with_quota}
 use Rattle.bo_lists.specs.Sound.{IsSound}
+use Rattle.bo_lists.specs.Takes.{used}
+use Rattle.bo_lists.specs.Total.{total}
+use Rattle.bo_lists.specs.Usage.{usage_of}
 use Rattle.bo_lists.proofs.EachRow.{key-row_at}
+use Rattle.bo_lists.proofs.Lowers.{catalogue_apart, put_variations_apart}
 use Rattle.bo_lists.proofs.Sound.{sound_item, variation_rows_count, sound_changed_item, sound_variation, sound_quota, sound_resized}
 
 and_first : (a b : Bool) → (a && b) ≡ true → a ≡ true
@@ -82,3 +87,28 @@ resize_sound id patch state row h sound =
     let c = resized_is id patch state.lists.catalogue row h in
     let own : row.id ≡ id = sym (ap (λ (r : Quota). r.id) c.is_row) ∙ key-row_at (λ (r : Quota). r.id) id state.lists.catalogue.quotas c.old c.stood in
     sound_resized state row c.old (ap (λ (n : ℕ). quota_at n state.lists.catalogue) own ∙ c.stood) (sym (ap (λ (r : Quota). r.items) c.is_row)) (sym (ap (λ (r : Quota). r.variations) c.is_row)) sound
+
+-- and uses no quota more than before
+as_before : (a b : ℕ) → a ≡ b → a ≤ b
+as_before a b e = omega (arith, e)
+
+module _ (state : State) (quota : Quota) where
+  catalogue_lowers : (catalogue : CatalogueLists) → total (usage_of (record state.lists { catalogue = catalogue }) state.moment quota) ≤ used state quota
+  catalogue_lowers catalogue = as_before (total (usage_of (record state.lists { catalogue = catalogue }) state.moment quota)) (used state quota) (ap total (catalogue_apart state.lists catalogue state.moment quota))
+
+  pub item_lowers : (rows : ItemRows) → used (with_item rows state) quota ≤ used state quota
+  item_lowers rows =
+      let lists = after_change (PutItem rows.item) state.lists in
+      as_before (used (with_item rows state) quota) (used state quota) (ap total (put_variations_apart rows.variations lists state.moment quota ∙ catalogue_apart state.lists lists.catalogue state.moment quota))
+
+  pub item_change_lowers : (row : Item) → used (changed (PutItem row) state) quota ≤ used state quota
+  item_change_lowers row = catalogue_lowers (after_change (PutItem row) state.lists).catalogue
+
+  pub variation_lowers : (row : Variation) → used (with_variation row state) quota ≤ used state quota
+  variation_lowers row = catalogue_lowers (after_change (PutVariation row) state.lists).catalogue
+
+  pub quota_lowers : (row : Quota) → used (with_quota row state) quota ≤ used state quota
+  quota_lowers row = catalogue_lowers (after_change (PutQuota row) state.lists).catalogue
+
+  pub resize_lowers : (row : Quota) → used (changed (PutQuota row) state) quota ≤ used state quota
+  resize_lowers row = catalogue_lowers (after_change (PutQuota row) state.lists).catalogue

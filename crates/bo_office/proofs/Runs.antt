@@ -1,5 +1,5 @@
 -- Laws of every step, and of every run by induction.
-use Rattle.std.proofs.Common.{◌≡◌, ℕ, ◌≤◌, Bool, true, false, List, [], ◌∷◌, Option, Some, None, Result, Ok, Err, refl, sym, ap, ◌∙◌, subst, arith}
+use Rattle.std.proofs.Common.{◌≡◌, ℕ, ◌≤◌, Bool, true, false, List, [], ◌∷◌, Option, Some, None, Result, Ok, Err, refl, sym, subst, arith}
 use Rattle.std.specs.Prelude.{max, not, if◌then◌else◌}
 use Rattle.std.specs.List.{AllByRecursion}
 use Rattle.bo_base.specs.declared.draw.Draw.{Draw}
@@ -7,11 +7,6 @@ use Rattle.bo_catalogue.specs.declared.rows.Item.{Item}
 use Rattle.bo_catalogue.specs.declared.rows.ItemRows.{ItemRows}
 use Rattle.bo_catalogue.specs.declared.rows.PricedVariation.{PricedVariation}
 use Rattle.bo_catalogue.specs.declared.rows.Quota.{Quota}
-use Rattle.bo_catalogue.specs.declared.requests.ItemPatch.{ItemPatch}
-use Rattle.bo_catalogue.specs.declared.requests.NewItem.{NewItem}
-use Rattle.bo_catalogue.specs.declared.requests.NewQuota.{NewQuota}
-use Rattle.bo_catalogue.specs.declared.requests.NewVariation.{NewVariation}
-use Rattle.bo_catalogue.specs.declared.requests.QuotaPatch.{QuotaPatch}
 use Rattle.bo_catalogue.specs.declared.refusal.CatalogueRefusal.{CatalogueRefusal}
 use Rattle.bo_catalogue.specs.ItemAdded.{item_added}
 use Rattle.bo_catalogue.specs.ItemChanged.{item_changed}
@@ -26,7 +21,7 @@ use Rattle.bo_lists.specs.Lists.{State}
 use Rattle.bo_lists.specs.Numbered.{with_item, with_variation, with_quota}
 use Rattle.bo_lists.specs.Over.{first_over, ignores}
 use Rattle.bo_lists.specs.Sound.{IsSound}
-use Rattle.bo_lists.specs.Takes.{TakesNoMore}
+use Rattle.bo_lists.specs.Takes.{used, TakesNoMore}
 use Rattle.bo_lists.proofs.Sound.{sound_later}
 use Rattle.bo_vouchers.specs.declared.refusal.VoucherRefusal.{VoucherRefusal}
 use Rattle.bo_vouchers.specs.Made.{voucher_made}
@@ -34,12 +29,12 @@ use Rattle.bo_vouchers.specs.Changed.{voucher_changed}
 use Rattle.bo_vouchers.specs.Deleted.{voucher_deleted}
 use Rattle.bo_vouchers.proofs.Made.{made_sound, made_moment, made_not_over, made_takes_no_more}
 use Rattle.bo_vouchers.proofs.Changed.{changed_sound, changed_moment, changed_not_over, changed_takes_no_more}
-use Rattle.bo_vouchers.proofs.Deleted.{deleted_sound, deleted_moment}
+use Rattle.bo_vouchers.proofs.Deleted.{deleted_sound, deleted_moment, deleted_lowers}
 use Rattle.bo_orders.specs.declared.refusal.OrderRefusal.{OrderRefusal}
 use Rattle.bo_orders.specs.Carts.{position_added}
 use Rattle.bo_orders.specs.Dropped.{position_dropped}
 use Rattle.bo_orders.proofs.Added.{added_none_over, added_takes_no_more, added_sound, added_moment}
-use Rattle.bo_orders.proofs.Dropped.{dropped_sound, dropped_moment}
+use Rattle.bo_orders.proofs.Dropped.{dropped_sound, dropped_moment, dropped_lowers}
 use Rattle.bo_office.specs.declared.command.Command.{Command}
 use Rattle.bo_office.specs.declared.command.Command.TheVariants.{AddItem, ChangeItem, AddVariation, AddQuota, ResizeQuota, AddVoucher, ChangeVoucher, DropVoucher, AddCart, DropCart}
 use Rattle.bo_office.specs.declared.command.Kind.{Kind}
@@ -48,8 +43,8 @@ use Rattle.bo_office.specs.declared.reply.Reply.{Reply}
 use Rattle.bo_office.specs.declared.reply.Reply.TheVariants.{Refused}
 use Rattle.bo_office.specs.ShownRows.{show_voucher}
 use Rattle.bo_office.specs.Step.{step, step_now, item_step, item_change_step, variation_step, quota_step, resize_step, voucher_step, voucher_change_step, voucher_drop_step, cart_step, cart_drop_step}
-use Rattle.bo_office.specs.Runs.{Arrival, moment_at, stepped, trace, row_told, taken, heeds_if_told, NoneOver, StaysWithin, LeavesSound, NeverGoesBack, StoresItsMoment, ChangesNothingElse}
-use Rattle.bo_office.proofs.Catalogue.{item_sound, item_change_sound, variation_sound, quota_sound, resize_sound}
+use Rattle.bo_office.specs.Runs.{Arrival, moment_at, stepped, trace, row_told, taken, heeds_if_told, takes_if_told, NoneOver, StaysWithin, RaisesNothing, LeavesSound, NeverGoesBack, StoresItsMoment, ChangesNothingElse}
+use Rattle.bo_office.proofs.Catalogue.{item_sound, item_change_sound, variation_sound, quota_sound, resize_sound, item_lowers, item_change_lowers, variation_lowers, quota_lowers, resize_lowers}
 
 -- what holds of each step, from the office at its moment
 record IsFine (state : State) (made : State × Reply) : Type 0 where
@@ -58,12 +53,19 @@ record IsFine (state : State) (made : State × Reply) : Type 0 where
   refused : (kind : Kind) (refusal : Refusal) → made.1 ≡ Refused kind refusal → made.0 ≡ state
   none_over : (own : List ℕ) → taken made.1 ≡ Some own → first_over state.lists made.0.lists state.moment own ≡ None
   within : heeds_if_told made.0.lists (row_told made.1) ≡ true → TakesNoMore state made.0
+  lowers : takes_if_told (row_told made.1) ≡ false → (quota : Quota) → used made.0 quota ≤ used state quota
 
 no_list : (own : List ℕ) → (let none : Option (List ℕ) = None in none ≡ Some own) → ⊥
 no_list own e = cc
 
 not_true : false ≡ true → ⊥
 not_true e = cc
+
+not_false_true : true ≡ false → ⊥
+not_false_true e = cc
+
+no_more : (n : ℕ) → n ≤ n
+no_more n = omega arith
 
 none_or_own : (free : Bool) (own : List ℕ) → (if free then None else Some []) ≡ Some own → (free ≡ false) × ([] ≡ own)
 none_or_own true own e = absurd (cc)
@@ -81,6 +83,7 @@ module _ (state : State) where
     refused = λ k r e. refl;
     none_over = λ own e. absurd (no_list own e);
     within = λ e. absurd (not_true e);
+    lowers = λ e quota. no_more (used state quota);
   }
 
   item_fine : (r : Result ItemRows CatalogueRefusal) → ((rows : ItemRows) → r ≡ Ok rows → IsSound state → IsSound (with_item rows state)) → IsFine state (item_step state r)
@@ -91,6 +94,7 @@ module _ (state : State) where
     refused = λ k r e. absurd (cc);
     none_over = λ own e. absurd (no_list own e);
     within = λ e. absurd (not_true e);
+    lowers = λ e quota. item_lowers state quota rows;
   }
 
   item_change_fine : (r : Result Item CatalogueRefusal) → ((row : Item) → r ≡ Ok row → IsSound state → IsSound (changed (PutItem row) state)) → IsFine state (item_change_step state r)
@@ -101,6 +105,7 @@ module _ (state : State) where
     refused = λ k r e. absurd (cc);
     none_over = λ own e. absurd (no_list own e);
     within = λ e. absurd (not_true e);
+    lowers = λ e quota. item_change_lowers state quota row;
   }
 
   variation_fine : (r : Result PricedVariation CatalogueRefusal) → ((made : PricedVariation) → r ≡ Ok made → IsSound state → IsSound (with_variation made.row state)) → IsFine state (variation_step state r)
@@ -111,6 +116,7 @@ module _ (state : State) where
     refused = λ k r e. absurd (cc);
     none_over = λ own e. absurd (no_list own e);
     within = λ e. absurd (not_true e);
+    lowers = λ e quota. variation_lowers state quota made.row;
   }
 
   quota_fine : (r : Result Quota CatalogueRefusal) → ((row : Quota) → r ≡ Ok row → IsSound state → IsSound (with_quota row state)) → IsFine state (quota_step state r)
@@ -121,6 +127,7 @@ module _ (state : State) where
     refused = λ k r e. absurd (cc);
     none_over = λ own e. absurd (no_list own e);
     within = λ e. absurd (not_true e);
+    lowers = λ e quota. quota_lowers state quota row;
   }
 
   resize_fine : (r : Result Quota CatalogueRefusal) → ((row : Quota) → r ≡ Ok row → IsSound state → IsSound (changed (PutQuota row) state)) → IsFine state (resize_step state r)
@@ -131,6 +138,7 @@ module _ (state : State) where
     refused = λ k r e. absurd (cc);
     none_over = λ own e. absurd (no_list own e);
     within = λ e. absurd (not_true e);
+    lowers = λ e quota. resize_lowers state quota row;
   }
 
   -- where a voucher was made or changed
@@ -154,6 +162,7 @@ module _ (state : State) where
     refused = λ k r e. absurd (cc);
     none_over = voucher_not_over after row (known after row refl);
     within = λ e. (known after row refl).within (not_false row.allow_ignore_quota e);
+    lowers = λ e. absurd (not_false_true e);
   }
 
   voucher_change_fine : (r : Result (State × Voucher) VoucherRefusal) → ((after : State) (row : Voucher) → r ≡ Ok (after, row) → IsVoucherFine after row) → IsFine state (voucher_change_step state r)
@@ -165,16 +174,18 @@ module _ (state : State) where
     refused = λ k r e. absurd (cc);
     none_over = voucher_not_over after row (known after row refl);
     within = λ e. (known after row refl).within (not_false row.allow_ignore_quota e);
+    lowers = λ e. absurd (not_false_true e);
   }
 
-  voucher_drop_fine : (r : Result State VoucherRefusal) → ((after : State) → r ≡ Ok after → IsSound state → IsSound after) → ((after : State) → r ≡ Ok after → after.moment ≡ state.moment) → IsFine state (voucher_drop_step state r)
-  voucher_drop_fine (Err refusal) sound moment = refused_fine _ _
-  voucher_drop_fine (Ok after) sound moment = record {
+  voucher_drop_fine : (r : Result State VoucherRefusal) → ((after : State) → r ≡ Ok after → IsSound state → IsSound after) → ((after : State) → r ≡ Ok after → after.moment ≡ state.moment) → ((after : State) → r ≡ Ok after → (quota : Quota) → used after quota ≤ used state quota) → IsFine state (voucher_drop_step state r)
+  voucher_drop_fine (Err refusal) sound moment lowers = refused_fine _ _
+  voucher_drop_fine (Ok after) sound moment lowers = record {
     sound = sound after refl;
     moment = moment after refl;
     refused = λ k r e. absurd (cc);
     none_over = λ own e. absurd (no_list own e);
     within = λ e. absurd (not_true e);
+    lowers = λ e quota. lowers after refl quota;
   }
 
   -- where a cart position was added
@@ -197,16 +208,18 @@ module _ (state : State) where
     refused = λ k r e. absurd (cc);
     none_over = cart_not_over after row (known after row refl);
     within = λ e. (known after row refl).within (not_false (ignores after.lists row.voucher) e);
+    lowers = λ e. absurd (not_false_true e);
   }
 
-  cart_drop_fine : (r : Result State OrderRefusal) → ((after : State) → r ≡ Ok after → IsSound state → IsSound after) → ((after : State) → r ≡ Ok after → after.moment ≡ state.moment) → IsFine state (cart_drop_step state r)
-  cart_drop_fine (Err refusal) sound moment = refused_fine _ _
-  cart_drop_fine (Ok after) sound moment = record {
+  cart_drop_fine : (r : Result State OrderRefusal) → ((after : State) → r ≡ Ok after → IsSound state → IsSound after) → ((after : State) → r ≡ Ok after → after.moment ≡ state.moment) → ((after : State) → r ≡ Ok after → (quota : Quota) → used after quota ≤ used state quota) → IsFine state (cart_drop_step state r)
+  cart_drop_fine (Err refusal) sound moment lowers = refused_fine _ _
+  cart_drop_fine (Ok after) sound moment lowers = record {
     sound = sound after refl;
     moment = moment after refl;
     refused = λ k r e. absurd (cc);
     none_over = λ own e. absurd (no_list own e);
     within = λ e. absurd (not_true e);
+    lowers = λ e quota. lowers after refl quota;
   }
 
 step_fine : (command : Command) (draw : Draw) (state : State) → IsFine state (step_now command draw state)
@@ -227,14 +240,14 @@ step_fine (ChangeVoucher id patch) draw state = voucher_change_fine state (vouch
   not_over = changed_not_over id patch state after row h;
   within = changed_takes_no_more id patch state after row h;
 })
-step_fine (DropVoucher id) draw state = voucher_drop_fine state (voucher_deleted id state) (λ after h sound. deleted_sound id state after sound h) (λ after h. deleted_moment id state after h)
+step_fine (DropVoucher id) draw state = voucher_drop_fine state (voucher_deleted id state) (λ after h sound. deleted_sound id state after sound h) (λ after h. deleted_moment id state after h) (λ after h quota. deleted_lowers id state after quota h)
 step_fine (AddCart new) draw state = cart_fine state (position_added new draw state) (λ after row h. record {
   sound = λ sound. added_sound new draw state after row sound h;
   moment = added_moment new draw state after row h;
   not_over = added_none_over new draw state after row h;
   within = added_takes_no_more new draw state after row h;
 })
-step_fine (DropCart id) draw state = cart_drop_fine state (position_dropped id state) (λ after h sound. dropped_sound id state after sound h) (λ after h. dropped_moment id state after h)
+step_fine (DropCart id) draw state = cart_drop_fine state (position_dropped id state) (λ after h sound. dropped_sound id state after sound h) (λ after h. dropped_moment id state after h) (λ after h quota. dropped_lowers id state after quota h)
 
 -- each step leads from sound to sound
 pub step_sound : (command : Command) (at : ℕ) (draw : Draw) (state : State) → state.moment ≤ at → IsSound state → IsSound (step command at draw state).0
@@ -254,6 +267,10 @@ none_over_all (arrival ∷ arrivals) state = ((fine_at arrival state).none_over,
 pub within_all : (arrivals : List Arrival) (state : State) → AllByRecursion StaysWithin (trace arrivals state)
 within_all [] state = tt
 within_all (arrival ∷ arrivals) state = ((fine_at arrival state).within, within_all arrivals (stepped arrival state).after)
+
+pub lowers_all : (arrivals : List Arrival) (state : State) → AllByRecursion RaisesNothing (trace arrivals state)
+lowers_all [] state = tt
+lowers_all (arrival ∷ arrivals) state = ((fine_at arrival state).lowers, lowers_all arrivals (stepped arrival state).after)
 
 pub sound_all : (arrivals : List Arrival) (state : State) → IsSound state → AllByRecursion LeavesSound (trace arrivals state)
 sound_all [] state sound = tt

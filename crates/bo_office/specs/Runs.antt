@@ -1,10 +1,11 @@
 -- Runs of commands, and what holds of each step of a run.
 use Rattle.std.specs.Prelude.{◌≡◌, ℕ, ◌≤◌, max, Bool, true, false, not, List, [], ◌∷◌, Option, Some, None, if◌then◌else◌}
 use Rattle.bo_base.specs.declared.draw.Draw.{Draw}
+use Rattle.bo_catalogue.specs.declared.rows.Quota.{Quota}
 use Rattle.bo_lists.specs.Lists.{Lists, State}
 use Rattle.bo_lists.specs.Over.{first_over, ignores}
 use Rattle.bo_lists.specs.Sound.{IsSound}
-use Rattle.bo_lists.specs.Takes.{TakesNoMore}
+use Rattle.bo_lists.specs.Takes.{used, TakesNoMore}
 use Rattle.bo_office.specs.declared.command.Command.{Command}
 use Rattle.bo_office.specs.declared.command.Kind.{Kind}
 use Rattle.bo_office.specs.declared.reply.Refusal.{Refusal}
@@ -80,6 +81,20 @@ heeds_if_told lists (Some shown) = heeds lists shown
 -- where places were taken and no quota was ignored, each quota's usage is within its size, or no more than before
 abbrev pub StaysWithin : Stepped → Type 0
 StaysWithin s = heeds_if_told s.after.lists (row_told s.reply) ≡ true → TakesNoMore (record s.before { moment = s.at }) s.after
+
+-- a cart position that was added, or a voucher that was made or changed
+abbrev pub takes : Shown → Bool
+takes (Cart row) = true
+takes (Voucher row redeemed) = true
+takes other = false
+
+abbrev pub takes_if_told : Option Shown → Bool
+takes_if_told None = false
+takes_if_told (Some shown) = takes shown
+
+-- any other step raises the usage of no quota
+abbrev pub RaisesNothing : Stepped → Type 0
+RaisesNothing s = takes_if_told (row_told s.reply) ≡ false → (quota : Quota) → used s.after quota ≤ used (record s.before { moment = s.at }) quota
 
 abbrev pub LeavesSound : Stepped → Type 0
 LeavesSound s = IsSound s.after

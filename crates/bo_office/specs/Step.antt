@@ -26,7 +26,6 @@ use Rattle.bo_orders.specs.Carts.{position_added}
 use Rattle.bo_orders.specs.Dropped.{position_dropped}
 use Rattle.bo_office.specs.declared.command.Command.{Command}
 use Rattle.bo_office.specs.declared.command.Command.TheVariants as commands
-use Rattle.bo_office.specs.declared.command.Kind.{Kind}
 use Rattle.bo_office.specs.declared.command.Kind.TheVariants as kinds
 use Rattle.bo_office.specs.declared.reply.Refusal.TheVariants as refusals
 use Rattle.bo_office.specs.declared.reply.Reply.{Reply}

@@ -85,7 +85,8 @@ impl<B: Book> Office<B> {
     }
 
     /// What a command that comes at a moment, with a draw, is answered, and the changes that it makes.
-    /// The moment isn't before the office's. A refused command makes no change.
+    /// The moment isn't before the office's. A refused command makes no change. Each decision lists its refusals:
+    /// see `Catalogue` of bo_catalogue, and the functions of bo_vouchers and bo_orders.
     pub fn decide(
         &self,
         alloc: Global,
@@ -136,6 +137,8 @@ impl<B: Book> Office<B> {
     }
 
     /// What a query is answered at a moment that isn't before the office's.
+    /// Refusals: 10 `NoItem`, 13 `NoQuota`, 23 `NoVoucher`, 40 `NoPosition` where no row has the id;
+    /// 59 `NoPage` where the list has no such page.
     pub fn ask(&self, alloc: Global, at: Moment, query: &Query) -> Result<Reply, AllocError>
         requires { self.now.state.moment ≤ at }
         ensures { IfOk result (λ reply. reply ≡ answer query.now at self.now.state) }

@@ -64,9 +64,7 @@ impl<B: Book> Office<B> {
     fn shown_item(&self, alloc: Global, item: &Item) -> Result<Shown, AllocError>
         ensures { IfOk result (λ shown. shown ≡ show_item self.now.state.lists item.now) }
     {
-        Ok(Shown::Item(
-            self.book().catalogue().with_variations(alloc, item)?,
-        ))
+        Ok(Shown::Item(self.book().catalogue().with_variations(alloc, item)?))
     }
 
     fn quotas_page(&self, alloc: Global, number: u64) -> Result<Reply, AllocError>

@@ -1,10 +1,13 @@
 -- What is known where a cart position was deleted.
-use Rattle.std.proofs.Common.{◌≡◌, ℕ, Option, Some, None, Ok, sym, ap, subst}
+use Rattle.std.proofs.Common.{◌≡◌, ℕ, ◌≤◌, Option, Some, None, Ok, sym, ap, subst}
+use Rattle.bo_catalogue.specs.declared.rows.Quota.{Quota}
 use Rattle.bo_lists.specs.declared.rows.CartPos.{CartPos}
 use Rattle.bo_lists.specs.declared.changes.Change.TheVariants.{DropCart}
 use Rattle.bo_lists.specs.Lists.{State, cart_at}
 use Rattle.bo_lists.specs.Change.{changed}
 use Rattle.bo_lists.specs.Sound.{IsSound}
+use Rattle.bo_lists.specs.Takes.{used}
+use Rattle.bo_lists.proofs.Lowers.{drop_cart_lowers}
 use Rattle.bo_lists.proofs.Sound.{sound_drop_cart}
 use Rattle.bo_orders.specs.Dropped.{position_dropped, dropped_at}
 
@@ -19,6 +22,10 @@ module _ (id : ℕ) (before after : State) where
 
   pub dropped_moment : position_dropped id before ≡ Ok after → after.moment ≡ before.moment
   dropped_moment h = sym (ap (λ (s : State). s.moment) (dropped_is h))
+
+  -- no quota is used more than before
+  pub dropped_lowers : (quota : Quota) → position_dropped id before ≡ Ok after → used after quota ≤ used before quota
+  dropped_lowers quota h = subst (λ (s : State). used s quota ≤ used before quota) (dropped_is h) (drop_cart_lowers before.lists before.moment id quota)
 
   -- the box office stays sound
   pub dropped_sound : IsSound before → position_dropped id before ≡ Ok after → IsSound after

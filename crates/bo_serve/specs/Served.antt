@@ -27,19 +27,19 @@ row_of known (Some digest) = if bytes_eq digest known then Some 1 else None
 abbrev pub token_row : List ℕ → Message → Option ℕ
 token_row known m = row_of known (option_map sha256 (token_of m))
 
--- What is done with a call at a moment, and what is told. A write stores its moment, refused or not; a read stores
--- nothing, and neither does a request without a known token.
-abbrev pub told_of : Call → ℕ → Draw → State → State × Told
-told_of (calls.Unauthorized told) at draw state = (state, told)
-told_of (calls.Read query) at draw state = (state, words (answer query at state))
-told_of (calls.ReadRefused told) at draw state = (state, told)
-told_of (calls.Write command) at draw state = let made = step command at draw state in (made.0, words made.1)
-told_of (calls.WriteRefused told) at draw state = (record state { moment = at }, told)
+-- What is done with a call at a moment, and what is told in the shop of those slugs. A write stores its moment,
+-- refused or not; a read stores nothing, and neither does a request without a known token.
+abbrev pub told_of : List ℕ → List ℕ → Call → ℕ → Draw → State → State × Told
+told_of organizer event (calls.Unauthorized told) at draw state = (state, told)
+told_of organizer event (calls.Read query) at draw state = (state, words organizer event (answer query at state))
+told_of organizer event (calls.ReadRefused told) at draw state = (state, told)
+told_of organizer event (calls.Write command) at draw state = let made = step command at draw state in (made.0, words organizer event made.1)
+told_of organizer event (calls.WriteRefused told) at draw state = (record state { moment = at }, told)
 
 -- what is done with a message at a tick, and what is told: its moment is the clock's, but never before the office's
 abbrev pub served : BoxOfficeView → Tick → Message → State × Told
 served office tick m =
-    told_of (call office.organizer office.event m (token_row office.digest m)) (moment_at tick.clock office.state) tick.draw office.state
+    told_of office.organizer office.event (call office.organizer office.event m (token_row office.digest m)) (moment_at tick.clock office.state) tick.draw office.state
 
 -- the state is as it was done, and this is what was told
 abbrev pub Leads : BoxOfficeView → State × Told → BoxOfficeView → Told → Type 0

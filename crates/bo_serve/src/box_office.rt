@@ -13,10 +13,9 @@ use crate::desk::Desk;
 use bo_api::{Call, Words};
 use bo_base::{Answer, Draw, Moment, Tick, Told};
 use bo_http::frame::Frame;
-use bo_office::{Command, Office, Query};
 use bo_lists::Changes;
+use bo_office::{Command, Office, Query};
 use bo_usage::Book;
-use bo_words::words;
 use std::alloc::{AllocError, Global};
 use std::marker::Model;
 
@@ -87,10 +86,10 @@ impl<B: Book> BoxOffice<B> {
     // What a query is told.
     fn ask(&self, alloc: Global, at: Moment, query: &Query) -> Result<Told, AllocError>
         requires { self.now.state.moment ≤ at }
-        ensures { IfOk result (λ told. told ≡ words (answer query.now at self.now.state)) }
+        ensures { IfOk result (λ told. told ≡ words self.now.organizer self.now.event (answer query.now at self.now.state)) }
     {
         let reply = self.office.ask(alloc, at, query)?;
-        words(alloc, &reply)
+        self.words.words(alloc, &reply)
     }
 
     // Does a command. All that can fail comes before the change.
@@ -102,11 +101,11 @@ impl<B: Book> BoxOffice<B> {
         command: &Command,
     ) -> Result<Told, AllocError>
         requires { self.old.state.moment ≤ at }
-        ensures ok { IfOk result (Leads self.old (told_of (Call.Write command.now) at draw self.old.state) self.new) }
+        ensures ok { IfOk result (Leads self.old (told_of self.old.organizer self.old.event (Call.Write command.now) at draw self.old.state) self.new) }
         ensures err { OnErr result (self.new ≡ self.old) }
     {
         let (changes, reply) = self.office.decide(alloc, at, draw, command)?;
-        let told = words(alloc, &reply)?;
+        let told = self.words.words(alloc, &reply)?;
         self.office.reserve(&changes)?;
         self.office.adopt(changes, at);
         Ok(told)

@@ -1,4 +1,4 @@
-use Rattle.std.proofs.Common.{[], refl, sym, subst}
+use Rattle.std.proofs.Common.{[], refl, subst}
 use Rattle.bo_base.proofs.ToldLemmas.{Gives-nil}
 use Rattle.bo_serve.specs.BoxOfficeView.{BoxOfficeView}
 use Rattle.bo_serve.specs.Run.{Streams, place}

@@ -1,6 +1,6 @@
-use Rattle.std.proofs.Common.{◌≡◌, ◌+◌, ◌++◌, [], ℕ, List, refl, sym, ap, ◌∙◌, subst, arith, append-nil}
+use Rattle.std.proofs.Common.{◌++◌, [], ℕ, List, refl, sym, ap, ◌∙◌, subst, arith, append-nil}
 use Rattle.bo_base.specs.Told.{Gives}
-use Rattle.bo_serve.specs.Run.{Progress, Finished, Broken, place}
+use Rattle.bo_serve.specs.Run.{Progress, place}
 use Rattle.bo_base.proofs.ToldLemmas.{Gives-nil, Gives-append}
 use Rattle.bo_serve.proofs.RunLemmas.{progress_none, progress_more, progress_feed, finished_more, finished_none, finished_all, finished_at, broken_more, broken_off, broken_at}
 use Rattle.bo_serve.proofs.run.serve_all.Goals as goal

@@ -1,4 +1,4 @@
-use Rattle.std.proofs.Common.{refl, ◌∙◌, arith}
+use Rattle.std.proofs.Common.{refl, ◌∙◌}
 use Rattle.bo_serve.proofs.RunLemmas.{progress_none, progress_more, finished_more, broken_more}
 use Rattle.bo_serve.proofs.step.serve_ready.Goals as goal
 

@@ -1,4 +1,4 @@
-use Rattle.std.proofs.Common.{ℕ, ◌+◌, ◌≤◌, length, arith}
+use Rattle.std.proofs.Common.{◌+◌, ◌≤◌, length, arith}
 use Rattle.bo_catalogue.specs.Limits.{last_id}
 use Rattle.bo_office.proofs.Catalogue.{item_id_small, variation_ids_small}
 use Rattle.bo_office.proofs.office.Office.add_item.Goals as goal

@@ -1,4 +1,4 @@
-use Rattle.std.proofs.Common.{ℕ, ◌≤◌, arith}
+use Rattle.std.proofs.Common.{◌≤◌, arith}
 use Rattle.bo_catalogue.specs.Limits.{last_id}
 use Rattle.bo_office.proofs.Catalogue.{variation_id_small}
 use Rattle.bo_office.proofs.office.Office.add_variation.Goals as goal

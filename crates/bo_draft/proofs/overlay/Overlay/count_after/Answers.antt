@@ -1,10 +1,9 @@
 use Rattle.std.proofs.Common.{◌≡◌, take, get_or, if◌then◌else◌, arith, sym, ap, ◌∙◌, subst}
-use Rattle.bo_lists.specs.Tests.{holds}
 use Rattle.bo_lists.specs.Kept.{IsKept}
 use Rattle.bo_draft.specs.DraftState.{Log}
-use Rattle.bo_draft.proofs.Holds.{byte_is, held_put, held_drop, held_other}
+use Rattle.bo_draft.proofs.Holds.{byte_is, count_put, count_drop, count_other}
 use Rattle.bo_draft.proofs.Kept.{kept_after_all}
-use Rattle.bo_draft.proofs.overlay.Overlay.held_after.Goals as goal
+use Rattle.bo_draft.proofs.overlay.Overlay.count_after.Goals as goal
 
 pub returns-in-PutCart-clause-value : goal.returns-in-PutCart-clause-value
 returns-in-PutCart-clause-value g c =
@@ -12,8 +11,8 @@ returns-in-PutCart-clause-value g c =
     let now = c.index.result.now in
     let read = ap (λ (l : Log). get_or l.changes c.args.i now) (sym c.self.view_is) ∙ sym c.index.ensures in
     let kept = kept_after_all 4294967296 (take c.args.i log.changes) log.base (subst (λ (l : Log). IsKept 4294967296 l.base) c.self.view_is c.known.ensures) in
-    let come : c.from-come.result ≡ (if holds c.args.at c.args.voucher c.in-PutCart.row then 1 else 0) = c.from-come.ensures ∙ byte_is c.holds.result ∙ ap (λ b. if b then 1 else 0) c.holds.ensures in
-    omega (arith, held_put c.args.at c.args.voucher log c.args.i now c.requires.place c.in-PutCart.row (read ∙ c.in-PutCart.is) kept.carts.in_order, come, c.requires.before, c.hold_at-gone.ensures)
+    let come : c.from-come.result ≡ (if g.T.CartTest.passes c.args.test.now c.in-PutCart.row then 1 else 0) = c.from-come.ensures ∙ byte_is c.passes.result ∙ ap (λ b. if b then 1 else 0) c.passes.ensures in
+    omega (arith, count_put (g.T.CartTest.passes c.args.test.now) log c.args.i now c.requires.place c.in-PutCart.row (read ∙ c.in-PutCart.is) kept.carts.in_order, come, c.requires.before, c.count_at-gone.ensures)
 
 pub returns-in-DropCart-clause-value : goal.returns-in-DropCart-clause-value
 returns-in-DropCart-clause-value g c =
@@ -21,7 +20,7 @@ returns-in-DropCart-clause-value g c =
     let now = c.index.result.now in
     let read = ap (λ (l : Log). get_or l.changes c.args.i now) (sym c.self.view_is) ∙ sym c.index.ensures in
     let kept = kept_after_all 4294967296 (take c.args.i log.changes) log.base (subst (λ (l : Log). IsKept 4294967296 l.base) c.self.view_is c.known.ensures) in
-    omega (arith, held_drop c.args.at c.args.voucher log c.args.i now c.requires.place c.in-DropCart.id (read ∙ c.in-DropCart.is) kept.carts.in_order, c.requires.before, c.hold_at.ensures)
+    omega (arith, count_drop (g.T.CartTest.passes c.args.test.now) log c.args.i now c.requires.place c.in-DropCart.id (read ∙ c.in-DropCart.is) kept.carts.in_order, c.requires.before, c.count_at.ensures)
 
 pub returns-in_default : goal.returns-in_default
 returns-in_default g c =
@@ -29,6 +28,6 @@ returns-in_default g c =
     let now = c.index.result.now in
     let read = ap (λ (l : Log). get_or l.changes c.args.i now) (sym c.self.view_is) ∙ sym c.index.ensures in
     record {
-      value = c.requires.before ∙ sym (held_other c.args.at c.args.voucher log c.args.i now c.requires.place (λ row is. c.in_default.not-PutCart row (sym read ∙ is)) (λ gone is. c.in_default.not-DropCart gone (sym read ∙ is)));
+      value = c.requires.before ∙ sym (count_other (g.T.CartTest.passes c.args.test.now) log c.args.i now c.requires.place (λ row is. c.in_default.not-PutCart row (sym read ∙ is)) (λ gone is. c.in_default.not-DropCart gone (sym read ∙ is)));
       few = omega (arith, c.requires.few);
     }
