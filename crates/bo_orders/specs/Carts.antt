@@ -8,6 +8,7 @@ use Rattle.bo_catalogue.specs.declared.refusal.CatalogueRefusal.{CatalogueRefusa
 use Rattle.bo_catalogue.specs.declared.refusal.CatalogueRefusal.TheVariants.{NoItem, Inactive, NotSold, Full}
 use Rattle.bo_catalogue.specs.CatalogueLists.{CatalogueLists, product_of, base_price, is_active, is_sold}
 use Rattle.bo_lists.specs.declared.rows.CartPos.{CartPos}
+use Rattle.bo_lists.specs.declared.rows.Own.TheVariants.{Cart}
 use Rattle.bo_lists.specs.declared.rows.Voucher.{Voucher}
 use Rattle.bo_lists.specs.declared.changes.Change.TheVariants.{PutCart}
 use Rattle.bo_lists.specs.Lists.{State}
@@ -98,7 +99,7 @@ placed_by row state None = if takes_cart state then Ok (with_cart row state, row
 -- its voucher needs a use that is left, no quota may be taken too much of, and the table has to take the row
 unfoldable pub placed : CartPos → State → Result (State × CartPos) OrderRefusal
 placed row state =
-    if has_use_for row state then placed_by row state (first_over state.lists (after_change (PutCart row) state.lists) state.moment (row.id ∷ []))
+    if has_use_for row state then placed_by row state (first_over state.lists (after_change (PutCart row) state.lists) state.moment (Cart row.id ∷ []))
     else Err (OfVoucher NoHeadroom)
 
 abbrev pub placed_if : State → Result CartPos OrderRefusal → Result (State × CartPos) OrderRefusal

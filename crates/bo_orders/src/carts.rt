@@ -13,7 +13,7 @@ use crate::refusal::OrderRefusal;
 use bo_base::{Cents, Draw, Text, price};
 use bo_catalogue::{CatalogueRefusal, Product};
 use bo_draft::Draft;
-use bo_lists::{CartPos, Voucher};
+use bo_lists::{CartPos, Own, Voucher};
 use bo_usage::Book;
 use bo_vouchers::{VoucherRefusal, usable};
 use std::alloc::Global;
@@ -170,7 +170,7 @@ fn place<B: Book>(
     let copy = row.copy(alloc)?;
     let mark = draft.mark(alloc)?;
     draft.put_cart(alloc, row)?;
-    if let Some(quota) = draft.first_over(&mark, &[id]) {
+    if let Some(quota) = draft.first_over(&mark, &[Own::Cart(id)]) {
         draft.back_to(mark);
         return Err(OrderRefusal::Voucher(VoucherRefusal::SoldOut(quota)));
     }
