@@ -15,7 +15,7 @@ ghost use Rattle.bo_lists.specs.Usage.{usage_of, redeemed};
 use crate::overlay::Overlay;
 use bo_base::{Moment, Steps};
 use bo_catalogue::{Catalogue, LAST_ID, MOST_ROWS, Quota};
-use bo_lists::{CartPos, Change, Changes, NextIds, Order, OrderPos, Usage, Voucher, Waiting};
+use bo_lists::{CartPos, Change, Changes, NextIds, Order, OrderPos, Own, Usage, Voucher, Waiting};
 use bo_usage::Book;
 use std::alloc::{AllocError, Global};
 use std::marker::{Brand, Model};
@@ -136,6 +136,13 @@ impl<'a, B: Book> Draft<'a, B> {
         ensures { option_copied result ≡ order_at id (now self.now).lists }
     {
         self.overlay.order(id)
+    }
+
+    /// The order position of an id.
+    pub fn position(&self, id: u64) -> Option<&OrderPos>
+        ensures { option_copied result ≡ position_at id (now self.now).lists }
+    {
+        self.overlay.position(id)
     }
 
     /// The waiting entry of an id.
@@ -320,7 +327,8 @@ impl<'a, B: Book> Draft<'a, B> {
     }
 
     /// The least quota of which the changes since the mark take too much.
-    pub fn first_over(&self, mark: &Mark, own: &[u64]) -> Option<u64>
+    /// The own rows are those that the request adds or revives: they don't weigh where their vouchers ignore quotas.
+    pub fn first_over(&self, mark: &Mark, own: &[Own]) -> Option<u64>
         requires { IsMarkOf self.now mark.now }
         ensures { result ≡ first_over (now (back mark.now self.now)).lists (now self.now).lists (now self.now).moment own.now }
     {

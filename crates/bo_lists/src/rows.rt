@@ -84,6 +84,14 @@ pub struct Waiting {
     pub voucher: Option<u64>,
 }
 
+/// A row that a request adds or revives, by its id.
+/// It doesn't count against the request where its voucher ignores quotas.
+#[derive(Clone, Copy, Debug, PartialEq, Eq)]
+pub enum Own {
+    Cart(u64),
+    Position(u64),
+}
+
 /// What uses a quota, in places.
 #[derive(Clone, Copy, Debug, PartialEq, Eq)]
 pub struct Usage {

@@ -3,7 +3,7 @@
 ghost use Rattle.std.specs.Prelude.{◌≡◌, ◌≤◌, ◌↔◌, ◌==◌, ◌&&◌, ℕ, Bool, length, OnOk, IsTrue, count_by};
 ghost use Rattle.std.specs.Option.{option_copied};
 ghost use Rattle.bo_lists.specs.declared.rows.OrderPos.{OrderPos};
-ghost use Rattle.bo_lists.specs.Lists.{State, voucher_at, cart_at, order_at, waiting_at};
+ghost use Rattle.bo_lists.specs.Lists.{State, voucher_at, cart_at, order_at, position_at, waiting_at};
 ghost use Rattle.bo_lists.specs.Usage.{redeemed, usage_of};
 ghost use Rattle.bo_lists.specs.Change.{applied};
 ghost use Rattle.bo_lists.specs.Headroom.{held, held_in};
@@ -69,6 +69,10 @@ pub trait Book {
     /// The order of an id.
     fn order(&self, id: u64) -> Option<&Order>
         ensures { option_copied result ≡ order_at id (state self.now).lists };
+
+    /// The order position of an id.
+    fn position(&self, id: u64) -> Option<&OrderPos>
+        ensures { option_copied result ≡ position_at id (state self.now).lists };
 
     /// The waiting entry of an id.
     fn entry(&self, id: u64) -> Option<&Waiting>

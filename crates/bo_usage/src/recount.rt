@@ -263,6 +263,10 @@ impl Book for Recount {
         self.orders.get(id)
     }
 
+    fn position(&self, id: u64) -> Option<&OrderPos> {
+        self.positions.get(id)
+    }
+
     fn entry(&self, id: u64) -> Option<&Waiting> {
         self.waiting.get(id)
     }
