@@ -2,6 +2,7 @@ pub mod EachRow
 pub mod Found
 pub mod Time
 pub mod Headroom
+pub mod OrderHeadroom
 pub mod Fit
 pub mod Fresh
 pub mod Codes
