@@ -7,6 +7,7 @@ pub mod Fit
 pub mod Fresh
 pub mod Codes
 pub mod Sound
+pub mod SoundOrders
 pub mod Takes
 pub mod Lowers
 pub mod Orders
