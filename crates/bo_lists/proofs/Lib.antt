@@ -11,3 +11,4 @@ pub mod SoundOrders
 pub mod Takes
 pub mod Lowers
 pub mod Orders
+pub mod OrderLowers

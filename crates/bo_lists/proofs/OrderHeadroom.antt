@@ -67,6 +67,54 @@ module _ (row : Order) (lists : Lists) where
   pub redeemed_less : (v : ℕ) → AllByRecursion (BringsNone v) lists.positions → redeemed v after ≤ redeemed v lists
   redeemed_less v h = uses_less v lists.positions h
 
+  -- the uses of a voucher by the order's positions
+  abbrev own_uses : ℕ → List OrderPos → ℕ
+  own_uses v ps = count_by (λ p. names v p.voucher) (filter (λ p. eqb p.order row.id) ps)
+
+  own_cons : (v : ℕ) (p : OrderPos) (ps : List OrderPos) → own_uses v (p ∷ ps) ≡ one (eqb p.order row.id && names v p.voucher) + own_uses v ps
+  own_cons v p ps = by_order (eqb p.order row.id)
+    where
+      by_order : (b : Bool) → count_by (λ q. names v q.voucher) (cond b (p ∷ filter (λ q. eqb q.order row.id) ps) (filter (λ q. eqb q.order row.id) ps)) ≡ one (b && names v p.voucher) + own_uses v ps
+      by_order true = sum_by-cons (λ q. one (names v q.voucher)) p (filter (λ q. eqb q.order row.id) ps)
+      by_order false = omega arith
+
+  balance : (own named old new force : Bool) (a b n : ℕ) → (own ≡ true → force ≡ old) → a + (if old then n else 0) ≡ b + (if new then n else 0) → one (named && (if own then new else force)) + a + (if old then one (own && named) + n else 0) ≡ one (named && force) + b + (if new then one (own && named) + n else 0)
+  balance false named true true force a b n h e = omega (arith, e)
+  balance false named true false force a b n h e = omega (arith, e)
+  balance false named false true force a b n h e = omega (arith, e)
+  balance false named false false force a b n h e = omega (arith, e)
+  balance true true true true force a b n h e = rw (h refl) (omega (arith, e))
+  balance true true true false force a b n h e = rw (h refl) (omega (arith, e))
+  balance true true false true force a b n h e = rw (h refl) (omega (arith, e))
+  balance true true false false force a b n h e = rw (h refl) (omega (arith, e))
+  balance true false true true force a b n h e = omega (arith, e)
+  balance true false true false force a b n h e = omega (arith, e)
+  balance true false false true force a b n h e = omega (arith, e)
+  balance true false false false force a b n h e = omega (arith, e)
+
+  uses_step : (v : ℕ) (ps : List OrderPos) → sum_by (λ p. one (uses v after p)) ps + (if was_in_force row.id then own_uses v ps else 0) ≡ sum_by (λ p. one (uses v lists p)) ps + (if is_in_force row.status then own_uses v ps else 0)
+  uses_step v [] = by_force (was_in_force row.id) (is_in_force row.status)
+    where
+      by_force : (a b : Bool) → 0 + (if a then 0 else 0) ≡ 0 + (if b then 0 else 0)
+      by_force true true = refl
+      by_force true false = refl
+      by_force false true = refl
+      by_force false false = refl
+  uses_step v (p ∷ ps) =
+      let same : eqb p.order row.id ≡ true → was_in_force p.order ≡ was_in_force row.id = λ own. same_force p.order own in
+      let now : one (uses v after p) ≡ one (names v p.voucher && (if eqb p.order row.id then is_in_force row.status else was_in_force p.order)) = ap (λ b. one (names v p.voucher && b)) (force_is p.order ∙ ap (λ b. if b then is_in_force row.status else was_in_force p.order) (eqb_flip row.id p.order)) in
+      let step = balance (eqb p.order row.id) (names v p.voucher) (was_in_force row.id) (is_in_force row.status) (was_in_force p.order) (sum_by (λ q. one (uses v after q)) ps) (sum_by (λ q. one (uses v lists q)) ps) (own_uses v ps) same (uses_step v ps) in
+      rw (own_cons v p ps) (omega (arith, step, now, sum_by-cons (λ q. one (uses v after q)) p ps, sum_by-cons (λ q. one (uses v lists q)) p ps))
+    where
+      same_force : (id : ℕ) → eqb id row.id ≡ true → was_in_force id ≡ was_in_force row.id
+      same_force id own =
+          let is : id ≡ row.id = grind (arith, nat_tests, own) in
+          ap was_in_force is
+
+  -- an order's positions take their uses away if it was in force, and bring them if it is now
+  pub redeemed_order : (v : ℕ) → redeemed v after + (if was_in_force row.id then count_by (λ p. names v p.voucher) (positions_of row.id lists) else 0) ≡ redeemed v lists + (if is_in_force row.status then count_by (λ p. names v p.voucher) (positions_of row.id lists) else 0)
+  redeemed_order v = uses_step v lists.positions
+
   -- a new order has no positions
   new_brings_none : (v : ℕ) → order_at row.id lists ≡ None → AllOrdered lists → AllByRecursion (BringsNone v) lists.positions
   new_brings_none v absent h = all_weaker (λ p. is_some (order_at p.order lists) ≡ true) (BringsNone v) never lists.positions h
