@@ -36,6 +36,8 @@ module _ {T : Type 0} (key : T → ℕ) where
   pub each_found : (n : ℕ) (rows : List T) → InOrderFrom key n rows → AllByRecursion (λ r. row_at key (key r) rows ≡ Some r) rows
   each_found n [] h = tt
   each_found n (r ∷ rs) h =
-      let own : row_at key (key r) (r ∷ rs) ≡ Some r = grind (arith, nat_tests) in
-      (own, all_weaker (λ s. (key r + 1 ≤ key s) × (row_at key (key s) rs ≡ Some s)) (λ s. row_at key (key s) (r ∷ rs) ≡ Some s) (λ s both. grind (arith, nat_tests, both.0, both.1)) rs
-      (all_both (λ s. key r + 1 ≤ key s) (λ s. row_at key (key s) rs ≡ Some s) rs (all_from (key r + 1) rs h.1) (each_found (key r + 1) rs h.1)))
+      let own : row_at key (key r) (r ∷ rs) ≡ Some r = grind (arith, nat_tests) in (
+        own,
+        all_weaker (λ s. (key r + 1 ≤ key s) × (row_at key (key s) rs ≡ Some s)) (λ s. row_at key (key s) (r ∷ rs) ≡ Some s) (λ s both. grind (arith, nat_tests, both.0, both.1)) rs
+            (all_both (λ s. key r + 1 ≤ key s) (λ s. row_at key (key s) rs ≡ Some s) rs (all_from (key r + 1) rs h.1) (each_found (key r + 1) rs h.1)),
+      )

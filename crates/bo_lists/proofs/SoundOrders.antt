@@ -1,7 +1,6 @@
 -- What keeps a box office sound: orders, their positions, and the carts that an order takes over.
-use Rattle.std.proofs.Common.{◌≡◌, ℕ, ◌+◌, ◌⊎◌, inl, inr, Bool, true, false, eqb, List, [], ◌∷◌, Option, Some, None, refl, sym, ap, ◌∙◌}
+use Rattle.std.proofs.Common.{◌≡◌, ℕ, ◌⊎◌, inl, inr, Bool, true, false, eqb, List, [], ◌∷◌, Option, Some, None, refl, ap, ◌∙◌}
 use Rattle.std.specs.Prelude.{◌||◌, not, is_some, if◌then◌else◌}
-use Rattle.std.specs.List.{AllByRecursion}
 use Rattle.bo_base.proofs.Edits.{row_at-with_row}
 use Rattle.bo_lists.specs.declared.rows.Order.{Order}
 use Rattle.bo_lists.specs.declared.rows.OrderPos.{OrderPos}
@@ -72,11 +71,11 @@ sound_position state row e stands fits left h = record {
   waiting = h.waiting;
   headroom = headroom_position state.moment row state.lists h.positions.in_order h.vouchers.in_order left h.headroom;
   fit =
-  let stays = fit_same state.lists (after_change (PutPosition row) state.lists) refl refl in
-  record {
-    carts = carts_stay state.lists (after_change (PutPosition row) state.lists) stays state.lists.carts h.fit.carts;
-    positions = all-with_row (λ r. r.id) (λ p. is_fit (after_change (PutPosition row) state.lists) p.product p.voucher ≡ true) row state.lists.positions (stays row.product row.voucher fits) (positions_stay state.lists (after_change (PutPosition row) state.lists) stays state.lists.positions h.fit.positions);
-  };
+      let stays = fit_same state.lists (after_change (PutPosition row) state.lists) refl refl in
+      record {
+        carts = carts_stay state.lists (after_change (PutPosition row) state.lists) stays state.lists.carts h.fit.carts;
+        positions = all-with_row (λ r. r.id) (λ p. is_fit (after_change (PutPosition row) state.lists) p.product p.voucher ≡ true) row state.lists.positions (stays row.product row.voucher fits) (positions_stay state.lists (after_change (PutPosition row) state.lists) stays state.lists.positions h.fit.positions);
+      };
   codes = h.codes;
   ordered = all-with_row (λ r. r.id) (λ p. is_some (order_at p.order state.lists) ≡ true) row state.lists.positions stands h.ordered;
 }
