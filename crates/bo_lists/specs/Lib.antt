@@ -9,6 +9,7 @@ pub mod Over
 pub mod Headroom
 pub mod Fits
 pub mod Named
+pub mod Ordered
 pub mod Numbered
 pub mod Sound
 pub mod Full
