@@ -13,4 +13,5 @@ pub mod Ordered
 pub mod Numbered
 pub mod Sound
 pub mod Full
+pub mod Consumed
 pub mod Takes

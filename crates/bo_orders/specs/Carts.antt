@@ -16,7 +16,7 @@ use Rattle.bo_lists.specs.Over.{first_over}
 use Rattle.bo_vouchers.specs.declared.refusal.VoucherRefusal.{VoucherRefusal}
 use Rattle.bo_vouchers.specs.declared.refusal.VoucherRefusal.TheVariants.{Catalogue, NoHeadroom, SoldOut}
 use Rattle.bo_orders.specs.CartId.{cart_id_test, cart_id_of}
-use Rattle.bo_orders.specs.Sold.{sold}
+use Rattle.bo_orders.specs.Sold.{sold_for}
 use Rattle.bo_orders.specs.declared.new_cart.NewCart.{NewCart}
 use Rattle.bo_orders.specs.declared.sold.Sold.{Sold}
 use Rattle.bo_orders.specs.declared.refusal.OrderRefusal.{OrderRefusal}
@@ -37,7 +37,7 @@ row_of_sold new draw state (Ok sold) = Ok (record {
 
 abbrev pub row_in_cart : NewCart → Draw → State → Result (Unit {0}) OrderRefusal → Result CartPos OrderRefusal
 row_in_cart new draw state (Err refusal) = Err refusal
-row_in_cart new draw state (Ok _) = row_of_sold new draw state (sold new.asked state)
+row_in_cart new draw state (Ok _) = row_of_sold new draw state (sold_for new.asked state)
 
 -- the row that is asked for
 unfoldable pub cart_row : NewCart → Draw → State → Result CartPos OrderRefusal

@@ -10,11 +10,10 @@ use Rattle.bo_lists.specs.declared.rows.OrderRows.{OrderRows}
 use Rattle.bo_lists.specs.declared.rows.Own.TheVariants.{Position}
 use Rattle.bo_lists.specs.declared.rows.Status.{Status}
 use Rattle.bo_lists.specs.declared.rows.Status.TheVariants.{Pending, Paid}
-use Rattle.bo_lists.specs.declared.changes.Change.{Change}
-use Rattle.bo_lists.specs.declared.changes.Change.TheVariants.{PutOrder, PutPosition, DropCart}
-use Rattle.bo_lists.specs.Lists.{Lists, State}
-use Rattle.bo_lists.specs.Change.{after_all, changed}
-use Rattle.bo_lists.specs.Consumed.{is_consumed}
+use Rattle.bo_lists.specs.declared.changes.Change.TheVariants.{PutOrder, PutPosition}
+use Rattle.bo_lists.specs.Lists.{State}
+use Rattle.bo_lists.specs.Change.{changed, without_carts}
+use Rattle.bo_lists.specs.Consumed.{consumed}
 use Rattle.bo_lists.specs.Full.{takes_order, takes_positions}
 use Rattle.bo_lists.specs.Headroom.{has_use}
 use Rattle.bo_lists.specs.Over.{first_over}
@@ -25,7 +24,7 @@ use Rattle.bo_orders.specs.declared.sold.Asked.{Asked}
 use Rattle.bo_orders.specs.declared.sold.Sold.{Sold}
 use Rattle.bo_orders.specs.declared.refusal.OrderRefusal.{OrderRefusal}
 use Rattle.bo_orders.specs.declared.refusal.OrderRefusal.TheVariants.{Voucher as OfVoucher, Empty, TooMany}
-use Rattle.bo_orders.specs.Sold.{sold}
+use Rattle.bo_orders.specs.Sold.{sold_for}
 
 abbrev pub status_of : Bool → Status
 status_of true = Paid
@@ -61,14 +60,7 @@ row_before (Ok sold) row (Ok rows) = Ok (row sold ∷ rows)
 -- the rows of what is asked, whose ids and numbers count on from these, or the first refusal
 unfoldable pub rows_for : Draw → State → ℕ → ℕ → List Asked → Result (List OrderPos) VoucherRefusal
 rows_for draw state id number [] = Ok []
-rows_for draw state id number (asked ∷ more) = row_before (sold asked state) (position_row draw state.next.order id number) (rows_for draw state (id + 1) (number + 1) more)
-
--- all cart positions of these carts are dropped
-abbrev pub drops_of : List (List ℕ) → Lists → List Change
-drops_of carts lists = map (λ c. DropCart c.id) (filter (is_consumed carts) lists.carts)
-
-abbrev pub without_carts : List (List ℕ) → State → State
-without_carts carts state = record state { lists = after_all (drops_of carts state.lists) state.lists }
+rows_for draw state id number (asked ∷ more) = row_before (sold_for asked state) (position_row draw state.next.order id number) (rows_for draw state (id + 1) (number + 1) more)
 
 -- one position after another, each of which needs a use of its voucher that is left
 abbrev pub with_positions : List OrderPos → State → Result State VoucherRefusal
@@ -93,7 +85,7 @@ placed_with row rows before (Ok after) = unless_over row rows before after (firs
 
 -- without the carts that it consumes, each voucher needs its uses, and no quota may be taken too much of
 unfoldable pub order_placed : Order → List OrderPos → List (List ℕ) → State → Result (State × OrderRows) OrderRefusal
-order_placed row rows carts state = placed_with row rows state (with_positions rows (changed (PutOrder row) (without_carts carts state)))
+order_placed row rows carts state = placed_with row rows state (with_positions rows (changed (PutOrder row) (without_carts (consumed carts state.lists) state)))
 
 abbrev pub created_of : NewOrder → State → Result (List OrderPos) VoucherRefusal → Result (State × OrderRows) OrderRefusal
 created_of new state (Err refusal) = Err (OfVoucher refusal)

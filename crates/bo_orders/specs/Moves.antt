@@ -1,19 +1,15 @@
 -- The moves of an order.
-use Rattle.std.specs.Prelude.{ℕ, ◌+◌, Bool, true, false, nat_le, List, map, Option, Some, None, Result, Ok, Err, if◌then◌else◌}
-use Rattle.std.specs.List.{list_all}
+use Rattle.std.specs.Prelude.{ℕ, Bool, true, false, map, Option, Some, None, Result, Ok, Err, if◌then◌else◌}
 use Rattle.bo_lists.specs.declared.rows.Order.{Order}
-use Rattle.bo_lists.specs.declared.rows.OrderPos.{OrderPos}
 use Rattle.bo_lists.specs.declared.rows.OrderRows.{OrderRows}
 use Rattle.bo_lists.specs.declared.rows.Own.TheVariants.{Position}
 use Rattle.bo_lists.specs.declared.rows.Status.{Status}
 use Rattle.bo_lists.specs.declared.rows.Status.TheVariants.{Pending, Paid, Expired, Cancelled}
-use Rattle.bo_lists.specs.declared.rows.Voucher.{Voucher}
 use Rattle.bo_lists.specs.declared.changes.Change.TheVariants.{PutOrder}
-use Rattle.bo_lists.specs.Lists.{Lists, State, order_at, voucher_at, positions_of}
+use Rattle.bo_lists.specs.Lists.{State, order_at, positions_of}
 use Rattle.bo_lists.specs.Change.{after_change, changed}
-use Rattle.bo_lists.specs.Headroom.{held}
+use Rattle.bo_lists.specs.Headroom.{have_room}
 use Rattle.bo_lists.specs.Over.{first_over}
-use Rattle.bo_lists.specs.Usage.{redeemed}
 use Rattle.bo_vouchers.specs.declared.refusal.VoucherRefusal.TheVariants.{NoHeadroom, SoldOut}
 use Rattle.bo_orders.specs.declared.moves.Move.{Move}
 use Rattle.bo_orders.specs.declared.moves.Move.TheVariants.{MarkPaid, MarkPending, MarkExpired, MarkCanceled, Extend}
@@ -28,23 +24,23 @@ abbrev pub revived : Status → Option Turn
 revived status = Some (record { status = status; revival = true })
 
 -- what each move makes of an order of each status: the status that follows, or none where it isn't possible
-abbrev pub turn : Status → Move → Option Turn
-turn Pending MarkPaid = to Paid
-turn Pending MarkExpired = to Expired
-turn Pending MarkCanceled = to Cancelled
-turn Pending (Extend end) = to Pending
-turn Pending MarkPending = None
-turn Paid MarkPending = to Pending
-turn Paid MarkCanceled = to Cancelled
-turn Paid MarkPaid = None
-turn Paid MarkExpired = None
-turn Paid (Extend end) = None
-turn Expired MarkPaid = revived Paid
-turn Expired MarkCanceled = to Cancelled
-turn Expired (Extend end) = revived Pending
-turn Expired MarkPending = None
-turn Expired MarkExpired = None
-turn Cancelled change = None
+abbrev pub turned : Status → Move → Option Turn
+turned Pending MarkPaid = to Paid
+turned Pending MarkExpired = to Expired
+turned Pending MarkCanceled = to Cancelled
+turned Pending (Extend end) = to Pending
+turned Pending MarkPending = None
+turned Paid MarkPending = to Pending
+turned Paid MarkCanceled = to Cancelled
+turned Paid MarkPaid = None
+turned Paid MarkExpired = None
+turned Paid (Extend end) = None
+turned Expired MarkPaid = revived Paid
+turned Expired MarkCanceled = to Cancelled
+turned Expired (Extend end) = revived Pending
+turned Expired MarkPending = None
+turned Expired MarkExpired = None
+turned Cancelled change = None
 
 -- the end that a move sets
 abbrev pub end_after : Move → ℕ → ℕ
@@ -54,18 +50,9 @@ end_after change old = old
 abbrev pub moved_row : Order → Status → Move → Order
 moved_row order status change = record order { status = status; expires = end_after change order.expires }
 
--- a voucher isn't named more often than it may be used
-abbrev pub is_within_uses : Lists → ℕ → Option Voucher → Bool
-is_within_uses lists at None = true
-is_within_uses lists at (Some voucher) = nat_le (redeemed voucher.id lists + held at voucher.id lists) voucher.max_usages
-
-abbrev pub has_its_use : Lists → ℕ → Option ℕ → Bool
-has_its_use lists at None = true
-has_its_use lists at (Some id) = is_within_uses lists at (voucher_at id lists)
-
 -- the vouchers of the order's positions have the uses that it takes again
 abbrev pub have_uses_again : Order → State → Bool
-have_uses_again row state = list_all (λ p. has_its_use (after_change (PutOrder row) state.lists) state.moment p.voucher) (positions_of row.id state.lists)
+have_uses_again row state = have_room state.moment (after_change (PutOrder row) state.lists) (positions_of row.id state.lists)
 
 abbrev pub order_rows : Order → State → OrderRows
 order_rows row state = record { order = row; positions = positions_of row.id state.lists }
@@ -94,7 +81,7 @@ moved_by order change state (Some turn) = moved_as order change state turn
 
 abbrev pub moved_at : Move → State → Option Order → Result (State × OrderRows) OrderRefusal
 moved_at change state None = Err NoOrder
-moved_at change state (Some order) = moved_by order change state (turn order.status change)
+moved_at change state (Some order) = moved_by order change state (turned order.status change)
 
 -- the box office with the moved order, and that order with its positions, or the first refusal
 unfoldable pub order_moved : ℕ → Move → State → Result (State × OrderRows) OrderRefusal

@@ -59,5 +59,5 @@ sold_of asked state (Err refusal) = Err (Catalogue refusal)
 sold_of asked state (Ok product) = sold_with asked state product (voucher_asked asked.voucher state product)
 
 -- the product that is asked for, its price and its voucher, or the first refusal
-unfoldable pub sold : Asked → State → Result Sold VoucherRefusal
-sold asked state = sold_of asked state (product_for_sale asked.item asked.variation state.lists.catalogue)
+unfoldable pub sold_for : Asked → State → Result Sold VoucherRefusal
+sold_for asked state = sold_of asked state (product_for_sale asked.item asked.variation state.lists.catalogue)

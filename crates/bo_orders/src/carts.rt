@@ -8,7 +8,7 @@ ghost use Rattle.bo_orders.specs.Dropped.{position_dropped};
 use crate::cart_id::{cart_id, test_cart_id};
 use crate::new_cart::NewCart;
 use crate::refusal::OrderRefusal;
-use crate::sold::sold;
+use crate::sold::sold_for;
 use bo_base::Draw;
 use bo_catalogue::CatalogueRefusal;
 use bo_draft::Draft;
@@ -51,7 +51,7 @@ fn new_row<B: Book>(
     ensures refused { IfErr result (λ e. e ≢ OrderRefusal.Memory → cart_row new.now draw (now draft.now) ≡ Err e) }
 {
     test_cart_id(new)?;
-    let sold = sold(draft, &new.asked)?;
+    let sold = sold_for(draft, &new.asked)?;
     let id = draft.next_cart();
     Ok(CartPos {
         id,

@@ -3,7 +3,7 @@
 
 pub mod cart_id;
 pub mod carts;
-pub mod create;
+pub mod creating;
 pub mod laws;
 pub mod moves;
 pub mod new_cart;
@@ -12,7 +12,7 @@ pub mod refusal;
 pub mod sold;
 
 pub use carts::{add_position, drop_position};
-pub use create::create;
+pub use creating::create;
 pub use moves::{Move, move_order};
 pub use new_cart::NewCart;
 pub use new_order::NewOrder;

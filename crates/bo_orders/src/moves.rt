@@ -3,7 +3,7 @@
 ghost use Rattle.std.specs.Prelude.{◌≡◌, ◌≢◌, Ok, Err, IfOk, IfErr, OnErr, []};
 ghost use Rattle.bo_draft.specs.DraftState.{now, Extends};
 ghost use Rattle.bo_lists.specs.Sound.{IsSound};
-ghost use Rattle.bo_orders.specs.Moves.{turn, order_moved};
+ghost use Rattle.bo_orders.specs.Moves.{to, revived, turned, order_moved};
 
 use crate::refusal::OrderRefusal;
 use bo_base::Moment;
@@ -30,12 +30,35 @@ pub struct Turn {
     pub revival: bool,
 }
 
-/// What a move makes of an order of this status; none where it isn't possible.
-pub fn turn(status: Status, change: Move) -> Option<Turn>
-    ensures { result ≡ turn status change }
+fn to(status: Status) -> Option<Turn>
+    ensures { result ≡ to status }
 {
-    let to = |status, revival| Some(Turn { status, revival });
+    Some(Turn {
+        status,
+        revival: false,
+    })
+}
+
+fn revived(status: Status) -> Option<Turn>
+    ensures { result ≡ revived status }
+{
+    Some(Turn {
+        status,
+        revival: true,
+    })
+}
+
+/// What a move makes of an order of this status; none where it isn't possible.
+pub fn turned(status: Status, change: Move) -> Option<Turn>
+    ensures { result ≡ turned status change }
+{
     match (status, change) {
+        (Status::Pending, Move::MarkPaid) => to(Status::Paid),
+        (Status::Pending, Move::MarkExpired) => to(Status::Expired),
+        (Status::Pending, Move::Extend(_)) | (Status::Paid, Move::MarkPending) => to(Status::Pending),
+        (Status::Pending | Status::Paid | Status::Expired, Move::MarkCanceled) => to(Status::Cancelled),
+        (Status::Expired, Move::MarkPaid) => revived(Status::Paid),
+        (Status::Expired, Move::Extend(_)) => revived(Status::Pending),
         _ => None,
     }
 }

@@ -4,7 +4,7 @@ ghost use Rattle.std.specs.Prelude.{◌≡◌, Ok, Err, IfOk, IfErr, option_map}
 ghost use Rattle.std.specs.Option.{option_copied};
 ghost use Rattle.bo_catalogue.specs.CatalogueLists.{base_price};
 ghost use Rattle.bo_draft.specs.DraftState.{now};
-ghost use Rattle.bo_orders.specs.Sold.{product_for_sale, voucher_asked, price_by, price_with, sold};
+ghost use Rattle.bo_orders.specs.Sold.{product_for_sale, voucher_asked, price_by, price_with, sold_for};
 
 use bo_base::{Cents, Text, price};
 use bo_catalogue::{CatalogueRefusal, Product};
@@ -33,10 +33,10 @@ pub struct Sold {
 /// What is sold for what is asked, in a draft that has changed no voucher.
 /// Refusals, in this order: 10 `NoItem`, 11 `NoVariation`, 12 `NeedsVariation`, 15 `Inactive`, 18 `NotSold`;
 /// 23 `NoVoucher`, 24 `VoucherExpired`, 26 `WrongProduct`.
-#[tactic(auto, unfolding(crate::specs::Sold::sold))]
-pub fn sold<B: Book>(draft: &Draft<'_, B>, asked: &Asked) -> Result<Sold, VoucherRefusal>
+#[tactic(auto, unfolding(crate::specs::Sold::sold_for))]
+pub fn sold_for<B: Book>(draft: &Draft<'_, B>, asked: &Asked) -> Result<Sold, VoucherRefusal>
     requires { (now draft.now).lists.vouchers ≡ draft.now.log.base.vouchers }
-    ensures { result ≡ sold asked.now (now draft.now) }
+    ensures { result ≡ sold_for asked.now (now draft.now) }
 {
     let product = product_for_sale(draft, asked)?;
     let voucher = voucher_asked(draft, asked.voucher.as_ref(), product)?;
@@ -66,7 +66,7 @@ fn product_for_sale<B: Book>(
 }
 
 // The voucher of the code that is given, where it can be used for the product.
-#[tactic(auto, unfolding(crate::specs::Carts::voucher_asked))]
+#[tactic(auto, unfolding(crate::specs::Sold::voucher_asked))]
 fn voucher_asked<'d, B: Book>(
     draft: &'d Draft<'_, B>,
     code: Option<&Text>,
