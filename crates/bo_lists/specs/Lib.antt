@@ -12,4 +12,5 @@ pub mod Named
 pub mod Numbered
 pub mod Sound
 pub mod Full
+pub mod Consumed
 pub mod Takes
