@@ -3,8 +3,9 @@
 ghost use Rattle.std.specs.Prelude.{◌≡◌, ◌++◌, [], ◌∷◌, IfOk, OnOk, OnErr, length, take, ◌≤◌, ◌<◌, ◌+◌, ◌-◌, ◌^◌, ◌==◌, ◌&&◌, count_by, map, if◌then◌else◌};
 ghost use Rattle.std.specs.Option.{option_copied};
 ghost use Rattle.bo_lists.specs.Change.{after_change, after_all};
-ghost use Rattle.bo_lists.specs.Lists.{voucher_at, cart_at, order_at, position_at, waiting_at};
+ghost use Rattle.bo_lists.specs.Lists.{voucher_at, cart_at, order_at, position_at, positions_of, waiting_at};
 ghost use Rattle.bo_lists.specs.Named.{voucher_of, is_used};
+ghost use Rattle.bo_lists.specs.Consumed.{consumed};
 ghost use Rattle.bo_lists.specs.Kept.{IsKept};
 ghost use Rattle.bo_base.specs.Tables.{sum_at};
 ghost use Rattle.bo_lists.specs.Headroom.{held, held_in};
@@ -17,7 +18,7 @@ ghost use Rattle.bo_lists.specs.Usage.{usage_of, stands_as, uses, redeemed, is_c
 ghost use Rattle.bo_draft.specs.Steps.{voucher_step, cart_step, order_step, position_step, waiting_step, puts};
 
 use crate::cart_tests::{CartTest, Holds, HoldsIn};
-use bo_base::Moment;
+use bo_base::{List, Moment, Text};
 use bo_catalogue::{Catalogue, Quota};
 use bo_lists::{CartPos, Change, Order, OrderPos, Own, Usage, Voucher, Waiting};
 use bo_usage::{Book, PositionTest};
@@ -82,6 +83,38 @@ impl<'a, B: Book> Overlay<'a, B> {
         ensures { result ≡ length (rows_of self.now).vouchers }
     {
         self.book.vouchers().len()
+    }
+
+    /// All orders, by id, where none has changed.
+    pub fn orders(&self) -> &[Order]
+        requires { (rows_of self.now).orders ≡ self.now.base.orders }
+        ensures { result.now ≡ (rows_of self.now).orders }
+    {
+        self.book.orders()
+    }
+
+    /// All order positions, by id, where none has changed.
+    pub fn positions(&self) -> &[OrderPos]
+        requires { (rows_of self.now).positions ≡ self.now.base.positions }
+        ensures { result.now ≡ (rows_of self.now).positions }
+    {
+        self.book.positions()
+    }
+
+    /// Copies of the positions of an order, by id, where no order position has changed.
+    pub fn positions_of(&self, alloc: Global, order: u64) -> Result<List<OrderPos>, AllocError>
+        requires { (rows_of self.now).positions ≡ self.now.base.positions }
+        ensures { IfOk result (λ rows. rows ≡ positions_of order (rows_of self.now)) }
+    {
+        self.book.positions_of(alloc, order)
+    }
+
+    /// The ids of the cart positions of these carts, where no cart position has changed.
+    pub fn carts_in(&self, alloc: Global, carts: &[Text]) -> Result<Vec<u64>, AllocError>
+        requires { (rows_of self.now).carts ≡ self.now.base.carts }
+        ensures { IfOk result (λ ids. ids.items ≡ consumed carts.now (rows_of self.now)) }
+    {
+        self.book.carts_in(alloc, carts)
     }
 
     /// One more change, or a refusal where 2^32 stand.

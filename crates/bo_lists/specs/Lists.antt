@@ -35,6 +35,10 @@ order_at id lists = row_at (λ r. r.id) id lists.orders
 abbrev pub position_at : ℕ → Lists → Option OrderPos
 position_at id lists = row_at (λ r. r.id) id lists.positions
 
+-- the positions of an order, by id
+abbrev pub positions_of : ℕ → Lists → List OrderPos
+positions_of order lists = filter (λ p. order == p.order) lists.positions
+
 abbrev pub waiting_at : ℕ → Lists → Option Waiting
 waiting_at id lists = row_at (λ r. r.id) id lists.waiting
 
