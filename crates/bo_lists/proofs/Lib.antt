@@ -11,4 +11,5 @@ pub mod SoundOrders
 pub mod Takes
 pub mod Lowers
 pub mod Orders
+pub mod Exact
 pub mod OrderLowers

@@ -18,7 +18,7 @@ use Rattle.bo_lists.specs.Headroom.{held, HasHeadroom, AllHaveHeadroom, has_use,
 use Rattle.bo_lists.specs.Ordered.{AllOrdered}
 use Rattle.bo_lists.proofs.EachRow.{all_weaker, all_of, all_both, neither_first, neither_second}
 use Rattle.bo_lists.proofs.Found.{each_found}
-use Rattle.bo_lists.proofs.Time.{one, eqb_flip}
+use Rattle.bo_lists.proofs.Time.{one}
 
 -- each voucher that stands keeps its headroom
 keep_room : (at : ℕ) (a b : Lists) → AreInOrder (λ r. r.id) a.vouchers → ((v : Voucher) → voucher_at v.id a ≡ Some v → HasHeadroom at a v → HasHeadroom at b v) → AllHaveHeadroom at a → AllByRecursion (HasHeadroom at b) a.vouchers
@@ -69,13 +69,13 @@ module _ (row : Order) (lists : Lists) where
 
   -- the uses of a voucher by the order's positions
   abbrev own_uses : ℕ → List OrderPos → ℕ
-  own_uses v ps = count_by (λ p. names v p.voucher) (filter (λ p. eqb p.order row.id) ps)
+  own_uses v ps = count_by (λ p. names v p.voucher) (filter (λ p. eqb row.id p.order) ps)
 
-  own_cons : (v : ℕ) (p : OrderPos) (ps : List OrderPos) → own_uses v (p ∷ ps) ≡ one (eqb p.order row.id && names v p.voucher) + own_uses v ps
-  own_cons v p ps = by_order (eqb p.order row.id)
+  own_cons : (v : ℕ) (p : OrderPos) (ps : List OrderPos) → own_uses v (p ∷ ps) ≡ one (eqb row.id p.order && names v p.voucher) + own_uses v ps
+  own_cons v p ps = by_order (eqb row.id p.order)
     where
-      by_order : (b : Bool) → count_by (λ q. names v q.voucher) (cond b (p ∷ filter (λ q. eqb q.order row.id) ps) (filter (λ q. eqb q.order row.id) ps)) ≡ one (b && names v p.voucher) + own_uses v ps
-      by_order true = sum_by-cons (λ q. one (names v q.voucher)) p (filter (λ q. eqb q.order row.id) ps)
+      by_order : (b : Bool) → count_by (λ q. names v q.voucher) (cond b (p ∷ filter (λ q. eqb row.id q.order) ps) (filter (λ q. eqb row.id q.order) ps)) ≡ one (b && names v p.voucher) + own_uses v ps
+      by_order true = sum_by-cons (λ q. one (names v q.voucher)) p (filter (λ q. eqb row.id q.order) ps)
       by_order false = omega arith
 
   balance : (own named old new force : Bool) (a b n : ℕ) → (own ≡ true → force ≡ old) → a + (if old then n else 0) ≡ b + (if new then n else 0) → one (named && (if own then new else force)) + a + (if old then one (own && named) + n else 0) ≡ one (named && force) + b + (if new then one (own && named) + n else 0)
@@ -101,12 +101,12 @@ module _ (row : Order) (lists : Lists) where
       by_force false true = refl
       by_force false false = refl
   uses_step v (p ∷ ps) =
-      let same : eqb p.order row.id ≡ true → was_in_force p.order ≡ was_in_force row.id = λ own. same_force p.order own in
-      let now : one (uses v after p) ≡ one (names v p.voucher && (if eqb p.order row.id then is_in_force row.status else was_in_force p.order)) = ap (λ b. one (names v p.voucher && b)) (force_is p.order ∙ ap (λ b. if b then is_in_force row.status else was_in_force p.order) (eqb_flip row.id p.order)) in
-      let step = balance (eqb p.order row.id) (names v p.voucher) (was_in_force row.id) (is_in_force row.status) (was_in_force p.order) (sum_by (λ q. one (uses v after q)) ps) (sum_by (λ q. one (uses v lists q)) ps) (own_uses v ps) same (uses_step v ps) in
+      let same : eqb row.id p.order ≡ true → was_in_force p.order ≡ was_in_force row.id = λ own. same_force p.order own in
+      let now : one (uses v after p) ≡ one (names v p.voucher && (if eqb row.id p.order then is_in_force row.status else was_in_force p.order)) = ap (λ b. one (names v p.voucher && b)) (force_is p.order) in
+      let step = balance (eqb row.id p.order) (names v p.voucher) (was_in_force row.id) (is_in_force row.status) (was_in_force p.order) (sum_by (λ q. one (uses v after q)) ps) (sum_by (λ q. one (uses v lists q)) ps) (own_uses v ps) same (uses_step v ps) in
       rw (own_cons v p ps) (omega (arith, step, now, sum_by-cons (λ q. one (uses v after q)) p ps, sum_by-cons (λ q. one (uses v lists q)) p ps))
     where
-      same_force : (id : ℕ) → eqb id row.id ≡ true → was_in_force id ≡ was_in_force row.id
+      same_force : (id : ℕ) → eqb row.id id ≡ true → was_in_force id ≡ was_in_force row.id
       same_force id own =
           let is : id ≡ row.id = grind (arith, nat_tests, own) in
           ap was_in_force is
@@ -135,18 +135,16 @@ module _ (row : Order) (lists : Lists) where
           ap was_in_force (sym same) ∙ h force
 
   -- nor one whose positions don't name the voucher
-  unnamed_brings_none : (v : ℕ) (ps : List OrderPos) → list_any (λ p. names v p.voucher) (filter (λ p. eqb p.order row.id) ps) ≡ false → AllByRecursion (BringsNone v) ps
+  unnamed_brings_none : (v : ℕ) (ps : List OrderPos) → list_any (λ p. names v p.voucher) (filter (λ p. eqb row.id p.order) ps) ≡ false → AllByRecursion (BringsNone v) ps
   unnamed_brings_none v [] h = tt
-  unnamed_brings_none v (p ∷ ps) h = by_order (eqb p.order row.id) refl h (unnamed_brings_none v ps)
+  unnamed_brings_none v (p ∷ ps) h = by_order (eqb row.id p.order) refl h (unnamed_brings_none v ps)
     where
-      by_order : (b : Bool) → eqb p.order row.id ≡ b → list_any (λ q. names v q.voucher) (cond b (p ∷ filter (λ q. eqb q.order row.id) ps) (filter (λ q. eqb q.order row.id) ps)) ≡ false → (list_any (λ q. names v q.voucher) (filter (λ q. eqb q.order row.id) ps) ≡ false → AllByRecursion (BringsNone v) ps) → AllByRecursion (BringsNone v) (p ∷ ps)
+      by_order : (b : Bool) → eqb row.id p.order ≡ b → list_any (λ q. names v q.voucher) (cond b (p ∷ filter (λ q. eqb row.id q.order) ps) (filter (λ q. eqb row.id q.order) ps)) ≡ false → (list_any (λ q. names v q.voucher) (filter (λ q. eqb row.id q.order) ps) ≡ false → AllByRecursion (BringsNone v) ps) → AllByRecursion (BringsNone v) (p ∷ ps)
       by_order true e h more =
-          let rest = list_any (λ q. names v q.voucher) (filter (λ q. eqb q.order row.id) ps) in
+          let rest = list_any (λ q. names v q.voucher) (filter (λ q. eqb row.id q.order) ps) in
           let not_it = neither_first (names v p.voucher) rest h in
           (λ own named force. absurd (cc (not_it, named)), more (neither_second (names v p.voucher) rest h))
-      by_order false e h more =
-          let other = eqb_flip row.id p.order ∙ e in
-          (λ own named force. absurd (cc (other, own)), more h)
+      by_order false e h more = (λ own named force. absurd (cc (e, own)), more h)
 
   module _ (at : ℕ) where
     room_if_none : (v : Voucher) → AllByRecursion (BringsNone v.id) lists.positions → HasHeadroom at lists v → HasHeadroom at after v

@@ -1,11 +1,13 @@
--- An order that isn't in force afterwards: that raises no usage.
-use Rattle.std.proofs.Common.{◌≡◌, ℕ, ◌+◌, ◌≤◌, Bool, true, false, ◌&&◌, eqb, List, [], ◌∷◌, Option, Some, None, refl, sym, ap, ◌∙◌, subst, sum_by, count_by, arith}
+-- An order whose status changes, but that doesn't come back: that raises no usage.
+use Rattle.std.proofs.Common.{◌≡◌, ℕ, ◌+◌, ◌≤◌, ◌⊎◌, inl, inr, Bool, true, false, ◌&&◌, eqb, List, [], ◌∷◌, Option, Some, None, refl, sym, ap, ◌∙◌, subst, sum_by, count_by, arith}
 use Rattle.std.specs.Prelude.{◌||◌, if◌then◌else◌}
 use Rattle.std.specs.List.{AllByRecursion}
+use Rattle.std.proofs.lemmas.Bool.Decides.{nat_tests}
 use Rattle.std.proofs.lemmas.List.Sums.{sum_by-cons}
 use Rattle.bo_base.specs.Tables.{AreInOrder}
 use Rattle.bo_base.proofs.Edits.{row_at-with_row}
 use Rattle.bo_catalogue.specs.declared.rows.Quota.{Quota}
+use Rattle.bo_catalogue.specs.CatalogueLists.{quota_at}
 use Rattle.bo_catalogue.specs.Member.{is_in}
 use Rattle.bo_lists.specs.declared.rows.Order.{Order}
 use Rattle.bo_lists.specs.declared.rows.OrderPos.{OrderPos}
@@ -13,14 +15,17 @@ use Rattle.bo_lists.specs.declared.rows.Status.{Status}
 use Rattle.bo_lists.specs.declared.rows.Status.TheVariants.{Pending, Paid, Expired, Cancelled}
 use Rattle.bo_lists.specs.declared.changes.Change.TheVariants.{PutOrder}
 use Rattle.bo_lists.specs.Tests.{is_paid, is_pending, is_in_force}
-use Rattle.bo_lists.specs.Lists.{Lists, order_at}
+use Rattle.bo_lists.specs.Lists.{Lists, State, order_at}
 use Rattle.bo_lists.specs.Change.{after_change}
 use Rattle.bo_lists.specs.Usage.{stands_as, is_covered_by, blocked_by, usage_of}
 use Rattle.bo_lists.specs.Total.{total}
 use Rattle.bo_lists.specs.Headroom.{AllHaveHeadroom}
+use Rattle.bo_lists.specs.Fits.{AllExact}
+use Rattle.bo_lists.specs.Sound.{IsSound}
 use Rattle.bo_lists.proofs.Time.{one, same_sums, gated}
-use Rattle.bo_lists.proofs.Orders.{counts, of_order, order_step, blocked_linear}
+use Rattle.bo_lists.proofs.Orders.{sum_by_swap, counts, of_order, order_step, blocked_linear}
 use Rattle.bo_lists.proofs.OrderHeadroom.{headroom_kept_order}
+use Rattle.bo_lists.proofs.Exact.{all_inside}
 
 -- neither paid nor pending
 not_paid : (s : Status) → is_in_force s ≡ false → is_paid s ≡ false
@@ -92,3 +97,63 @@ module _ (row : Order) (lists : Lists) (at : ℕ) (quota : Quota) (ended : is_in
   ended_order_lowers vouchers room inside =
       let room_after = headroom_kept_order row lists at (λ force. absurd (cc (ended, force))) room in
       omega (arith, order_step is_paid in_it row lists, none_left is_paid (not_paid row.status ended) in_it, order_step is_pending in_it row lists, none_left is_pending (not_pending row.status ended) in_it, order_step is_in_force covered row lists, none_left is_in_force ended covered, blocked_linear at quota lists vouchers room, blocked_linear at quota after vouchers room_after, given_le lists.positions inside)
+
+-- in force is one of the two
+one_of : (s : Status) → is_in_force s ≡ true → (m : Bool) → one (is_paid s && m) + one (is_pending s && m) ≡ one m
+one_of Pending e m = omega arith
+one_of Paid e m = omega arith
+one_of Expired e m = absurd (cc)
+one_of Cancelled e m = absurd (cc)
+
+one_that_stands : (found : Option Order) → stands_as is_in_force found ≡ true → (m : Bool) → one (stands_as is_paid found && m) + one (stands_as is_pending found && m) ≡ one m
+one_that_stands None e m = absurd (cc)
+one_that_stands (Some order) e m = one_of order.status e m
+
+module _ (row : Order) (lists : Lists) (at : ℕ) (quota : Quota) (now : is_in_force row.status ≡ true) (before : stands_as is_in_force (order_at row.id lists) ≡ true) where
+  abbrev later : Lists
+  later = after_change (PutOrder row) lists
+
+  abbrev inside : OrderPos → Bool
+  inside p = is_in quota p.product
+
+  abbrev spent : OrderPos → Bool
+  spent p = is_covered_by lists at quota p.voucher
+
+  force_now : (id : ℕ) → eqb row.id id ≡ true → stands_as is_in_force (order_at id later) ≡ true
+  force_now id e = ap (stands_as is_in_force) (row_at-with_row (λ r. r.id) id row lists.orders ∙ ap (λ b. if b then Some row else order_at id lists) e) ∙ now
+
+  force_before : (id : ℕ) → eqb row.id id ≡ true → stands_as is_in_force (order_at id lists) ≡ true
+  force_before id e =
+      let same : id ≡ row.id = grind (arith, nat_tests, e) in
+      ap (λ n. stands_as is_in_force (order_at n lists)) same ∙ before
+
+  -- as many of its positions count as before
+  same_places : sum_by (λ p. one (of_order is_paid inside row p && counts is_paid inside later p)) lists.positions + sum_by (λ p. one (of_order is_pending inside row p && counts is_pending inside later p)) lists.positions ≡ sum_by (λ p. one (of_order is_paid inside row p && counts is_paid inside lists p)) lists.positions + sum_by (λ p. one (of_order is_pending inside row p && counts is_pending inside lists p)) lists.positions
+  same_places = sum_by_swap (λ p. one (of_order is_paid inside row p && counts is_paid inside later p)) (λ p. one (of_order is_pending inside row p && counts is_pending inside later p)) (λ p. one (of_order is_paid inside row p && counts is_paid inside lists p)) (λ p. one (of_order is_pending inside row p && counts is_pending inside lists p)) lists.positions (λ p. by_order p (eqb row.id p.order) refl)
+    where
+      by_order : (p : OrderPos) (own : Bool) → eqb row.id p.order ≡ own → one (own && counts is_paid inside later p) + one (own && counts is_pending inside later p) ≡ one (own && counts is_paid inside lists p) + one (own && counts is_pending inside lists p)
+      by_order p false e = refl
+      by_order p true e = one_that_stands (order_at p.order later) (force_now p.order e) (inside p) ∙ sym (one_that_stands (order_at p.order lists) (force_before p.order e) (inside p))
+
+  same_spent : sum_by (λ p. one (of_order is_in_force spent row p && counts is_in_force spent later p)) lists.positions ≡ sum_by (λ p. one (of_order is_in_force spent row p && counts is_in_force spent lists p)) lists.positions
+  same_spent = same_sums (λ p. one (of_order is_in_force spent row p && counts is_in_force spent later p)) (λ p. one (of_order is_in_force spent row p && counts is_in_force spent lists p)) lists.positions (λ p. by_order p (eqb row.id p.order) refl)
+    where
+      by_order : (p : OrderPos) (own : Bool) → eqb row.id p.order ≡ own → one (own && counts is_in_force spent later p) ≡ one (own && counts is_in_force spent lists p)
+      by_order p false e = refl
+      by_order p true e = ap (λ b. one (b && spent p)) (force_now p.order e ∙ sym (force_before p.order e))
+
+  -- an order that was in force and still is
+  pub kept_order_same : AreInOrder (λ r. r.id) lists.vouchers → AllHaveHeadroom at lists → total (usage_of later at quota) ≡ total (usage_of lists at quota)
+  unfolding usage_of blocked_by
+  kept_order_same vouchers room =
+      let room_after = headroom_kept_order row lists at (λ force. before) room in
+      omega (arith, order_step is_paid inside row lists, order_step is_pending inside row lists, same_places, order_step is_in_force spent row lists, same_spent, blocked_linear at quota lists vouchers room, blocked_linear at quota later vouchers room_after)
+
+-- cancelling or expiring an order, its payment, and taking the payment back: no move but a revival raises the usage of a quota that stands
+pub moved_order_lowers : (state : State) (row old : Order) (quota : Quota) → order_at row.id state.lists ≡ Some old → quota_at quota.id state.lists.catalogue ≡ Some quota → (is_in_force row.status ≡ false) ⊎ (is_in_force old.status ≡ true) → AllExact state.lists → IsSound state → total (usage_of (after_change (PutOrder row) state.lists) state.moment quota) ≤ total (usage_of state.lists state.moment quota)
+moved_order_lowers state row old quota stood stands (inl ended) exact h = ended_order_lowers row state.lists state.moment quota ended h.vouchers.in_order h.headroom (all_inside state.lists state.moment quota stands h.fit.positions exact)
+moved_order_lowers state row old quota stood stands (inr kept) exact h = by_now (is_in_force row.status) refl
+  where
+    by_now : (b : Bool) → is_in_force row.status ≡ b → total (usage_of (after_change (PutOrder row) state.lists) state.moment quota) ≤ total (usage_of state.lists state.moment quota)
+    by_now false ended = ended_order_lowers row state.lists state.moment quota ended h.vouchers.in_order h.headroom (all_inside state.lists state.moment quota stands h.fit.positions exact)
+    by_now true now = omega (arith, kept_order_same row state.lists state.moment quota now (ap (stands_as is_in_force) stood ∙ kept) h.vouchers.in_order h.headroom)

@@ -42,10 +42,6 @@ positions_of order lists = filter (λ p. order == p.order) lists.positions
 abbrev pub waiting_at : ℕ → Lists → Option Waiting
 waiting_at id lists = row_at (λ r. r.id) id lists.waiting
 
--- the positions of an order
-abbrev pub positions_of : ℕ → Lists → List OrderPos
-positions_of order lists = filter (λ p. p.order == order) lists.positions
-
 abbrev pub no_rows : Lists
 no_rows = record { catalogue = record { items = []; variations = []; quotas = [] }; vouchers = []; carts = []; orders = []; positions = []; waiting = [] }
 
