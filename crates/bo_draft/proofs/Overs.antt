@@ -3,13 +3,14 @@ use Rattle.std.proofs.Common.{◌≡◌, ℕ, List, [], ◌∷◌, take, map, sy
 use Rattle.std.specs.Prelude.{find, option_map, if◌then◌else◌}
 use Rattle.bo_catalogue.specs.declared.rows.Quota.{Quota}
 use Rattle.bo_catalogue.specs.CatalogueLists.{CatalogueLists}
+use Rattle.bo_lists.specs.declared.rows.Own.{Own}
 use Rattle.bo_lists.specs.Lists.{Lists}
 use Rattle.bo_draft.specs.DraftState.{DraftState, MarkState, IsMarkOf, AreSales, now, back, usages_of}
 use Rattle.bo_draft.proofs.Sales.{sales_catalogue, sales_front}
 use Rattle.bo_lists.specs.Usage.{usage_of}
 use Rattle.bo_lists.specs.Over.{first_over_among, is_over}
 
-pub among_all : (before after : Lists) (at : ℕ) (own : List ℕ) (quotas : List Quota) → first_over_among after at own (map (usage_of before at) quotas) quotas ≡ option_map (λ quota. quota.id) (find (is_over before after at own) quotas)
+pub among_all : (before after : Lists) (at : ℕ) (own : List Own) (quotas : List Quota) → first_over_among after at own (map (usage_of before at) quotas) quotas ≡ option_map (λ quota. quota.id) (find (is_over before after at own) quotas)
 among_all before after at own [] = refl
 among_all before after at own (q ∷ qs) = by_test (is_over before after at own q) (among_all before after at own qs)
   where

@@ -3,10 +3,10 @@ use Rattle.std.proofs.Common.{◌≡◌, ℕ, ◌+◌, ◌<◌, List, [], ◌∷
 use Rattle.std.proofs.lemmas.List.{take_more}
 use Rattle.bo_base.proofs.Edits.{row_at-with_row, row_at-without_row}
 use Rattle.bo_lists.specs.declared.changes.Change.{Change}
-use Rattle.bo_lists.specs.declared.changes.Change.TheVariants.{PutVoucher, PutCart, PutOrder, PutWaiting, DropVoucher, DropCart, DropWaiting}
-use Rattle.bo_lists.specs.Lists.{Lists, voucher_at, cart_at, order_at, waiting_at}
+use Rattle.bo_lists.specs.declared.changes.Change.TheVariants.{PutVoucher, PutCart, PutOrder, PutPosition, PutWaiting, DropVoucher, DropCart, DropWaiting}
+use Rattle.bo_lists.specs.Lists.{Lists, voucher_at, cart_at, order_at, position_at, waiting_at}
 use Rattle.bo_lists.specs.Change.{after_change, after_all}
-use Rattle.bo_draft.specs.Steps.{voucher_step, cart_step, order_step, waiting_step}
+use Rattle.bo_draft.specs.Steps.{voucher_step, cart_step, order_step, position_step, waiting_step}
 
 pub after_all-push : (log : List Change) (change : Change) (lists : Lists) → after_all (log ++ change ∷ []) lists ≡ after_change change (after_all log lists)
 after_all-push [] change lists = refl
@@ -45,3 +45,10 @@ order_at-after_change id _ lists = refl
 
 pub order_more : (id : ℕ) (log : List Change) (i : ℕ) (d : Change) (lists : Lists) → i < length log → order_at id (after_all (take (i + 1) log) lists) ≡ order_step id (get_or log i d) (order_at id (after_all (take i log) lists))
 order_more id log i d lists lt = ap (order_at id) (after_all_more log i d lists lt) ∙ order_at-after_change id (get_or log i d) (after_all (take i log) lists)
+
+position_at-after_change : (id : ℕ) (change : Change) (lists : Lists) → position_at id (after_change change lists) ≡ position_step id change (position_at id lists)
+position_at-after_change id (PutPosition row) lists = row_at-with_row (λ r. r.id) id row lists.positions
+position_at-after_change id _ lists = refl
+
+pub position_more : (id : ℕ) (log : List Change) (i : ℕ) (d : Change) (lists : Lists) → i < length log → position_at id (after_all (take (i + 1) log) lists) ≡ position_step id (get_or log i d) (position_at id (after_all (take i log) lists))
+position_more id log i d lists lt = ap (position_at id) (after_all_more log i d lists lt) ∙ position_at-after_change id (get_or log i d) (after_all (take i log) lists)

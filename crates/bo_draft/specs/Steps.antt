@@ -27,6 +27,10 @@ abbrev pub order_step : ℕ → Change → Option Order → Option Order
 order_step id (PutOrder row) found = if row.id == id then Some row else found
 order_step id _ found = found
 
+abbrev pub position_step : ℕ → Change → Option OrderPos → Option OrderPos
+position_step id (PutPosition row) found = if row.id == id then Some row else found
+position_step id _ found = found
+
 -- the change puts an order position that passes
 abbrev pub puts : (OrderPos → Bool) → Change → Bool
 puts passes (PutPosition row) = passes row

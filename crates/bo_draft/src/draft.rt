@@ -2,8 +2,9 @@
 
 ghost use Rattle.std.specs.Prelude.{◌≡◌, ◌++◌, [], ◌∷◌, ◌≤◌, ◌<◌, ◌+◌, ◌-◌, ◌^◌, ℕ, IfOk, OnOk, OnErr, length, slice_get, Some, None, count_by};
 ghost use Rattle.std.specs.Option.{option_copied};
-ghost use Rattle.bo_lists.specs.Full.{takes_cart, takes_voucher};
-ghost use Rattle.bo_lists.specs.Lists.{voucher_at, cart_at, order_at, position_at, waiting_at};
+ghost use Rattle.bo_lists.specs.Full.{takes_cart, takes_voucher, takes_order, takes_positions};
+ghost use Rattle.bo_lists.specs.Lists.{voucher_at, cart_at, order_at, position_at, positions_of, waiting_at};
+ghost use Rattle.bo_lists.specs.Consumed.{consumed};
 ghost use Rattle.bo_lists.specs.Headroom.{has_use, held, AllHaveHeadroom};
 ghost use Rattle.bo_lists.specs.Named.{voucher_of, is_used};
 ghost use Rattle.bo_lists.specs.Over.{first_over, is_over, is_free, weighed};
@@ -13,9 +14,10 @@ ghost use Rattle.bo_draft.specs.Shift.{CanCome};
 ghost use Rattle.bo_lists.specs.Usage.{usage_of, redeemed};
 
 use crate::overlay::Overlay;
-use bo_base::{Moment, Steps};
-use bo_catalogue::{Catalogue, LAST_ID, MOST_ROWS, Quota};
-use bo_lists::{CartPos, Change, Changes, NextIds, Order, OrderPos, Usage, Voucher, Waiting};
+use bo_base::codes::LAST_ORDER;
+use bo_base::{List, Moment, Steps, Text};
+use bo_catalogue::{Catalogue, LAST_ID, MOST_ROWS, Quota, takes_rows};
+use bo_lists::{CartPos, Change, Changes, NextIds, Order, OrderPos, Own, Usage, Voucher, Waiting};
 use bo_usage::Book;
 use std::alloc::{AllocError, Global};
 use std::marker::{Brand, Model};
@@ -138,11 +140,35 @@ impl<'a, B: Book> Draft<'a, B> {
         self.overlay.order(id)
     }
 
+    /// The order position of an id.
+    pub fn position(&self, id: u64) -> Option<&OrderPos>
+        ensures { option_copied result ≡ position_at id (now self.now).lists }
+    {
+        self.overlay.position(id)
+    }
+
     /// The waiting entry of an id.
     pub fn waiting(&self, id: u64) -> Option<&Waiting>
         ensures { option_copied result ≡ waiting_at id (now self.now).lists }
     {
         self.overlay.waiting(id)
+    }
+
+    /// Copies of the positions of an order, by id, in a draft that has changed no order position.
+    pub fn positions_of(&self, alloc: Global, order: u64) -> Result<List<OrderPos>, AllocError>
+        requires { (now self.now).lists.positions ≡ self.now.log.base.positions }
+        ensures { IfOk result (λ rows. rows ≡ positions_of order (now self.now).lists) }
+    {
+        self.overlay.positions_of(alloc, order)
+    }
+
+    /// The ids of the cart positions of these carts, dead ones too, in order,
+    /// in a draft that has changed no cart position.
+    pub fn carts_in(&self, alloc: Global, carts: &[Text]) -> Result<Vec<u64>, AllocError>
+        requires { (now self.now).lists.carts ≡ self.now.log.base.carts }
+        ensures { IfOk result (λ ids. ids.items ≡ consumed carts.now (now self.now).lists) }
+    {
+        self.overlay.carts_in(alloc, carts)
     }
 
     /// Whether one more cart position may name the voucher.
@@ -183,6 +209,57 @@ impl<'a, B: Book> Draft<'a, B> {
         ensures extends { Extends self.old self.new }
     {
         self.next.cart += 1;
+    }
+
+    /// The id that the next order gets.
+    pub fn next_order(&self) -> u64
+        ensures { result ≡ (now self.now).next.order }
+    {
+        self.next.order
+    }
+
+    /// Whether the table of orders takes one more row, in a draft that has changed no order: fewer than
+    /// 17,210,367 stand, and the next id is at most 17,210,367, the last that has a code.
+    pub fn takes_order(&self) -> bool
+        requires { (now self.now).lists.orders ≡ self.now.log.base.orders }
+        ensures { result ≡ takes_order (now self.now) }
+    {
+        self.overlay.orders().len() < LAST_ORDER as usize
+            && self.next.order <= u64::from(LAST_ORDER)
+    }
+
+    /// Counts the id of an order as used.
+    pub fn use_order_id(&mut self)
+        requires { (now self.old).next.order < 9007199254740992 }
+        ensures now { now self.new ≡ record (now self.old) { next = record (now self.old).next { order = (now self.old).next.order + 1 } } }
+        ensures extends { Extends self.old self.new }
+    {
+        self.next.order += 1;
+    }
+
+    /// The id that the next order position gets.
+    pub fn next_position(&self) -> u64
+        ensures { result ≡ (now self.now).next.position }
+    {
+        self.next.position
+    }
+
+    /// Whether the table of order positions takes so many more rows, in a draft that has changed none of them:
+    /// at most 1,000,000 stand with them, and their ids are at most 9,007,199,254,740,991.
+    pub fn takes_positions(&self, count: usize) -> bool
+        requires { (now self.now).lists.positions ≡ self.now.log.base.positions }
+        ensures { result ≡ takes_positions count (now self.now) }
+    {
+        takes_rows(count, self.next.position, self.overlay.positions())
+    }
+
+    /// Counts the ids of so many order positions as used.
+    pub fn use_position_ids(&mut self, count: usize)
+        requires { (now self.old).next.position + count ≤ 9007199254740992 }
+        ensures now { now self.new ≡ record (now self.old) { next = record (now self.old).next { position = (now self.old).next.position + count } } }
+        ensures extends { Extends self.old self.new }
+    {
+        self.next.position += count as u64;
     }
 
     /// The id that the next voucher gets.
@@ -320,7 +397,8 @@ impl<'a, B: Book> Draft<'a, B> {
     }
 
     /// The least quota of which the changes since the mark take too much.
-    pub fn first_over(&self, mark: &Mark, own: &[u64]) -> Option<u64>
+    /// The own rows are those that the request adds or revives: they don't weigh where their vouchers ignore quotas.
+    pub fn first_over(&self, mark: &Mark, own: &[Own]) -> Option<u64>
         requires { IsMarkOf self.now mark.now }
         ensures { result ≡ first_over (now (back mark.now self.now)).lists (now self.now).lists (now self.now).moment own.now }
     {

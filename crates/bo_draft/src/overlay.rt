@@ -3,23 +3,24 @@
 ghost use Rattle.std.specs.Prelude.{◌≡◌, ◌++◌, [], ◌∷◌, IfOk, OnOk, OnErr, length, take, ◌≤◌, ◌<◌, ◌+◌, ◌-◌, ◌^◌, ◌==◌, ◌&&◌, count_by, map, if◌then◌else◌};
 ghost use Rattle.std.specs.Option.{option_copied};
 ghost use Rattle.bo_lists.specs.Change.{after_change, after_all};
-ghost use Rattle.bo_lists.specs.Lists.{voucher_at, cart_at, order_at, waiting_at};
+ghost use Rattle.bo_lists.specs.Lists.{voucher_at, cart_at, order_at, position_at, positions_of, waiting_at};
 ghost use Rattle.bo_lists.specs.Named.{voucher_of, is_used};
+ghost use Rattle.bo_lists.specs.Consumed.{consumed};
 ghost use Rattle.bo_lists.specs.Kept.{IsKept};
 ghost use Rattle.bo_base.specs.Tables.{sum_at};
 ghost use Rattle.bo_lists.specs.Headroom.{held, held_in};
 ghost use Rattle.bo_draft.specs.DraftState.{Log, rows_of, rows_at, IsSale, AreSales};
 ghost use Rattle.bo_lists.specs.Tests.{is_in_force, names, holds};
 ghost use Rattle.bo_draft.specs.Shift.{count_ordered};
-ghost use Rattle.bo_lists.specs.Over.{is_free, ignores, weighed, is_over_size, first_over_among};
+ghost use Rattle.bo_lists.specs.Over.{is_free, is_free_cart, is_free_position, ignores, weighed, is_over_size, first_over_among};
 ghost use Rattle.bo_lists.specs.Total.{total};
-ghost use Rattle.bo_lists.specs.Usage.{usage_of, stands_as, uses, redeemed, is_covered_by, is_covered, cart_counts};
-ghost use Rattle.bo_draft.specs.Steps.{voucher_step, cart_step, order_step, waiting_step, puts};
+ghost use Rattle.bo_lists.specs.Usage.{usage_of, stands_as, uses, redeemed, is_covered_by, is_covered, cart_counts, position_counts};
+ghost use Rattle.bo_draft.specs.Steps.{voucher_step, cart_step, order_step, position_step, waiting_step, puts};
 
 use crate::cart_tests::{CartTest, Holds, HoldsIn};
-use bo_base::Moment;
+use bo_base::{List, Moment, Text};
 use bo_catalogue::{Catalogue, Quota};
-use bo_lists::{CartPos, Change, Order, OrderPos, Usage, Voucher, Waiting};
+use bo_lists::{CartPos, Change, Order, OrderPos, Own, Usage, Voucher, Waiting};
 use bo_usage::{Book, PositionTest};
 use std::alloc::{AllocError, Global};
 use std::marker::Model;
@@ -82,6 +83,38 @@ impl<'a, B: Book> Overlay<'a, B> {
         ensures { result ≡ length (rows_of self.now).vouchers }
     {
         self.book.vouchers().len()
+    }
+
+    /// All orders, by id, where none has changed.
+    pub fn orders(&self) -> &[Order]
+        requires { (rows_of self.now).orders ≡ self.now.base.orders }
+        ensures { result.now ≡ (rows_of self.now).orders }
+    {
+        self.book.orders()
+    }
+
+    /// All order positions, by id, where none has changed.
+    pub fn positions(&self) -> &[OrderPos]
+        requires { (rows_of self.now).positions ≡ self.now.base.positions }
+        ensures { result.now ≡ (rows_of self.now).positions }
+    {
+        self.book.positions()
+    }
+
+    /// Copies of the positions of an order, by id, where no order position has changed.
+    pub fn positions_of(&self, alloc: Global, order: u64) -> Result<List<OrderPos>, AllocError>
+        requires { (rows_of self.now).positions ≡ self.now.base.positions }
+        ensures { IfOk result (λ rows. rows ≡ positions_of order (rows_of self.now)) }
+    {
+        self.book.positions_of(alloc, order)
+    }
+
+    /// The ids of the cart positions of these carts, where no cart position has changed.
+    pub fn carts_in(&self, alloc: Global, carts: &[Text]) -> Result<Vec<u64>, AllocError>
+        requires { (rows_of self.now).carts ≡ self.now.base.carts }
+        ensures { IfOk result (λ ids. ids.items ≡ consumed carts.now (rows_of self.now)) }
+    {
+        self.book.carts_in(alloc, carts)
     }
 
     /// One more change, or a refusal where 2^32 stand.
@@ -303,13 +336,43 @@ impl<'a, B: Book> Overlay<'a, B> {
         cart.is_live(at) && quota.has(cart.product) && !self.is_covered(at, quota, cart)
     }
 
-    fn is_free(&self, at: Moment, quota: &Quota, id: u64) -> bool
-        ensures { result ≡ is_free (rows_of self.now) at quota.now id }
+    // Whether a request's own row counts in the quota, and its voucher ignores quotas.
+    fn is_free(&self, at: Moment, quota: &Quota, own: Own) -> bool
+        ensures { result ≡ is_free (rows_of self.now) at quota.now own }
     {
-        match self.cart(id) {
+        match own {
+            Own::Cart(id) => self.is_free_cart(at, quota, self.cart(id)),
+            Own::Position(id) => self.is_free_position(quota, self.position(id)),
+        }
+    }
+
+    fn is_free_cart(&self, at: Moment, quota: &Quota, cart: Option<&CartPos>) -> bool
+        ensures { result ≡ is_free_cart (rows_of self.now) at quota.now (option_copied cart.entry) }
+    {
+        match cart {
             None => false,
             Some(cart) => self.cart_counts(at, quota, cart) && self.ignores(cart.voucher),
         }
+    }
+
+    fn is_free_position(&self, quota: &Quota, position: Option<&OrderPos>) -> bool
+        ensures { result ≡ is_free_position (rows_of self.now) quota.now (option_copied position.entry) }
+    {
+        match position {
+            None => false,
+            Some(row) => self.position_counts(quota, row) && self.ignores(row.voucher),
+        }
+    }
+
+    // Whether an order position is for a product of the quota, and its order is paid or pending.
+    fn position_counts(&self, quota: &Quota, position: &OrderPos) -> bool
+        ensures { result ≡ position_counts is_in_force (rows_of self.now) quota.now position.now }
+    {
+        let in_force = match self.order(position.order) {
+            None => false,
+            Some(order) => order.status.is_in_force(),
+        };
+        in_force && quota.has(position.product)
     }
 
     fn ignores(&self, voucher: Option<u64>) -> bool
@@ -321,11 +384,11 @@ impl<'a, B: Book> Overlay<'a, B> {
         }
     }
 
-    fn free_count(&self, at: Moment, quota: &Quota, own: &[u64]) -> usize
+    fn free_count(&self, at: Moment, quota: &Quota, own: &[Own]) -> usize
         ensures { result ≡ count_by (is_free (rows_of self.now) at quota.now) own.now }
     {
         own.iter()
-            .filter(|id| self.is_free(at, quota, **id))
+            .filter(|row| self.is_free(at, quota, **row))
             .count()
     }
 
@@ -335,7 +398,7 @@ impl<'a, B: Book> Overlay<'a, B> {
         &self,
         at: Moment,
         quota: &Quota,
-        own: &[u64],
+        own: &[Own],
         before: &Usage,
         after: &Usage,
     ) -> bool
@@ -356,7 +419,7 @@ impl<'a, B: Book> Overlay<'a, B> {
         &self,
         at: Moment,
         quotas: &[Quota],
-        own: &[u64],
+        own: &[Own],
         before: &[Usage],
         after: &[Usage],
     ) -> Option<u64>
@@ -420,6 +483,17 @@ impl<'a, B: Book> Overlay<'a, B> {
         found
     }
 
+    #[tactic(auto, using(crate::proofs::Steps::position_more))]
+    pub fn position(&self, id: u64) -> Option<&OrderPos>
+        ensures { option_copied result ≡ position_at id (rows_of self.now) }
+    {
+        let mut found = self.book.position(id);
+        for change in &self.log {
+            found = position_after(change, id, found);
+        }
+        found
+    }
+
     #[tactic(auto, using(crate::proofs::Steps::waiting_more))]
     pub fn waiting(&self, id: u64) -> Option<&Waiting>
         ensures { option_copied result ≡ waiting_at id (rows_of self.now) }
@@ -467,6 +541,19 @@ fn order_after<'a>(change: &'a Change, id: u64, found: Option<&'a Order>) -> Opt
 {
     match change {
         Change::PutOrder(row) if row.id == id => Some(row),
+        _ => found,
+    }
+}
+
+fn position_after<'a>(
+    change: &'a Change,
+    id: u64,
+    found: Option<&'a OrderPos>,
+) -> Option<&'a OrderPos>
+    ensures { option_copied result ≡ position_step id change.now (option_copied found.entry) }
+{
+    match change {
+        Change::PutPosition(row) if row.id == id => Some(row),
         _ => found,
     }
 }

@@ -20,6 +20,14 @@ module _ {T : Type 0} where
   all_weaker P Q f [] h = tt
   all_weaker P Q f (r ∷ rs) h = (f r h.0, all_weaker P Q f rs h.1)
 
+  pub all_of : (P : T → Type 0) → ((row : T) → P row) → (rows : List T) → AllByRecursion P rows
+  all_of P f [] = tt
+  all_of P f (r ∷ rs) = (f r, all_of P f rs)
+
+  pub all_both : (P Q : T → Type 0) (rows : List T) → AllByRecursion P rows → AllByRecursion Q rows → AllByRecursion (λ row. P row × Q row) rows
+  all_both P Q [] p q = tt
+  all_both P Q (r ∷ rs) p q = ((p.0, q.0), all_both P Q rs p.1 q.1)
+
   -- no row passes, so each of them may be taken as one that doesn't
   pub all_unless : (test : T → Bool) (P Q : T → Type 0) → ((row : T) → test row ≡ false → P row → Q row) → (rows : List T) → list_any test rows ≡ false → AllByRecursion P rows → AllByRecursion Q rows
   all_unless test P Q f [] e h = tt

@@ -51,6 +51,7 @@ sound_empty = record {
   headroom = tt;
   fit = record { carts = tt; positions = tt };
   codes = tt;
+  ordered = tt;
 }
 
 -- a box office stays sound as time goes on
@@ -67,6 +68,7 @@ sound_later state at le h = record {
   headroom = headroom_later state.moment at state.lists le h.headroom;
   fit = h.fit;
   codes = h.codes;
+  ordered = h.ordered;
 }
 
 -- a new cart position that names no voucher, or one for its product, with a use left where the position is live
@@ -83,6 +85,7 @@ sound_cart state row e left fits h = record {
   headroom = headroom_put state.moment state.lists row h.carts.in_order h.vouchers.in_order left h.headroom;
   fit = all_fit_cart state.lists row fits h.fit;
   codes = h.codes;
+  ordered = h.ordered;
 }
 
 -- a cart position that goes
@@ -99,6 +102,7 @@ sound_drop_cart state id h = record {
   headroom = headroom_drop state.moment state.lists id h.carts.in_order h.headroom;
   fit = all_fit_drop_cart state.lists id h.fit;
   codes = h.codes;
+  ordered = h.ordered;
 }
 
 -- an item without its variations
@@ -115,6 +119,7 @@ put_item state row e h = record {
   headroom = h.headroom;
   fit = fit_catalogue state.lists (after_change (PutItem row) state.lists).catalogue refl h.fit;
   codes = h.codes;
+  ordered = h.ordered;
 }
 
 -- a new variation
@@ -131,6 +136,7 @@ sound_variation state row e h = record {
   headroom = h.headroom;
   fit = fit_catalogue state.lists (after_change (PutVariation row) state.lists).catalogue refl h.fit;
   codes = h.codes;
+  ordered = h.ordered;
 }
 
 -- some new variations
@@ -169,6 +175,7 @@ sound_changed_item state row old e h = record {
   headroom = h.headroom;
   fit = fit_catalogue state.lists (after_change (PutItem row) state.lists).catalogue refl h.fit;
   codes = h.codes;
+  ordered = h.ordered;
 }
 
 -- a quota that has what the one in its place had
@@ -192,6 +199,7 @@ sound_quota state row e h = record {
   headroom = h.headroom;
   fit = fit_put_quota state.lists row nothing h.fit;
   codes = h.codes;
+  ordered = h.ordered;
 }
   where
     absent : quota_at row.id state.lists.catalogue ≡ None
@@ -216,6 +224,7 @@ sound_resized state row old e items variations h = record {
   headroom = h.headroom;
   fit = fit_put_quota state.lists row same h.fit;
   codes = h.codes;
+  ordered = h.ordered;
 }
   where
     by_variation : (variation : Option ℕ) (item : ℕ) → is_in old (record { item = item; variation = variation }) ≡ true → is_in row (record { item = item; variation = variation }) ≡ true
@@ -258,6 +267,7 @@ sound_voucher state row e code room h = record {
   headroom = headroom_voucher state.lists row state.moment room h.headroom;
   fit = fit_alike state.lists row nothing h.fit;
   codes = unlike_put row 0 state.lists.vouchers h.vouchers.in_order code h.codes;
+  ordered = h.ordered;
 }
   where
     absent : voucher_at row.id state.lists ≡ None
@@ -287,6 +297,7 @@ module _ (state : State) (row old : Voucher) (stands : voucher_at row.id state.l
     headroom = headroom_voucher state.lists row state.moment room h.headroom;
     fit = fit;
     codes = unlike_put row 0 state.lists.vouchers h.vouchers.in_order code h.codes;
+    ordered = h.ordered;
   }
 
   -- where nothing names it
@@ -326,4 +337,5 @@ sound_drop_voucher state id unused h = record {
     positions = positions_unless id state.lists (after_change (DropVoucher id) state.lists) unused (fit_drop_other state.lists id) h.fit.positions;
   };
   codes = unlike_drop id state.lists.vouchers h.codes;
+  ordered = h.ordered;
 }

@@ -1,5 +1,5 @@
 -- What changes do to the lists.
-use Rattle.std.specs.Prelude.{ℕ, List, [], ◌∷◌}
+use Rattle.std.specs.Prelude.{ℕ, List, [], ◌∷◌, map}
 use Rattle.bo_base.specs.Tables.{with_row, without_row}
 use Rattle.bo_lists.specs.declared.rows.NextIds.{NextIds}
 use Rattle.bo_lists.specs.declared.changes.Change.{Change}
@@ -37,3 +37,7 @@ applied changes moment state = record { lists = after_all changes.list state.lis
 -- the box office with one more change
 abbrev pub changed : Change → State → State
 changed change state = record state { lists = after_change change state.lists }
+
+-- the box office without the cart positions of these ids
+abbrev pub without_carts : List ℕ → State → State
+without_carts ids state = record state { lists = after_all (map DropCart ids) state.lists }

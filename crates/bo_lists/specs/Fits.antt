@@ -1,5 +1,5 @@
 -- Which products a voucher is for.
-use Rattle.std.specs.Prelude.{◌≡◌, ℕ, Bool, true, false, ◌&&◌, ◌==◌, Option, Some, None}
+use Rattle.std.specs.Prelude.{◌≡◌, ℕ, Bool, true, false, not, ◌&&◌, ◌||◌, ◌==◌, is_some, is_none, Option, Some, None}
 use Rattle.std.specs.List.{AllByRecursion}
 use Rattle.bo_catalogue.specs.declared.rows.Product.{Product}
 use Rattle.bo_catalogue.specs.declared.rows.Quota.{Quota}
@@ -44,3 +44,15 @@ is_fit lists product (Some id) = fits_if lists.catalogue product (voucher_at id 
 pub record AllFit (lists : Lists) : Type 0 where
   pub carts : AllByRecursion (λ c. is_fit lists c.product c.voucher ≡ true) lists.carts
   pub positions : AllByRecursion (λ p. is_fit lists p.product p.voucher ≡ true) lists.positions
+
+-- a voucher that blocks tells the product whole: by a quota, by a variation, or the product has none
+abbrev pub is_exact_if : Product → Option Voucher → Bool
+is_exact_if product None = true
+is_exact_if product (Some voucher) = not voucher.block_quota || (is_some voucher.quota || (is_some voucher.variation || is_none product.variation))
+
+abbrev pub is_exact : Lists → Product → Option ℕ → Bool
+is_exact lists product None = true
+is_exact lists product (Some id) = is_exact_if product (voucher_at id lists)
+
+abbrev pub AllExact : Lists → Type 0
+AllExact lists = AllByRecursion (λ p. is_exact lists p.product p.voucher ≡ true) lists.positions

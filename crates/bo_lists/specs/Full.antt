@@ -1,6 +1,7 @@
 -- When a table takes one more row.
-use Rattle.std.specs.Prelude.{Bool}
-use Rattle.bo_catalogue.specs.Limits.{takes_row}
+use Rattle.std.specs.Prelude.{ℕ, Bool, ◌&&◌, length, nat_lt, nat_le}
+use Rattle.bo_base.specs.Codes.{last_order}
+use Rattle.bo_catalogue.specs.Limits.{takes_row, takes_rows}
 use Rattle.bo_lists.specs.Lists.{State}
 
 -- fewer stand than a table may have, and there is an id for one more
@@ -9,3 +10,11 @@ takes_cart state = takes_row state.next.cart state.lists.carts
 
 abbrev pub takes_voucher : State → Bool
 takes_voucher state = takes_row state.next.voucher state.lists.vouchers
+
+-- each order has a code, and there are no more codes than this
+abbrev pub takes_order : State → Bool
+takes_order state = nat_lt (length state.lists.orders) last_order && nat_le state.next.order last_order
+
+-- so many more order positions, whose ids count on
+abbrev pub takes_positions : ℕ → State → Bool
+takes_positions count state = takes_rows count state.next.position state.lists.positions

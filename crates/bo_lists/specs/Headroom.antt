@@ -1,9 +1,10 @@
 -- No voucher is named more often than it may be used.
-use Rattle.std.specs.Prelude.{ℕ, ◌+◌, ◌≤◌, Bool, true, nat_lt, ◌&&◌, Option, Some, None, count_by}
-use Rattle.std.specs.List.{AllByRecursion}
+use Rattle.std.specs.Prelude.{ℕ, ◌+◌, ◌≤◌, Bool, true, nat_lt, nat_le, ◌&&◌, List, Option, Some, None, count_by}
+use Rattle.std.specs.List.{list_all, AllByRecursion}
 use Rattle.bo_catalogue.specs.declared.rows.Quota.{Quota}
 use Rattle.bo_catalogue.specs.Member.{is_in}
 use Rattle.bo_lists.specs.declared.rows.Voucher.{Voucher}
+use Rattle.bo_lists.specs.declared.rows.OrderPos.{OrderPos}
 use Rattle.bo_lists.specs.Tests.{holds}
 use Rattle.bo_lists.specs.Lists.{Lists, voucher_at}
 use Rattle.bo_lists.specs.Usage.{redeemed}
@@ -31,3 +32,16 @@ has_use_by at lists (Some voucher) = nat_lt (redeemed voucher.id lists + held at
 abbrev pub has_use : ℕ → Lists → Option ℕ → Bool
 has_use at lists None = true
 has_use at lists (Some id) = has_use_by at lists (voucher_at id lists)
+
+-- the voucher isn't named more often than it may be used
+abbrev pub has_room_by : ℕ → Lists → Option Voucher → Bool
+has_room_by at lists None = true
+has_room_by at lists (Some voucher) = nat_le (redeemed voucher.id lists + held at voucher.id lists) voucher.max_usages
+
+abbrev pub has_room : ℕ → Lists → Option ℕ → Bool
+has_room at lists None = true
+has_room at lists (Some id) = has_room_by at lists (voucher_at id lists)
+
+-- none of the vouchers that these order positions name is
+abbrev pub have_room : ℕ → Lists → List OrderPos → Bool
+have_room at lists positions = list_all (λ p. has_room at lists p.voucher) positions

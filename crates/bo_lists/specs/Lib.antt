@@ -9,7 +9,9 @@ pub mod Over
 pub mod Headroom
 pub mod Fits
 pub mod Named
+pub mod Ordered
 pub mod Numbered
 pub mod Sound
 pub mod Full
+pub mod Consumed
 pub mod Takes

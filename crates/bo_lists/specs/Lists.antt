@@ -1,5 +1,5 @@
 -- The box office as lists of rows in order of id.
-use Rattle.std.specs.Prelude.{ℕ, List, [], Option}
+use Rattle.std.specs.Prelude.{ℕ, ◌==◌, List, [], Option, filter}
 use Rattle.bo_base.specs.Tables.{row_at}
 use Rattle.bo_catalogue.specs.CatalogueLists.{CatalogueLists}
 use Rattle.bo_lists.specs.declared.rows.Voucher.{Voucher}
@@ -34,6 +34,10 @@ order_at id lists = row_at (λ r. r.id) id lists.orders
 
 abbrev pub position_at : ℕ → Lists → Option OrderPos
 position_at id lists = row_at (λ r. r.id) id lists.positions
+
+-- the positions of an order, by id
+abbrev pub positions_of : ℕ → Lists → List OrderPos
+positions_of order lists = filter (λ p. order == p.order) lists.positions
 
 abbrev pub waiting_at : ℕ → Lists → Option Waiting
 waiting_at id lists = row_at (λ r. r.id) id lists.waiting

@@ -5,8 +5,10 @@ use Rattle.bo_catalogue.specs.declared.rows.ItemRows.{ItemRows}
 use Rattle.bo_catalogue.specs.declared.rows.Quota.{Quota}
 use Rattle.bo_lists.specs.declared.rows.CartPos.{CartPos}
 use Rattle.bo_lists.specs.declared.rows.Voucher.{Voucher}
+use Rattle.bo_lists.specs.declared.rows.Order.{Order}
+use Rattle.bo_lists.specs.declared.rows.OrderPos.{OrderPos}
 use Rattle.bo_lists.specs.declared.changes.Change.{Change}
-use Rattle.bo_lists.specs.declared.changes.Change.TheVariants.{PutItem, PutVariation, PutQuota, PutVoucher, PutCart}
+use Rattle.bo_lists.specs.declared.changes.Change.TheVariants.{PutItem, PutVariation, PutQuota, PutVoucher, PutCart, PutOrder, PutPosition}
 use Rattle.bo_lists.specs.Lists.{State}
 use Rattle.bo_lists.specs.Change.{after_change, after_all}
 
@@ -33,3 +35,9 @@ with_voucher row state = record state { lists = after_change (PutVoucher row) st
 
 abbrev pub with_cart : CartPos → State → State
 with_cart row state = record state { lists = after_change (PutCart row) state.lists; next = record state.next { cart = state.next.cart + 1 } }
+
+abbrev pub with_order : Order → State → State
+with_order row state = record state { lists = after_change (PutOrder row) state.lists; next = record state.next { order = state.next.order + 1 } }
+
+abbrev pub with_position : OrderPos → State → State
+with_position row state = record state { lists = after_change (PutPosition row) state.lists; next = record state.next { position = state.next.position + 1 } }

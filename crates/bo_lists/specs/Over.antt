@@ -3,9 +3,13 @@ use Rattle.std.specs.Prelude.{ℕ, ◌-◌, Bool, false, ◌&&◌, nat_lt, List,
 use Rattle.bo_catalogue.specs.declared.rows.Quota.{Quota}
 use Rattle.bo_lists.specs.declared.rows.Voucher.{Voucher}
 use Rattle.bo_lists.specs.declared.rows.CartPos.{CartPos}
+use Rattle.bo_lists.specs.declared.rows.OrderPos.{OrderPos}
+use Rattle.bo_lists.specs.declared.rows.Own.{Own}
+use Rattle.bo_lists.specs.declared.rows.Own.TheVariants.{Cart, Position}
 use Rattle.bo_lists.specs.declared.rows.Usage.{Usage}
-use Rattle.bo_lists.specs.Lists.{Lists, voucher_at, cart_at}
-use Rattle.bo_lists.specs.Usage.{usage_of, cart_counts}
+use Rattle.bo_lists.specs.Tests.{is_in_force}
+use Rattle.bo_lists.specs.Lists.{Lists, voucher_at, cart_at, position_at}
+use Rattle.bo_lists.specs.Usage.{usage_of, cart_counts, position_counts}
 use Rattle.bo_lists.specs.Total.{total}
 
 abbrev pub ignores_by : Option Voucher → Bool
@@ -22,11 +26,17 @@ abbrev pub is_free_cart : Lists → ℕ → Quota → Option CartPos → Bool
 is_free_cart lists at quota None = false
 is_free_cart lists at quota (Some cart) = cart_counts lists at quota cart && ignores lists cart.voucher
 
-abbrev pub is_free : Lists → ℕ → Quota → ℕ → Bool
-is_free lists at quota id = is_free_cart lists at quota (cart_at id lists)
+-- an own order position in the quota, of an order that is paid or pending, and whose voucher ignores quotas
+abbrev pub is_free_position : Lists → Quota → Option OrderPos → Bool
+is_free_position lists quota None = false
+is_free_position lists quota (Some position) = position_counts is_in_force lists quota position && ignores lists position.voucher
 
--- what is used afterwards, less the request's own positions that ignore quotas
-unfoldable pub weighed : Lists → ℕ → Quota → List ℕ → ℕ
+abbrev pub is_free : Lists → ℕ → Quota → Own → Bool
+is_free lists at quota (Cart id) = is_free_cart lists at quota (cart_at id lists)
+is_free lists at quota (Position id) = is_free_position lists quota (position_at id lists)
+
+-- what is used afterwards, less the request's own rows that ignore quotas
+unfoldable pub weighed : Lists → ℕ → Quota → List Own → ℕ
 weighed lists at quota own = total (usage_of lists at quota) - count_by (is_free lists at quota) own
 
 abbrev pub is_over_size : Option ℕ → ℕ → ℕ → Bool
@@ -34,15 +44,15 @@ is_over_size None before weight = false
 is_over_size (Some size) before weight = nat_lt size weight && nat_lt before weight
 
 -- the request, which leads from one shop to the other, takes too much of the quota
-abbrev pub is_over : Lists → Lists → ℕ → List ℕ → Quota → Bool
+abbrev pub is_over : Lists → Lists → ℕ → List Own → Quota → Bool
 is_over before after at own quota = is_over_size quota.size (total (usage_of before at quota)) (weighed after at quota own)
 
 -- the least such quota
-abbrev pub first_over : Lists → Lists → ℕ → List ℕ → Option ℕ
+abbrev pub first_over : Lists → Lists → ℕ → List Own → Option ℕ
 first_over before after at own = option_map (λ quota. quota.id) (find (is_over before after at own) after.catalogue.quotas)
 
 -- the same, by the usage before
-abbrev pub first_over_among : Lists → ℕ → List ℕ → List Usage → List Quota → Option ℕ
+abbrev pub first_over_among : Lists → ℕ → List Own → List Usage → List Quota → Option ℕ
 first_over_among lists at own before [] = None
 first_over_among lists at own [] (quota ∷ quotas) = None
 first_over_among lists at own (usage ∷ before) (quota ∷ quotas) =

@@ -6,6 +6,7 @@ use Rattle.bo_lists.specs.Lists.{State}
 use Rattle.bo_lists.specs.Headroom.{AllHaveHeadroom}
 use Rattle.bo_lists.specs.Fits.{AllFit}
 use Rattle.bo_lists.specs.Named.{AreUnlike}
+use Rattle.bo_lists.specs.Ordered.{AllOrdered}
 
 -- ids rise, and each is below the next one
 pub record AreNumbered {T : Type 0} (key : T → ℕ) (next : ℕ) (rows : List T) : Type 0 where
@@ -27,3 +28,5 @@ pub record IsSound (state : State) : Type 0 where
   pub fit : AllFit state.lists
   -- a code tells which voucher it is
   pub codes : AreUnlike state.lists.vouchers
+  -- an order position's order stands
+  pub ordered : AllOrdered state.lists

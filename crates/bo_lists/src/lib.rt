@@ -7,4 +7,6 @@ pub mod laws;
 pub mod rows;
 
 pub use changes::{Change, Changes};
-pub use rows::{Availability, CartPos, NextIds, Order, OrderPos, Status, Usage, Voucher, Waiting};
+pub use rows::{
+    Availability, CartPos, NextIds, Order, OrderPos, OrderRows, Own, Status, Usage, Voucher, Waiting,
+};

@@ -4,10 +4,11 @@ ghost use Rattle.std.specs.Prelude.{◌≡◌, ◌↔◌, IsTrue, IfOk};
 ghost use Rattle.bo_lists.specs.Lists.{first_ids};
 ghost use Rattle.bo_lists.specs.Total.{total};
 ghost use Rattle.bo_lists.specs.Tests.{is_paid, is_pending, is_in_force, is_live_voucher, hits, blocks, is_live_cart, holds};
+ghost use Rattle.bo_lists.specs.Consumed.{is_consumed};
 ghost use Rattle.bo_lists.specs.Usage.{waits_for};
 ghost use Rattle.bo_lists.specs.Fits.{has_variation, fits_item, fits_by, fits};
 
-use bo_base::{Cents, Moment, PriceMode, Row, Text};
+use bo_base::{Cents, List, Moment, PriceMode, Row, Text};
 use bo_catalogue::{Catalogue, Product, Quota};
 use std::alloc::{AllocError, Global};
 
@@ -73,6 +74,13 @@ pub struct OrderPos {
     pub secret: Text,
 }
 
+/// An order with its positions, by id.
+#[derive(Debug, Drop)]
+pub struct OrderRows {
+    pub order: Order,
+    pub positions: List<OrderPos>,
+}
+
 /// An entry of the waiting list. It waits as long as it has no voucher.
 #[derive(Debug, Drop)]
 pub struct Waiting {
@@ -82,6 +90,14 @@ pub struct Waiting {
     pub priority: i32,
     pub created: Moment,
     pub voucher: Option<u64>,
+}
+
+/// A row that a request adds or revives, by its id.
+/// It doesn't count against the request where its voucher ignores quotas.
+#[derive(Clone, Copy, Debug, PartialEq, Eq)]
+pub enum Own {
+    Cart(u64),
+    Position(u64),
 }
 
 /// What uses a quota, in places.
@@ -312,6 +328,42 @@ impl Waiting {
     }
 }
 
+impl Order {
+    /// An equal row.
+    pub fn copy(&self, alloc: Global) -> Result<Order, AllocError>
+        ensures { IfOk result (λ row. row ≡ self.now) }
+    {
+        let email = match &self.email {
+            None => None,
+            Some(email) => Some(email.copy(alloc)?),
+        };
+        Ok(Order {
+            id: self.id,
+            email,
+            status: self.status,
+            made_at: self.made_at,
+            expires: self.expires,
+        })
+    }
+}
+
+impl OrderPos {
+    /// An equal row.
+    pub fn copy(&self, alloc: Global) -> Result<OrderPos, AllocError>
+        ensures { IfOk result (λ row. row ≡ self.now) }
+    {
+        Ok(OrderPos {
+            id: self.id,
+            order: self.order,
+            positionid: self.positionid,
+            product: self.product,
+            price: self.price,
+            voucher: self.voucher,
+            secret: self.secret.copy(alloc)?,
+        })
+    }
+}
+
 impl CartPos {
     /// An equal row.
     pub fn copy(&self, alloc: Global) -> Result<CartPos, AllocError>
@@ -326,6 +378,13 @@ impl CartPos {
             expires: self.expires,
             voucher: self.voucher,
         })
+    }
+
+    /// Whether it is in one of these carts.
+    pub fn is_in_one_of(&self, carts: &[Text]) -> bool
+        ensures { result ≡ is_consumed carts.now self.now }
+    {
+        carts.iter().any(|cart| self.cart_id.same(cart.as_str()))
     }
 
     /// Whether it is held at this moment.

@@ -14,6 +14,8 @@ use Rattle.bo_catalogue.specs.VariationAdded.{variation_added}
 use Rattle.bo_catalogue.specs.QuotaAdded.{quota_added}
 use Rattle.bo_catalogue.specs.Resized.{resized}
 use Rattle.bo_lists.specs.declared.rows.CartPos.{CartPos}
+use Rattle.bo_lists.specs.declared.rows.Own.{Own}
+use Rattle.bo_lists.specs.declared.rows.Own.TheVariants.{Cart as OwnCart}
 use Rattle.bo_lists.specs.declared.rows.Voucher.{Voucher}
 use Rattle.bo_lists.specs.declared.changes.Change.TheVariants.{PutItem, PutQuota}
 use Rattle.bo_lists.specs.Change.{changed}
@@ -51,11 +53,11 @@ record IsFine (state : State) (made : State × Reply) : Type 0 where
   sound : IsSound state → IsSound made.0
   moment : made.0.moment ≡ state.moment
   refused : (kind : Kind) (refusal : Refusal) → made.1 ≡ Refused kind refusal → made.0 ≡ state
-  none_over : (own : List ℕ) → taken made.1 ≡ Some own → first_over state.lists made.0.lists state.moment own ≡ None
+  none_over : (own : List Own) → taken made.1 ≡ Some own → first_over state.lists made.0.lists state.moment own ≡ None
   within : heeds_if_told made.0.lists (row_told made.1) ≡ true → TakesNoMore state made.0
   lowers : takes_if_told (row_told made.1) ≡ false → (quota : Quota) → used made.0 quota ≤ used state quota
 
-no_list : (own : List ℕ) → (let none : Option (List ℕ) = None in none ≡ Some own) → ⊥
+no_list : (own : List Own) → (let none : Option (List Own) = None in none ≡ Some own) → ⊥
 no_list own e = cc
 
 not_true : false ≡ true → ⊥
@@ -67,7 +69,7 @@ not_false_true e = cc
 no_more : (n : ℕ) → n ≤ n
 no_more n = omega arith
 
-none_or_own : (free : Bool) (own : List ℕ) → (if free then None else Some []) ≡ Some own → (free ≡ false) × ([] ≡ own)
+none_or_own : (free : Bool) (own : List Own) → (if free then None else Some []) ≡ Some own → (free ≡ false) × ([] ≡ own)
 none_or_own true own e = absurd (cc)
 none_or_own false own e = (refl, cc)
 
@@ -148,10 +150,10 @@ module _ (state : State) where
     not_over : row.allow_ignore_quota ≡ false → first_over state.lists after.lists state.moment [] ≡ None
     within : row.allow_ignore_quota ≡ false → TakesNoMore state after
 
-  voucher_not_over : (after : State) (row : Voucher) → IsVoucherFine after row → (own : List ℕ) → (if row.allow_ignore_quota then None else Some []) ≡ Some own → first_over state.lists after.lists state.moment own ≡ None
+  voucher_not_over : (after : State) (row : Voucher) → IsVoucherFine after row → (own : List Own) → (if row.allow_ignore_quota then None else Some []) ≡ Some own → first_over state.lists after.lists state.moment own ≡ None
   voucher_not_over after row known own e =
       let which = none_or_own row.allow_ignore_quota own e in
-      subst (λ (ids : List ℕ). first_over state.lists after.lists state.moment ids ≡ None) which.1 (known.not_over which.0)
+      subst (λ (ids : List Own). first_over state.lists after.lists state.moment ids ≡ None) which.1 (known.not_over which.0)
 
   voucher_fine : (r : Result (State × Voucher) VoucherRefusal) → ((after : State) (row : Voucher) → r ≡ Ok (after, row) → IsVoucherFine after row) → IsFine state (voucher_step state r)
   unfolding show_voucher
@@ -192,13 +194,13 @@ module _ (state : State) where
   record IsCartFine (after : State) (row : CartPos) : Type 0 where
     sound : IsSound state → IsSound after
     moment : after.moment ≡ state.moment
-    not_over : first_over state.lists after.lists state.moment (row.id ∷ []) ≡ None
+    not_over : first_over state.lists after.lists state.moment (OwnCart row.id ∷ []) ≡ None
     within : ignores after.lists row.voucher ≡ false → TakesNoMore state after
 
-  cart_not_over : (after : State) (row : CartPos) → IsCartFine after row → (own : List ℕ) → Some (row.id ∷ []) ≡ Some own → first_over state.lists after.lists state.moment own ≡ None
+  cart_not_over : (after : State) (row : CartPos) → IsCartFine after row → (own : List Own) → Some (OwnCart row.id ∷ []) ≡ Some own → first_over state.lists after.lists state.moment own ≡ None
   cart_not_over after row known own e =
-      let same : row.id ∷ [] ≡ own = cc in
-      subst (λ (ids : List ℕ). first_over state.lists after.lists state.moment ids ≡ None) same known.not_over
+      let same : OwnCart row.id ∷ [] ≡ own = cc in
+      subst (λ (ids : List Own). first_over state.lists after.lists state.moment ids ≡ None) same known.not_over
 
   cart_fine : (r : Result (State × CartPos) OrderRefusal) → ((after : State) (row : CartPos) → r ≡ Ok (after, row) → IsCartFine after row) → IsFine state (cart_step state r)
   cart_fine (Err refusal) known = refused_fine _ _

@@ -2,6 +2,8 @@
 use Rattle.std.specs.Prelude.{◌≡◌, ℕ, ◌≤◌, max, Bool, true, false, not, List, [], ◌∷◌, Option, Some, None, if◌then◌else◌}
 use Rattle.bo_base.specs.declared.draw.Draw.{Draw}
 use Rattle.bo_catalogue.specs.declared.rows.Quota.{Quota}
+use Rattle.bo_lists.specs.declared.rows.Own.{Own}
+use Rattle.bo_lists.specs.declared.rows.Own.TheVariants.{Cart as OwnCart}
 use Rattle.bo_lists.specs.Lists.{Lists, State}
 use Rattle.bo_lists.specs.Over.{first_over, ignores}
 use Rattle.bo_lists.specs.Sound.{IsSound}
@@ -51,22 +53,22 @@ row_told other = None
 
 -- what takes places is a cart position that was added, which is its request's own,
 -- and a voucher that was made or changed, and then doesn't ignore quotas
-abbrev pub own_of : Shown → Option (List ℕ)
-own_of (Cart row) = Some (row.id ∷ [])
+abbrev pub own_of : Shown → Option (List Own)
+own_of (Cart row) = Some (OwnCart row.id ∷ [])
 own_of (Voucher row redeemed) = if row.allow_ignore_quota then None else Some []
 own_of other = None
 
-abbrev pub own_if_told : Option Shown → Option (List ℕ)
+abbrev pub own_if_told : Option Shown → Option (List Own)
 own_if_told None = None
 own_if_told (Some shown) = own_of shown
 
--- the own positions of a request that was answered so, if it took places
-abbrev pub taken : Reply → Option (List ℕ)
+-- the own rows of a request that was answered so, if it took places
+abbrev pub taken : Reply → Option (List Own)
 taken reply = own_if_told (row_told reply)
 
 -- where places were taken, no quota was taken too much of
 abbrev pub NoneOver : Stepped → Type 0
-NoneOver s = (own : List ℕ) → taken s.reply ≡ Some own → first_over s.before.lists s.after.lists s.at own ≡ None
+NoneOver s = (own : List Own) → taken s.reply ≡ Some own → first_over s.before.lists s.after.lists s.at own ≡ None
 
 -- a cart position or a voucher that is told, and ignores no quota
 abbrev pub heeds : Lists → Shown → Bool

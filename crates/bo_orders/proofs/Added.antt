@@ -9,6 +9,7 @@ use Rattle.bo_catalogue.specs.declared.refusal.CatalogueRefusal.{CatalogueRefusa
 use Rattle.bo_catalogue.specs.declared.refusal.CatalogueRefusal.TheVariants.{Full}
 use Rattle.bo_catalogue.specs.CatalogueLists.{base_price}
 use Rattle.bo_lists.specs.declared.rows.CartPos.{CartPos}
+use Rattle.bo_lists.specs.declared.rows.Own.TheVariants.{Cart}
 use Rattle.bo_lists.specs.declared.rows.Voucher.{Voucher}
 use Rattle.bo_lists.specs.declared.changes.Change.TheVariants.{PutCart}
 use Rattle.bo_lists.specs.Lists.{State}
@@ -88,27 +89,27 @@ module _ (new : NewCart) (draw : Draw) (state : State) (order : AreInOrder (λ r
 pub record IsAdded (new : NewCart) (draw : Draw) (before after : State) (row : CartPos) : Type 0 where
   pub is_row : cart_row new draw before ≡ Ok row
   pub has_use : has_use_for row before ≡ true
-  pub not_over : first_over before.lists (after_change (PutCart row) before.lists) before.moment (row.id ∷ []) ≡ None
+  pub not_over : first_over before.lists (after_change (PutCart row) before.lists) before.moment (Cart row.id ∷ []) ≡ None
   pub is_after : with_cart row before ≡ after
 
 module _ (new : NewCart) (draw : Draw) (before after : State) (row : CartPos) where
-  by_room : (r : CartPos) (room : Bool) → cart_row new draw before ≡ Ok r → has_use_for r before ≡ true → first_over before.lists (after_change (PutCart r) before.lists) before.moment (r.id ∷ []) ≡ None → (let all : Result (State × CartPos) OrderRefusal = if room then Ok (with_cart r before, r) else Err (OfVoucher (Catalogue Full)) in all ≡ Ok (after, row)) → IsAdded new draw before after row
+  by_room : (r : CartPos) (room : Bool) → cart_row new draw before ≡ Ok r → has_use_for r before ≡ true → first_over before.lists (after_change (PutCart r) before.lists) before.moment (Cart r.id ∷ []) ≡ None → (let all : Result (State × CartPos) OrderRefusal = if room then Ok (with_cart r before, r) else Err (OfVoucher (Catalogue Full)) in all ≡ Ok (after, row)) → IsAdded new draw before after row
   by_room r true is left over h =
       let same : (let made : State × CartPos = (with_cart r before, r) in made ≡ (after, row)) = cc in
       let row_is : r ≡ row = ap (λ (x : State × CartPos). x.1) same in
       record {
         is_row = is ∙ ap (λ (x : CartPos). Ok x) row_is;
         has_use = subst (λ (x : CartPos). has_use_for x before ≡ true) row_is left;
-        not_over = subst (λ (x : CartPos). first_over before.lists (after_change (PutCart x) before.lists) before.moment (x.id ∷ []) ≡ None) row_is over;
+        not_over = subst (λ (x : CartPos). first_over before.lists (after_change (PutCart x) before.lists) before.moment (Cart x.id ∷ []) ≡ None) row_is over;
         is_after = ap (λ (x : CartPos). with_cart x before) (sym row_is) ∙ ap (λ (x : State × CartPos). x.0) same;
       }
   by_room r false is left over h = absurd (cc)
 
-  by_over : (r : CartPos) (over : Option ℕ) → cart_row new draw before ≡ Ok r → has_use_for r before ≡ true → first_over before.lists (after_change (PutCart r) before.lists) before.moment (r.id ∷ []) ≡ over → placed_by r before over ≡ Ok (after, row) → IsAdded new draw before after row
+  by_over : (r : CartPos) (over : Option ℕ) → cart_row new draw before ≡ Ok r → has_use_for r before ≡ true → first_over before.lists (after_change (PutCart r) before.lists) before.moment (Cart r.id ∷ []) ≡ over → placed_by r before over ≡ Ok (after, row) → IsAdded new draw before after row
   by_over r (Some quota) is left e h = absurd (cc)
   by_over r None is left e h = by_room r (takes_cart before) is left e h
 
-  by_use : (r : CartPos) (left : Bool) → cart_row new draw before ≡ Ok r → has_use_for r before ≡ left → (if left then placed_by r before (first_over before.lists (after_change (PutCart r) before.lists) before.moment (r.id ∷ [])) else Err (OfVoucher NoHeadroom)) ≡ Ok (after, row) → IsAdded new draw before after row
+  by_use : (r : CartPos) (left : Bool) → cart_row new draw before ≡ Ok r → has_use_for r before ≡ left → (if left then placed_by r before (first_over before.lists (after_change (PutCart r) before.lists) before.moment (Cart r.id ∷ [])) else Err (OfVoucher NoHeadroom)) ≡ Ok (after, row) → IsAdded new draw before after row
   by_use r true is left h = by_over r _ is left refl h
   by_use r false is left h = absurd (cc)
 
@@ -122,10 +123,10 @@ module _ (new : NewCart) (draw : Draw) (before after : State) (row : CartPos) wh
   added_is h = by_row (cart_row new draw before) refl h
 
   -- the request took too much of no quota
-  pub added_none_over : position_added new draw before ≡ Ok (after, row) → first_over before.lists after.lists before.moment (row.id ∷ []) ≡ None
+  pub added_none_over : position_added new draw before ≡ Ok (after, row) → first_over before.lists after.lists before.moment (Cart row.id ∷ []) ≡ None
   added_none_over h =
       let a = added_is h in
-      subst (λ (s : State). first_over before.lists s.lists before.moment (row.id ∷ []) ≡ None) a.is_after a.not_over
+      subst (λ (s : State). first_over before.lists s.lists before.moment (Cart row.id ∷ []) ≡ None) a.is_after a.not_over
 
   -- and where its voucher doesn't ignore quotas, what is used is within the size or no more than before
   pub added_takes_no_more : position_added new draw before ≡ Ok (after, row) → ignores after.lists row.voucher ≡ false → TakesNoMore before after

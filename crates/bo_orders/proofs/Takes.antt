@@ -6,6 +6,8 @@ use Rattle.std.proofs.lemmas.Bool.Decides.{nat_tests}
 use Rattle.bo_base.proofs.Edits.{row_at-with_row}
 use Rattle.bo_catalogue.specs.declared.rows.Quota.{Quota}
 use Rattle.bo_lists.specs.declared.rows.CartPos.{CartPos}
+use Rattle.bo_lists.specs.declared.rows.Own.{Own}
+use Rattle.bo_lists.specs.declared.rows.Own.TheVariants.{Cart}
 use Rattle.bo_lists.specs.declared.changes.Change.TheVariants.{PutCart}
 use Rattle.bo_lists.specs.Lists.{Lists, State, cart_at}
 use Rattle.bo_lists.specs.Change.{after_change}
@@ -25,25 +27,25 @@ module _ (lists : Lists) (at : ℕ) (quota : Quota) (row : CartPos) where
   is_found : cart_at row.id (after_change (PutCart row) lists) ≡ Some row
   is_found = let e = row_at-with_row (λ (r : CartPos). r.id) row.id row lists.carts in grind (arith, nat_tests, e)
 
-  not_free : ignores (after_change (PutCart row) lists) row.voucher ≡ false → is_free (after_change (PutCart row) lists) at quota row.id ≡ false
+  not_free : ignores (after_change (PutCart row) lists) row.voucher ≡ false → is_free (after_change (PutCart row) lists) at quota (Cart row.id) ≡ false
   not_free heeds =
       ap (λ (c : Option CartPos). is_free_cart (after_change (PutCart row) lists) at quota c) is_found
       ∙ ap (λ (free : Bool). cart_counts (after_change (PutCart row) lists) at quota row && free) heeds
       ∙ and_false (cart_counts (after_change (PutCart row) lists) at quota row)
 
-less_none : (test : ℕ → Bool) (id n : ℕ) → test id ≡ false → n - count_by test (id ∷ []) ≡ n
-less_none test id n h = rw h (omega arith)
+less_none : (test : Own → Bool) (own : Own) (n : ℕ) → test own ≡ false → n - count_by test (own ∷ []) ≡ n
+less_none test own n h = rw h (omega arith)
 
-weighs_all : (lists : Lists) (at : ℕ) (quota : Quota) (row : CartPos) → ignores (after_change (PutCart row) lists) row.voucher ≡ false → weighed (after_change (PutCart row) lists) at quota (row.id ∷ []) ≡ total (usage_of (after_change (PutCart row) lists) at quota)
+weighs_all : (lists : Lists) (at : ℕ) (quota : Quota) (row : CartPos) → ignores (after_change (PutCart row) lists) row.voucher ≡ false → weighed (after_change (PutCart row) lists) at quota (Cart row.id ∷ []) ≡ total (usage_of (after_change (PutCart row) lists) at quota)
 unfolding weighed
 weighs_all lists at quota row heeds =
-    less_none (is_free (after_change (PutCart row) lists) at quota) row.id (total (usage_of (after_change (PutCart row) lists) at quota)) (not_free lists at quota row heeds)
+    less_none (is_free (after_change (PutCart row) lists) at quota) (Cart row.id) (total (usage_of (after_change (PutCart row) lists) at quota)) (not_free lists at quota row heeds)
 
-all_within : (before : State) (row : CartPos) (quotas : List Quota) → ignores (after_change (PutCart row) before.lists) row.voucher ≡ false → AllByRecursion (λ quota. is_over before.lists (after_change (PutCart row) before.lists) before.moment (row.id ∷ []) quota ≡ false) quotas → AllByRecursion (λ quota. IsWithin quota.size (used before quota) (used (with_cart row before) quota)) quotas
+all_within : (before : State) (row : CartPos) (quotas : List Quota) → ignores (after_change (PutCart row) before.lists) row.voucher ≡ false → AllByRecursion (λ quota. is_over before.lists (after_change (PutCart row) before.lists) before.moment (Cart row.id ∷ []) quota ≡ false) quotas → AllByRecursion (λ quota. IsWithin quota.size (used before quota) (used (with_cart row before) quota)) quotas
 all_within before row [] heeds h = tt
 all_within before row (quota ∷ quotas) heeds h =
     (within quota.size (used before quota) (used (with_cart row before) quota) (subst (λ (n : ℕ). is_over_size quota.size (used before quota) n ≡ false) (weighs_all before.lists before.moment quota row heeds) h.0), all_within before row quotas heeds h.1)
 
-pub takes_no_more : (before : State) (row : CartPos) → ignores (after_change (PutCart row) before.lists) row.voucher ≡ false → first_over before.lists (after_change (PutCart row) before.lists) before.moment (row.id ∷ []) ≡ None → TakesNoMore before (with_cart row before)
+pub takes_no_more : (before : State) (row : CartPos) → ignores (after_change (PutCart row) before.lists) row.voucher ≡ false → first_over before.lists (after_change (PutCart row) before.lists) before.moment (Cart row.id ∷ []) ≡ None → TakesNoMore before (with_cart row before)
 takes_no_more before row heeds h =
-    all_within before row before.lists.catalogue.quotas heeds (none_passes (is_over before.lists (after_change (PutCart row) before.lists) before.moment (row.id ∷ [])) before.lists.catalogue.quotas h)
+    all_within before row before.lists.catalogue.quotas heeds (none_passes (is_over before.lists (after_change (PutCart row) before.lists) before.moment (Cart row.id ∷ [])) before.lists.catalogue.quotas h)

@@ -5,6 +5,7 @@ ghost use Rattle.bo_base.specs.declared.draw.Draw.{Draw};
 ghost use Rattle.bo_lists.specs.Lists.{State};
 ghost use Rattle.bo_lists.specs.Over.{first_over, ignores};
 ghost use Rattle.bo_lists.specs.declared.rows.CartPos.{CartPos};
+ghost use Rattle.bo_lists.specs.declared.rows.Own.{Own};
 ghost use Rattle.bo_orders.specs.declared.new_cart.NewCart.{NewCart};
 ghost use Rattle.bo_orders.specs.Carts.{position_added};
 ghost use Rattle.bo_lists.specs.Takes.{TakesNoMore};
@@ -14,7 +15,7 @@ ghost use Rattle.bo_lists.specs.Takes.{TakesNoMore};
 pub fn added_none_over()
     ensures { (new : NewCart) (draw : Draw) (before after : State) (row : CartPos) →
         position_added new draw before ≡ Ok (after, row) →
-        first_over before.lists after.lists before.moment (row.id ∷ []) ≡ None }
+        first_over before.lists after.lists before.moment (Own.Cart row.id ∷ []) ≡ None }
 {}
 
 /// Where its voucher, if it names one, heeds quotas, what is used afterwards is within each quota's size, or no

@@ -6,6 +6,7 @@ ghost use Rattle.bo_orders.specs.declared.refusal.OrderRefusal.TheVariants.{Memo
 ghost use Rattle.bo_vouchers.specs.declared.refusal.VoucherRefusal.TheVariants.{Catalogue};
 
 use bo_catalogue::CatalogueRefusal;
+use bo_lists::Status;
 use bo_vouchers::VoucherRefusal;
 use std::alloc::AllocError;
 use thiserror::Error;
@@ -22,6 +23,18 @@ pub enum OrderRefusal {
     /// 40: there is no such cart position.
     #[error("cart position not found")]
     NoPosition,
+    /// 41: there is no such order.
+    #[error("order not found")]
+    NoOrder,
+    /// 42: the order's status, which is this one, doesn't allow it.
+    #[error("not possible in this status")]
+    WrongStatus(Status),
+    /// 43: an order of no positions.
+    #[error("no positions")]
+    Empty,
+    /// 44: more than 500 positions, entries or cart ids.
+    #[error("too many")]
+    TooMany,
     /// 45: the cart id doesn't end in `@api`.
     #[error("wrong cart")]
     BadCart,
@@ -60,6 +73,10 @@ impl OrderRefusal {
             OrderRefusal::Memory => 6,
             OrderRefusal::Voucher(refusal) => refusal.number(),
             OrderRefusal::NoPosition => 40,
+            OrderRefusal::NoOrder => 41,
+            OrderRefusal::WrongStatus(_) => 42,
+            OrderRefusal::Empty => 43,
+            OrderRefusal::TooMany => 44,
             OrderRefusal::BadCart => 45,
         }
     }

@@ -1,19 +1,20 @@
 //! What keeps the rows.
 
-ghost use Rattle.std.specs.Prelude.{◌≡◌, ◌≤◌, ◌↔◌, ◌==◌, ◌&&◌, ℕ, Bool, length, OnOk, IsTrue, count_by};
+ghost use Rattle.std.specs.Prelude.{◌≡◌, ◌≤◌, ◌↔◌, ◌==◌, ◌&&◌, ℕ, Bool, length, IfOk, OnOk, IsTrue, count_by};
 ghost use Rattle.std.specs.Option.{option_copied};
 ghost use Rattle.bo_lists.specs.declared.rows.OrderPos.{OrderPos};
-ghost use Rattle.bo_lists.specs.Lists.{State, voucher_at, cart_at, order_at, waiting_at};
+ghost use Rattle.bo_lists.specs.Lists.{State, voucher_at, cart_at, order_at, position_at, positions_of, waiting_at};
 ghost use Rattle.bo_lists.specs.Usage.{redeemed, usage_of};
 ghost use Rattle.bo_lists.specs.Change.{applied};
 ghost use Rattle.bo_lists.specs.Headroom.{held, held_in};
 ghost use Rattle.bo_lists.specs.Named.{voucher_of, is_used};
 ghost use Rattle.bo_lists.specs.Kept.{IsKept};
+ghost use Rattle.bo_lists.specs.Consumed.{consumed};
 
-use bo_base::{Moment, Steps};
+use bo_base::{List, Moment, Steps, Text};
 use bo_catalogue::{Catalogue, Quota};
 use bo_lists::{CartPos, Changes, NextIds, Order, OrderPos, Usage, Voucher, Waiting};
-use std::alloc::AllocError;
+use std::alloc::{AllocError, Global};
 use std::sync::ledger::Ledger;
 
 /// A test of order positions.
@@ -70,6 +71,10 @@ pub trait Book {
     fn order(&self, id: u64) -> Option<&Order>
         ensures { option_copied result ≡ order_at id (state self.now).lists };
 
+    /// The order position of an id.
+    fn position(&self, id: u64) -> Option<&OrderPos>
+        ensures { option_copied result ≡ position_at id (state self.now).lists };
+
     /// The waiting entry of an id.
     fn entry(&self, id: u64) -> Option<&Waiting>
         ensures { option_copied result ≡ waiting_at id (state self.now).lists };
@@ -78,6 +83,14 @@ pub trait Book {
     fn count_ordered<T: PositionTest>(&self, order: u64, test: &T) -> u64
         ensures value { result ≡ count_by (λ p. order == p.order && T.passes test.now p) (state self.now).lists.positions }
         ensures few { result ≤ 4294967296 };
+
+    /// Copies of the positions of an order, by id.
+    fn positions_of(&self, alloc: Global, order: u64) -> Result<List<OrderPos>, AllocError>
+        ensures { IfOk result (λ rows. rows ≡ positions_of order (state self.now).lists) };
+
+    /// The ids of the cart positions of these carts, dead ones too, in order.
+    fn carts_in(&self, alloc: Global, carts: &[Text]) -> Result<Vec<u64>, AllocError>
+        ensures { IfOk result (λ ids. ids.items ≡ consumed carts.now (state self.now).lists) };
 
     /// All vouchers, by id.
     fn vouchers(&self) -> &[Voucher]

@@ -9,7 +9,7 @@ ghost use Rattle.bo_lists.specs.Named.{is_ordered, is_in_cart, is_sent};
 ghost use Rattle.bo_lists.specs.Change.{applied, after_change, after_all};
 
 use crate::book::{Book, PositionTest};
-use bo_base::{Moment, Rows, Steps};
+use bo_base::{List, Moment, Rows, Steps, Text};
 use bo_catalogue::{Catalogue, Quota};
 use bo_lists::{CartPos, Change, Changes, NextIds, Order, OrderPos, Usage, Voucher, Waiting};
 use std::alloc::{AllocError, Global};
@@ -159,7 +159,7 @@ impl Recount {
         }
     }
 
-    fn carts_in(&self, at: Moment, quota: &Quota) -> u64
+    fn count_carts(&self, at: Moment, quota: &Quota) -> u64
         ensures { result ≡ count_by (cart_counts self.now.state.lists at quota.now) self.now.state.lists.carts }
     {
         let carts = self.carts.as_slice();
@@ -263,6 +263,10 @@ impl Book for Recount {
         self.orders.get(id)
     }
 
+    fn position(&self, id: u64) -> Option<&OrderPos> {
+        self.positions.get(id)
+    }
+
     fn entry(&self, id: u64) -> Option<&Waiting> {
         self.waiting.get(id)
     }
@@ -273,6 +277,25 @@ impl Book for Recount {
             .iter()
             .filter(|p| p.order == order && test.passes(p))
             .count() as u64
+    }
+
+    fn positions_of(&self, alloc: Global, order: u64) -> Result<List<OrderPos>, AllocError> {
+        let mut rows = Vec::new(alloc);
+        for row in self.positions.as_slice() {
+            if row.order == order {
+                rows.push(row.copy(alloc)?)?;
+            }
+        }
+        Ok(List::new(rows))
+    }
+
+    fn carts_in(&self, alloc: Global, carts: &[Text]) -> Result<Vec<u64>, AllocError> {
+        self.carts
+            .as_slice()
+            .iter()
+            .filter(|row| row.is_in_one_of(carts))
+            .map(|row| row.id)
+            .collect(alloc)
     }
 
     fn vouchers(&self) -> &[Voucher] {
@@ -301,7 +324,7 @@ impl Book for Recount {
             paid: self.paid_in(quota),
             pending: self.pending_in(quota),
             blocked: self.blocked_in(at, quota),
-            carts: self.carts_in(at, quota),
+            carts: self.count_carts(at, quota),
             waiting: self.waiting_in(quota),
         }
     }

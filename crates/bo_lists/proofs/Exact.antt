@@ -1,0 +1,66 @@
+-- A product whose voucher blocks a quota is in that quota.
+use Rattle.std.proofs.Common.{◌≡◌, ℕ, Bool, true, false, ◌&&◌, not, eqb, Option, Some, None, refl, sym, ap, ◌∙◌, arith}
+use Rattle.std.specs.Prelude.{◌||◌, is_some, is_none}
+use Rattle.std.specs.List.{AllByRecursion}
+use Rattle.std.proofs.lemmas.Bool.Decides.{nat_tests}
+use Rattle.bo_base.specs.Tables.{has}
+use Rattle.bo_catalogue.specs.declared.rows.Product.{Product}
+use Rattle.bo_catalogue.specs.declared.rows.Quota.{Quota}
+use Rattle.bo_catalogue.specs.CatalogueLists.{quota_at}
+use Rattle.bo_catalogue.specs.Member.{lists, is_in}
+use Rattle.bo_lists.specs.declared.rows.Voucher.{Voucher}
+use Rattle.bo_lists.specs.Tests.{is_live_voucher, hits_by_product, hits_by, hits, names}
+use Rattle.bo_lists.specs.Lists.{Lists, voucher_at}
+use Rattle.bo_lists.specs.Usage.{blocks_if, is_covered_by}
+use Rattle.bo_lists.specs.Fits.{has_variation, fits_item, fits_quota, fits_by, fits_if, is_fit, is_exact_if, is_exact, AllExact}
+use Rattle.bo_lists.proofs.EachRow.{all_weaker, all_both}
+
+both_first : (a b : Bool) → (a && b) ≡ true → a ≡ true
+both_first true b e = refl
+both_first false b e = absurd (cc)
+
+both_second : (a b : Bool) → (a && b) ≡ true → b ≡ true
+both_second true b e = e
+both_second false b e = absurd (cc)
+
+module _ (shop : Lists) (at : ℕ) (quota : Quota) (stands : quota_at quota.id shop.catalogue ≡ Some quota) (product : Product) where
+  by_variation : (its variation : Option ℕ) (item : ℕ) → item ≡ product.item → product.variation ≡ its → has_variation variation product ≡ true → hits_by_product quota (Some item) variation ≡ true → (is_some variation || is_none its) ≡ true → lists quota product its ≡ true
+  by_variation None None item same is fit hit exact = ap (λ (n : ℕ). has n quota.items) (sym same) ∙ hit
+  by_variation (Some y) None item same is fit hit exact = absurd (cc)
+  by_variation None (Some x) item same is fit hit exact =
+      let never : false ≡ true = ap (names x) (sym is) ∙ fit in
+      absurd (cc)
+  by_variation (Some y) (Some x) item same is fit hit exact =
+      let named : eqb y x ≡ true = ap (names x) (sym is) ∙ fit in
+      let it : y ≡ x = grind (arith, nat_tests, named) in
+      ap (λ (n : ℕ). has n quota.variations) it ∙ hit
+
+  by_item : (item variation : Option ℕ) → fits_item item variation product ≡ true → hits_by_product quota item variation ≡ true → (is_some variation || is_none product.variation) ≡ true → is_in quota product ≡ true
+  by_item None variation fit hit exact = absurd (cc)
+  by_item (Some item) variation fit hit exact =
+      let named : eqb item product.item ≡ true = both_first (eqb item product.item) (has_variation variation product) fit in
+      let same : item ≡ product.item = grind (arith, nat_tests, named) in
+      by_variation product.variation variation item same refl (both_second (eqb item product.item) (has_variation variation product) fit) hit exact
+
+  by_quota : (voucher : Voucher) (name : Option ℕ) → fits_by shop.catalogue voucher product name ≡ true → hits_by quota name voucher ≡ true → (is_some name || (is_some voucher.variation || is_none product.variation)) ≡ true → is_in quota product ≡ true
+  by_quota voucher None fit hit exact = by_item voucher.item voucher.variation fit hit exact
+  by_quota voucher (Some id) fit hit exact =
+      let same : id ≡ quota.id = grind (arith, nat_tests, hit) in
+      sym (ap (λ (found : Option Quota). fits_quota found product) (ap (λ n. quota_at n shop.catalogue) same ∙ stands)) ∙ fit
+
+  by_voucher : (found : Option Voucher) → fits_if shop.catalogue product found ≡ true → blocks_if at quota found ≡ true → is_exact_if product found ≡ true → is_in quota product ≡ true
+  by_voucher None fit hit exact = absurd (cc)
+  by_voucher (Some voucher) fit hit exact =
+      let live = both_first (voucher.block_quota && is_live_voucher at voucher) (hits quota voucher) hit in
+      let blocks = both_first voucher.block_quota (is_live_voucher at voucher) live in
+      by_quota voucher voucher.quota fit (both_second (voucher.block_quota && is_live_voucher at voucher) (hits quota voucher) hit) (sym (ap (λ b. not b || (is_some voucher.quota || (is_some voucher.variation || is_none product.variation))) blocks) ∙ exact)
+
+  covered_inside : (name : Option ℕ) → is_fit shop product name ≡ true → is_exact shop product name ≡ true → is_covered_by shop at quota name ≡ true → is_in quota product ≡ true
+  covered_inside None fit exact hit = absurd (cc)
+  covered_inside (Some id) fit exact hit = by_voucher (voucher_at id shop) fit hit exact
+
+-- each order position whose voucher blocks a quota that stands is in it
+pub all_inside : (shop : Lists) (at : ℕ) (quota : Quota) → quota_at quota.id shop.catalogue ≡ Some quota → AllByRecursion (λ p. is_fit shop p.product p.voucher ≡ true) shop.positions → AllExact shop → AllByRecursion (λ p. is_covered_by shop at quota p.voucher ≡ true → is_in quota p.product ≡ true) shop.positions
+all_inside shop at quota stands fit exact =
+    all_weaker (λ p. (is_fit shop p.product p.voucher ≡ true) × (is_exact shop p.product p.voucher ≡ true)) (λ p. is_covered_by shop at quota p.voucher ≡ true → is_in quota p.product ≡ true) (λ p known hit. covered_inside shop at quota stands p.product p.voucher known.0 known.1 hit) shop.positions
+    (all_both (λ p. is_fit shop p.product p.voucher ≡ true) (λ p. is_exact shop p.product p.voucher ≡ true) shop.positions fit exact)

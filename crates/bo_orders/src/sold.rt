@@ -1,0 +1,125 @@
+//! What is sold at what price.
+
+ghost use Rattle.std.specs.Prelude.{◌≡◌, Ok, Err, IfOk, IfErr, option_map};
+ghost use Rattle.std.specs.Option.{option_copied};
+ghost use Rattle.bo_catalogue.specs.CatalogueLists.{base_price};
+ghost use Rattle.bo_draft.specs.DraftState.{now};
+ghost use Rattle.bo_orders.specs.Sold.{product_for_sale, voucher_asked, price_by, price_with, sold_for};
+
+use bo_base::{Cents, Text, price};
+use bo_catalogue::{CatalogueRefusal, Product};
+use bo_draft::Draft;
+use bo_lists::Voucher;
+use bo_usage::Book;
+use bo_vouchers::{VoucherRefusal, usable};
+
+/// What a request asks for one position: a product, perhaps a price (cents) and the code of a voucher.
+#[derive(Debug, Drop)]
+pub struct Asked {
+    pub item: u64,
+    pub variation: Option<u64>,
+    pub price: Option<Cents>,
+    pub voucher: Option<Text>,
+}
+
+/// What is sold: a product, at a price, with a voucher or without one.
+#[derive(Clone, Copy, Debug, PartialEq, Eq)]
+pub struct Sold {
+    pub product: Product,
+    pub price: Cents,
+    pub voucher: Option<u64>,
+}
+
+/// What is sold for what is asked, in a draft that has changed no voucher.
+/// Refusals, in this order: 10 `NoItem`, 11 `NoVariation`, 12 `NeedsVariation`, 15 `Inactive`, 18 `NotSold`;
+/// 23 `NoVoucher`, 24 `VoucherExpired`, 26 `WrongProduct`.
+#[tactic(auto, unfolding(crate::specs::Sold::sold_for))]
+pub fn sold_for<B: Book>(draft: &Draft<'_, B>, asked: &Asked) -> Result<Sold, VoucherRefusal>
+    requires { (now draft.now).lists.vouchers ≡ draft.now.log.base.vouchers }
+    ensures { result ≡ sold_for asked.now (now draft.now) }
+{
+    let product = product_for_sale(draft, asked)?;
+    let voucher = voucher_asked(draft, asked.voucher.as_ref(), product)?;
+    let price = price_of(draft, asked.price, voucher, product)?;
+    Ok(Sold {
+        product,
+        price,
+        voucher: id_of(voucher),
+    })
+}
+
+// The product that is asked for, where it may be sold.
+fn product_for_sale<B: Book>(
+    draft: &Draft<'_, B>,
+    asked: &Asked,
+) -> Result<Product, CatalogueRefusal>
+    ensures { result ≡ product_for_sale asked.now.item asked.now.variation (now draft.now).lists.catalogue }
+{
+    let product = draft.catalogue().product(asked.item, asked.variation)?;
+    if !draft.catalogue().is_active(product) {
+        return Err(CatalogueRefusal::Inactive);
+    }
+    if !draft.catalogue().is_sold(product) {
+        return Err(CatalogueRefusal::NotSold);
+    }
+    Ok(product)
+}
+
+// The voucher of the code that is given, where it can be used for the product.
+#[tactic(auto, unfolding(crate::specs::Sold::voucher_asked))]
+fn voucher_asked<'d, B: Book>(
+    draft: &'d Draft<'_, B>,
+    code: Option<&Text>,
+    product: Product,
+) -> Result<Option<&'d Voucher>, VoucherRefusal>
+    requires { (now draft.now).lists.vouchers ≡ draft.now.log.base.vouchers }
+    ensures done { IfOk result (λ v. voucher_asked (option_copied code.entry) (now draft.now) product ≡ Ok (option_copied v)) }
+    ensures refused { IfErr result (λ e. voucher_asked (option_copied code.entry) (now draft.now) product ≡ Err e) }
+{
+    let Some(code) = code else {
+        return Ok(None);
+    };
+    let Some(voucher) = draft.voucher_of(code.as_str()) else {
+        return Err(VoucherRefusal::NoVoucher);
+    };
+    usable(voucher, draft.catalogue(), product, draft.moment())?;
+    Ok(Some(voucher))
+}
+
+// The id of a voucher, if there is one.
+fn id_of(voucher: Option<&Voucher>) -> Option<u64>
+    ensures { result ≡ option_map (λ v. v.id) (option_copied voucher.entry) }
+{
+    match voucher {
+        None => None,
+        Some(voucher) => Some(voucher.id),
+    }
+}
+
+// The base price as the voucher changes it.
+fn price_with(voucher: Option<&Voucher>, base: Cents) -> Cents
+    ensures { result ≡ price_with (option_copied voucher.entry) base }
+{
+    match voucher {
+        None => base,
+        Some(voucher) => price(voucher.price_mode, voucher.value, base),
+    }
+}
+
+// The price that is given, else the product's with the voucher.
+fn price_of<B: Book>(
+    draft: &Draft<'_, B>,
+    given: Option<Cents>,
+    voucher: Option<&Voucher>,
+    product: Product,
+) -> Result<Cents, VoucherRefusal>
+    ensures { result ≡ price_by given (option_copied voucher.entry) (base_price product (now draft.now).lists.catalogue) }
+{
+    match given {
+        Some(price) => Ok(price),
+        None => match draft.catalogue().base_price(product) {
+            Some(base) => Ok(price_with(voucher, base)),
+            None => Err(VoucherRefusal::Catalogue(CatalogueRefusal::NoItem)),
+        },
+    }
+}
