@@ -25,7 +25,7 @@ cart_of d = do
   cart ← optional_text fields.CartId d
   expires ← optional_moment fields.Expires d
   voucher ← optional_loose_text fields.Voucher d
-  Ok (record { item = item; variation = variation; price = price; cart_id = cart; expires = expires; voucher = voucher })
+  Ok (record { asked = record { item = item; variation = variation; price = price; voucher = voucher }; cart_id = cart; expires = expires })
 
 -- the command that a body's fields say
 abbrev pub command_of : Form → Data → Result Command BodyFault

@@ -13,7 +13,7 @@ use bo_fields::{
     optional_text, required,
 };
 use bo_office::Command;
-use bo_orders::NewCart;
+use bo_orders::{Asked, NewCart};
 use bo_words::Field;
 use serde_json::Value;
 use std::alloc::Global;
@@ -30,12 +30,14 @@ fn cart_of(alloc: Global, body: &Value) -> Result<NewCart, ReadError>
     let expires = optional_moment(Field::Expires, body)?;
     let voucher = optional_loose_text(Field::Voucher, body)?;
     Ok(NewCart {
-        item,
-        variation,
-        price,
         cart_id: copied(alloc, cart_id)?,
         expires,
-        voucher: copied(alloc, voucher)?,
+        asked: Asked {
+            item,
+            variation,
+            price,
+            voucher: copied(alloc, voucher)?,
+        },
     })
 }
 

@@ -13,6 +13,8 @@ use Rattle.bo_office.specs.declared.command.Kind.{Kind}
 use Rattle.bo_office.specs.declared.command.Kind.TheVariants as kinds
 use Rattle.bo_office.specs.declared.reply.Refusal.{Refusal}
 use Rattle.bo_office.specs.declared.reply.Refusal.TheVariants as refusals
+use Rattle.bo_lists.specs.declared.rows.Status.{Status}
+use Rattle.bo_lists.specs.declared.rows.Status.TheVariants as statuses
 use Rattle.bo_words.specs.Values.{count}
 use Rattle.bo_words.specs.Told.{told, empty_body}
 use Rattle.bo_words.specs.declared.fields.Field.TheVariants as fields
@@ -51,6 +53,10 @@ abbrev pub order_detail : OrderRefusal → Option (List ℕ)
 order_detail order.Memory = None
 order_detail (order.Voucher refusal) = voucher_detail refusal
 order_detail order.NoPosition = Some (codes "Position not found.")
+order_detail order.NoOrder = Some (codes "Order not found.")
+order_detail (order.WrongStatus status) = Some (codes "Not possible in this status.")
+order_detail order.Empty = Some (codes "No positions.")
+order_detail order.TooMany = Some (codes "Too many.")
 order_detail order.BadCart = Some (codes "Wrong cart.")
 
 abbrev pub detail : Refusal → Option (List ℕ)
@@ -94,6 +100,7 @@ is_of_path kind (refusals.Catalogue catalogue.NoItem) = names_item kind
 is_of_path kind (refusals.Catalogue catalogue.NoQuota) = names_quota kind
 is_of_path kind (refusals.Voucher voucher.NoVoucher) = names_voucher kind
 is_of_path kind (refusals.Order order.NoPosition) = true
+is_of_path kind (refusals.Order order.NoOrder) = true
 is_of_path kind refusal = false
 
 -- `{"code":N,"detail":"text"}`, and `{"code":N,"detail":"text","quota":Q}` where a quota is named
@@ -113,13 +120,30 @@ abbrev pub status_of : Refusal → ℕ
 status_of (refusals.Voucher voucher.InUse) = 403
 status_of refusal = 400
 
+-- the letter of an order's status
+abbrev pub status_letter : Status → List ℕ
+status_letter statuses.Pending = codes "n"
+status_letter statuses.Paid = codes "p"
+status_letter statuses.Expired = codes "e"
+status_letter statuses.Cancelled = codes "c"
+
+-- `{"code":42,"detail":"text","status":"c"}`
+abbrev pub wrong_status_body : Status → Data
+wrong_status_body status = object (
+    member (codes "code") (count 42)
+    (member (codes "detail") (string (codes "Not possible in this status."))
+    (member (codes "status") (string (status_letter status))
+    no_members)))
+
 -- a refusal that no request is told has status 200 and `{}`
 abbrev pub refused_by : Refusal → Option (List ℕ) → Told
 refused_by refusal None = told 200 None empty_body
 refused_by refusal (Some text) = told (status_of refusal) None (refusal_body (number_of_refusal refusal) text (quota_named refusal))
 
--- more than 100 percent is told as a fault of the field, and a page that isn't there as a path that isn't there
+-- more than 100 percent is told as a fault of the field, a page that isn't there as a path that isn't there, and an
+-- order's status that doesn't allow a move with that status
 unfoldable pub refused : Kind → Refusal → Told
 refused kind (refusals.Voucher voucher.TooLarge) = field_fault (record { field = fields.Value; problem = problems.OutOfRange })
 refused kind refusals.NoPage = invalid_page
+refused kind (refusals.Order (order.WrongStatus status)) = told 400 None (wrong_status_body status)
 refused kind refusal = if is_of_path kind refusal then not_found else refused_by refusal (detail refusal)

@@ -5,13 +5,14 @@ ghost use Rattle.std.specs.Option.{option_copied};
 ghost use Rattle.serde_json.specs.View.{view};
 ghost use Rattle.bo_words.specs.Told.{told, empty_body};
 ghost use Rattle.bo_words.specs.Faults.{not_found, field_fault};
-ghost use Rattle.bo_words.specs.Refusals.{catalogue_detail, voucher_detail, order_detail, detail, quota_of, quota_named, names_item, names_quota, names_voucher, is_of_path, refusal_body, status_of, refused_by, refused};
+ghost use Rattle.bo_words.specs.Refusals.{catalogue_detail, voucher_detail, order_detail, detail, quota_of, quota_named, names_item, names_quota, names_voucher, is_of_path, refusal_body, status_of, status_letter, wrong_status_body, refused_by, refused};
 
 use crate::faults::{field_fault, invalid_page, not_found};
 use crate::fields::{Fault, Field, Problem};
 use crate::told::told_value;
 use bo_base::Told;
 use bo_catalogue::CatalogueRefusal;
+use bo_lists::Status;
 use bo_office::{Kind, Refusal};
 use bo_orders::OrderRefusal;
 use bo_vouchers::VoucherRefusal;
@@ -66,6 +67,10 @@ fn order_detail(refusal: OrderRefusal) -> Option<&'static str>
         OrderRefusal::Memory => None,
         OrderRefusal::Voucher(refusal) => voucher_detail(refusal),
         OrderRefusal::NoPosition => Some("Position not found."),
+        OrderRefusal::NoOrder => Some("Order not found."),
+        OrderRefusal::WrongStatus(_) => Some("Not possible in this status."),
+        OrderRefusal::Empty => Some("No positions."),
+        OrderRefusal::TooMany => Some("Too many."),
         OrderRefusal::BadCart => Some("Wrong cart."),
     }
 }
@@ -132,7 +137,7 @@ fn is_of_path(kind: Kind, refusal: Refusal) -> bool
         Refusal::Catalogue(CatalogueRefusal::NoItem) => names_item(kind),
         Refusal::Catalogue(CatalogueRefusal::NoQuota) => names_quota(kind),
         Refusal::Voucher(VoucherRefusal::NoVoucher) => names_voucher(kind),
-        Refusal::Order(OrderRefusal::NoPosition) => true,
+        Refusal::Order(OrderRefusal::NoPosition | OrderRefusal::NoOrder) => true,
         _ => false,
     }
 }
@@ -223,6 +228,34 @@ fn too_large(alloc: Global) -> Result<Told, AllocError>
     field_fault(alloc, fault)
 }
 
+/// The letter of an order's status.
+fn status_letter(status: Status) -> &'static str
+    ensures { result.now ≡ status_letter status }
+{
+    match status {
+        Status::Pending => "n",
+        Status::Paid => "p",
+        Status::Expired => "e",
+        Status::Cancelled => "c",
+    }
+}
+
+/// Number 42, its sentence, and the order's status.
+fn wrong_status_value(alloc: Global, status: Status) -> Result<Value, AllocError>
+    ensures { IfOk result (λ v. view v ≡ wrong_status_body status) }
+{
+    let letter = status_letter(status);
+    json!(in alloc; {"code": 42, "detail": "Not possible in this status.", "status": letter})
+}
+
+/// The order's status doesn't allow it.
+fn wrong_status(alloc: Global, status: Status) -> Result<Told, AllocError>
+    ensures { IfOk result (λ t. t ≡ told 400 None (wrong_status_body status)) }
+{
+    let value = wrong_status_value(alloc, status)?;
+    told_value(alloc, StatusCode::BAD_REQUEST, &value)
+}
+
 /// The words for a refusal of a request of that kind.
 #[tactic(auto, unfolding(crate::specs::Refusals::refused))]
 pub(crate) fn refused(alloc: Global, kind: Kind, refusal: Refusal) -> Result<Told, AllocError>
@@ -231,6 +264,7 @@ pub(crate) fn refused(alloc: Global, kind: Kind, refusal: Refusal) -> Result<Tol
     match refusal {
         Refusal::Voucher(VoucherRefusal::TooLarge) => too_large(alloc),
         Refusal::NoPage => invalid_page(alloc),
+        Refusal::Order(OrderRefusal::WrongStatus(status)) => wrong_status(alloc, status),
         _ => refused_or_missing(alloc, kind, refusal),
     }
 }
