@@ -1,7 +1,5 @@
 pub mod CartId
 pub mod Sold
 pub mod Carts
-pub mod Created
-pub mod Moves
 pub mod Dropped
 pub mod Refusals
