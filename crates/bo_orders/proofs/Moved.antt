@@ -10,9 +10,10 @@ use Rattle.bo_lists.specs.declared.changes.Change.TheVariants.{PutOrder}
 use Rattle.bo_lists.specs.Lists.{State, order_at, positions_of}
 use Rattle.bo_lists.specs.Change.{after_change, changed}
 use Rattle.bo_lists.specs.Fits.{AllExact}
-use Rattle.bo_lists.specs.Over.{first_over}
+use Rattle.std.specs.List.{AllByRecursion}
+use Rattle.bo_lists.specs.Over.{first_over, ignores}
 use Rattle.bo_lists.specs.Sound.{IsSound}
-use Rattle.bo_lists.specs.Takes.{used}
+use Rattle.bo_lists.specs.Takes.{used, TakesNoMore}
 use Rattle.bo_lists.specs.Tests.{is_in_force}
 use Rattle.bo_lists.proofs.OrderLowers.{moved_order_lowers}
 use Rattle.bo_lists.proofs.SoundOrders.{sound_changed_order}
@@ -23,9 +24,13 @@ use Rattle.bo_orders.specs.declared.refusal.OrderRefusal.TheVariants.{Voucher as
 use Rattle.bo_vouchers.specs.declared.refusal.VoucherRefusal.TheVariants.{NoHeadroom}
 use Rattle.bo_orders.specs.Moves.{turned, moved_row, have_uses_again, order_rows, moved_to, revived_unless_over, revival, moved_as, moved_by, moved_at, order_moved}
 use Rattle.bo_orders.proofs.MoveLemmas.{found_id, kept_force}
+use Rattle.bo_orders.proofs.Revivals.{revival_takes_no_more}
 
 ok_moved : (a b : State × OrderRows) → (let all : Result (State × OrderRows) OrderRefusal = Ok a in all ≡ Ok b) → a ≡ b
 ok_moved a b h = cc
+
+some_order : (a b : Order) → (let found : Option Order = Some a in found ≡ Some b) → a ≡ b
+some_order a b h = cc
 
 -- the least quota of which an order takes too much as it comes back
 abbrev pub over_again : Order → State → Option ℕ
@@ -141,3 +146,46 @@ module _ (number : ℕ) (change : Move) (before after : State) (rows : OrderRows
       by_back : (back : Bool) → m.turn.revival ≡ back → IsSound (changed (PutOrder rows.order) before)
       by_back true is = sound_changed_order before rows.order m.old stood sound (inr (inr (m.uses is)))
       by_back false is = by_plain (keeps_force m is)
+
+  -- an order that isn't in force, and is afterwards, comes back
+  comes_back : (m : IsMoved number change before after rows) → is_in_force m.old.status ≡ false → is_in_force rows.order.status ≡ true → m.turn.revival ≡ true
+  comes_back m ended force = by_back m.turn.revival refl
+    where
+      by_back : (back : Bool) → m.turn.revival ≡ back → m.turn.revival ≡ true
+      by_back true is = is
+      by_back false is =
+          let kept = kept_force m.old.status change m.turn m.turns is (ap (λ s. is_in_force s) (sym (status_is m)) ∙ force) in
+          absurd (cc (kept, ended))
+
+  its_old : (m : IsMoved number change before after rows) (old : Order) → order_at number before.lists ≡ Some old → is_in_force m.old.status ≡ is_in_force old.status
+  its_old m old stood =
+      let same : m.old ≡ old = some_order m.old old (sym m.stood ∙ stood) in
+      ap (λ (o : Order). is_in_force o.status) same
+
+  -- an order that comes back takes too much of no quota
+  pub revived_none_over : (old : Order) → order_at number before.lists ≡ Some old → is_in_force old.status ≡ false → is_in_force rows.order.status ≡ true → Gives (order_moved number change before) → first_over before.lists after.lists before.moment (map (λ p. Position p.id) rows.positions) ≡ None
+  revived_none_over old stood ended force h =
+      let m = moved_is h in
+      let weighed = m.not_over (comes_back m (its_old m old stood ∙ ended) force) in
+      let later = ap (λ (s : State). first_over before.lists s.lists before.moment (map (λ p. Position p.id) rows.positions)) (sym m.is_after) in
+      later ∙ ap (λ ps. first_over before.lists (after_change (PutOrder rows.order) before.lists) before.moment (map (λ p. Position p.id) ps)) (sym (ap (λ (r : OrderRows). r.positions) m.is_rows)) ∙ weighed
+
+  -- and where the vouchers of its positions heed quotas, what is used is within the size or no more than before
+  pub revived_takes_no_more : (old : Order) → IsSound before → order_at number before.lists ≡ Some old → is_in_force old.status ≡ false → is_in_force rows.order.status ≡ true → AllByRecursion (λ p. ignores after.lists p.voucher ≡ false) rows.positions → Gives (order_moved number change before) → TakesNoMore before after
+  revived_takes_no_more old sound stood ended force heed h =
+      let m = moved_is h in
+      let weighed = m.not_over (comes_back m (its_old m old stood ∙ ended) force) in
+      let in_before = subst (λ (s : State). AllByRecursion (λ p. ignores s.lists p.voucher ≡ false) rows.positions) (sym m.is_after) heed in
+      let own = subst (λ ps. AllByRecursion (λ p. ignores before.lists p.voucher ≡ false) ps) (sym (ap (λ (r : OrderRows). r.positions) m.is_rows)) in_before in
+      subst (λ (s : State). TakesNoMore before s) m.is_after (revival_takes_no_more before rows.order sound.positions.in_order own weighed)
+
+  -- any other move raises no usage of a quota that stands
+  pub moved_lowers : (old : Order) (quota : Quota) → IsSound before → AllExact before.lists → quota_at quota.id before.lists.catalogue ≡ Some quota → order_at number before.lists ≡ Some old → (is_in_force old.status ≡ true) ⊎ (is_in_force rows.order.status ≡ false) → Gives (order_moved number change before) → used after quota ≤ used before quota
+  moved_lowers old quota sound exact stands stood which h = subst (λ (s : State). used s quota ≤ used before quota) m.is_after (by_which which)
+    where
+      m : IsMoved number change before after rows
+      m = moved_is h
+
+      by_which : (is_in_force old.status ≡ true) ⊎ (is_in_force rows.order.status ≡ false) → used (changed (PutOrder rows.order) before) quota ≤ used before quota
+      by_which (inl kept) = moved_order_lowers before rows.order m.old quota (stood_as m) stands (inr (its_old m old stood ∙ kept)) exact sound
+      by_which (inr ended) = moved_order_lowers before rows.order m.old quota (stood_as m) stands (inl ended) exact sound
