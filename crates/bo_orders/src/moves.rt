@@ -63,8 +63,12 @@ pub fn turned(status: Status, change: Move) -> Option<Turn>
     match (status, change) {
         (Status::Pending, Move::MarkPaid) => to(Status::Paid),
         (Status::Pending, Move::MarkExpired) => to(Status::Expired),
-        (Status::Pending, Move::Extend(_)) | (Status::Paid, Move::MarkPending) => to(Status::Pending),
-        (Status::Pending | Status::Paid | Status::Expired, Move::MarkCanceled) => to(Status::Cancelled),
+        (Status::Pending, Move::Extend(_)) | (Status::Paid, Move::MarkPending) => to(
+            Status::Pending,
+        ),
+        (Status::Pending | Status::Paid | Status::Expired, Move::MarkCanceled) => to(
+            Status::Cancelled,
+        ),
         (Status::Expired, Move::MarkPaid) => revived(Status::Paid),
         (Status::Expired, Move::Extend(_)) => revived(Status::Pending),
         _ => None,
@@ -253,9 +257,7 @@ fn have_uses_again<B: Book>(draft: &Draft<'_, B>, row: &Order, positions: &[Orde
     requires back { is_in_force row.now.status ≡ true }
     ensures { result ≡ have_uses_again row.now (now draft.now) }
 {
-    positions
-        .iter()
-        .all(|position| has_room_again(draft, row, positions, position.voucher))
+    positions.iter().all(|position| has_room_again(draft, row, positions, position.voucher))
 }
 
 // Whether the voucher, if there is one, has the uses that the order takes again.
