@@ -61,14 +61,12 @@ pub fn turned(status: Status, change: Move) -> Option<Turn>
     ensures { result ≡ turned status change }
 {
     match (status, change) {
+        (Status::Cancelled, _) => None,
+        (_, Move::MarkCanceled) => to(Status::Cancelled),
         (Status::Pending, Move::MarkPaid) => to(Status::Paid),
         (Status::Pending, Move::MarkExpired) => to(Status::Expired),
-        (Status::Pending, Move::Extend(_)) | (Status::Paid, Move::MarkPending) => to(
-            Status::Pending,
-        ),
-        (Status::Pending | Status::Paid | Status::Expired, Move::MarkCanceled) => to(
-            Status::Cancelled,
-        ),
+        (Status::Pending, Move::Extend(_)) => to(Status::Pending),
+        (Status::Paid, Move::MarkPending) => to(Status::Pending),
         (Status::Expired, Move::MarkPaid) => revived(Status::Paid),
         (Status::Expired, Move::Extend(_)) => revived(Status::Pending),
         _ => None,
