@@ -22,7 +22,7 @@ use Rattle.bo_orders.specs.declared.moves.Turn.{Turn}
 use Rattle.bo_orders.specs.declared.refusal.OrderRefusal.{OrderRefusal}
 use Rattle.bo_orders.specs.declared.refusal.OrderRefusal.TheVariants.{Voucher as OfVoucher}
 use Rattle.bo_vouchers.specs.declared.refusal.VoucherRefusal.TheVariants.{NoHeadroom}
-use Rattle.bo_orders.specs.Moves.{turned, moved_row, have_uses_again, order_rows, moved_to, revived_unless_over, revival, moved_as, moved_by, moved_at, order_moved}
+use Rattle.bo_orders.specs.Moves.{turned, moved_row, have_uses_again, order_rows, moved_to, revived_unless_over, revival, moved_by, moved_at, order_moved}
 use Rattle.bo_orders.proofs.MoveLemmas.{found_id, kept_force}
 use Rattle.bo_orders.proofs.Revivals.{revival_takes_no_more}
 

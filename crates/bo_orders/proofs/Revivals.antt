@@ -1,5 +1,5 @@
 -- An order that comes back takes too much of no quota, where the vouchers of its positions heed quotas.
-use Rattle.std.proofs.Common.{◌≡◌, ℕ, ◌+◌, ◌-◌, Bool, true, false, ◌&&◌, eqb, cond, List, [], ◌∷◌, map, filter, Option, Some, None, refl, ap, ◌∙◌, subst, count_by, sum_by, arith}
+use Rattle.std.proofs.Common.{◌≡◌, ℕ, ◌-◌, Bool, true, false, ◌&&◌, eqb, cond, List, [], ◌∷◌, map, filter, Option, Some, None, refl, ap, ◌∙◌, subst, count_by, arith}
 use Rattle.std.specs.List.{AllByRecursion}
 use Rattle.std.proofs.lemmas.List.Sums.{sum_by-cons}
 use Rattle.bo_base.specs.Tables.{AreInOrder}

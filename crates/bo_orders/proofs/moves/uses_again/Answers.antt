@@ -1,4 +1,4 @@
-use Rattle.std.proofs.Common.{◌≡◌, ◌+◌, sym, ap, ◌∙◌, count_by, arith}
+use Rattle.std.proofs.Common.{ap, ◌∙◌, count_by, arith}
 use Rattle.bo_lists.specs.Tests.{names}
 use Rattle.bo_orders.proofs.MoveLemmas.{uses_more}
 use Rattle.bo_draft.specs.DraftState.{now}
