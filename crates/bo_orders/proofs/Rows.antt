@@ -1,22 +1,29 @@
 -- The rows of a new order: their ids count on, and each of them can be put.
 use Rattle.std.proofs.Common.{◌≡◌, ℕ, ◌+◌, ◌<◌, Bool, true, false, List, [], ◌∷◌, Option, Some, None, Result, Ok, Err, refl, sym, ap, ◌∙◌, subst, arith}
-use Rattle.std.specs.Prelude.{◌||◌, not, ◌++◌}
+use Rattle.std.specs.Prelude.{◌||◌, not, if◌then◌else◌}
 use Rattle.std.specs.List.{AllByRecursion}
 use Rattle.bo_base.specs.declared.draw.Draw.{Draw}
 use Rattle.bo_lists.specs.declared.rows.Order.{Order}
 use Rattle.bo_lists.specs.declared.rows.OrderPos.{OrderPos}
 use Rattle.bo_lists.specs.declared.changes.Change.TheVariants.{PutOrder, PutPosition}
-use Rattle.bo_lists.specs.Lists.{State, position_at}
+use Rattle.bo_lists.specs.Tests.{is_in_force}
+use Rattle.bo_lists.specs.Usage.{stands_as}
+use Rattle.bo_lists.specs.Lists.{State, order_at, position_at}
 use Rattle.bo_lists.specs.Change.{changed, without_carts, after_change}
 use Rattle.bo_lists.specs.Consumed.{consumed}
 use Rattle.bo_lists.specs.Headroom.{has_use, AllHaveHeadroom}
 use Rattle.bo_lists.specs.Sound.{IsSound, AreNumbered}
 use Rattle.bo_lists.proofs.OrderHeadroom.{headroom_position}
-use Rattle.bo_lists.proofs.Sound.{numbered_put, next_absent}
+use Rattle.bo_lists.proofs.EachRow.{numbered_put, next_absent}
 use Rattle.bo_lists.proofs.SoundOrders.{sound_order, sound_drop_carts}
 use Rattle.bo_orders.specs.declared.sold.Asked.{Asked}
 use Rattle.bo_orders.specs.declared.refusal.OrderRefusal.{OrderRefusal}
-use Rattle.bo_orders.specs.Created.{IsReady, AreCounted, with_order_row}
+use Rattle.bo_orders.specs.declared.refusal.OrderRefusal.TheVariants.{Voucher as OfVoucher}
+use Rattle.bo_orders.specs.declared.sold.Sold.{Sold}
+use Rattle.bo_vouchers.specs.declared.refusal.VoucherRefusal.{VoucherRefusal}
+use Rattle.bo_vouchers.specs.declared.refusal.VoucherRefusal.TheVariants.{NoHeadroom}
+use Rattle.bo_orders.specs.Sold.{sold_for}
+use Rattle.bo_orders.specs.Created.{IsReady, AreCounted, with_order_row, position_put, position_row, position_of_sold, position_for, after_rows, and_rows, rows_for}
 
 -- an order of the next id can be put
 pub order_headroom : (row : Order) (ids : List ℕ) (state : State) → row.id ≡ state.next.order → IsSound state → AllHaveHeadroom state.moment (after_change (PutOrder row) (without_carts ids state).lists)
@@ -32,10 +39,46 @@ ready_order row carts state e h =
     let made = sound_order (without_carts ids state) row e (sound_drop_carts ids state h) in
     record { positions = made.positions; vouchers = made.vouchers.in_order; headroom = made.headroom }
 
-by_force : (force use : Bool) → use ≡ true → (not force || use) ≡ true
-by_force true use e = e
-by_force false use e = refl
+by_force : (force left : Bool) → left ≡ true → (not force || left) ≡ true
+by_force true left e = e
+by_force false left e = refl
 
 -- nothing has the id of a position that can be put
 pub ready_absent : (row : OrderPos) (state : State) → IsReady row.id state → position_at row.id state.lists ≡ None
 ready_absent row state h = next_absent (λ (r : OrderPos). r.id) row.id state.lists.positions h.positions.below
+
+pub put_headroom : (row : OrderPos) (state : State) → IsReady row.id state → has_use state.moment state.lists row.voucher ≡ true → AllHaveHeadroom state.moment (after_change (PutPosition row) state.lists)
+put_headroom row state h left = headroom_position state.moment row state.lists h.positions.in_order h.vouchers (by_force (stands_as is_in_force (order_at row.order state.lists)) (has_use state.moment state.lists row.voucher) left) h.headroom
+
+-- and then the next one can be
+ready_put : (row : OrderPos) (state : State) → IsReady row.id state → has_use state.moment state.lists row.voucher ≡ true → IsReady (row.id + 1) (changed (PutPosition row) state)
+ready_put row state h left = record { positions = numbered_put (λ r. r.id) row row.id state.lists.positions refl h.positions; vouchers = h.vouchers; headroom = put_headroom row state h left }
+
+ready_if : (row : OrderPos) (state after : State) (left : Bool) → has_use state.moment state.lists row.voucher ≡ left → (let put : Result State OrderRefusal = (if left then Ok (changed (PutPosition row) state) else Err (OfVoucher NoHeadroom)) in put ≡ Ok after) → IsReady row.id state → IsReady (row.id + 1) after
+ready_if row state after true e h ready = let same : changed (PutPosition row) state ≡ after = cc (h) in subst (IsReady (row.id + 1)) same (ready_put row state ready e)
+ready_if row state after false e h ready = absurd (cc (h))
+
+pub ready_next : (row : OrderPos) (state after : State) → position_put row state ≡ Ok after → IsReady row.id state → IsReady (row.id + 1) after
+unfolding position_put
+ready_next row state after h ready = ready_if row state after (has_use state.moment state.lists row.voucher) refl h ready
+
+-- the ids of the rows that are asked for count on
+module _ (draw : Draw) (state : State) where
+  counted_sold : (id number : ℕ) (sold : Result Sold VoucherRefusal) (row : OrderPos) → position_of_sold draw state.next.order id number sold ≡ Ok row → row.id ≡ id
+  counted_sold id number (Err refusal) row h = absurd (cc (h))
+  counted_sold id number (Ok sold) row h = let same : position_row draw state.next.order id number sold ≡ row = cc (h) in ap (λ (r : OrderPos). r.id) (sym same)
+
+  counted_row : (id number : ℕ) (asked : Asked) (row : OrderPos) → position_for draw state id number asked ≡ Ok row → row.id ≡ id
+  unfolding position_for
+  counted_row id number asked row h = counted_sold id number (sold_for asked state) row h
+
+  both : (id number : ℕ) (asked : Asked) (first : Result OrderPos OrderRefusal) → position_for draw state id number asked ≡ first → (rest : Result (List OrderPos) OrderRefusal) → ((rows : List OrderPos) → rest ≡ Ok rows → AreCounted (id + 1) rows) → (rows : List OrderPos) → and_rows first rest ≡ Ok rows → AreCounted id rows
+  both id number asked (Err refusal) e rest more rows h = absurd (cc (h))
+  both id number asked (Ok row) e (Err refusal) more rows h = absurd (cc (h))
+  both id number asked (Ok row) e (Ok rest_rows) more rows h =
+      let same : (row ∷ rest_rows) ≡ rows = cc (h) in
+      subst (AreCounted id) same (counted_row id number asked row e, more rest_rows refl)
+
+  pub counted : (id number : ℕ) (asked : List Asked) (rows : List OrderPos) → rows_for draw state id number asked ≡ Ok rows → AreCounted id rows
+  counted id number [] rows h = let same : [] ≡ rows = cc (h) in subst (AreCounted id) same tt
+  counted id number (entry ∷ more) rows h = both id number entry (position_for draw state id number entry) refl (rows_for draw state (id + 1) (number + 1) more) (counted (id + 1) (number + 1) more) rows h
