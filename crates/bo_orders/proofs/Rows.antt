@@ -1,16 +1,18 @@
 -- The rows of a new order: their ids count on, and each of them can be put.
-use Rattle.std.proofs.Common.{◌≡◌, ℕ, ◌+◌, ◌<◌, Bool, true, false, List, [], ◌∷◌, Option, Some, None, Result, Ok, Err, refl, sym, ap, ◌∙◌, subst, arith}
-use Rattle.std.specs.Prelude.{◌||◌, not, if◌then◌else◌}
+use Rattle.std.proofs.Common.{◌≡◌, ℕ, ◌+◌, ◌<◌, ◌≤◌, Bool, true, false, List, [], ◌∷◌, Option, Some, None, Result, Ok, Err, refl, sym, ap, ◌∙◌, subst, arith}
+use Rattle.std.specs.Prelude.{◌||◌, ◌&&◌, not, if◌then◌else◌}
 use Rattle.std.specs.List.{AllByRecursion}
 use Rattle.bo_base.specs.declared.draw.Draw.{Draw}
 use Rattle.bo_lists.specs.declared.rows.Order.{Order}
 use Rattle.bo_lists.specs.declared.rows.OrderPos.{OrderPos}
 use Rattle.bo_lists.specs.declared.changes.Change.TheVariants.{PutOrder, PutPosition}
+use Rattle.std.proofs.lemmas.Bool.Decides.{nat_tests}
 use Rattle.bo_lists.specs.Tests.{is_in_force}
 use Rattle.bo_lists.specs.Usage.{stands_as}
 use Rattle.bo_lists.specs.Lists.{State, order_at, position_at}
 use Rattle.bo_lists.specs.Change.{changed, without_carts, after_change}
 use Rattle.bo_lists.specs.Consumed.{consumed}
+use Rattle.bo_lists.specs.Full.{takes_order, takes_positions}
 use Rattle.bo_lists.specs.Headroom.{has_use, AllHaveHeadroom}
 use Rattle.bo_lists.specs.Sound.{IsSound, AreNumbered}
 use Rattle.bo_lists.proofs.OrderHeadroom.{headroom_position}
@@ -23,7 +25,7 @@ use Rattle.bo_orders.specs.declared.sold.Sold.{Sold}
 use Rattle.bo_vouchers.specs.declared.refusal.VoucherRefusal.{VoucherRefusal}
 use Rattle.bo_vouchers.specs.declared.refusal.VoucherRefusal.TheVariants.{NoHeadroom}
 use Rattle.bo_orders.specs.Sold.{sold_for}
-use Rattle.bo_orders.specs.Created.{IsReady, AreCounted, with_order_row, position_put, position_row, position_of_sold, position_for, after_rows, and_rows, rows_for}
+use Rattle.bo_orders.specs.Created.{IsReady, AreCounted, with_order_row, position_put, position_row, position_of_sold, position_for, after_rows, and_rows, rows_for, with_positions}
 
 -- an order of the next id can be put
 pub order_headroom : (row : Order) (ids : List ℕ) (state : State) → row.id ≡ state.next.order → IsSound state → AllHaveHeadroom state.moment (after_change (PutOrder row) (without_carts ids state).lists)
@@ -82,3 +84,28 @@ module _ (draw : Draw) (state : State) where
   pub counted : (id number : ℕ) (asked : List Asked) (rows : List OrderPos) → rows_for draw state id number asked ≡ Ok rows → AreCounted id rows
   counted id number [] rows h = let same : [] ≡ rows = cc (h) in subst (AreCounted id) same tt
   counted id number (entry ∷ more) rows h = both id number entry (position_for draw state id number entry) refl (rows_for draw state (id + 1) (number + 1) more) (counted (id + 1) (number + 1) more) rows h
+
+-- a put of a position leaves the next ids
+next_if : (row : OrderPos) (state after : State) (left : Bool) → (let put : Result State OrderRefusal = (if left then Ok (changed (PutPosition row) state) else Err (OfVoucher NoHeadroom)) in put ≡ Ok after) → after.next ≡ state.next
+next_if row state after true h = let same : changed (PutPosition row) state ≡ after = cc (h) in ap (λ (s : State). s.next) (sym same)
+next_if row state after false h = absurd (cc (h))
+
+put_next : (row : OrderPos) (state after : State) → position_put row state ≡ Ok after → after.next ≡ state.next
+unfolding position_put
+put_next row state after h = next_if row state after (has_use state.moment state.lists row.voucher) h
+
+-- and so do puts of several
+pub puts_next : (rows : List OrderPos) (state after : State) → with_positions rows (Ok state) ≡ Ok after → after.next ≡ state.next
+puts_next [] state after h = let same : state ≡ after = cc (h) in ap (λ (s : State). s.next) (sym same)
+puts_next (row ∷ rows) state after h = by_put (position_put row state) refl h (λ made. puts_next rows made after)
+  where
+    by_put : (put : Result State OrderRefusal) → position_put row state ≡ put → with_positions rows put ≡ Ok after → ((made : State) → with_positions rows (Ok made) ≡ Ok after → after.next ≡ made.next) → after.next ≡ state.next
+    by_put (Err refusal) e h more = absurd (cc (h))
+    by_put (Ok made) e h more = more made h ∙ put_next row state made e
+
+-- one row more of those that are put
+pub counted_more : (id : ℕ) (row : OrderPos) (rows rest : List OrderPos) → rows ≡ row ∷ rest → AreCounted id rows → (row.id ≡ id) × AreCounted (id + 1) rest
+counted_more id row rows rest e h = subst (AreCounted id) e h
+
+pub takes_ids : (count : ℕ) (state : State) → (takes_order state && takes_positions count state) ≡ true → (state.next.order < 9007199254740992) × (state.next.position + count ≤ 9007199254740992)
+takes_ids count state h = (grind (arith, nat_tests, h), grind (arith, nat_tests, h))

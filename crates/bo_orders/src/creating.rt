@@ -163,7 +163,6 @@ fn drop_carts<B: Book>(
 }
 
 // Puts the row of an order, without the carts that it consumes.
-#[tactic(auto, using(crate::proofs::Rows::order_headroom, crate::proofs::Rows::carts_headroom))]
 fn put_order<B: Book>(
     draft: &mut Draft<'_, B>,
     alloc: Global,
@@ -182,11 +181,7 @@ fn put_order<B: Book>(
 }
 
 // Puts a position, if its voucher has a use left.
-#[tactic(
-    auto,
-    unfolding(crate::specs::Created::position_put),
-    using(crate::proofs::Rows::ready_absent, crate::proofs::Rows::put_headroom)
-)]
+#[tactic(auto, unfolding(crate::specs::Created::position_put))]
 fn put_position<B: Book>(
     draft: &mut Draft<'_, B>,
     alloc: Global,
@@ -224,7 +219,6 @@ fn put_positions<B: Book>(
 }
 
 // Puts an order with its positions, without the carts that it consumes.
-#[tactic(auto, using(crate::proofs::Rows::ready_order))]
 fn put_all<B: Book>(
     draft: &mut Draft<'_, B>,
     alloc: Global,
