@@ -1,58 +1,32 @@
 -- What is known where a cart position was added.
-use Rattle.std.proofs.Common.{◌≡◌, ℕ, Bool, true, false, List, [], ◌∷◌, Option, Some, None, Result, Ok, Err, refl, sym, ap, ◌∙◌, subst}
-use Rattle.std.specs.Prelude.{if◌then◌else◌, option_map}
+use Rattle.std.proofs.Common.{◌≡◌, ℕ, Bool, true, false, [], ◌∷◌, Option, Some, None, Result, Ok, Err, refl, sym, ap, ◌∙◌, subst}
+use Rattle.std.specs.Prelude.{if◌then◌else◌}
 use Rattle.bo_base.specs.Tables.{AreInOrder}
-use Rattle.bo_base.specs.Texts.{same_text}
 use Rattle.bo_base.specs.declared.draw.Draw.{Draw}
-use Rattle.bo_catalogue.specs.declared.rows.Product.{Product}
-use Rattle.bo_catalogue.specs.declared.refusal.CatalogueRefusal.{CatalogueRefusal}
 use Rattle.bo_catalogue.specs.declared.refusal.CatalogueRefusal.TheVariants.{Full}
-use Rattle.bo_catalogue.specs.CatalogueLists.{base_price}
 use Rattle.bo_lists.specs.declared.rows.CartPos.{CartPos}
 use Rattle.bo_lists.specs.declared.rows.Own.TheVariants.{Cart}
-use Rattle.bo_lists.specs.declared.rows.Voucher.{Voucher}
 use Rattle.bo_lists.specs.declared.changes.Change.TheVariants.{PutCart}
 use Rattle.bo_lists.specs.Lists.{State}
-use Rattle.bo_lists.specs.Tests.{is_live_voucher}
 use Rattle.bo_lists.specs.Change.{after_change}
 use Rattle.bo_lists.specs.Full.{takes_cart}
-use Rattle.bo_lists.specs.Fits.{fits, fits_if, is_fit}
-use Rattle.bo_lists.specs.Named.{voucher_of}
+use Rattle.bo_lists.specs.Fits.{is_fit}
 use Rattle.bo_lists.specs.Numbered.{with_cart}
 use Rattle.bo_lists.specs.Over.{first_over, ignores}
 use Rattle.bo_lists.specs.Sound.{IsSound}
-use Rattle.bo_lists.proofs.Found.{row_at_found}
 use Rattle.bo_lists.proofs.Sound.{sound_cart}
 use Rattle.bo_vouchers.specs.declared.refusal.VoucherRefusal.{VoucherRefusal}
-use Rattle.bo_vouchers.specs.declared.refusal.VoucherRefusal.TheVariants.{Catalogue, VoucherExpired, WrongProduct, NoHeadroom}
+use Rattle.bo_vouchers.specs.declared.refusal.VoucherRefusal.TheVariants.{Catalogue, NoHeadroom}
 use Rattle.bo_orders.specs.CartId.{cart_id_test}
 use Rattle.bo_lists.specs.Takes.{TakesNoMore}
 use Rattle.bo_orders.proofs.Takes.{takes_no_more}
 use Rattle.bo_orders.specs.declared.new_cart.NewCart.{NewCart}
 use Rattle.bo_orders.specs.declared.refusal.OrderRefusal.{OrderRefusal}
 use Rattle.bo_orders.specs.declared.refusal.OrderRefusal.TheVariants.{Voucher as OfVoucher}
-use Rattle.bo_orders.specs.Carts.{position_added, placed, placed_by, placed_if, has_use_for, cart_row, row_in_cart, row_of_product, row_with_voucher, row_at_price, product_for_sale, voucher_asked, used_by, used_if, price_by}
-
-ok_voucher : (a b : Option Voucher) → (let all : Result (Option Voucher) VoucherRefusal = Ok a in all ≡ Ok b) → a ≡ b
-ok_voucher a b h = cc
-
--- a voucher that may be used for a product stands, and is for it
-module _ (state : State) (order : AreInOrder (λ r. r.id) state.lists.vouchers) (product : Product) (asked : Option Voucher) where
-  by_tests : (v : Voucher) (live fit : Bool) → fits state.lists.catalogue v product ≡ fit → is_fit state.lists product (Some v.id) ≡ fit → used_if v (if live then (if fit then Ok tt else Err WrongProduct) else Err VoucherExpired) ≡ Ok asked → is_fit state.lists product (option_map (λ v. v.id) asked) ≡ true
-  by_tests v true true fit stands h = ap (λ a. is_fit state.lists product (option_map (λ v. v.id) a)) (sym (ok_voucher (Some v) asked h)) ∙ stands
-  by_tests v true false fit stands h = absurd (cc)
-  by_tests v false fit is stands h = absurd (cc)
-
-  by_found : (code : List ℕ) (found : Option Voucher) → voucher_of code state.lists ≡ found → used_by state product found ≡ Ok asked → is_fit state.lists product (option_map (λ v. v.id) asked) ≡ true
-  by_found code None is h = absurd (cc)
-  by_found code (Some v) is h =
-      let stands = ap (fits_if state.lists.catalogue product) (row_at_found (λ (r : Voucher). r.id) (λ w. same_text w.code code) 0 state.lists.vouchers v order is) in
-      by_tests v (is_live_voucher state.moment v) (fits state.lists.catalogue v product) refl stands h
-
-  asked_fits : (code : Option (List ℕ)) → voucher_asked code state product ≡ Ok asked → is_fit state.lists product (option_map (λ v. v.id) asked) ≡ true
-  unfolding voucher_asked
-  asked_fits None h = ap (λ a. is_fit state.lists product (option_map (λ v. v.id) a)) (sym (ok_voucher None asked h))
-  asked_fits (Some code) h = by_found code (voucher_of code state.lists) refl h
+use Rattle.bo_orders.specs.Carts.{position_added, placed, placed_by, placed_if, has_use_for, cart_row, row_in_cart, row_of_sold}
+use Rattle.bo_orders.specs.Sold.{sold_for}
+use Rattle.bo_orders.specs.declared.sold.Sold.{Sold}
+use Rattle.bo_orders.proofs.SoldLemmas.{sold_fits}
 
 -- the row has the next id, and names no voucher, or one that stands and is for its product
 pub record IsNew (state : State) (row : CartPos) : Type 0 where
@@ -63,23 +37,15 @@ ok_row : (a b : CartPos) → (let all : Result CartPos OrderRefusal = Ok a in al
 ok_row a b h = cc
 
 module _ (new : NewCart) (draw : Draw) (state : State) (order : AreInOrder (λ r. r.id) state.lists.vouchers) (row : CartPos) where
-  by_price : (product : Product) (asked : Option Voucher) (price : Result ℕ VoucherRefusal) → is_fit state.lists product (option_map (λ v. v.id) asked) ≡ true → row_at_price new draw state product asked price ≡ Ok row → IsNew state row
-  by_price product asked (Err refusal) fit h = absurd (cc)
-  by_price product asked (Ok price) fit h =
+  by_sold : (sold : Result Sold VoucherRefusal) → sold_for new.asked state ≡ sold → row_of_sold new draw state sold ≡ Ok row → IsNew state row
+  by_sold (Err refusal) is h = absurd (cc)
+  by_sold (Ok sold) is h =
       let same = ok_row _ row h in
-      record { id = sym (ap (λ (r : CartPos). r.id) same); fit = sym (ap (λ (r : CartPos). is_fit state.lists r.product r.voucher) same) ∙ fit }
-
-  by_voucher : (product : Product) (asked : Result (Option Voucher) VoucherRefusal) → voucher_asked new.voucher state product ≡ asked → row_with_voucher new draw state product asked ≡ Ok row → IsNew state row
-  by_voucher product (Err refusal) is h = absurd (cc)
-  by_voucher product (Ok asked) is h = by_price product asked (price_by new.price asked (base_price product state.lists.catalogue)) (asked_fits state order product asked new.voucher is) h
-
-  by_product : (product : Result Product CatalogueRefusal) → row_of_product new draw state product ≡ Ok row → IsNew state row
-  by_product (Err refusal) h = absurd (cc)
-  by_product (Ok product) h = by_voucher product (voucher_asked new.voucher state product) refl h
+      record { id = sym (ap (λ (r : CartPos). r.id) same); fit = sym (ap (λ (r : CartPos). is_fit state.lists r.product r.voucher) same) ∙ sold_fits new.asked state order sold is }
 
   by_cart : (test : Result (Unit {0}) OrderRefusal) → row_in_cart new draw state test ≡ Ok row → IsNew state row
   by_cart (Err refusal) h = absurd (cc)
-  by_cart (Ok u) h = by_product (product_for_sale new.item new.variation state.lists.catalogue) h
+  by_cart (Ok u) h = by_sold (sold_for new.asked state) refl h
 
   pub row_is_new : cart_row new draw state ≡ Ok row → IsNew state row
   unfolding cart_row
