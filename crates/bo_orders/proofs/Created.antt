@@ -7,6 +7,7 @@ use Rattle.bo_base.specs.Tables.{AreInOrder}
 use Rattle.bo_base.specs.declared.draw.Draw.{Draw}
 use Rattle.bo_base.proofs.Edits.{row_at-with_row}
 use Rattle.bo_catalogue.specs.declared.refusal.CatalogueRefusal.TheVariants.{Full}
+use Rattle.bo_lists.specs.declared.rows.NextIds.{NextIds}
 use Rattle.bo_lists.specs.declared.rows.Order.{Order}
 use Rattle.bo_lists.specs.declared.rows.OrderPos.{OrderPos}
 use Rattle.bo_lists.specs.declared.rows.OrderRows.{OrderRows}
@@ -34,7 +35,7 @@ use Rattle.bo_orders.specs.declared.refusal.OrderRefusal.TheVariants.{Voucher as
 use Rattle.bo_orders.specs.Sold.{sold_for}
 use Rattle.bo_orders.specs.Created.{order_row, position_row, position_of_sold, position_for, and_rows, rows_for, position_put, with_positions, with_ids_used, if_taken, unless_over, placed_with, AreCounted, with_order_row, order_placed, created_of, has_ids, created_with_ids, counts_test, created_if, order_created}
 use Rattle.bo_orders.proofs.SoldLemmas.{sold_fits}
-use Rattle.bo_orders.proofs.Rows.{counted}
+use Rattle.bo_orders.proofs.Rows.{counted, puts_next}
 
 ok_made : (a b : State × OrderRows) → (let all : Result (State × OrderRows) OrderRefusal = Ok a in all ≡ Ok b) → a ≡ b
 ok_made a b h = cc
@@ -135,3 +136,106 @@ pub created_moment : (new : NewOrder) (draw : Draw) (before after : State) (made
 created_moment new draw before after made h =
     let m = created_is new draw before after made h in
     ap (λ (s : State). s.moment) (sym m.is_after) ∙ puts_moment made.positions (with_order_row made.order new.consume_carts before) m.put m.puts
+
+-- the box office without some cart positions sells the same
+carts_keep_quotas : (ids : List ℕ) (lists : Lists) → (after_all (map DropCart ids) lists).catalogue.quotas ≡ lists.catalogue.quotas
+carts_keep_quotas [] lists = refl
+carts_keep_quotas (id ∷ ids) lists = carts_keep_quotas ids (after_change (DropCart id) lists)
+
+carts_keep_vouchers : (ids : List ℕ) (lists : Lists) → (after_all (map DropCart ids) lists).vouchers ≡ lists.vouchers
+carts_keep_vouchers [] lists = refl
+carts_keep_vouchers (id ∷ ids) lists = carts_keep_vouchers ids (after_change (DropCart id) lists)
+
+-- an order that was put stands
+order_stands : (row : Order) (lists : Lists) → is_some (order_at row.id (after_change (PutOrder row) lists)) ≡ true
+order_stands row lists =
+    let e = row_at-with_row (λ (r : Order). r.id) row.id row lists.orders in
+    let found : order_at row.id (after_change (PutOrder row) lists) ≡ Some row = grind (arith, nat_tests, e) in
+    ap (λ (o : Option Order). is_some o) found
+
+-- each row is the order's, and its voucher is for its product
+abbrev IsOwn : Lists → ℕ → OrderPos → Type 0
+IsOwn lists number p = (p.order ≡ number) × (is_fit lists p.product p.voucher ≡ true)
+
+module _ (draw : Draw) (state : State) (order : AreInOrder (λ r. r.id) state.lists.vouchers) where
+  own_sold : (id number : ℕ) (asked : Asked) (sold : Result Sold VoucherRefusal) (row : OrderPos) → sold_for asked state ≡ sold → position_of_sold draw state.next.order id number sold ≡ Ok row → IsOwn state.lists state.next.order row
+  own_sold id number asked (Err refusal) row e h = absurd (cc (h))
+  own_sold id number asked (Ok sold) row e h =
+      let same : position_row draw state.next.order id number sold ≡ row = cc (h) in
+      subst (IsOwn state.lists state.next.order) same (refl, sold_fits asked state order sold e)
+
+  own_row : (id number : ℕ) (asked : Asked) (row : OrderPos) → position_for draw state id number asked ≡ Ok row → IsOwn state.lists state.next.order row
+  unfolding position_for
+  own_row id number asked row h = own_sold id number asked (sold_for asked state) row refl h
+
+  both : (id number : ℕ) (asked : Asked) (first : Result OrderPos OrderRefusal) → position_for draw state id number asked ≡ first → (rest : Result (List OrderPos) OrderRefusal) → ((rows : List OrderPos) → rest ≡ Ok rows → AllByRecursion (IsOwn state.lists state.next.order) rows) → (rows : List OrderPos) → and_rows first rest ≡ Ok rows → AllByRecursion (IsOwn state.lists state.next.order) rows
+  both id number asked (Err refusal) e rest more rows h = absurd (cc (h))
+  both id number asked (Ok row) e (Err refusal) more rows h = absurd (cc (h))
+  both id number asked (Ok row) e (Ok others) more rows h =
+      let same : (row ∷ others) ≡ rows = cc (h) in
+      subst (AllByRecursion (IsOwn state.lists state.next.order)) same (own_row id number asked row e, more others refl)
+
+  are_own : (id number : ℕ) (asked : List Asked) (rows : List OrderPos) → rows_for draw state id number asked ≡ Ok rows → AllByRecursion (IsOwn state.lists state.next.order) rows
+  are_own id number [] rows h = let same : [] ≡ rows = cc (h) in subst (AllByRecursion (IsOwn state.lists state.next.order)) same tt
+  are_own id number (entry ∷ more) rows h = both id number entry (position_for draw state id number entry) refl (rows_for draw state (id + 1) (number + 1) more) (are_own (id + 1) (number + 1) more) rows h
+
+-- the order's id is used, and the next position gets this one
+abbrev numbered : ℕ → State → State
+numbered id state = record state { next = record state.next { order = state.next.order + 1; position = id } }
+
+by_force : (force left : Bool) → left ≡ true → (not force || left) ≡ true
+by_force true left e = e
+by_force false left e = refl
+
+-- a box office stays sound as an order's positions are put
+module _ (lists : Lists) (number : ℕ) where
+  -- it sells the same, and the order stands
+  record Goes (id : ℕ) (state : State) : Type 0 where
+    quotas : lists.catalogue.quotas ≡ state.lists.catalogue.quotas
+    vouchers : lists.vouchers ≡ state.lists.vouchers
+    stands : is_some (order_at number state.lists) ≡ true
+    sound : IsSound (numbered id state)
+
+  goes_on : (id : ℕ) (row : OrderPos) (state : State) → row.id ≡ id → IsOwn lists number row → has_use state.moment state.lists row.voucher ≡ true → Goes id state → Goes (id + 1) (changed (PutPosition row) state)
+  goes_on id row state e own left g = record {
+    quotas = g.quotas;
+    vouchers = g.vouchers;
+    stands = g.stands;
+    sound = sound_position (numbered id state) row e
+        (ap (λ (n : ℕ). is_some (order_at n state.lists)) own.0 ∙ g.stands)
+        (fit_same lists state.lists g.quotas g.vouchers row.product row.voucher own.1)
+        (by_force (stands_as is_in_force (order_at row.order state.lists)) (has_use state.moment state.lists row.voucher) left)
+        g.sound;
+  }
+
+  puts_sound : (rows : List OrderPos) (id : ℕ) (state put : State) → AreCounted id rows → AllByRecursion (IsOwn lists number) rows → Goes id state → with_positions rows (Ok state) ≡ Ok put → IsSound (numbered (id + length rows) put)
+  puts_sound [] id state put counted own g h =
+      let same : state ≡ put = cc (h) in
+      let end : id ≡ id + 0 = omega arith in
+      subst (λ (n : ℕ). IsSound (numbered n put)) end (subst (λ (s : State). IsSound (numbered id s)) same g.sound)
+  puts_sound (row ∷ rows) id state put counted own g h = by_put (position_put row state) refl h (λ made on. puts_sound rows (id + 1) made put counted.1 own.1 on)
+    where
+      by_put : (done : Result State OrderRefusal) → position_put row state ≡ done → with_positions rows done ≡ Ok put → ((made : State) → Goes (id + 1) made → with_positions rows (Ok made) ≡ Ok put → IsSound (numbered (id + 1 + length rows) put)) → IsSound (numbered (id + length (row ∷ rows)) put)
+      by_put (Err refusal) e h more = absurd (cc (h))
+      by_put (Ok made) e h more =
+          let p = put_is row state made e in
+          let end : id + 1 + length rows ≡ id + length (row ∷ rows) = omega arith in
+          subst (λ (n : ℕ). IsSound (numbered n put)) end (more made (subst (Goes (id + 1)) p.is (goes_on id row state counted.0 own.0 p.left g)) h)
+
+-- a box office stays sound as an order is made
+pub created_sound : (new : NewOrder) (draw : Draw) (before after : State) (made : OrderRows) → IsSound before → order_created new draw before ≡ Ok (after, made) → IsSound after
+created_sound new draw before after made sound h =
+    let m = created_is new draw before after made h in
+    let ids = consumed new.consume_carts before.lists in
+    let start = before.next.position in
+    let state = with_order_row made.order new.consume_carts before in
+    let id : made.order.id ≡ before.next.order = sym (ap (λ (o : Order). o.id) m.is_order) in
+    let g : Goes before.lists before.next.order start state = record {
+      quotas = sym (carts_keep_quotas ids before.lists);
+      vouchers = sym (carts_keep_vouchers ids before.lists);
+      stands = subst (λ (n : ℕ). is_some (order_at n state.lists) ≡ true) id (order_stands made.order (without_carts ids before).lists);
+      sound = sound_order (without_carts ids before) made.order id (sound_drop_carts ids before sound);
+    } in
+    let next = puts_next made.positions state m.put m.puts in
+    let all = puts_sound before.lists before.next.order made.positions start state m.put (counted draw before start 1 new.positions made.positions m.are_rows) (are_own draw before sound.vouchers.in_order start 1 new.positions made.positions m.are_rows) g m.puts in
+    subst IsSound m.is_after (subst (λ (n : ℕ). IsSound (numbered n m.put)) (ap (λ (x : NextIds). x.position + length made.positions) (sym next)) all)
