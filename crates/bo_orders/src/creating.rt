@@ -91,7 +91,11 @@ fn new_order<B: Book>(
     Ok(Order {
         id: draft.next_order(),
         email,
-        status: if new.paid { Status::Paid } else { Status::Pending },
+        status: if new.paid {
+            Status::Paid
+        } else {
+            Status::Pending
+        },
         made_at: draft.moment(),
         expires: new.expires.unwrap_or(draft.moment().later(1209600)),
     })
@@ -140,7 +144,8 @@ fn new_rows<B: Book>(
     let mut id = draft.next_position();
     let mut number = 1;
     for entry in asked {
-        rows.push(new_row(draft, alloc, draw, id, number, entry)?).map_err(AllocError::from)?;
+        rows.push(new_row(draft, alloc, draw, id, number, entry)?)
+            .map_err(AllocError::from)?;
         id += 1;
         number += 1;
     }

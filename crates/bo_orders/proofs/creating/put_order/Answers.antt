@@ -15,4 +15,4 @@ put_order-requires-clause-before g c =
 pub put_order-requires-clause-after : goal.put_order-requires-clause-after
 put_order-requires-clause-after g c =
     subst (λ (r : Order). AllHaveHeadroom c.drop_carts.new.draft.moment (changed (PutOrder r) (now c.drop_carts.new.draft)).lists) (sym c.in_ok-copy.ensures)
-      (subst (λ (s : State). AllHaveHeadroom s.moment (changed (PutOrder c.args.order.now) s).lists) (sym c.in_ok-drop_carts.ensures.done) (order_headroom c.args.order.now c.deref.result.now (now c.args.draft.now) c.requires.new c.requires.sound))
+    (subst (λ (s : State). AllHaveHeadroom s.moment (changed (PutOrder c.args.order.now) s).lists) (sym c.in_ok-drop_carts.ensures.done) (order_headroom c.args.order.now c.deref.result.now (now c.args.draft.now) c.requires.new c.requires.sound))
