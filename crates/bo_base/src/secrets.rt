@@ -10,7 +10,7 @@ use std::alloc::{AllocError, Global};
 /// The secret of an order position, of a draw, the order's number and the position's number in its order, as
 /// `00000000000000000000000000000004z1z1`. Nothing is promised of its being hard to guess.
 #[tactic(auto, unfolding(crate::specs::Secrets::secret))]
-pub fn secret(alloc: Global, draw: Draw, order: u32, position: u32) -> Result<Text, AllocError>
+pub fn secret(alloc: Global, draw: Draw, order: u64, position: u32) -> Result<Text, AllocError>
     ensures { IfOk result (λ text. text ≡ secret draw order position) }
 {
     let digits = hex::encode(alloc, draw.bytes)?;

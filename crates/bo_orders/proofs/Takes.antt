@@ -18,7 +18,7 @@ use Rattle.bo_lists.specs.Usage.{usage_of, cart_counts}
 use Rattle.bo_lists.specs.Takes.{used, IsWithin, TakesNoMore}
 use Rattle.bo_lists.proofs.Takes.{none_passes, within}
 
-and_false : (b : Bool) → (b && false) ≡ false
+pub and_false : (b : Bool) → (b && false) ≡ false
 and_false true = refl
 and_false false = refl
 

@@ -1,14 +1,26 @@
 //! Laws of the decisions.
 
-ghost use Rattle.std.specs.Prelude.{◌≡◌, false, [], ◌∷◌, None, Ok};
+ghost use Rattle.std.specs.Prelude.{◌≡◌, ℕ, ◌≤◌, ◌⊎◌, true, false, [], ◌∷◌, map, Some, None, Ok};
+ghost use Rattle.std.specs.List.{AllByRecursion};
 ghost use Rattle.bo_base.specs.declared.draw.Draw.{Draw};
-ghost use Rattle.bo_lists.specs.Lists.{State};
+ghost use Rattle.bo_catalogue.specs.CatalogueLists.{quota_at};
+ghost use Rattle.bo_catalogue.specs.declared.rows.Quota.{Quota};
+ghost use Rattle.bo_lists.specs.Fits.{AllExact};
+ghost use Rattle.bo_lists.specs.Lists.{State, order_at};
 ghost use Rattle.bo_lists.specs.Over.{first_over, ignores};
+ghost use Rattle.bo_lists.specs.Sound.{IsSound};
+ghost use Rattle.bo_lists.specs.Takes.{used, TakesNoMore};
+ghost use Rattle.bo_lists.specs.Tests.{is_in_force};
 ghost use Rattle.bo_lists.specs.declared.rows.CartPos.{CartPos};
+ghost use Rattle.bo_lists.specs.declared.rows.Order.{Order};
+ghost use Rattle.bo_lists.specs.declared.rows.OrderRows.{OrderRows};
 ghost use Rattle.bo_lists.specs.declared.rows.Own.{Own};
-ghost use Rattle.bo_orders.specs.declared.new_cart.NewCart.{NewCart};
 ghost use Rattle.bo_orders.specs.Carts.{position_added};
-ghost use Rattle.bo_lists.specs.Takes.{TakesNoMore};
+ghost use Rattle.bo_orders.specs.Created.{order_created};
+ghost use Rattle.bo_orders.specs.Moves.{order_moved};
+ghost use Rattle.bo_orders.specs.declared.moves.Move.{Move};
+ghost use Rattle.bo_orders.specs.declared.new_cart.NewCart.{NewCart};
+ghost use Rattle.bo_orders.specs.declared.new_order.NewOrder.{NewOrder};
 
 /// Each cart position that is added was weighed: it takes too much of no quota, where the position itself
 /// doesn't weigh if its voucher ignores quotas.
@@ -24,4 +36,49 @@ pub fn added_takes_no_more()
     ensures { (new : NewCart) (draw : Draw) (before after : State) (row : CartPos) →
         position_added new draw before ≡ Ok (after, row) → ignores after.lists row.voucher ≡ false →
         TakesNoMore before after }
+{}
+
+/// Each order that comes back to life was weighed: it takes too much of no quota, where its positions don't weigh if
+/// their vouchers ignore quotas. Where all of them heed quotas, what is used afterwards is within each quota's size, or
+/// no more than was used before.
+pub fn revivals_take_no_more()
+    ensures none_over { (number : ℕ) (change : Move) (before after : State) (rows : OrderRows) (old : Order) →
+        order_at number before.lists ≡ Some old → is_in_force old.status ≡ false → is_in_force rows.order.status ≡ true →
+        order_moved number change before ≡ Ok (after, rows) →
+        first_over before.lists after.lists before.moment (map (λ p. Own.Position p.id) rows.positions) ≡ None }
+    ensures takes { (number : ℕ) (change : Move) (before after : State) (rows : OrderRows) (old : Order) →
+        IsSound before → order_at number before.lists ≡ Some old → is_in_force old.status ≡ false →
+        is_in_force rows.order.status ≡ true →
+        AllByRecursion (λ p. ignores after.lists p.voucher ≡ false) rows.positions →
+        order_moved number change before ≡ Ok (after, rows) → TakesNoMore before after }
+{}
+
+/// No other move raises the usage of a quota that stands, where each voucher that blocks places and that an order
+/// position names tells its product whole.
+pub fn other_moves_lower()
+    ensures { (number : ℕ) (change : Move) (before after : State) (rows : OrderRows) (old : Order) (quota : Quota) →
+        IsSound before → AllExact before.lists → quota_at quota.id before.lists.catalogue ≡ Some quota →
+        order_at number before.lists ≡ Some old → (is_in_force old.status ≡ true) ⊎ (is_in_force rows.order.status ≡ false) →
+        order_moved number change before ≡ Ok (after, rows) → used after quota ≤ used before quota }
+{}
+
+/// A sound box office stays sound where an order is moved.
+pub fn moves_keep_sound()
+    ensures { (number : ℕ) (change : Move) (before after : State) (rows : OrderRows) →
+        IsSound before → order_moved number change before ≡ Ok (after, rows) → IsSound after }
+{}
+
+/// Each order that is made was weighed, without the carts that it consumes: it takes too much of no quota, where
+/// a position doesn't weigh if its voucher ignores quotas.
+pub fn created_none_over()
+    ensures { (new : NewOrder) (draw : Draw) (before after : State) (rows : OrderRows) →
+        order_created new draw before ≡ Ok (after, rows) →
+        first_over before.lists after.lists before.moment (map (λ p. Own.Position p.id) rows.positions) ≡ None }
+{}
+
+/// A box office in which no voucher is named too often, whose ids rise, and whose rows name what stands,
+/// is still one when an order is made.
+pub fn created_sound()
+    ensures { (new : NewOrder) (draw : Draw) (before after : State) (rows : OrderRows) →
+        IsSound before → order_created new draw before ≡ Ok (after, rows) → IsSound after }
 {}

@@ -1,0 +1,241 @@
+-- What is known where an order was made.
+use Rattle.std.proofs.Common.{◌≡◌, ℕ, ◌+◌, Bool, true, false, eqb, List, [], ◌∷◌, length, map, Option, Some, None, Result, Ok, Err, refl, sym, ap, ◌∙◌, subst, arith}
+use Rattle.std.specs.Prelude.{◌||◌, ◌&&◌, not, is_some, if◌then◌else◌}
+use Rattle.std.specs.List.{AllByRecursion}
+use Rattle.std.proofs.lemmas.Bool.Decides.{nat_tests}
+use Rattle.bo_base.specs.Tables.{AreInOrder}
+use Rattle.bo_base.specs.declared.draw.Draw.{Draw}
+use Rattle.bo_base.proofs.Edits.{row_at-with_row}
+use Rattle.bo_catalogue.specs.declared.refusal.CatalogueRefusal.TheVariants.{Full}
+use Rattle.bo_lists.specs.declared.rows.NextIds.{NextIds}
+use Rattle.bo_lists.specs.declared.rows.Order.{Order}
+use Rattle.bo_lists.specs.declared.rows.OrderPos.{OrderPos}
+use Rattle.bo_lists.specs.declared.rows.OrderRows.{OrderRows}
+use Rattle.bo_lists.specs.declared.rows.Own.TheVariants.{Position}
+use Rattle.bo_lists.specs.declared.changes.Change.TheVariants.{PutOrder, PutPosition, DropCart}
+use Rattle.bo_lists.specs.Tests.{is_in_force}
+use Rattle.bo_lists.specs.Usage.{stands_as}
+use Rattle.bo_lists.specs.Lists.{Lists, State, order_at}
+use Rattle.bo_lists.specs.Change.{after_change, after_all, changed, without_carts}
+use Rattle.bo_lists.specs.Consumed.{consumed}
+use Rattle.bo_lists.specs.Fits.{is_fit}
+use Rattle.bo_lists.specs.Full.{takes_order, takes_positions}
+use Rattle.bo_lists.specs.Headroom.{has_use}
+use Rattle.bo_lists.specs.Over.{first_over}
+use Rattle.bo_lists.specs.Sound.{IsSound}
+use Rattle.bo_lists.proofs.Fit.{fit_same}
+use Rattle.bo_lists.proofs.SoundOrders.{sound_order, sound_position, sound_drop_carts}
+use Rattle.bo_vouchers.specs.declared.refusal.VoucherRefusal.{VoucherRefusal}
+use Rattle.bo_vouchers.specs.declared.refusal.VoucherRefusal.TheVariants.{Catalogue, NoHeadroom, SoldOut}
+use Rattle.bo_orders.specs.declared.new_order.NewOrder.{NewOrder}
+use Rattle.bo_orders.specs.declared.sold.Asked.{Asked}
+use Rattle.bo_orders.specs.declared.sold.Sold.{Sold}
+use Rattle.bo_orders.specs.declared.refusal.OrderRefusal.{OrderRefusal}
+use Rattle.bo_orders.specs.declared.refusal.OrderRefusal.TheVariants.{Voucher as OfVoucher}
+use Rattle.bo_orders.specs.Sold.{sold_for}
+use Rattle.bo_orders.specs.Created.{order_row, position_row, position_of_sold, position_for, and_rows, rows_for, position_put, with_positions, with_ids_used, if_taken, unless_over, placed_with, AreCounted, with_order_row, order_placed, created_of, has_ids, created_with_ids, counts_test, created_if, order_created}
+use Rattle.bo_orders.proofs.SoldLemmas.{sold_fits}
+use Rattle.bo_orders.proofs.Rows.{counted, puts_next}
+
+ok_made : (a b : State × OrderRows) → (let all : Result (State × OrderRows) OrderRefusal = Ok a in all ≡ Ok b) → a ≡ b
+ok_made a b h = cc
+
+-- the rows of the order, the tests that it passed, and the box office with it
+pub record IsCreated (new : NewOrder) (draw : Draw) (before after : State) (made : OrderRows) : Type 0 where
+  pub put : State
+  pub is_order : order_row new before ≡ made.order
+  pub are_rows : rows_for draw before before.next.position 1 new.positions ≡ Ok made.positions
+  pub puts : with_positions made.positions (Ok (with_order_row made.order new.consume_carts before)) ≡ Ok put
+  pub not_over : first_over before.lists put.lists before.moment (map (λ p. Position p.id) made.positions) ≡ None
+  pub takes : (takes_order before && takes_positions (length made.positions) before) ≡ true
+  pub is_after : with_ids_used (length made.positions) put ≡ after
+
+module _ (new : NewOrder) (draw : Draw) (before after : State) (made : OrderRows) where
+  abbrev Gives : Result (State × OrderRows) OrderRefusal → Type 0
+  Gives result = result ≡ Ok (after, made)
+
+  module _ (rows : List OrderPos) (asked : rows_for draw before before.next.position 1 new.positions ≡ Ok rows) where
+    abbrev row : Order
+    row = order_row new before
+
+    with_tests : (put : State) → with_positions rows (Ok (with_order_row row new.consume_carts before)) ≡ Ok put → first_over before.lists put.lists before.moment (map (λ p. Position p.id) rows) ≡ None → (takes_order before && takes_positions (length rows) before) ≡ true → (let all : State × OrderRows = (with_ids_used (length rows) put, record { order = row; positions = rows }) in all ≡ (after, made)) → IsCreated new draw before after made
+    with_tests put puts over takes is =
+        let same : record { order = row; positions = rows } ≡ made = ap (λ (x : State × OrderRows). x.1) is in
+        let same_rows : rows ≡ made.positions = ap (λ (r : OrderRows). r.positions) same in
+        let same_order : row ≡ made.order = ap (λ (r : OrderRows). r.order) same in
+        record {
+          put = put;
+          is_order = same_order;
+          are_rows = subst (λ ps. rows_for draw before before.next.position 1 new.positions ≡ Ok ps) same_rows asked;
+          puts = subst (λ (r : OrderRows). with_positions r.positions (Ok (with_order_row r.order new.consume_carts before)) ≡ Ok put) same puts;
+          not_over = subst (λ (r : OrderRows). first_over before.lists put.lists before.moment (map (λ p. Position p.id) r.positions) ≡ None) same over;
+          takes = subst (λ (r : OrderRows). (takes_order before && takes_positions (length r.positions) before) ≡ true) same takes;
+          is_after = subst (λ (r : OrderRows). with_ids_used (length r.positions) put ≡ after) same (ap (λ (x : State × OrderRows). x.0) is);
+        }
+
+    by_room : (put : State) → with_positions rows (Ok (with_order_row row new.consume_carts before)) ≡ Ok put → first_over before.lists put.lists before.moment (map (λ p. Position p.id) rows) ≡ None → (takes : Bool) → (takes_order before && takes_positions (length rows) before) ≡ takes → Gives (if takes then Ok (with_ids_used (length rows) put, record { order = row; positions = rows }) else Err (OfVoucher (Catalogue Full))) → IsCreated new draw before after made
+    by_room put puts over true e h = with_tests put puts over e (ok_made _ (after, made) h)
+    by_room put puts over false e h = absurd (cc)
+
+    by_over : (put : State) → with_positions rows (Ok (with_order_row row new.consume_carts before)) ≡ Ok put → (over : Option ℕ) → first_over before.lists put.lists before.moment (map (λ p. Position p.id) rows) ≡ over → Gives (unless_over row rows before put over) → IsCreated new draw before after made
+    by_over put puts (Some quota) e h = absurd (cc)
+    by_over put puts None e h = by_room put puts e (takes_order before && takes_positions (length rows) before) refl h
+
+    by_puts : (puts : Result State OrderRefusal) → with_positions rows (Ok (with_order_row row new.consume_carts before)) ≡ puts → Gives (placed_with row rows before puts) → IsCreated new draw before after made
+    by_puts (Err refusal) e h = absurd (cc)
+    by_puts (Ok put) e h = by_over put e (first_over before.lists put.lists before.moment (map (λ p. Position p.id) rows)) refl h
+
+    placed_is : Gives (order_placed row rows new.consume_carts before) → IsCreated new draw before after made
+    unfolding order_placed
+    placed_is h = by_puts (with_positions rows (Ok (with_order_row row new.consume_carts before))) refl h
+
+  by_rows : (rows : Result (List OrderPos) OrderRefusal) → rows_for draw before before.next.position 1 new.positions ≡ rows → Gives (created_of new before rows) → IsCreated new draw before after made
+  by_rows (Err refusal) e h = absurd (cc)
+  by_rows (Ok rows) e h = placed_is rows e h
+
+  by_ids : (ids : Bool) → Gives (created_with_ids new draw before ids) → IsCreated new draw before after made
+  by_ids false h = absurd (cc)
+  by_ids true h = by_rows (rows_for draw before before.next.position 1 new.positions) refl h
+
+  by_counts : (counts : Result (Unit {0}) OrderRefusal) → Gives (created_if new draw before counts) → IsCreated new draw before after made
+  by_counts (Err refusal) h = absurd (cc)
+  by_counts (Ok _) h = by_ids (has_ids (length new.positions) before) h
+
+  pub created_is : Gives (order_created new draw before) → IsCreated new draw before after made
+  unfolding order_created
+  created_is h = by_counts (counts_test new) h
+
+  pub created_none_over : Gives (order_created new draw before) → first_over before.lists after.lists before.moment (map (λ p. Position p.id) made.positions) ≡ None
+  created_none_over h =
+      let m = created_is h in
+      subst (λ (s : State). first_over before.lists s.lists before.moment (map (λ p. Position p.id) made.positions) ≡ None) m.is_after m.not_over
+
+-- a put of a position, which had a use of its voucher left
+record IsPut (row : OrderPos) (state after : State) : Type 0 where
+  left : has_use state.moment state.lists row.voucher ≡ true
+  is : changed (PutPosition row) state ≡ after
+
+put_if : (row : OrderPos) (state after : State) (left : Bool) → has_use state.moment state.lists row.voucher ≡ left → (let put : Result State OrderRefusal = (if left then Ok (changed (PutPosition row) state) else Err (OfVoucher NoHeadroom)) in put ≡ Ok after) → IsPut row state after
+put_if row state after true e h = record { left = e; is = cc (h) }
+put_if row state after false e h = absurd (cc (h))
+
+put_is : (row : OrderPos) (state after : State) → position_put row state ≡ Ok after → IsPut row state after
+unfolding position_put
+put_is row state after h = put_if row state after (has_use state.moment state.lists row.voucher) refl h
+
+-- puts leave the moment
+puts_moment : (rows : List OrderPos) (state after : State) → with_positions rows (Ok state) ≡ Ok after → after.moment ≡ state.moment
+puts_moment [] state after h = let same : state ≡ after = cc (h) in ap (λ (s : State). s.moment) (sym same)
+puts_moment (row ∷ rows) state after h = by_put (position_put row state) refl h (λ made. puts_moment rows made after)
+  where
+    by_put : (put : Result State OrderRefusal) → position_put row state ≡ put → with_positions rows put ≡ Ok after → ((made : State) → with_positions rows (Ok made) ≡ Ok after → after.moment ≡ made.moment) → after.moment ≡ state.moment
+    by_put (Err refusal) e h more = absurd (cc (h))
+    by_put (Ok made) e h more = more made h ∙ ap (λ (s : State). s.moment) (sym (put_is row state made e).is)
+
+pub created_moment : (new : NewOrder) (draw : Draw) (before after : State) (made : OrderRows) → order_created new draw before ≡ Ok (after, made) → after.moment ≡ before.moment
+created_moment new draw before after made h =
+    let m = created_is new draw before after made h in
+    ap (λ (s : State). s.moment) (sym m.is_after) ∙ puts_moment made.positions (with_order_row made.order new.consume_carts before) m.put m.puts
+
+-- the box office without some cart positions sells the same
+carts_keep_quotas : (ids : List ℕ) (lists : Lists) → (after_all (map DropCart ids) lists).catalogue.quotas ≡ lists.catalogue.quotas
+carts_keep_quotas [] lists = refl
+carts_keep_quotas (id ∷ ids) lists = carts_keep_quotas ids (after_change (DropCart id) lists)
+
+carts_keep_vouchers : (ids : List ℕ) (lists : Lists) → (after_all (map DropCart ids) lists).vouchers ≡ lists.vouchers
+carts_keep_vouchers [] lists = refl
+carts_keep_vouchers (id ∷ ids) lists = carts_keep_vouchers ids (after_change (DropCart id) lists)
+
+-- an order that was put stands
+order_stands : (row : Order) (lists : Lists) → is_some (order_at row.id (after_change (PutOrder row) lists)) ≡ true
+order_stands row lists =
+    let e = row_at-with_row (λ (r : Order). r.id) row.id row lists.orders in
+    let found : order_at row.id (after_change (PutOrder row) lists) ≡ Some row = grind (arith, nat_tests, e) in
+    ap (λ (o : Option Order). is_some o) found
+
+-- each row is the order's, and its voucher is for its product
+abbrev IsOwn : Lists → ℕ → OrderPos → Type 0
+IsOwn lists number p = (p.order ≡ number) × (is_fit lists p.product p.voucher ≡ true)
+
+module _ (draw : Draw) (state : State) (order : AreInOrder (λ r. r.id) state.lists.vouchers) where
+  own_sold : (id number : ℕ) (asked : Asked) (sold : Result Sold VoucherRefusal) (row : OrderPos) → sold_for asked state ≡ sold → position_of_sold draw state.next.order id number sold ≡ Ok row → IsOwn state.lists state.next.order row
+  own_sold id number asked (Err refusal) row e h = absurd (cc (h))
+  own_sold id number asked (Ok sold) row e h =
+      let same : position_row draw state.next.order id number sold ≡ row = cc (h) in
+      subst (IsOwn state.lists state.next.order) same (refl, sold_fits asked state order sold e)
+
+  own_row : (id number : ℕ) (asked : Asked) (row : OrderPos) → position_for draw state id number asked ≡ Ok row → IsOwn state.lists state.next.order row
+  unfolding position_for
+  own_row id number asked row h = own_sold id number asked (sold_for asked state) row refl h
+
+  both : (id number : ℕ) (asked : Asked) (first : Result OrderPos OrderRefusal) → position_for draw state id number asked ≡ first → (rest : Result (List OrderPos) OrderRefusal) → ((rows : List OrderPos) → rest ≡ Ok rows → AllByRecursion (IsOwn state.lists state.next.order) rows) → (rows : List OrderPos) → and_rows first rest ≡ Ok rows → AllByRecursion (IsOwn state.lists state.next.order) rows
+  both id number asked (Err refusal) e rest more rows h = absurd (cc (h))
+  both id number asked (Ok row) e (Err refusal) more rows h = absurd (cc (h))
+  both id number asked (Ok row) e (Ok others) more rows h =
+      let same : (row ∷ others) ≡ rows = cc (h) in
+      subst (AllByRecursion (IsOwn state.lists state.next.order)) same (own_row id number asked row e, more others refl)
+
+  are_own : (id number : ℕ) (asked : List Asked) (rows : List OrderPos) → rows_for draw state id number asked ≡ Ok rows → AllByRecursion (IsOwn state.lists state.next.order) rows
+  are_own id number [] rows h = let same : [] ≡ rows = cc (h) in subst (AllByRecursion (IsOwn state.lists state.next.order)) same tt
+  are_own id number (entry ∷ more) rows h = both id number entry (position_for draw state id number entry) refl (rows_for draw state (id + 1) (number + 1) more) (are_own (id + 1) (number + 1) more) rows h
+
+-- the order's id is used, and the next position gets this one
+abbrev numbered : ℕ → State → State
+numbered id state = record state { next = record state.next { order = state.next.order + 1; position = id } }
+
+by_force : (force left : Bool) → left ≡ true → (not force || left) ≡ true
+by_force true left e = e
+by_force false left e = refl
+
+-- a box office stays sound as an order's positions are put
+module _ (lists : Lists) (number : ℕ) where
+  -- it sells the same, and the order stands
+  record Goes (id : ℕ) (state : State) : Type 0 where
+    quotas : lists.catalogue.quotas ≡ state.lists.catalogue.quotas
+    vouchers : lists.vouchers ≡ state.lists.vouchers
+    stands : is_some (order_at number state.lists) ≡ true
+    sound : IsSound (numbered id state)
+
+  goes_on : (id : ℕ) (row : OrderPos) (state : State) → row.id ≡ id → IsOwn lists number row → has_use state.moment state.lists row.voucher ≡ true → Goes id state → Goes (id + 1) (changed (PutPosition row) state)
+  goes_on id row state e own left g = record {
+    quotas = g.quotas;
+    vouchers = g.vouchers;
+    stands = g.stands;
+    sound = sound_position (numbered id state) row e
+        (ap (λ (n : ℕ). is_some (order_at n state.lists)) own.0 ∙ g.stands)
+        (fit_same lists state.lists g.quotas g.vouchers row.product row.voucher own.1)
+        (by_force (stands_as is_in_force (order_at row.order state.lists)) (has_use state.moment state.lists row.voucher) left)
+        g.sound;
+  }
+
+  puts_sound : (rows : List OrderPos) (id : ℕ) (state put : State) → AreCounted id rows → AllByRecursion (IsOwn lists number) rows → Goes id state → with_positions rows (Ok state) ≡ Ok put → IsSound (numbered (id + length rows) put)
+  puts_sound [] id state put counted own g h =
+      let same : state ≡ put = cc (h) in
+      let end : id ≡ id + 0 = omega arith in
+      subst (λ (n : ℕ). IsSound (numbered n put)) end (subst (λ (s : State). IsSound (numbered id s)) same g.sound)
+  puts_sound (row ∷ rows) id state put counted own g h = by_put (position_put row state) refl h (λ made on. puts_sound rows (id + 1) made put counted.1 own.1 on)
+    where
+      by_put : (done : Result State OrderRefusal) → position_put row state ≡ done → with_positions rows done ≡ Ok put → ((made : State) → Goes (id + 1) made → with_positions rows (Ok made) ≡ Ok put → IsSound (numbered (id + 1 + length rows) put)) → IsSound (numbered (id + length (row ∷ rows)) put)
+      by_put (Err refusal) e h more = absurd (cc (h))
+      by_put (Ok made) e h more =
+          let p = put_is row state made e in
+          let end : id + 1 + length rows ≡ id + length (row ∷ rows) = omega arith in
+          subst (λ (n : ℕ). IsSound (numbered n put)) end (more made (subst (Goes (id + 1)) p.is (goes_on id row state counted.0 own.0 p.left g)) h)
+
+-- a box office stays sound as an order is made
+pub created_sound : (new : NewOrder) (draw : Draw) (before after : State) (made : OrderRows) → IsSound before → order_created new draw before ≡ Ok (after, made) → IsSound after
+created_sound new draw before after made sound h =
+    let m = created_is new draw before after made h in
+    let ids = consumed new.consume_carts before.lists in
+    let start = before.next.position in
+    let state = with_order_row made.order new.consume_carts before in
+    let id : made.order.id ≡ before.next.order = sym (ap (λ (o : Order). o.id) m.is_order) in
+    let g : Goes before.lists before.next.order start state = record {
+      quotas = sym (carts_keep_quotas ids before.lists);
+      vouchers = sym (carts_keep_vouchers ids before.lists);
+      stands = subst (λ (n : ℕ). is_some (order_at n state.lists) ≡ true) id (order_stands made.order (without_carts ids before).lists);
+      sound = sound_order (without_carts ids before) made.order id (sound_drop_carts ids before sound);
+    } in
+    let next = puts_next made.positions state m.put m.puts in
+    let all = puts_sound before.lists before.next.order made.positions start state m.put (counted draw before start 1 new.positions made.positions m.are_rows) (are_own draw before sound.vouchers.in_order start 1 new.positions made.positions m.are_rows) g m.puts in
+    subst IsSound m.is_after (subst (λ (n : ℕ). IsSound (numbered n m.put)) (ap (λ (x : NextIds). x.position + length made.positions) (sym next)) all)

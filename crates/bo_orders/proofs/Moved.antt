@@ -1,0 +1,191 @@
+-- What is known where an order was moved.
+use Rattle.std.proofs.Common.{◌≡◌, ℕ, ◌≤◌, ◌⊎◌, inl, inr, Bool, true, false, map, Option, Some, None, Result, Ok, Err, refl, sym, ap, ◌∙◌, subst}
+use Rattle.std.specs.Prelude.{if◌then◌else◌}
+use Rattle.bo_catalogue.specs.declared.rows.Quota.{Quota}
+use Rattle.bo_catalogue.specs.CatalogueLists.{quota_at}
+use Rattle.bo_lists.specs.declared.rows.Order.{Order}
+use Rattle.bo_lists.specs.declared.rows.OrderRows.{OrderRows}
+use Rattle.bo_lists.specs.declared.rows.Own.TheVariants.{Position}
+use Rattle.bo_lists.specs.declared.changes.Change.TheVariants.{PutOrder}
+use Rattle.bo_lists.specs.Lists.{State, order_at, positions_of}
+use Rattle.bo_lists.specs.Change.{after_change, changed}
+use Rattle.bo_lists.specs.Fits.{AllExact}
+use Rattle.std.specs.List.{AllByRecursion}
+use Rattle.bo_lists.specs.Over.{first_over, ignores}
+use Rattle.bo_lists.specs.Sound.{IsSound}
+use Rattle.bo_lists.specs.Takes.{used, TakesNoMore}
+use Rattle.bo_lists.specs.Tests.{is_in_force}
+use Rattle.bo_lists.proofs.OrderLowers.{moved_order_lowers}
+use Rattle.bo_lists.proofs.SoundOrders.{sound_changed_order}
+use Rattle.bo_orders.specs.declared.moves.Move.{Move}
+use Rattle.bo_orders.specs.declared.moves.Turn.{Turn}
+use Rattle.bo_orders.specs.declared.refusal.OrderRefusal.{OrderRefusal}
+use Rattle.bo_orders.specs.declared.refusal.OrderRefusal.TheVariants.{Voucher as OfVoucher}
+use Rattle.bo_vouchers.specs.declared.refusal.VoucherRefusal.TheVariants.{NoHeadroom}
+use Rattle.bo_orders.specs.Moves.{turned, moved_row, have_uses_again, order_rows, moved_to, revived_unless_over, revival, moved_by, moved_at, order_moved}
+use Rattle.bo_orders.proofs.MoveLemmas.{found_id, kept_force}
+use Rattle.bo_orders.proofs.Revivals.{revival_takes_no_more}
+
+ok_moved : (a b : State × OrderRows) → (let all : Result (State × OrderRows) OrderRefusal = Ok a in all ≡ Ok b) → a ≡ b
+ok_moved a b h = cc
+
+some_order : (a b : Order) → (let found : Option Order = Some a in found ≡ Some b) → a ≡ b
+some_order a b h = cc
+
+-- the least quota of which an order takes too much as it comes back
+abbrev pub over_again : Order → State → Option ℕ
+over_again row state = first_over state.lists (after_change (PutOrder row) state.lists) state.moment (map (λ p. Position p.id) (positions_of row.id state.lists))
+
+-- the tests that an order that comes back passed, and the box office with it
+record IsRevived (row : Order) (before after : State) (rows : OrderRows) : Type 0 where
+  uses : have_uses_again row before ≡ true
+  not_over : over_again row before ≡ None
+  is : moved_to row before ≡ (after, rows)
+
+-- the order as it stood, what the move makes of it, the tests that it passed if it comes back, and the box office with it
+pub record IsMoved (number : ℕ) (change : Move) (before after : State) (rows : OrderRows) : Type 0 where
+  pub old : Order
+  pub turn : Turn
+  pub stood : order_at number before.lists ≡ Some old
+  pub turns : turned old.status change ≡ Some turn
+  pub is_row : moved_row old turn.status change ≡ rows.order
+  pub is_rows : order_rows rows.order before ≡ rows
+  pub is_after : changed (PutOrder rows.order) before ≡ after
+  pub uses : turn.revival ≡ true → have_uses_again rows.order before ≡ true
+  pub not_over : turn.revival ≡ true → over_again rows.order before ≡ None
+
+module _ (number : ℕ) (change : Move) (before after : State) (rows : OrderRows) where
+  abbrev Gives : Result (State × OrderRows) OrderRefusal → Type 0
+  Gives result = result ≡ Ok (after, rows)
+
+  by_over : (row : Order) (over : Option ℕ) → over_again row before ≡ over → have_uses_again row before ≡ true → Gives (revived_unless_over row before over) → IsRevived row before after rows
+  by_over row (Some quota) e uses h = absurd (cc)
+  by_over row None e uses h = record { uses = uses; not_over = e; is = ok_moved (moved_to row before) (after, rows) h }
+
+  by_uses : (row : Order) (uses : Bool) → have_uses_again row before ≡ uses → Gives (if uses then revived_unless_over row before (over_again row before) else Err (OfVoucher NoHeadroom)) → IsRevived row before after rows
+  by_uses row false e h = absurd (cc)
+  by_uses row true e h = by_over row (over_again row before) refl e h
+
+  revived_is : (row : Order) → Gives (revival row before) → IsRevived row before after rows
+  unfolding revival
+  revived_is row h = by_uses row (have_uses_again row before) refl h
+
+  module _ (old : Order) (stood : order_at number before.lists ≡ Some old) where
+    abbrev asked : Turn → Order
+    asked turn = moved_row old turn.status change
+
+    with_tests : (turn : Turn) → turned old.status change ≡ Some turn → moved_to (asked turn) before ≡ (after, rows) → (turn.revival ≡ true → have_uses_again (asked turn) before ≡ true) → (turn.revival ≡ true → over_again (asked turn) before ≡ None) → IsMoved number change before after rows
+    with_tests turn turns is uses not_over =
+        let same : order_rows (asked turn) before ≡ rows = ap (λ (x : State × OrderRows). x.1) is in
+        let row : asked turn ≡ rows.order = ap (λ (r : OrderRows). r.order) same in
+        record {
+          old = old;
+          turn = turn;
+          stood = stood;
+          turns = turns;
+          is_row = row;
+          is_rows = ap (λ (o : Order). order_rows o before) (sym row) ∙ same;
+          is_after = ap (λ (o : Order). changed (PutOrder o) before) (sym row) ∙ ap (λ (x : State × OrderRows). x.0) is;
+          uses = λ e. subst (λ (o : Order). have_uses_again o before ≡ true) row (uses e);
+          not_over = λ e. subst (λ (o : Order). over_again o before ≡ None) row (not_over e);
+        }
+
+    by_revival : (turn : Turn) → turned old.status change ≡ Some turn → (back : Bool) → turn.revival ≡ back → Gives (if back then revival (asked turn) before else Ok (moved_to (asked turn) before)) → IsMoved number change before after rows
+    by_revival turn turns true is h =
+        let r = revived_is (asked turn) h in
+        with_tests turn turns r.is (λ e. r.uses) (λ e. r.not_over)
+    by_revival turn turns false is h = with_tests turn turns (ok_moved (moved_to (asked turn) before) (after, rows) h) (λ e. absurd (cc (e, is))) (λ e. absurd (cc (e, is)))
+
+    by_turn : (turn : Option Turn) → turned old.status change ≡ turn → Gives (moved_by old change before turn) → IsMoved number change before after rows
+    by_turn None e h = absurd (cc)
+    by_turn (Some turn) e h = by_revival turn e turn.revival refl h
+
+  by_order : (found : Option Order) → order_at number before.lists ≡ found → Gives (moved_at change before found) → IsMoved number change before after rows
+  by_order None e h = absurd (cc)
+  by_order (Some old) e h = by_turn old e (turned old.status change) refl h
+
+  pub moved_is : Gives (order_moved number change before) → IsMoved number change before after rows
+  unfolding order_moved
+  moved_is h = by_order (order_at number before.lists) refl h
+
+  pub moved_moment : Gives (order_moved number change before) → after.moment ≡ before.moment
+  moved_moment h = sym (ap (λ (s : State). s.moment) (moved_is h).is_after)
+
+  -- the order stood under its number
+  stood_as : (m : IsMoved number change before after rows) → order_at rows.order.id before.lists ≡ Some m.old
+  stood_as m =
+      let id : m.old.id ≡ number = found_id number before.lists.orders m.old m.stood in
+      let row : rows.order.id ≡ m.old.id = sym (ap (λ (o : Order). o.id) m.is_row) in
+      ap (λ n. order_at n before.lists) (row ∙ id) ∙ m.stood
+
+  status_is : (m : IsMoved number change before after rows) → rows.order.status ≡ m.turn.status
+  status_is m = sym (ap (λ (o : Order). o.status) m.is_row)
+
+  -- it isn't in force afterwards, or it was before
+  keeps_force : (m : IsMoved number change before after rows) → m.turn.revival ≡ false → (is_in_force rows.order.status ≡ false) ⊎ (is_in_force m.old.status ≡ true)
+  keeps_force m plain = by_force (is_in_force rows.order.status) refl
+    where
+      by_force : (force : Bool) → is_in_force rows.order.status ≡ force → (is_in_force rows.order.status ≡ false) ⊎ (is_in_force m.old.status ≡ true)
+      by_force false e = inl e
+      by_force true e = inr (kept_force m.old.status change m.turn m.turns plain (ap (λ s. is_in_force s) (sym (status_is m)) ∙ e))
+
+  -- the box office stays sound
+  pub moved_sound : IsSound before → Gives (order_moved number change before) → IsSound after
+  moved_sound sound h = subst IsSound m.is_after (by_back m.turn.revival refl)
+    where
+      m : IsMoved number change before after rows
+      m = moved_is h
+
+      stood : order_at rows.order.id before.lists ≡ Some m.old
+      stood = stood_as m
+
+      by_plain : (is_in_force rows.order.status ≡ false) ⊎ (is_in_force m.old.status ≡ true) → IsSound (changed (PutOrder rows.order) before)
+      by_plain (inl ended) = sound_changed_order before rows.order m.old stood sound (inl ended)
+      by_plain (inr kept) = sound_changed_order before rows.order m.old stood sound (inr (inl kept))
+
+      by_back : (back : Bool) → m.turn.revival ≡ back → IsSound (changed (PutOrder rows.order) before)
+      by_back true is = sound_changed_order before rows.order m.old stood sound (inr (inr (m.uses is)))
+      by_back false is = by_plain (keeps_force m is)
+
+  -- an order that isn't in force, and is afterwards, comes back
+  comes_back : (m : IsMoved number change before after rows) → is_in_force m.old.status ≡ false → is_in_force rows.order.status ≡ true → m.turn.revival ≡ true
+  comes_back m ended force = by_back m.turn.revival refl
+    where
+      by_back : (back : Bool) → m.turn.revival ≡ back → m.turn.revival ≡ true
+      by_back true is = is
+      by_back false is =
+          let kept = kept_force m.old.status change m.turn m.turns is (ap (λ s. is_in_force s) (sym (status_is m)) ∙ force) in
+          absurd (cc (kept, ended))
+
+  its_old : (m : IsMoved number change before after rows) (old : Order) → order_at number before.lists ≡ Some old → is_in_force m.old.status ≡ is_in_force old.status
+  its_old m old stood =
+      let same : m.old ≡ old = some_order m.old old (sym m.stood ∙ stood) in
+      ap (λ (o : Order). is_in_force o.status) same
+
+  -- an order that comes back takes too much of no quota
+  pub revived_none_over : (old : Order) → order_at number before.lists ≡ Some old → is_in_force old.status ≡ false → is_in_force rows.order.status ≡ true → Gives (order_moved number change before) → first_over before.lists after.lists before.moment (map (λ p. Position p.id) rows.positions) ≡ None
+  revived_none_over old stood ended force h =
+      let m = moved_is h in
+      let weighed = m.not_over (comes_back m (its_old m old stood ∙ ended) force) in
+      let later = ap (λ (s : State). first_over before.lists s.lists before.moment (map (λ p. Position p.id) rows.positions)) (sym m.is_after) in
+      later ∙ ap (λ ps. first_over before.lists (after_change (PutOrder rows.order) before.lists) before.moment (map (λ p. Position p.id) ps)) (sym (ap (λ (r : OrderRows). r.positions) m.is_rows)) ∙ weighed
+
+  -- and where the vouchers of its positions heed quotas, what is used is within the size or no more than before
+  pub revived_takes_no_more : (old : Order) → IsSound before → order_at number before.lists ≡ Some old → is_in_force old.status ≡ false → is_in_force rows.order.status ≡ true → AllByRecursion (λ p. ignores after.lists p.voucher ≡ false) rows.positions → Gives (order_moved number change before) → TakesNoMore before after
+  revived_takes_no_more old sound stood ended force heed h =
+      let m = moved_is h in
+      let weighed = m.not_over (comes_back m (its_old m old stood ∙ ended) force) in
+      let in_before = subst (λ (s : State). AllByRecursion (λ p. ignores s.lists p.voucher ≡ false) rows.positions) (sym m.is_after) heed in
+      let own = subst (λ ps. AllByRecursion (λ p. ignores before.lists p.voucher ≡ false) ps) (sym (ap (λ (r : OrderRows). r.positions) m.is_rows)) in_before in
+      subst (λ (s : State). TakesNoMore before s) m.is_after (revival_takes_no_more before rows.order sound.positions.in_order own weighed)
+
+  -- any other move raises no usage of a quota that stands
+  pub moved_lowers : (old : Order) (quota : Quota) → IsSound before → AllExact before.lists → quota_at quota.id before.lists.catalogue ≡ Some quota → order_at number before.lists ≡ Some old → (is_in_force old.status ≡ true) ⊎ (is_in_force rows.order.status ≡ false) → Gives (order_moved number change before) → used after quota ≤ used before quota
+  moved_lowers old quota sound exact stands stood which h = subst (λ (s : State). used s quota ≤ used before quota) m.is_after (by_which which)
+    where
+      m : IsMoved number change before after rows
+      m = moved_is h
+
+      by_which : (is_in_force old.status ≡ true) ⊎ (is_in_force rows.order.status ≡ false) → used (changed (PutOrder rows.order) before) quota ≤ used before quota
+      by_which (inl kept) = moved_order_lowers before rows.order m.old quota (stood_as m) stands (inr (its_old m old stood ∙ kept)) exact sound
+      by_which (inr ended) = moved_order_lowers before rows.order m.old quota (stood_as m) stands (inl ended) exact sound

@@ -1,0 +1,111 @@
+-- The rows of a new order: their ids count on, and each of them can be put.
+use Rattle.std.proofs.Common.{◌≡◌, ℕ, ◌+◌, ◌<◌, ◌≤◌, Bool, true, false, List, [], ◌∷◌, Option, Some, None, Result, Ok, Err, refl, sym, ap, ◌∙◌, subst, arith}
+use Rattle.std.specs.Prelude.{◌||◌, ◌&&◌, not, if◌then◌else◌}
+use Rattle.std.specs.List.{AllByRecursion}
+use Rattle.bo_base.specs.declared.draw.Draw.{Draw}
+use Rattle.bo_lists.specs.declared.rows.Order.{Order}
+use Rattle.bo_lists.specs.declared.rows.OrderPos.{OrderPos}
+use Rattle.bo_lists.specs.declared.changes.Change.TheVariants.{PutOrder, PutPosition}
+use Rattle.std.proofs.lemmas.Bool.Decides.{nat_tests}
+use Rattle.bo_lists.specs.Tests.{is_in_force}
+use Rattle.bo_lists.specs.Usage.{stands_as}
+use Rattle.bo_lists.specs.Lists.{State, order_at, position_at}
+use Rattle.bo_lists.specs.Change.{changed, without_carts, after_change}
+use Rattle.bo_lists.specs.Consumed.{consumed}
+use Rattle.bo_lists.specs.Full.{takes_order, takes_positions}
+use Rattle.bo_lists.specs.Headroom.{has_use, AllHaveHeadroom}
+use Rattle.bo_lists.specs.Sound.{IsSound, AreNumbered}
+use Rattle.bo_lists.proofs.OrderHeadroom.{headroom_position}
+use Rattle.bo_lists.proofs.EachRow.{numbered_put, next_absent}
+use Rattle.bo_lists.proofs.SoundOrders.{sound_order, sound_drop_carts}
+use Rattle.bo_orders.specs.declared.sold.Asked.{Asked}
+use Rattle.bo_orders.specs.declared.refusal.OrderRefusal.{OrderRefusal}
+use Rattle.bo_orders.specs.declared.refusal.OrderRefusal.TheVariants.{Voucher as OfVoucher}
+use Rattle.bo_orders.specs.declared.sold.Sold.{Sold}
+use Rattle.bo_vouchers.specs.declared.refusal.VoucherRefusal.{VoucherRefusal}
+use Rattle.bo_vouchers.specs.declared.refusal.VoucherRefusal.TheVariants.{NoHeadroom}
+use Rattle.bo_orders.specs.Sold.{sold_for}
+use Rattle.bo_orders.specs.Created.{IsReady, AreCounted, with_order_row, position_put, position_row, position_of_sold, position_for, after_rows, and_rows, rows_for, with_positions}
+
+-- an order of the next id can be put
+pub order_headroom : (row : Order) (ids : List ℕ) (state : State) → row.id ≡ state.next.order → IsSound state → AllHaveHeadroom state.moment (after_change (PutOrder row) (without_carts ids state).lists)
+order_headroom row ids state e h = (sound_order (without_carts ids state) row e (sound_drop_carts ids state h)).headroom
+
+pub carts_headroom : (ids : List ℕ) (state : State) → IsSound state → AllHaveHeadroom state.moment (without_carts ids state).lists
+carts_headroom ids state h = (sound_drop_carts ids state h).headroom
+
+-- and then a position of the next id
+pub ready_order : (row : Order) (carts : List (List ℕ)) (state : State) → row.id ≡ state.next.order → IsSound state → IsReady state.next.position (with_order_row row carts state)
+ready_order row carts state e h =
+    let ids = consumed carts state.lists in
+    let made = sound_order (without_carts ids state) row e (sound_drop_carts ids state h) in
+    record { positions = made.positions; vouchers = made.vouchers.in_order; headroom = made.headroom }
+
+by_force : (force left : Bool) → left ≡ true → (not force || left) ≡ true
+by_force true left e = e
+by_force false left e = refl
+
+-- nothing has the id of a position that can be put
+pub ready_absent : (row : OrderPos) (state : State) → IsReady row.id state → position_at row.id state.lists ≡ None
+ready_absent row state h = next_absent (λ (r : OrderPos). r.id) row.id state.lists.positions h.positions.below
+
+pub put_headroom : (row : OrderPos) (state : State) → IsReady row.id state → has_use state.moment state.lists row.voucher ≡ true → AllHaveHeadroom state.moment (after_change (PutPosition row) state.lists)
+put_headroom row state h left = headroom_position state.moment row state.lists h.positions.in_order h.vouchers (by_force (stands_as is_in_force (order_at row.order state.lists)) (has_use state.moment state.lists row.voucher) left) h.headroom
+
+-- and then the next one can be
+ready_put : (row : OrderPos) (state : State) → IsReady row.id state → has_use state.moment state.lists row.voucher ≡ true → IsReady (row.id + 1) (changed (PutPosition row) state)
+ready_put row state h left = record { positions = numbered_put (λ r. r.id) row row.id state.lists.positions refl h.positions; vouchers = h.vouchers; headroom = put_headroom row state h left }
+
+ready_if : (row : OrderPos) (state after : State) (left : Bool) → has_use state.moment state.lists row.voucher ≡ left → (let put : Result State OrderRefusal = (if left then Ok (changed (PutPosition row) state) else Err (OfVoucher NoHeadroom)) in put ≡ Ok after) → IsReady row.id state → IsReady (row.id + 1) after
+ready_if row state after true e h ready = let same : changed (PutPosition row) state ≡ after = cc (h) in subst (IsReady (row.id + 1)) same (ready_put row state ready e)
+ready_if row state after false e h ready = absurd (cc (h))
+
+pub ready_next : (row : OrderPos) (state after : State) → position_put row state ≡ Ok after → IsReady row.id state → IsReady (row.id + 1) after
+unfolding position_put
+ready_next row state after h ready = ready_if row state after (has_use state.moment state.lists row.voucher) refl h ready
+
+-- the ids of the rows that are asked for count on
+module _ (draw : Draw) (state : State) where
+  counted_sold : (id number : ℕ) (sold : Result Sold VoucherRefusal) (row : OrderPos) → position_of_sold draw state.next.order id number sold ≡ Ok row → row.id ≡ id
+  counted_sold id number (Err refusal) row h = absurd (cc (h))
+  counted_sold id number (Ok sold) row h = let same : position_row draw state.next.order id number sold ≡ row = cc (h) in ap (λ (r : OrderPos). r.id) (sym same)
+
+  counted_row : (id number : ℕ) (asked : Asked) (row : OrderPos) → position_for draw state id number asked ≡ Ok row → row.id ≡ id
+  unfolding position_for
+  counted_row id number asked row h = counted_sold id number (sold_for asked state) row h
+
+  both : (id number : ℕ) (asked : Asked) (first : Result OrderPos OrderRefusal) → position_for draw state id number asked ≡ first → (rest : Result (List OrderPos) OrderRefusal) → ((rows : List OrderPos) → rest ≡ Ok rows → AreCounted (id + 1) rows) → (rows : List OrderPos) → and_rows first rest ≡ Ok rows → AreCounted id rows
+  both id number asked (Err refusal) e rest more rows h = absurd (cc (h))
+  both id number asked (Ok row) e (Err refusal) more rows h = absurd (cc (h))
+  both id number asked (Ok row) e (Ok rest_rows) more rows h =
+      let same : (row ∷ rest_rows) ≡ rows = cc (h) in
+      subst (AreCounted id) same (counted_row id number asked row e, more rest_rows refl)
+
+  pub counted : (id number : ℕ) (asked : List Asked) (rows : List OrderPos) → rows_for draw state id number asked ≡ Ok rows → AreCounted id rows
+  counted id number [] rows h = let same : [] ≡ rows = cc (h) in subst (AreCounted id) same tt
+  counted id number (entry ∷ more) rows h = both id number entry (position_for draw state id number entry) refl (rows_for draw state (id + 1) (number + 1) more) (counted (id + 1) (number + 1) more) rows h
+
+-- a put of a position leaves the next ids
+next_if : (row : OrderPos) (state after : State) (left : Bool) → (let put : Result State OrderRefusal = (if left then Ok (changed (PutPosition row) state) else Err (OfVoucher NoHeadroom)) in put ≡ Ok after) → after.next ≡ state.next
+next_if row state after true h = let same : changed (PutPosition row) state ≡ after = cc (h) in ap (λ (s : State). s.next) (sym same)
+next_if row state after false h = absurd (cc (h))
+
+put_next : (row : OrderPos) (state after : State) → position_put row state ≡ Ok after → after.next ≡ state.next
+unfolding position_put
+put_next row state after h = next_if row state after (has_use state.moment state.lists row.voucher) h
+
+-- and so do puts of several
+pub puts_next : (rows : List OrderPos) (state after : State) → with_positions rows (Ok state) ≡ Ok after → after.next ≡ state.next
+puts_next [] state after h = let same : state ≡ after = cc (h) in ap (λ (s : State). s.next) (sym same)
+puts_next (row ∷ rows) state after h = by_put (position_put row state) refl h (λ made. puts_next rows made after)
+  where
+    by_put : (put : Result State OrderRefusal) → position_put row state ≡ put → with_positions rows put ≡ Ok after → ((made : State) → with_positions rows (Ok made) ≡ Ok after → after.next ≡ made.next) → after.next ≡ state.next
+    by_put (Err refusal) e h more = absurd (cc (h))
+    by_put (Ok made) e h more = more made h ∙ put_next row state made e
+
+-- one row more of those that are put
+pub counted_more : (id : ℕ) (row : OrderPos) (rows rest : List OrderPos) → rows ≡ row ∷ rest → AreCounted id rows → (row.id ≡ id) × AreCounted (id + 1) rest
+counted_more id row rows rest e h = subst (AreCounted id) e h
+
+pub takes_ids : (count : ℕ) (state : State) → (takes_order state && takes_positions count state) ≡ true → (state.next.order < 9007199254740992) × (state.next.position + count ≤ 9007199254740992)
+takes_ids count state h = (grind (arith, nat_tests, h), grind (arith, nat_tests, h))

@@ -1,0 +1,12 @@
+use Rattle.std.proofs.Common.{◌≡◌, ◌+◌, drop, Ok}
+use Rattle.bo_draft.specs.DraftState.{now, Extends}
+use Rattle.bo_orders.specs.Created.{with_positions, IsReady, AreCounted}
+use Rattle.bo_orders.proofs.creating.put_positions.Given as goal
+
+abbrev pub invariant-loop-row : goal.invariant-loop-row
+invariant-loop-row g l = record {
+  rest : with_positions (drop l.row-index l.rows) (Ok (now l.draft)) ≡ with_positions l.rows (Ok (now l.fn.draft));
+  ready : IsReady (l.first + l.row-index) (now l.draft);
+  counted : AreCounted (l.first + l.row-index) (drop l.row-index l.rows);
+  extends : Extends l.fn.draft l.draft;
+}

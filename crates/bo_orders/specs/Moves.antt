@@ -1,0 +1,88 @@
+-- The moves of an order.
+use Rattle.std.specs.Prelude.{ℕ, Bool, true, false, map, Option, Some, None, Result, Ok, Err, if◌then◌else◌}
+use Rattle.bo_lists.specs.declared.rows.Order.{Order}
+use Rattle.bo_lists.specs.declared.rows.OrderRows.{OrderRows}
+use Rattle.bo_lists.specs.declared.rows.Own.TheVariants.{Position}
+use Rattle.bo_lists.specs.declared.rows.Status.{Status}
+use Rattle.bo_lists.specs.declared.rows.Status.TheVariants.{Pending, Paid, Expired, Cancelled}
+use Rattle.bo_lists.specs.declared.changes.Change.TheVariants.{PutOrder}
+use Rattle.bo_lists.specs.Lists.{State, order_at, positions_of}
+use Rattle.bo_lists.specs.Change.{after_change, changed}
+use Rattle.bo_lists.specs.Headroom.{have_room}
+use Rattle.bo_lists.specs.Over.{first_over}
+use Rattle.bo_vouchers.specs.declared.refusal.VoucherRefusal.TheVariants.{NoHeadroom, SoldOut}
+use Rattle.bo_orders.specs.declared.moves.Move.{Move}
+use Rattle.bo_orders.specs.declared.moves.Move.TheVariants.{MarkPaid, MarkPending, MarkExpired, MarkCanceled, Extend}
+use Rattle.bo_orders.specs.declared.moves.Turn.{Turn}
+use Rattle.bo_orders.specs.declared.refusal.OrderRefusal.{OrderRefusal}
+use Rattle.bo_orders.specs.declared.refusal.OrderRefusal.TheVariants.{Voucher as OfVoucher, NoOrder, WrongStatus}
+
+abbrev pub to : Status → Option Turn
+to status = Some (record { status = status; revival = false })
+
+abbrev pub revived : Status → Option Turn
+revived status = Some (record { status = status; revival = true })
+
+-- what each move makes of an order of each status: the status that follows, or none where it isn't possible
+abbrev pub turned : Status → Move → Option Turn
+turned Pending MarkPaid = to Paid
+turned Pending MarkExpired = to Expired
+turned Pending MarkCanceled = to Cancelled
+turned Pending (Extend end) = to Pending
+turned Pending MarkPending = None
+turned Paid MarkPending = to Pending
+turned Paid MarkCanceled = to Cancelled
+turned Paid MarkPaid = None
+turned Paid MarkExpired = None
+turned Paid (Extend end) = None
+turned Expired MarkPaid = revived Paid
+turned Expired MarkCanceled = to Cancelled
+turned Expired (Extend end) = revived Pending
+turned Expired MarkPending = None
+turned Expired MarkExpired = None
+turned Cancelled change = None
+
+-- the end that a move sets
+abbrev pub end_after : Move → ℕ → ℕ
+end_after (Extend end) old = end
+end_after change old = old
+
+abbrev pub moved_row : Order → Status → Move → Order
+moved_row order status change = record order { status = status; expires = end_after change order.expires }
+
+-- the vouchers of the order's positions have the uses that it takes again
+abbrev pub have_uses_again : Order → State → Bool
+have_uses_again row state = have_room state.moment (after_change (PutOrder row) state.lists) (positions_of row.id state.lists)
+
+abbrev pub order_rows : Order → State → OrderRows
+order_rows row state = record { order = row; positions = positions_of row.id state.lists }
+
+abbrev pub moved_to : Order → State → State × OrderRows
+moved_to row state = (changed (PutOrder row) state, order_rows row state)
+
+abbrev pub revived_unless_over : Order → State → Option ℕ → Result (State × OrderRows) OrderRefusal
+revived_unless_over row state (Some quota) = Err (OfVoucher (SoldOut quota))
+revived_unless_over row state None = Ok (moved_to row state)
+
+-- an order that comes back to life is tested for the uses and the places that it takes again
+unfoldable pub revival : Order → State → Result (State × OrderRows) OrderRefusal
+revival row state =
+    if have_uses_again row state then revived_unless_over row state (first_over state.lists (after_change (PutOrder row) state.lists) state.moment (map (λ p. Position p.id) (positions_of row.id state.lists)))
+    else Err (OfVoucher NoHeadroom)
+
+abbrev pub moved_as : Order → Move → State → Turn → Result (State × OrderRows) OrderRefusal
+moved_as order change state turn =
+    let row = moved_row order turn.status change in
+    if turn.revival then revival row state else Ok (moved_to row state)
+
+abbrev pub moved_by : Order → Move → State → Option Turn → Result (State × OrderRows) OrderRefusal
+moved_by order change state None = Err (WrongStatus order.status)
+moved_by order change state (Some turn) = moved_as order change state turn
+
+abbrev pub moved_at : Move → State → Option Order → Result (State × OrderRows) OrderRefusal
+moved_at change state None = Err NoOrder
+moved_at change state (Some order) = moved_by order change state (turned order.status change)
+
+-- the box office with the moved order, and that order with its positions, or the first refusal
+unfoldable pub order_moved : ℕ → Move → State → Result (State × OrderRows) OrderRefusal
+order_moved number change state = moved_at change state (order_at number state.lists)

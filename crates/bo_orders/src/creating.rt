@@ -1,0 +1,301 @@
+//! Making an order.
+
+ghost use Rattle.std.specs.Prelude.{◌≡◌, ◌≢◌, ◌≤◌, ◌+◌, Ok, Err, IfOk, IfErr, OnOk, OnErr, ◌&&◌, [], length, map};
+ghost use Rattle.bo_draft.specs.DraftState.{now, Extends};
+ghost use Rattle.bo_lists.specs.Change.{without_carts};
+ghost use Rattle.bo_lists.specs.Full.{takes_order, takes_positions};
+ghost use Rattle.bo_lists.specs.Sound.{IsSound};
+ghost use Rattle.bo_lists.specs.declared.rows.Own.TheVariants.{Position};
+ghost use Rattle.bo_orders.specs.Created.{order_created, counts_test, has_ids, order_row, position_for, rows_for, position_put, with_positions, with_order_row, order_placed, IsReady, AreCounted};
+
+use crate::new_order::NewOrder;
+use crate::refusal::OrderRefusal;
+use crate::sold::{Asked, sold_for};
+use bo_base::{Draw, List, Text, secret};
+use bo_catalogue::{CatalogueRefusal, LAST_ID};
+use bo_draft::Draft;
+use bo_lists::{Order, OrderPos, OrderRows, Own, Status};
+use bo_usage::Book;
+use bo_vouchers::VoucherRefusal;
+use std::alloc::{AllocError, Global};
+
+// How many positions and how many cart ids a request for an order may have.
+const MOST_POSITIONS: usize = 500;
+
+/// Makes an order, in a draft without changes, and answers a copy of it with its positions. The carts that it names are
+/// consumed: all their positions go, exactly if the order is made, and uses and places are tested without them.
+/// Refusals, in this order: 43 `Empty`; 44 `TooMany` of more than 500 positions or cart ids; 16 `Full` where there are
+/// no ids for the positions; position by position 10 `NoItem`, 11 `NoVariation`, 12 `NeedsVariation`, 15 `Inactive`,
+/// 18 `NotSold`, 23 `NoVoucher`, 24 `VoucherExpired`, 26 `WrongProduct`; then for the whole order 25 `NoHeadroom`,
+/// 28 `SoldOut` with the least quota of which it takes too much, 16 `Full`.
+#[tactic(auto, unfolding(crate::specs::Created::order_created), using(crate::proofs::Rows::counted))]
+pub fn create<B: Book>(
+    draft: &mut Draft<'_, B>,
+    alloc: Global,
+    draw: Draw,
+    new: &NewOrder,
+) -> Result<OrderRows, OrderRefusal>
+    requires fresh { draft.old.log.changes ≡ [] }
+    requires sound { IsSound (now draft.old) }
+    ensures done { IfOk result (λ rows. order_created new.now draw (now draft.old) ≡ Ok (now draft.new, rows)) }
+    ensures refused { IfErr result (λ e. e ≢ OrderRefusal.Memory → order_created new.now draw (now draft.old) ≡ Err e) }
+    ensures extends { Extends draft.old draft.new }
+    ensures same { OnErr result (draft.new ≡ draft.old) }
+{
+    test_counts(new)?;
+    if !has_ids(draft, new.positions.as_slice().len()) {
+        return Err(OrderRefusal::Voucher(VoucherRefusal::Catalogue(CatalogueRefusal::Full)));
+    }
+    let rows = new_rows(draft, alloc, draw, new.positions.as_slice())?;
+    let order = new_order(draft, alloc, new)?;
+    place(draft, alloc, new.consume_carts.as_slice(), order, rows)
+}
+
+// An order has a position, and neither too many positions nor too many cart ids.
+fn test_counts(new: &NewOrder) -> Result<(), OrderRefusal>
+    ensures { result ≡ counts_test new.now }
+{
+    let count = new.positions.as_slice().len();
+    if count == 0 {
+        return Err(OrderRefusal::Empty);
+    }
+    if MOST_POSITIONS < count {
+        return Err(OrderRefusal::TooMany);
+    }
+    if MOST_POSITIONS < new.consume_carts.as_slice().len() {
+        return Err(OrderRefusal::TooMany);
+    }
+    Ok(())
+}
+
+// Whether there are ids for so many more order positions.
+fn has_ids<B: Book>(draft: &Draft<'_, B>, count: usize) -> bool
+    requires { count ≤ 500 }
+    ensures { result ≡ has_ids count (now draft.now) }
+{
+    draft.next_position() <= LAST_ID + 1 - count as u64
+}
+
+// The order's row.
+fn new_order<B: Book>(
+    draft: &Draft<'_, B>,
+    alloc: Global,
+    new: &NewOrder,
+) -> Result<Order, AllocError>
+    ensures { IfOk result (λ row. row ≡ order_row new.now (now draft.now)) }
+{
+    let email = match &new.email {
+        None => None,
+        Some(email) => Some(email.copy(alloc)?),
+    };
+    Ok(Order {
+        id: draft.next_order(),
+        email,
+        status: if new.paid {
+            Status::Paid
+        } else {
+            Status::Pending
+        },
+        made_at: draft.moment(),
+        expires: new.expires.unwrap_or(draft.moment().later(1209600)),
+    })
+}
+
+// The row of one position that is asked for.
+#[tactic(auto, unfolding(crate::specs::Created::position_for))]
+fn new_row<B: Book>(
+    draft: &Draft<'_, B>,
+    alloc: Global,
+    draw: Draw,
+    id: u64,
+    number: u32,
+    asked: &Asked,
+) -> Result<OrderPos, OrderRefusal>
+    requires { (now draft.now).lists.vouchers ≡ draft.now.log.base.vouchers }
+    ensures done { IfOk result (λ row. position_for draw (now draft.now) id number asked.now ≡ Ok row) }
+    ensures refused { IfErr result (λ e. e ≢ OrderRefusal.Memory → position_for draw (now draft.now) id number asked.now ≡ Err e) }
+{
+    let sold = sold_for(draft, asked)?;
+    Ok(OrderPos {
+        id,
+        order: draft.next_order(),
+        positionid: number,
+        product: sold.product,
+        price: sold.price,
+        voucher: sold.voucher,
+        secret: secret(alloc, draw, draft.next_order(), number)?,
+    })
+}
+
+// The rows of all that is asked for, or the first refusal.
+fn new_rows<B: Book>(
+    draft: &Draft<'_, B>,
+    alloc: Global,
+    draw: Draw,
+    asked: &[Asked],
+) -> Result<Vec<OrderPos>, OrderRefusal>
+    requires vouchers { (now draft.now).lists.vouchers ≡ draft.now.log.base.vouchers }
+    requires few { length asked.now ≤ 500 }
+    requires ids { (now draft.now).next.position + length asked.now ≤ 9007199254740992 }
+    ensures done { IfOk result (λ rows. rows_for draw (now draft.now) (now draft.now).next.position 1 asked.now ≡ Ok rows.items) }
+    ensures refused { IfErr result (λ e. e ≢ OrderRefusal.Memory → rows_for draw (now draft.now) (now draft.now).next.position 1 asked.now ≡ Err e) }
+{
+    let mut rows = Vec::new(alloc);
+    let mut id = draft.next_position();
+    let mut number = 1;
+    for entry in asked {
+        rows.push(new_row(draft, alloc, draw, id, number, entry)?)
+            .map_err(AllocError::from)?;
+        id += 1;
+        number += 1;
+    }
+    Ok(rows)
+}
+
+// Drops the cart positions of these ids.
+fn drop_carts<B: Book>(
+    draft: &mut Draft<'_, B>,
+    alloc: Global,
+    ids: &[u64],
+) -> Result<(), AllocError>
+    ensures done { OnOk result (now draft.new ≡ without_carts ids.now (now draft.old)) }
+    ensures extends { Extends draft.old draft.new }
+{
+    for id in ids {
+        draft.drop_cart(alloc, *id)?;
+    }
+    Ok(())
+}
+
+// Puts the row of an order, without the carts that it consumes.
+fn put_order<B: Book>(
+    draft: &mut Draft<'_, B>,
+    alloc: Global,
+    carts: &[Text],
+    order: &Order,
+) -> Result<(), AllocError>
+    requires fresh { draft.old.log.changes ≡ [] }
+    requires sound { IsSound (now draft.old) }
+    requires new { order.now.id ≡ (now draft.old).next.order }
+    ensures done { OnOk result (now draft.new ≡ with_order_row order.now carts.now (now draft.old)) }
+    ensures extends { Extends draft.old draft.new }
+{
+    let ids = draft.carts_in(alloc, carts)?;
+    drop_carts(draft, alloc, &ids)?;
+    draft.put_order(alloc, order.copy(alloc)?)
+}
+
+// Puts a position, if its voucher has a use left.
+#[tactic(auto, unfolding(crate::specs::Created::position_put))]
+fn put_position<B: Book>(
+    draft: &mut Draft<'_, B>,
+    alloc: Global,
+    row: &OrderPos,
+) -> Result<(), OrderRefusal>
+    requires { IsReady row.now.id (now draft.old) }
+    ensures done { OnOk result (position_put row.now (now draft.old) ≡ Ok (now draft.new)) }
+    ensures refused { IfErr result (λ e. e ≢ OrderRefusal.Memory → position_put row.now (now draft.old) ≡ Err e) }
+    ensures extends { Extends draft.old draft.new }
+{
+    if !draft.has_use(row.voucher) {
+        return Err(OrderRefusal::Voucher(VoucherRefusal::NoHeadroom));
+    }
+    draft.put_position(alloc, row.copy(alloc)?)?;
+    Ok(())
+}
+
+// Puts positions whose ids count on.
+fn put_positions<B: Book>(
+    draft: &mut Draft<'_, B>,
+    alloc: Global,
+    first: u64,
+    rows: &[OrderPos],
+) -> Result<(), OrderRefusal>
+    requires ready { IsReady first (now draft.old) }
+    requires counted { AreCounted first rows.now }
+    ensures done { OnOk result (with_positions rows.now (Ok (now draft.old)) ≡ Ok (now draft.new)) }
+    ensures refused { IfErr result (λ e. e ≢ OrderRefusal.Memory → with_positions rows.now (Ok (now draft.old)) ≡ Err e) }
+    ensures extends { Extends draft.old draft.new }
+{
+    for row in rows {
+        put_position(draft, alloc, row)?;
+    }
+    Ok(())
+}
+
+// Puts an order with its positions, without the carts that it consumes.
+fn put_all<B: Book>(
+    draft: &mut Draft<'_, B>,
+    alloc: Global,
+    carts: &[Text],
+    order: &Order,
+    rows: &[OrderPos],
+) -> Result<(), OrderRefusal>
+    requires fresh { draft.old.log.changes ≡ [] }
+    requires sound { IsSound (now draft.old) }
+    requires new { order.now.id ≡ (now draft.old).next.order }
+    requires counted { AreCounted (now draft.old).next.position rows.now }
+    ensures done { OnOk result (with_positions rows.now (Ok (with_order_row order.now carts.now (now draft.old))) ≡ Ok (now draft.new)) }
+    ensures refused { IfErr result (λ e. e ≢ OrderRefusal.Memory → with_positions rows.now (Ok (with_order_row order.now carts.now (now draft.old))) ≡ Err e) }
+    ensures extends { Extends draft.old draft.new }
+{
+    let first = draft.next_position();
+    put_order(draft, alloc, carts, order)?;
+    put_positions(draft, alloc, first, rows)
+}
+
+// The rows of a request, by their ids.
+fn own_of(alloc: Global, rows: &[OrderPos]) -> Result<Vec<Own>, AllocError>
+    ensures { IfOk result (λ own. own.items ≡ map (λ p. Position p.id) rows.now) }
+{
+    rows.iter().map(|row| Own::Position(row.id)).collect(alloc)
+}
+
+// Whether the tables take an order and so many positions.
+fn takes<B: Book>(draft: &Draft<'_, B>, count: usize) -> bool
+    requires fresh { draft.now.log.changes ≡ [] }
+    ensures { result ≡ (takes_order (now draft.now) && takes_positions count (now draft.now)) }
+{
+    draft.takes_order() && draft.takes_positions(count)
+}
+
+// Puts all of it, if vouchers have their uses left, no quota is then over and the tables take the rows.
+#[tactic(auto, unfolding(crate::specs::Created::order_placed))]
+fn place<B: Book>(
+    draft: &mut Draft<'_, B>,
+    alloc: Global,
+    carts: &[Text],
+    order: Order,
+    rows: Vec<OrderPos>,
+) -> Result<OrderRows, OrderRefusal>
+    requires fresh { draft.old.log.changes ≡ [] }
+    requires sound { IsSound (now draft.old) }
+    requires new { order.id ≡ (now draft.old).next.order }
+    requires counted { AreCounted (now draft.old).next.position rows.items }
+    ensures done { IfOk result (λ made. order_placed order rows.items carts.now (now draft.old) ≡ Ok (now draft.new, made)) }
+    ensures refused { IfErr result (λ e. e ≢ OrderRefusal.Memory → order_placed order rows.items carts.now (now draft.old) ≡ Err e) }
+    ensures extends { Extends draft.old draft.new }
+    ensures same { OnErr result (draft.new ≡ draft.old) }
+{
+    let takes = takes(draft, rows.len());
+    let own = own_of(alloc, &rows)?;
+    let mark = draft.mark(alloc)?;
+    if let Err(refusal) = put_all(draft, alloc, carts, &order, &rows) {
+        draft.back_to(mark);
+        return Err(refusal);
+    }
+    if let Some(quota) = draft.first_over(&mark, &own) {
+        draft.back_to(mark);
+        return Err(OrderRefusal::Voucher(VoucherRefusal::SoldOut(quota)));
+    }
+    if !takes {
+        draft.back_to(mark);
+        return Err(OrderRefusal::Voucher(VoucherRefusal::Catalogue(CatalogueRefusal::Full)));
+    }
+    draft.use_order_id();
+    draft.use_position_ids(rows.len());
+    Ok(OrderRows {
+        order,
+        positions: List::new(rows),
+    })
+}
