@@ -8,5 +8,6 @@ pub mod rows;
 
 pub use changes::{Change, Changes};
 pub use rows::{
-    Availability, CartPos, NextIds, Order, OrderPos, OrderRows, Own, Status, Usage, Voucher, Waiting,
+    Availability, CartPos, NextIds, Order, OrderPos, OrderRows, Own, Status, Usage, Voucher,
+    Waiting,
 };
