@@ -35,7 +35,7 @@ use Rattle.bo_orders.specs.declared.refusal.OrderRefusal.TheVariants.{Voucher as
 use Rattle.bo_orders.specs.Sold.{sold_for}
 use Rattle.bo_orders.specs.Created.{order_row, position_row, position_of_sold, position_for, and_rows, rows_for, position_put, with_positions, with_ids_used, if_taken, unless_over, placed_with, AreCounted, with_order_row, order_placed, created_of, has_ids, created_with_ids, counts_test, created_if, order_created}
 use Rattle.bo_orders.proofs.SoldLemmas.{sold_fits}
-use Rattle.bo_orders.proofs.Rows.{counted, puts_next}
+use Rattle.bo_orders.proofs.Rows.{by_force, counted, puts_next}
 
 ok_made : (a b : State × OrderRows) → (let all : Result (State × OrderRows) OrderRefusal = Ok a in all ≡ Ok b) → a ≡ b
 ok_made a b h = cc
@@ -182,10 +182,6 @@ module _ (draw : Draw) (state : State) (order : AreInOrder (λ r. r.id) state.li
 -- the order's id is used, and the next position gets this one
 abbrev numbered : ℕ → State → State
 numbered id state = record state { next = record state.next { order = state.next.order + 1; position = id } }
-
-by_force : (force left : Bool) → left ≡ true → (not force || left) ≡ true
-by_force true left e = e
-by_force false left e = refl
 
 -- a box office stays sound as an order's positions are put
 module _ (lists : Lists) (number : ℕ) where

@@ -41,7 +41,7 @@ ready_order row carts state e h =
     let made = sound_order (without_carts ids state) row e (sound_drop_carts ids state h) in
     record { positions = made.positions; vouchers = made.vouchers.in_order; headroom = made.headroom }
 
-by_force : (force left : Bool) → left ≡ true → (not force || left) ≡ true
+pub by_force : (force left : Bool) → left ≡ true → (not force || left) ≡ true
 by_force true left e = e
 by_force false left e = refl
 

@@ -8,19 +8,19 @@ ghost use Rattle.bo_catalogue.specs.declared.rows.Quota.{Quota};
 ghost use Rattle.bo_lists.specs.Fits.{AllExact};
 ghost use Rattle.bo_lists.specs.Lists.{State, order_at};
 ghost use Rattle.bo_lists.specs.Over.{first_over, ignores};
-ghost use Rattle.bo_lists.specs.Sound.{IsSound};
-ghost use Rattle.bo_lists.specs.Takes.{used, TakesNoMore};
-ghost use Rattle.bo_lists.specs.Tests.{is_in_force};
 ghost use Rattle.bo_lists.specs.declared.rows.CartPos.{CartPos};
 ghost use Rattle.bo_lists.specs.declared.rows.Order.{Order};
 ghost use Rattle.bo_lists.specs.declared.rows.OrderRows.{OrderRows};
 ghost use Rattle.bo_lists.specs.declared.rows.Own.{Own};
+ghost use Rattle.bo_lists.specs.Sound.{IsSound};
+ghost use Rattle.bo_lists.specs.Tests.{is_in_force};
+ghost use Rattle.bo_orders.specs.declared.new_cart.NewCart.{NewCart};
+ghost use Rattle.bo_orders.specs.declared.new_order.NewOrder.{NewOrder};
 ghost use Rattle.bo_orders.specs.Carts.{position_added};
 ghost use Rattle.bo_orders.specs.Created.{order_created};
 ghost use Rattle.bo_orders.specs.Moves.{order_moved};
 ghost use Rattle.bo_orders.specs.declared.moves.Move.{Move};
-ghost use Rattle.bo_orders.specs.declared.new_cart.NewCart.{NewCart};
-ghost use Rattle.bo_orders.specs.declared.new_order.NewOrder.{NewOrder};
+ghost use Rattle.bo_lists.specs.Takes.{used, TakesNoMore};
 
 /// Each cart position that is added was weighed: it takes too much of no quota, where the position itself
 /// doesn't weigh if its voucher ignores quotas.
@@ -36,6 +36,21 @@ pub fn added_takes_no_more()
     ensures { (new : NewCart) (draw : Draw) (before after : State) (row : CartPos) →
         position_added new draw before ≡ Ok (after, row) → ignores after.lists row.voucher ≡ false →
         TakesNoMore before after }
+{}
+
+/// Each order that is made was weighed, without the carts that it consumes: it takes too much of no quota, where
+/// a position doesn't weigh if its voucher ignores quotas.
+pub fn created_none_over()
+    ensures { (new : NewOrder) (draw : Draw) (before after : State) (rows : OrderRows) →
+        order_created new draw before ≡ Ok (after, rows) →
+        first_over before.lists after.lists before.moment (map (λ p. Own.Position p.id) rows.positions) ≡ None }
+{}
+
+/// A box office in which no voucher is named too often, whose ids rise, and whose rows name what stands,
+/// is still one when an order is made.
+pub fn created_sound()
+    ensures { (new : NewOrder) (draw : Draw) (before after : State) (rows : OrderRows) →
+        IsSound before → order_created new draw before ≡ Ok (after, rows) → IsSound after }
 {}
 
 /// Each order that comes back to life was weighed: it takes too much of no quota, where its positions don't weigh if
@@ -66,19 +81,4 @@ pub fn other_moves_lower()
 pub fn moves_keep_sound()
     ensures { (number : ℕ) (change : Move) (before after : State) (rows : OrderRows) →
         IsSound before → order_moved number change before ≡ Ok (after, rows) → IsSound after }
-{}
-
-/// Each order that is made was weighed, without the carts that it consumes: it takes too much of no quota, where
-/// a position doesn't weigh if its voucher ignores quotas.
-pub fn created_none_over()
-    ensures { (new : NewOrder) (draw : Draw) (before after : State) (rows : OrderRows) →
-        order_created new draw before ≡ Ok (after, rows) →
-        first_over before.lists after.lists before.moment (map (λ p. Own.Position p.id) rows.positions) ≡ None }
-{}
-
-/// A box office in which no voucher is named too often, whose ids rise, and whose rows name what stands,
-/// is still one when an order is made.
-pub fn created_sound()
-    ensures { (new : NewOrder) (draw : Draw) (before after : State) (rows : OrderRows) →
-        IsSound before → order_created new draw before ≡ Ok (after, rows) → IsSound after }
 {}
