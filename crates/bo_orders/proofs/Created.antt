@@ -1,6 +1,6 @@
 -- What is known where an order was made.
-use Rattle.std.proofs.Common.{◌≡◌, ℕ, ◌+◌, Bool, true, false, eqb, List, [], ◌∷◌, length, map, Option, Some, None, Result, Ok, Err, refl, sym, ap, ◌∙◌, subst, arith}
-use Rattle.std.specs.Prelude.{◌||◌, ◌&&◌, not, is_some, if◌then◌else◌}
+use Rattle.std.proofs.Common.{◌≡◌, ℕ, ◌+◌, Bool, true, false, List, [], ◌∷◌, length, map, Option, Some, None, Result, Ok, Err, refl, sym, ap, ◌∙◌, subst, arith}
+use Rattle.std.specs.Prelude.{◌&&◌, is_some, if◌then◌else◌}
 use Rattle.std.specs.List.{AllByRecursion}
 use Rattle.std.proofs.lemmas.Bool.Decides.{nat_tests}
 use Rattle.bo_base.specs.Tables.{AreInOrder}
@@ -26,14 +26,14 @@ use Rattle.bo_lists.specs.Sound.{IsSound}
 use Rattle.bo_lists.proofs.Fit.{fit_same}
 use Rattle.bo_lists.proofs.SoundOrders.{sound_order, sound_position, sound_drop_carts}
 use Rattle.bo_vouchers.specs.declared.refusal.VoucherRefusal.{VoucherRefusal}
-use Rattle.bo_vouchers.specs.declared.refusal.VoucherRefusal.TheVariants.{Catalogue, NoHeadroom, SoldOut}
+use Rattle.bo_vouchers.specs.declared.refusal.VoucherRefusal.TheVariants.{Catalogue, NoHeadroom}
 use Rattle.bo_orders.specs.declared.new_order.NewOrder.{NewOrder}
 use Rattle.bo_orders.specs.declared.sold.Asked.{Asked}
 use Rattle.bo_orders.specs.declared.sold.Sold.{Sold}
 use Rattle.bo_orders.specs.declared.refusal.OrderRefusal.{OrderRefusal}
 use Rattle.bo_orders.specs.declared.refusal.OrderRefusal.TheVariants.{Voucher as OfVoucher}
 use Rattle.bo_orders.specs.Sold.{sold_for}
-use Rattle.bo_orders.specs.Created.{order_row, position_row, position_of_sold, position_for, and_rows, rows_for, position_put, with_positions, with_ids_used, if_taken, unless_over, placed_with, AreCounted, with_order_row, order_placed, created_of, has_ids, created_with_ids, counts_test, created_if, order_created}
+use Rattle.bo_orders.specs.Created.{order_row, position_row, position_of_sold, position_for, and_rows, rows_for, position_put, with_positions, with_ids_used, unless_over, placed_with, AreCounted, with_order_row, order_placed, created_of, has_ids, created_with_ids, counts_test, created_if, order_created}
 use Rattle.bo_orders.proofs.SoldLemmas.{sold_fits}
 use Rattle.bo_orders.proofs.Rows.{by_force, counted, puts_next}
 
@@ -111,15 +111,15 @@ module _ (new : NewOrder) (draw : Draw) (before after : State) (made : OrderRows
       subst (λ (s : State). first_over before.lists s.lists before.moment (map (λ p. Position p.id) made.positions) ≡ None) m.is_after m.not_over
 
 -- a put of a position, which had a use of its voucher left
-record IsPut (row : OrderPos) (state after : State) : Type 0 where
-  left : has_use state.moment state.lists row.voucher ≡ true
-  is : changed (PutPosition row) state ≡ after
+pub record IsPut (row : OrderPos) (state after : State) : Type 0 where
+  pub left : has_use state.moment state.lists row.voucher ≡ true
+  pub is : changed (PutPosition row) state ≡ after
 
 put_if : (row : OrderPos) (state after : State) (left : Bool) → has_use state.moment state.lists row.voucher ≡ left → (let put : Result State OrderRefusal = (if left then Ok (changed (PutPosition row) state) else Err (OfVoucher NoHeadroom)) in put ≡ Ok after) → IsPut row state after
 put_if row state after true e h = record { left = e; is = cc (h) }
 put_if row state after false e h = absurd (cc (h))
 
-put_is : (row : OrderPos) (state after : State) → position_put row state ≡ Ok after → IsPut row state after
+pub put_is : (row : OrderPos) (state after : State) → position_put row state ≡ Ok after → IsPut row state after
 unfolding position_put
 put_is row state after h = put_if row state after (has_use state.moment state.lists row.voucher) refl h
 

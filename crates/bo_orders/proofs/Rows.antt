@@ -1,7 +1,6 @@
 -- The rows of a new order: their ids count on, and each of them can be put.
-use Rattle.std.proofs.Common.{◌≡◌, ℕ, ◌+◌, ◌<◌, ◌≤◌, Bool, true, false, List, [], ◌∷◌, Option, Some, None, Result, Ok, Err, refl, sym, ap, ◌∙◌, subst, arith}
+use Rattle.std.proofs.Common.{◌≡◌, ℕ, ◌+◌, ◌<◌, ◌≤◌, Bool, true, false, List, [], ◌∷◌, None, Result, Ok, Err, refl, sym, ap, ◌∙◌, subst, arith}
 use Rattle.std.specs.Prelude.{◌||◌, ◌&&◌, not, if◌then◌else◌}
-use Rattle.std.specs.List.{AllByRecursion}
 use Rattle.bo_base.specs.declared.draw.Draw.{Draw}
 use Rattle.bo_lists.specs.declared.rows.Order.{Order}
 use Rattle.bo_lists.specs.declared.rows.OrderPos.{OrderPos}
@@ -14,7 +13,7 @@ use Rattle.bo_lists.specs.Change.{changed, without_carts, after_change}
 use Rattle.bo_lists.specs.Consumed.{consumed}
 use Rattle.bo_lists.specs.Full.{takes_order, takes_positions}
 use Rattle.bo_lists.specs.Headroom.{has_use, AllHaveHeadroom}
-use Rattle.bo_lists.specs.Sound.{IsSound, AreNumbered}
+use Rattle.bo_lists.specs.Sound.{IsSound}
 use Rattle.bo_lists.proofs.OrderHeadroom.{headroom_position}
 use Rattle.bo_lists.proofs.EachRow.{numbered_put, next_absent}
 use Rattle.bo_lists.proofs.SoundOrders.{sound_order, sound_drop_carts}
@@ -25,7 +24,7 @@ use Rattle.bo_orders.specs.declared.sold.Sold.{Sold}
 use Rattle.bo_vouchers.specs.declared.refusal.VoucherRefusal.{VoucherRefusal}
 use Rattle.bo_vouchers.specs.declared.refusal.VoucherRefusal.TheVariants.{NoHeadroom}
 use Rattle.bo_orders.specs.Sold.{sold_for}
-use Rattle.bo_orders.specs.Created.{IsReady, AreCounted, with_order_row, position_put, position_row, position_of_sold, position_for, after_rows, and_rows, rows_for, with_positions}
+use Rattle.bo_orders.specs.Created.{IsReady, AreCounted, with_order_row, position_put, position_row, position_of_sold, position_for, and_rows, rows_for, with_positions}
 
 -- an order of the next id can be put
 pub order_headroom : (row : Order) (ids : List ℕ) (state : State) → row.id ≡ state.next.order → IsSound state → AllHaveHeadroom state.moment (after_change (PutOrder row) (without_carts ids state).lists)

@@ -46,6 +46,14 @@ pub fn created_none_over()
         first_over before.lists after.lists before.moment (map (λ p. Own.Position p.id) rows.positions) ≡ None }
 {}
 
+/// Where all vouchers of its positions heed quotas, what is used afterwards is within each quota's size, or no more
+/// than was used before.
+pub fn created_takes_no_more()
+    ensures { (new : NewOrder) (draw : Draw) (before after : State) (rows : OrderRows) →
+        AllByRecursion (λ p. ignores after.lists p.voucher ≡ false) rows.positions →
+        order_created new draw before ≡ Ok (after, rows) → TakesNoMore before after }
+{}
+
 /// A box office in which no voucher is named too often, whose ids rise, and whose rows name what stands,
 /// is still one when an order is made.
 pub fn created_sound()

@@ -1,5 +1,4 @@
-use Rattle.std.proofs.Common.{◌≡◌, sym, subst, ℕ}
-use Rattle.bo_lists.specs.Lists.{State}
+use Rattle.std.proofs.Common.{sym, subst, ℕ}
 use Rattle.bo_draft.specs.DraftState.{now}
 use Rattle.bo_orders.specs.Created.{IsReady}
 use Rattle.bo_orders.proofs.Rows.{ready_order}

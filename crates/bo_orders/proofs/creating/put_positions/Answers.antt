@@ -1,7 +1,6 @@
 use Rattle.std.proofs.Common.{◌≡◌, ◌∷◌, ◌+◌, rules, sym, subst, ap, ◌∙◌, ℕ, Ok, drop, arith}
 use Rattle.std.proofs.lemmas.List.{drop_more}
 use Rattle.bo_lists.specs.declared.rows.OrderPos.{OrderPos}
-use Rattle.bo_lists.specs.Lists.{State}
 use Rattle.bo_draft.specs.DraftState.{now}
 use Rattle.bo_orders.specs.Created.{IsReady, AreCounted, with_positions, position_put}
 use Rattle.bo_orders.proofs.Rows.{ready_next, counted_more}
