@@ -6,7 +6,7 @@ use Rattle.bo_catalogue.specs.declared.requests.ItemPatch.{ItemPatch}
 use Rattle.bo_catalogue.specs.declared.requests.NewVariation.{NewVariation}
 use Rattle.bo_catalogue.specs.declared.requests.NewQuota.{NewQuota}
 use Rattle.bo_catalogue.specs.declared.requests.QuotaPatch.{QuotaPatch}
-use Rattle.bo_words.specs.declared.fields.Field.TheVariants as fields
+use Rattle.bo_faults.specs.declared.fields.Field.TheVariants as fields
 use Rattle.bo_fields.specs.declared.error.BodyFault.{BodyFault}
 use Rattle.bo_fields.specs.Reading.{◌>>=◌, renamed}
 use Rattle.bo_fields.specs.Modes.{required, nullable, present}

@@ -4,7 +4,7 @@ use Rattle.serde_json.specs.Data.{Data}
 use Rattle.bo_orders.specs.declared.new_cart.NewCart.{NewCart}
 use Rattle.bo_office.specs.declared.command.Command.{Command}
 use Rattle.bo_office.specs.declared.command.Command.TheVariants as commands
-use Rattle.bo_words.specs.declared.fields.Field.TheVariants as fields
+use Rattle.bo_faults.specs.declared.fields.Field.TheVariants as fields
 use Rattle.bo_fields.specs.declared.error.BodyFault.{BodyFault}
 use Rattle.bo_fields.specs.Reading.{◌>>=◌}
 use Rattle.bo_fields.specs.Modes.{required}

@@ -4,7 +4,7 @@ use Rattle.serde_json.specs.Data.{Data}
 use Rattle.bo_base.specs.declared.price_mode.PriceMode.TheVariants as modes
 use Rattle.bo_vouchers.specs.declared.requests.NewVoucher.{NewVoucher}
 use Rattle.bo_vouchers.specs.declared.requests.VoucherPatch.{VoucherPatch}
-use Rattle.bo_words.specs.declared.fields.Field.TheVariants as fields
+use Rattle.bo_faults.specs.declared.fields.Field.TheVariants as fields
 use Rattle.bo_fields.specs.declared.error.BodyFault.{BodyFault}
 use Rattle.bo_fields.specs.Reading.{◌>>=◌}
 use Rattle.bo_fields.specs.Lacking.{truth_or, whole_or, text_or_empty, price_mode_or, optional_id, optional_text, optional_money, optional_moment}

@@ -14,7 +14,7 @@ use bo_fields::{
     patched_money, patched_name, patched_truth, patched_whole_or_null, present, required, truth_or,
     whole,
 };
-use bo_words::Field;
+use bo_faults::Field;
 use serde_json::Value;
 use std::alloc::Global;
 

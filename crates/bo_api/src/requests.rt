@@ -14,7 +14,7 @@ use bo_fields::{
 };
 use bo_office::Command;
 use bo_orders::{Asked, NewCart};
-use bo_words::Field;
+use bo_faults::Field;
 use serde_json::Value;
 use std::alloc::Global;
 

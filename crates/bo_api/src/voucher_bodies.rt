@@ -14,7 +14,7 @@ use bo_fields::{
     truth_or, whole_or,
 };
 use bo_vouchers::{NewVoucher, VoucherPatch};
-use bo_words::Field;
+use bo_faults::Field;
 use serde_json::Value;
 use std::alloc::Global;
 

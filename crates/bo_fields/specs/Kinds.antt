@@ -10,8 +10,8 @@ use Rattle.bo_base.specs.declared.price_mode.PriceMode.{PriceMode}
 use Rattle.bo_base.specs.declared.price_mode.PriceMode.TheVariants as modes
 use Rattle.bo_base.specs.declared.refusal.ValueRefusal.{ValueRefusal}
 use Rattle.bo_base.specs.declared.refusal.ValueRefusal.TheVariants as refusals
-use Rattle.bo_words.specs.declared.fields.Field.{Field}
-use Rattle.bo_words.specs.declared.fields.Problem.TheVariants as problems
+use Rattle.bo_faults.specs.declared.fields.Field.{Field}
+use Rattle.bo_faults.specs.declared.fields.Problem.TheVariants as problems
 use Rattle.bo_fields.specs.declared.error.BodyFault.{BodyFault}
 use Rattle.bo_fields.specs.Reading.{fault}
 

@@ -2,7 +2,7 @@
 use Rattle.std.specs.Prelude.{ℕ, Bool, List, [], Option, Some, None, Result, Ok}
 use Rattle.serde_json.specs.Data.{Data}
 use Rattle.bo_base.specs.declared.price_mode.PriceMode.{PriceMode}
-use Rattle.bo_words.specs.declared.fields.Field.{Field}
+use Rattle.bo_faults.specs.declared.fields.Field.{Field}
 use Rattle.bo_fields.specs.declared.error.BodyFault.{BodyFault}
 use Rattle.bo_fields.specs.Reading.{◌>>=◌}
 use Rattle.bo_fields.specs.Modes.{optional, present}

@@ -2,8 +2,8 @@
 use Rattle.std.specs.Prelude.{ℕ, List, [], ◌∷◌, ◌++◌, Option, Some, None, Result, Ok, Err}
 use Rattle.serde_json.specs.Data.{Data, Items, no_items, item, Members}
 use Rattle.serde_json.specs.Find.{as_array, as_object}
-use Rattle.bo_words.specs.declared.fields.Field.{Field}
-use Rattle.bo_words.specs.declared.fields.Problem.TheVariants as problems
+use Rattle.bo_faults.specs.declared.fields.Field.{Field}
+use Rattle.bo_faults.specs.declared.fields.Problem.TheVariants as problems
 use Rattle.bo_fields.specs.declared.error.BodyFault.{BodyFault}
 use Rattle.bo_fields.specs.Reading.{◌>>=◌, fault}
 use Rattle.bo_fields.specs.Modes.{not_null}

@@ -2,9 +2,9 @@
 use Rattle.std.specs.Prelude.{Option, Some, None, Result, Ok, Err, if◌then◌else◌, is_some}
 use Rattle.serde_json.specs.Data.{Data}
 use Rattle.serde_json.specs.Find.{get, as_null}
-use Rattle.bo_words.specs.declared.fields.Field.{Field}
-use Rattle.bo_words.specs.declared.fields.Problem.TheVariants as problems
-use Rattle.bo_words.specs.Fields.{field_name}
+use Rattle.bo_faults.specs.declared.fields.Field.{Field}
+use Rattle.bo_faults.specs.declared.fields.Problem.TheVariants as problems
+use Rattle.bo_faults.specs.Fields.{field_name}
 use Rattle.bo_fields.specs.declared.error.BodyFault.{BodyFault}
 use Rattle.bo_fields.specs.Reading.{◌>>=◌, fault}
 

@@ -4,7 +4,7 @@ ghost use Rattle.std.specs.Prelude.{◌≡◌, Err};
 ghost use Rattle.bo_fields.specs.Reading.{fault, fault_of};
 ghost use Rattle.bo_fields.specs.declared.error.ReadError.TheVariants.{Memory, Body};
 
-use bo_words::{Fault, Field, Problem};
+use bo_faults::{Fault, Field, Problem};
 use std::alloc::AllocError;
 
 /// What is wrong with a body.

@@ -12,7 +12,7 @@ ghost use Rattle.serde_json.specs.View.{view, members_view};
 
 use crate::error::{BodyFault, fault};
 use bo_base::{Cents, Moment, PriceMode, ValueRefusal, read_cents, read_moment};
-use bo_words::{Field, Problem};
+use bo_faults::{Field, Problem};
 use serde_json::{Map, Value};
 
 /// A truth value.

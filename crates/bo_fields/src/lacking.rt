@@ -10,7 +10,7 @@ use crate::kinds::{id, loose_text, moment, money, price_mode, text, truth, whole
 use crate::lists::ids;
 use crate::modes::{optional, present};
 use bo_base::{Cents, Ids, Moment, PriceMode};
-use bo_words::Field;
+use bo_faults::Field;
 use serde_json::Value;
 use std::alloc::Global;
 

@@ -9,7 +9,7 @@ use crate::error::{BodyFault, ReadError, fault};
 use crate::kinds::id;
 use crate::modes::not_null;
 use bo_base::Ids;
-use bo_words::{Field, Problem};
+use bo_faults::{Field, Problem};
 use serde_json::Value;
 use std::alloc::Global;
 

@@ -6,7 +6,7 @@ ghost use Rattle.bo_fields.specs.Modes.{not_null, required, nullable, optional, 
 ghost use Rattle.serde_json.specs.View.{view};
 
 use crate::error::{BodyFault, fault};
-use bo_words::{Field, Problem};
+use bo_faults::{Field, Problem};
 use serde_json::Value;
 
 /// A value that may not be null.

@@ -10,7 +10,7 @@ use crate::error::BodyFault;
 use crate::kinds::{id, loose_text, moment, money, name, price_mode, text, truth, whole};
 use crate::modes::{maybe, present};
 use bo_base::{Cents, Moment, PriceMode};
-use bo_words::Field;
+use bo_faults::Field;
 use serde_json::Value;
 
 /// A truth value.

@@ -35,16 +35,24 @@ use Rattle.bo_vouchers.proofs.Deleted.{deleted_sound, deleted_moment, deleted_lo
 use Rattle.bo_orders.specs.declared.refusal.OrderRefusal.{OrderRefusal}
 use Rattle.bo_orders.specs.Carts.{position_added}
 use Rattle.bo_orders.specs.Dropped.{position_dropped}
+use Rattle.bo_orders.specs.declared.bulk.Outcome.{Outcome}
+use Rattle.bo_orders.specs.Bulk.{many_added}
+use Rattle.bo_orders.specs.Created.{order_created}
+use Rattle.bo_orders.specs.Moves.{order_moved}
+use Rattle.bo_lists.specs.declared.rows.OrderRows.{OrderRows}
+use Rattle.bo_orders.proofs.BulkSound.{many_is, all_sound, all_moment}
+use Rattle.bo_orders.proofs.Created.{created_sound, created_moment}
+use Rattle.bo_orders.proofs.Moved.{moved_sound, moved_moment}
 use Rattle.bo_orders.proofs.Added.{added_none_over, added_takes_no_more, added_sound, added_moment}
 use Rattle.bo_orders.proofs.Dropped.{dropped_sound, dropped_moment, dropped_lowers}
 use Rattle.bo_office.specs.declared.command.Command.{Command}
-use Rattle.bo_office.specs.declared.command.Command.TheVariants.{AddItem, ChangeItem, AddVariation, AddQuota, ResizeQuota, AddVoucher, ChangeVoucher, DropVoucher, AddCart, DropCart}
+use Rattle.bo_office.specs.declared.command.Command.TheVariants.{AddItem, ChangeItem, AddVariation, AddQuota, ResizeQuota, AddVoucher, ChangeVoucher, DropVoucher, AddCart, AddCarts, DropCart, AddOrder, MoveOrder}
 use Rattle.bo_office.specs.declared.command.Kind.{Kind}
 use Rattle.bo_office.specs.declared.reply.Refusal.{Refusal}
 use Rattle.bo_office.specs.declared.reply.Reply.{Reply}
 use Rattle.bo_office.specs.declared.reply.Reply.TheVariants.{Refused}
 use Rattle.bo_office.specs.ShownRows.{show_voucher}
-use Rattle.bo_office.specs.Step.{step, step_now, item_step, item_change_step, variation_step, quota_step, resize_step, voucher_step, voucher_change_step, voucher_drop_step, cart_step, cart_drop_step}
+use Rattle.bo_office.specs.Step.{step, step_now, item_step, item_change_step, variation_step, quota_step, resize_step, voucher_step, voucher_change_step, voucher_drop_step, cart_step, bulk_step, order_step, move_step, cart_drop_step}
 use Rattle.bo_office.specs.Runs.{Arrival, moment_at, stepped, trace, row_told, taken, heeds_if_told, takes_if_told, NoneOver, StaysWithin, RaisesNothing, LeavesSound, NeverGoesBack, StoresItsMoment, ChangesNothingElse}
 use Rattle.bo_office.proofs.Catalogue.{item_sound, item_change_sound, variation_sound, quota_sound, resize_sound, item_lowers, item_change_lowers, variation_lowers, quota_lowers, resize_lowers}
 
@@ -53,29 +61,12 @@ record IsFine (state : State) (made : State × Reply) : Type 0 where
   sound : IsSound state → IsSound made.0
   moment : made.0.moment ≡ state.moment
   refused : (kind : Kind) (refusal : Refusal) → made.1 ≡ Refused kind refusal → made.0 ≡ state
-  none_over : (own : List Own) → taken made.1 ≡ Some own → first_over state.lists made.0.lists state.moment own ≡ None
-  within : heeds_if_told made.0.lists (row_told made.1) ≡ true → TakesNoMore state made.0
-  lowers : takes_if_told (row_told made.1) ≡ false → (quota : Quota) → used made.0 quota ≤ used state quota
 
-no_list : (own : List Own) → (let none : Option (List Own) = None in none ≡ Some own) → ⊥
-no_list own e = cc
 
-not_true : false ≡ true → ⊥
-not_true e = cc
 
-not_false_true : true ≡ false → ⊥
-not_false_true e = cc
 
-no_more : (n : ℕ) → n ≤ n
-no_more n = omega arith
 
-none_or_own : (free : Bool) (own : List Own) → (if free then None else Some []) ≡ Some own → (free ≡ false) × ([] ≡ own)
-none_or_own true own e = absurd (cc)
-none_or_own false own e = (refl, cc)
 
-not_false : (free : Bool) → not free ≡ true → free ≡ false
-not_false true e = absurd (cc)
-not_false false e = refl
 
 module _ (state : State) where
   refused_fine : (kind : Kind) (refusal : Refusal) → IsFine state (state, Refused kind refusal)
@@ -83,9 +74,6 @@ module _ (state : State) where
     sound = λ sound. sound;
     moment = refl;
     refused = λ k r e. refl;
-    none_over = λ own e. absurd (no_list own e);
-    within = λ e. absurd (not_true e);
-    lowers = λ e quota. no_more (used state quota);
   }
 
   item_fine : (r : Result ItemRows CatalogueRefusal) → ((rows : ItemRows) → r ≡ Ok rows → IsSound state → IsSound (with_item rows state)) → IsFine state (item_step state r)
@@ -94,9 +82,6 @@ module _ (state : State) where
     sound = known rows refl;
     moment = refl;
     refused = λ k r e. absurd (cc);
-    none_over = λ own e. absurd (no_list own e);
-    within = λ e. absurd (not_true e);
-    lowers = λ e quota. item_lowers state quota rows;
   }
 
   item_change_fine : (r : Result Item CatalogueRefusal) → ((row : Item) → r ≡ Ok row → IsSound state → IsSound (changed (PutItem row) state)) → IsFine state (item_change_step state r)
@@ -105,9 +90,6 @@ module _ (state : State) where
     sound = known row refl;
     moment = refl;
     refused = λ k r e. absurd (cc);
-    none_over = λ own e. absurd (no_list own e);
-    within = λ e. absurd (not_true e);
-    lowers = λ e quota. item_change_lowers state quota row;
   }
 
   variation_fine : (r : Result PricedVariation CatalogueRefusal) → ((made : PricedVariation) → r ≡ Ok made → IsSound state → IsSound (with_variation made.row state)) → IsFine state (variation_step state r)
@@ -116,9 +98,6 @@ module _ (state : State) where
     sound = known made refl;
     moment = refl;
     refused = λ k r e. absurd (cc);
-    none_over = λ own e. absurd (no_list own e);
-    within = λ e. absurd (not_true e);
-    lowers = λ e quota. variation_lowers state quota made.row;
   }
 
   quota_fine : (r : Result Quota CatalogueRefusal) → ((row : Quota) → r ≡ Ok row → IsSound state → IsSound (with_quota row state)) → IsFine state (quota_step state r)
@@ -127,9 +106,6 @@ module _ (state : State) where
     sound = known row refl;
     moment = refl;
     refused = λ k r e. absurd (cc);
-    none_over = λ own e. absurd (no_list own e);
-    within = λ e. absurd (not_true e);
-    lowers = λ e quota. quota_lowers state quota row;
   }
 
   resize_fine : (r : Result Quota CatalogueRefusal) → ((row : Quota) → r ≡ Ok row → IsSound state → IsSound (changed (PutQuota row) state)) → IsFine state (resize_step state r)
@@ -138,22 +114,13 @@ module _ (state : State) where
     sound = known row refl;
     moment = refl;
     refused = λ k r e. absurd (cc);
-    none_over = λ own e. absurd (no_list own e);
-    within = λ e. absurd (not_true e);
-    lowers = λ e quota. resize_lowers state quota row;
   }
 
   -- where a voucher was made or changed
   record IsVoucherFine (after : State) (row : Voucher) : Type 0 where
     sound : IsSound state → IsSound after
     moment : after.moment ≡ state.moment
-    not_over : row.allow_ignore_quota ≡ false → first_over state.lists after.lists state.moment [] ≡ None
-    within : row.allow_ignore_quota ≡ false → TakesNoMore state after
 
-  voucher_not_over : (after : State) (row : Voucher) → IsVoucherFine after row → (own : List Own) → (if row.allow_ignore_quota then None else Some []) ≡ Some own → first_over state.lists after.lists state.moment own ≡ None
-  voucher_not_over after row known own e =
-      let which = none_or_own row.allow_ignore_quota own e in
-      subst (λ (ids : List Own). first_over state.lists after.lists state.moment ids ≡ None) which.1 (known.not_over which.0)
 
   voucher_fine : (r : Result (State × Voucher) VoucherRefusal) → ((after : State) (row : Voucher) → r ≡ Ok (after, row) → IsVoucherFine after row) → IsFine state (voucher_step state r)
   unfolding show_voucher
@@ -162,9 +129,6 @@ module _ (state : State) where
     sound = (known after row refl).sound;
     moment = (known after row refl).moment;
     refused = λ k r e. absurd (cc);
-    none_over = voucher_not_over after row (known after row refl);
-    within = λ e. (known after row refl).within (not_false row.allow_ignore_quota e);
-    lowers = λ e. absurd (not_false_true e);
   }
 
   voucher_change_fine : (r : Result (State × Voucher) VoucherRefusal) → ((after : State) (row : Voucher) → r ≡ Ok (after, row) → IsVoucherFine after row) → IsFine state (voucher_change_step state r)
@@ -174,33 +138,21 @@ module _ (state : State) where
     sound = (known after row refl).sound;
     moment = (known after row refl).moment;
     refused = λ k r e. absurd (cc);
-    none_over = voucher_not_over after row (known after row refl);
-    within = λ e. (known after row refl).within (not_false row.allow_ignore_quota e);
-    lowers = λ e. absurd (not_false_true e);
   }
 
-  voucher_drop_fine : (r : Result State VoucherRefusal) → ((after : State) → r ≡ Ok after → IsSound state → IsSound after) → ((after : State) → r ≡ Ok after → after.moment ≡ state.moment) → ((after : State) → r ≡ Ok after → (quota : Quota) → used after quota ≤ used state quota) → IsFine state (voucher_drop_step state r)
-  voucher_drop_fine (Err refusal) sound moment lowers = refused_fine _ _
-  voucher_drop_fine (Ok after) sound moment lowers = record {
+  voucher_drop_fine : (r : Result State VoucherRefusal) → ((after : State) → r ≡ Ok after → IsSound state → IsSound after) → ((after : State) → r ≡ Ok after → after.moment ≡ state.moment) → IsFine state (voucher_drop_step state r)
+  voucher_drop_fine (Err refusal) sound moment = refused_fine _ _
+  voucher_drop_fine (Ok after) sound moment = record {
     sound = sound after refl;
     moment = moment after refl;
     refused = λ k r e. absurd (cc);
-    none_over = λ own e. absurd (no_list own e);
-    within = λ e. absurd (not_true e);
-    lowers = λ e quota. lowers after refl quota;
   }
 
   -- where a cart position was added
   record IsCartFine (after : State) (row : CartPos) : Type 0 where
     sound : IsSound state → IsSound after
     moment : after.moment ≡ state.moment
-    not_over : first_over state.lists after.lists state.moment (OwnCart row.id ∷ []) ≡ None
-    within : ignores after.lists row.voucher ≡ false → TakesNoMore state after
 
-  cart_not_over : (after : State) (row : CartPos) → IsCartFine after row → (own : List Own) → Some (OwnCart row.id ∷ []) ≡ Some own → first_over state.lists after.lists state.moment own ≡ None
-  cart_not_over after row known own e =
-      let same : OwnCart row.id ∷ [] ≡ own = cc in
-      subst (λ (ids : List Own). first_over state.lists after.lists state.moment ids ≡ None) same known.not_over
 
   cart_fine : (r : Result (State × CartPos) OrderRefusal) → ((after : State) (row : CartPos) → r ≡ Ok (after, row) → IsCartFine after row) → IsFine state (cart_step state r)
   cart_fine (Err refusal) known = refused_fine _ _
@@ -208,20 +160,38 @@ module _ (state : State) where
     sound = (known after row refl).sound;
     moment = (known after row refl).moment;
     refused = λ k r e. absurd (cc);
-    none_over = cart_not_over after row (known after row refl);
-    within = λ e. (known after row refl).within (not_false (ignores after.lists row.voucher) e);
-    lowers = λ e. absurd (not_false_true e);
   }
 
-  cart_drop_fine : (r : Result State OrderRefusal) → ((after : State) → r ≡ Ok after → IsSound state → IsSound after) → ((after : State) → r ≡ Ok after → after.moment ≡ state.moment) → ((after : State) → r ≡ Ok after → (quota : Quota) → used after quota ≤ used state quota) → IsFine state (cart_drop_step state r)
-  cart_drop_fine (Err refusal) sound moment lowers = refused_fine _ _
-  cart_drop_fine (Ok after) sound moment lowers = record {
+  bulk_fine : (r : Result (State × List Outcome) OrderRefusal) → ((made : State × List Outcome) → r ≡ Ok made → IsSound state → IsSound made.0) → ((made : State × List Outcome) → r ≡ Ok made → made.0.moment ≡ state.moment) → IsFine state (bulk_step state r)
+  bulk_fine (Err refusal) sound moment = refused_fine _ _
+  bulk_fine (Ok (after, outcomes)) sound moment = record {
+    sound = sound (after, outcomes) refl;
+    moment = moment (after, outcomes) refl;
+    refused = λ k r e. absurd (cc);
+  }
+
+  order_fine : (r : Result (State × OrderRows) OrderRefusal) → ((after : State) (rows : OrderRows) → r ≡ Ok (after, rows) → IsSound state → IsSound after) → ((after : State) (rows : OrderRows) → r ≡ Ok (after, rows) → after.moment ≡ state.moment) → IsFine state (order_step state r)
+  order_fine (Err refusal) sound moment = refused_fine _ _
+  order_fine (Ok (after, rows)) sound moment = record {
+    sound = sound after rows refl;
+    moment = moment after rows refl;
+    refused = λ k r e. absurd (cc);
+  }
+
+  move_fine : (r : Result (State × OrderRows) OrderRefusal) → ((after : State) (rows : OrderRows) → r ≡ Ok (after, rows) → IsSound state → IsSound after) → ((after : State) (rows : OrderRows) → r ≡ Ok (after, rows) → after.moment ≡ state.moment) → IsFine state (move_step state r)
+  move_fine (Err refusal) sound moment = refused_fine _ _
+  move_fine (Ok (after, rows)) sound moment = record {
+    sound = sound after rows refl;
+    moment = moment after rows refl;
+    refused = λ k r e. absurd (cc);
+  }
+
+  cart_drop_fine : (r : Result State OrderRefusal) → ((after : State) → r ≡ Ok after → IsSound state → IsSound after) → ((after : State) → r ≡ Ok after → after.moment ≡ state.moment) → IsFine state (cart_drop_step state r)
+  cart_drop_fine (Err refusal) sound moment = refused_fine _ _
+  cart_drop_fine (Ok after) sound moment = record {
     sound = sound after refl;
     moment = moment after refl;
     refused = λ k r e. absurd (cc);
-    none_over = λ own e. absurd (no_list own e);
-    within = λ e. absurd (not_true e);
-    lowers = λ e quota. lowers after refl quota;
   }
 
 step_fine : (command : Command) (draw : Draw) (state : State) → IsFine state (step_now command draw state)
@@ -233,23 +203,20 @@ step_fine (ResizeQuota id patch) draw state = resize_fine state (resized id patc
 step_fine (AddVoucher new) draw state = voucher_fine state (voucher_made new draw state) (λ after row h. record {
   sound = λ sound. made_sound new draw state after row sound h;
   moment = made_moment new draw state after row h;
-  not_over = made_not_over new draw state after row h;
-  within = made_takes_no_more new draw state after row h;
 })
 step_fine (ChangeVoucher id patch) draw state = voucher_change_fine state (voucher_changed id patch state) (λ after row h. record {
   sound = λ sound. changed_sound id patch state after row sound h;
   moment = changed_moment id patch state after row h;
-  not_over = changed_not_over id patch state after row h;
-  within = changed_takes_no_more id patch state after row h;
 })
-step_fine (DropVoucher id) draw state = voucher_drop_fine state (voucher_deleted id state) (λ after h sound. deleted_sound id state after sound h) (λ after h. deleted_moment id state after h) (λ after h quota. deleted_lowers id state after quota h)
+step_fine (DropVoucher id) draw state = voucher_drop_fine state (voucher_deleted id state) (λ after h sound. deleted_sound id state after sound h) (λ after h. deleted_moment id state after h)
 step_fine (AddCart new) draw state = cart_fine state (position_added new draw state) (λ after row h. record {
   sound = λ sound. added_sound new draw state after row sound h;
   moment = added_moment new draw state after row h;
-  not_over = added_none_over new draw state after row h;
-  within = added_takes_no_more new draw state after row h;
 })
-step_fine (DropCart id) draw state = cart_drop_fine state (position_dropped id state) (λ after h sound. dropped_sound id state after sound h) (λ after h. dropped_moment id state after h) (λ after h quota. dropped_lowers id state after quota h)
+step_fine (AddCarts entries) draw state = bulk_fine state (many_added entries draw state) (λ made h sound. subst (λ (m : State × List Outcome). IsSound m.0) (many_is entries draw state made h) (all_sound entries draw state sound)) (λ made h. subst (λ (m : State × List Outcome). m.0.moment ≡ state.moment) (many_is entries draw state made h) (all_moment entries draw state))
+step_fine (AddOrder new) draw state = order_fine state (order_created new draw state) (λ after rows h sound. created_sound new draw state after rows sound h) (λ after rows h. created_moment new draw state after rows h)
+step_fine (MoveOrder number change) draw state = move_fine state (order_moved number change state) (λ after rows h sound. moved_sound number change state after rows sound h) (λ after rows h. moved_moment number change state after rows h)
+step_fine (DropCart id) draw state = cart_drop_fine state (position_dropped id state) (λ after h sound. dropped_sound id state after sound h) (λ after h. dropped_moment id state after h)
 
 -- each step leads from sound to sound
 pub step_sound : (command : Command) (at : ℕ) (draw : Draw) (state : State) → state.moment ≤ at → IsSound state → IsSound (step command at draw state).0
@@ -262,17 +229,8 @@ below_max a b = omega arith
 fine_at : (arrival : Arrival) (state : State) → IsFine (record state { moment = moment_at arrival.clock state }) (step arrival.command (moment_at arrival.clock state) arrival.draw state)
 fine_at arrival state = step_fine arrival.command arrival.draw (record state { moment = moment_at arrival.clock state })
 
-pub none_over_all : (arrivals : List Arrival) (state : State) → AllByRecursion NoneOver (trace arrivals state)
-none_over_all [] state = tt
-none_over_all (arrival ∷ arrivals) state = ((fine_at arrival state).none_over, none_over_all arrivals (stepped arrival state).after)
 
-pub within_all : (arrivals : List Arrival) (state : State) → AllByRecursion StaysWithin (trace arrivals state)
-within_all [] state = tt
-within_all (arrival ∷ arrivals) state = ((fine_at arrival state).within, within_all arrivals (stepped arrival state).after)
 
-pub lowers_all : (arrivals : List Arrival) (state : State) → AllByRecursion RaisesNothing (trace arrivals state)
-lowers_all [] state = tt
-lowers_all (arrival ∷ arrivals) state = ((fine_at arrival state).lowers, lowers_all arrivals (stepped arrival state).after)
 
 pub sound_all : (arrivals : List Arrival) (state : State) → IsSound state → AllByRecursion LeavesSound (trace arrivals state)
 sound_all [] state sound = tt

@@ -6,19 +6,20 @@ use Rattle.bo_catalogue.specs.declared.refusal.CatalogueRefusal.TheVariants.{NoI
 use Rattle.bo_catalogue.specs.CatalogueLists.{item_at, quota_at}
 use Rattle.bo_lists.specs.declared.rows.CartPos.{CartPos}
 use Rattle.bo_lists.specs.declared.rows.Voucher.{Voucher}
-use Rattle.bo_lists.specs.Lists.{Lists, State, voucher_at, cart_at}
+use Rattle.bo_lists.specs.declared.rows.Order.{Order}
+use Rattle.bo_lists.specs.Lists.{Lists, State, voucher_at, cart_at, order_at}
 use Rattle.bo_lists.specs.Available.{availability}
 use Rattle.bo_vouchers.specs.declared.refusal.VoucherRefusal.TheVariants.{NoVoucher}
-use Rattle.bo_orders.specs.declared.refusal.OrderRefusal.TheVariants.{NoPosition}
+use Rattle.bo_orders.specs.declared.refusal.OrderRefusal.TheVariants.{NoPosition, NoOrder}
 use Rattle.bo_office.specs.declared.command.Query.{Query}
 use Rattle.bo_office.specs.declared.command.Query.TheVariants as queries
 use Rattle.bo_office.specs.declared.command.Resource.{Resource}
-use Rattle.bo_office.specs.declared.command.Resource.TheVariants.{Items, Quotas, Vouchers, Carts}
+use Rattle.bo_office.specs.declared.command.Resource.TheVariants.{Items, Quotas, Vouchers, Carts, Orders}
 use Rattle.bo_office.specs.declared.command.Kind.TheVariants as kinds
 use Rattle.bo_office.specs.declared.reply.Refusal.TheVariants as refusals
 use Rattle.bo_office.specs.declared.reply.Reply.{Reply}
 use Rattle.bo_office.specs.declared.reply.Reply.TheVariants.{Availability as TheAvailability, Found, Refused}
-use Rattle.bo_office.specs.ShownRows.{show_item, show_quota, show_voucher, show_cart}
+use Rattle.bo_office.specs.ShownRows.{show_item, show_quota, show_voucher, show_cart, show_order}
 use Rattle.bo_office.specs.Pages.{listed}
 
 -- a page of a list
@@ -27,6 +28,7 @@ list_of Items number lists = listed Items (show_item lists) number lists.catalog
 list_of Quotas number lists = listed Quotas show_quota number lists.catalogue.quotas
 list_of Vouchers number lists = listed Vouchers (show_voucher lists) number lists.vouchers
 list_of Carts number lists = listed Carts show_cart number lists.carts
+list_of Orders number lists = listed Orders (show_order lists) number lists.orders
 
 abbrev pub item_found : Lists → Option Item → Reply
 item_found lists None = Refused kinds.One (refusals.Catalogue NoItem)
@@ -44,12 +46,17 @@ abbrev pub cart_found : Option CartPos → Reply
 cart_found None = Refused kinds.One (refusals.Order NoPosition)
 cart_found (Some cart) = Found (show_cart cart)
 
+abbrev pub order_found : Lists → Option Order → Reply
+order_found lists None = Refused kinds.One (refusals.Order NoOrder)
+order_found lists (Some order) = Found (show_order lists order)
+
 -- one row
 abbrev pub one_of : Resource → ℕ → Lists → Reply
 one_of Items id lists = item_found lists (item_at id lists.catalogue)
 one_of Quotas id lists = quota_found (quota_at id lists.catalogue)
 one_of Vouchers id lists = voucher_found lists (voucher_at id lists)
 one_of Carts id lists = cart_found (cart_at id lists)
+one_of Orders number lists = order_found lists (order_at number lists)
 
 abbrev pub availability_of : Lists → ℕ → Option Quota → Reply
 availability_of lists at None = Refused kinds.Availability (refusals.Catalogue NoQuota)

@@ -4,7 +4,8 @@ use Rattle.bo_catalogue.specs.declared.rows.Quota.{Quota}
 use Rattle.bo_catalogue.specs.CatalogueLists.{with_variations}
 use Rattle.bo_lists.specs.declared.rows.CartPos.{CartPos}
 use Rattle.bo_lists.specs.declared.rows.Voucher.{Voucher}
-use Rattle.bo_lists.specs.Lists.{Lists}
+use Rattle.bo_lists.specs.declared.rows.Order.{Order}
+use Rattle.bo_lists.specs.Lists.{Lists, positions_of}
 use Rattle.bo_lists.specs.Usage.{redeemed}
 use Rattle.bo_office.specs.declared.reply.Shown.{Shown}
 use Rattle.bo_office.specs.declared.reply.Shown.TheVariants as rows
@@ -22,3 +23,7 @@ show_voucher lists voucher = rows.Voucher voucher (redeemed voucher.id lists)
 
 abbrev pub show_cart : CartPos → Shown
 show_cart cart = rows.Cart cart
+
+-- an order with its positions
+abbrev pub show_order : Lists → Order → Shown
+show_order lists order = rows.Order (record { order = order; positions = positions_of order.id lists })

@@ -1,5 +1,5 @@
 -- What each command does.
-use Rattle.std.specs.Prelude.{ℕ, [], Result, Ok, Err}
+use Rattle.std.specs.Prelude.{ℕ, List, [], Result, Ok, Err}
 use Rattle.bo_base.specs.declared.draw.Draw.{Draw}
 use Rattle.bo_catalogue.specs.declared.rows.Item.{Item}
 use Rattle.bo_catalogue.specs.declared.rows.ItemRows.{ItemRows}
@@ -12,6 +12,7 @@ use Rattle.bo_catalogue.specs.VariationAdded.{variation_added}
 use Rattle.bo_catalogue.specs.QuotaAdded.{quota_added}
 use Rattle.bo_catalogue.specs.Resized.{resized}
 use Rattle.bo_lists.specs.declared.rows.CartPos.{CartPos}
+use Rattle.bo_lists.specs.declared.rows.OrderRows.{OrderRows}
 use Rattle.bo_lists.specs.declared.rows.Voucher.{Voucher}
 use Rattle.bo_lists.specs.declared.changes.Change.TheVariants.{PutItem, PutQuota}
 use Rattle.bo_lists.specs.Lists.{State}
@@ -22,14 +23,18 @@ use Rattle.bo_vouchers.specs.Made.{voucher_made}
 use Rattle.bo_vouchers.specs.Changed.{voucher_changed}
 use Rattle.bo_vouchers.specs.Deleted.{voucher_deleted}
 use Rattle.bo_orders.specs.declared.refusal.OrderRefusal.{OrderRefusal}
+use Rattle.bo_orders.specs.declared.bulk.Outcome.{Outcome}
+use Rattle.bo_orders.specs.Bulk.{many_added}
 use Rattle.bo_orders.specs.Carts.{position_added}
+use Rattle.bo_orders.specs.Created.{order_created}
 use Rattle.bo_orders.specs.Dropped.{position_dropped}
+use Rattle.bo_orders.specs.Moves.{order_moved}
 use Rattle.bo_office.specs.declared.command.Command.{Command}
 use Rattle.bo_office.specs.declared.command.Command.TheVariants as commands
 use Rattle.bo_office.specs.declared.command.Kind.TheVariants as kinds
 use Rattle.bo_office.specs.declared.reply.Refusal.TheVariants as refusals
 use Rattle.bo_office.specs.declared.reply.Reply.{Reply}
-use Rattle.bo_office.specs.declared.reply.Reply.TheVariants.{Made, Found, Gone, Refused}
+use Rattle.bo_office.specs.declared.reply.Reply.TheVariants.{Made, Found, Results, Gone, Refused}
 use Rattle.bo_office.specs.declared.reply.Shown.TheVariants as rows
 use Rattle.bo_office.specs.ShownRows.{show_item, show_voucher}
 
@@ -77,6 +82,18 @@ abbrev pub cart_drop_step : State → Result State OrderRefusal → State × Rep
 cart_drop_step state (Ok new) = (new, Gone)
 cart_drop_step state (Err refusal) = (state, Refused kinds.DropCart (refusals.Order refusal))
 
+abbrev pub bulk_step : State → Result (State × List Outcome) OrderRefusal → State × Reply
+bulk_step state (Ok (new, outcomes)) = (new, Results outcomes)
+bulk_step state (Err refusal) = (state, Refused kinds.AddCarts (refusals.Order refusal))
+
+abbrev pub order_step : State → Result (State × OrderRows) OrderRefusal → State × Reply
+order_step state (Ok (new, made)) = (new, Made (rows.Order made))
+order_step state (Err refusal) = (state, Refused kinds.AddOrder (refusals.Order refusal))
+
+abbrev pub move_step : State → Result (State × OrderRows) OrderRefusal → State × Reply
+move_step state (Ok (new, moved)) = (new, Found (rows.Order moved))
+move_step state (Err refusal) = (state, Refused kinds.MoveOrder (refusals.Order refusal))
+
 -- one command, in the office at its moment; a refusal changes nothing
 abbrev pub step_now : Command → Draw → State → State × Reply
 step_now (commands.AddItem new) draw state = item_step state (item_added new state.next.item state.next.variation state.lists.catalogue)
@@ -88,7 +105,10 @@ step_now (commands.AddVoucher new) draw state = voucher_step state (voucher_made
 step_now (commands.ChangeVoucher id patch) draw state = voucher_change_step state (voucher_changed id patch state)
 step_now (commands.DropVoucher id) draw state = voucher_drop_step state (voucher_deleted id state)
 step_now (commands.AddCart new) draw state = cart_step state (position_added new draw state)
+step_now (commands.AddCarts entries) draw state = bulk_step state (many_added entries draw state)
 step_now (commands.DropCart id) draw state = cart_drop_step state (position_dropped id state)
+step_now (commands.AddOrder new) draw state = order_step state (order_created new draw state)
+step_now (commands.MoveOrder number change) draw state = move_step state (order_moved number change state)
 
 -- one command at a moment, with a draw: the office after it, and its reply; the moment is stored in any case
 abbrev pub step : Command → ℕ → Draw → State → State × Reply

@@ -1,7 +1,8 @@
 //! What a request asks for.
 
+use bo_base::List;
 use bo_catalogue::{ItemPatch, NewItem, NewQuota, NewVariation, QuotaPatch};
-use bo_orders::NewCart;
+use bo_orders::{Entry, Move, NewCart, NewOrder};
 use bo_vouchers::{NewVoucher, VoucherPatch};
 
 /// A request that may change the box office.
@@ -25,17 +26,24 @@ pub enum Command {
     DropVoucher(u64),
     /// Adds a cart position.
     AddCart(NewCart),
+    /// Adds a cart position for each entry, each by itself.
+    AddCarts(List<Entry>),
     /// Deletes the cart position with this id.
     DropCart(u64),
+    /// Makes an order.
+    AddOrder(NewOrder),
+    /// Moves the order with this number.
+    MoveOrder(u64, Move),
 }
 
-/// Rows of one kind, which are listed by id, 50 a page.
+/// Rows of one kind, which are listed by id, 50 a page. The id of an order is its number.
 #[derive(Clone, Copy, Debug, PartialEq, Eq)]
 pub enum Resource {
     Items,
     Quotas,
     Vouchers,
     Carts,
+    Orders,
 }
 
 /// A request that only reads.
@@ -61,7 +69,10 @@ pub enum Kind {
     ChangeVoucher,
     DropVoucher,
     AddCart,
+    AddCarts,
     DropCart,
+    AddOrder,
+    MoveOrder,
     List,
     One,
     Availability,

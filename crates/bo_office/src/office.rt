@@ -122,7 +122,10 @@ impl<B: Book> Office<B> {
             Command::ChangeVoucher(id, patch) => self.change_voucher(alloc, at, *id, patch),
             Command::DropVoucher(id) => self.drop_voucher(alloc, at, *id),
             Command::AddCart(new) => self.add_cart(alloc, at, draw, new),
+            Command::AddCarts(entries) => self.add_carts(alloc, at, draw, entries.as_slice()),
             Command::DropCart(id) => self.drop_cart(alloc, at, *id),
+            Command::AddOrder(new) => self.add_order(alloc, at, draw, new),
+            Command::MoveOrder(number, change) => self.move_order(alloc, at, *number, *change),
         }
     }
 
@@ -137,7 +140,7 @@ impl<B: Book> Office<B> {
     }
 
     /// What a query is answered at a moment that isn't before the office's.
-    /// Refusals: 10 `NoItem`, 13 `NoQuota`, 23 `NoVoucher`, 40 `NoPosition` where no row has the id;
+    /// Refusals: 10 `NoItem`, 13 `NoQuota`, 23 `NoVoucher`, 40 `NoPosition`, 41 `NoOrder` where no row has the id;
     /// 59 `NoPage` where the list has no such page.
     pub fn ask(&self, alloc: Global, at: Moment, query: &Query) -> Result<Reply, AllocError>
         requires { self.now.state.moment ≤ at }

@@ -32,6 +32,7 @@ impl<B: Book> Office<B> {
             Resource::Quotas => self.quotas_page(alloc, number),
             Resource::Vouchers => self.vouchers_page(alloc, number),
             Resource::Carts => self.carts_page(alloc, number),
+            Resource::Orders => Err(AllocError),
         }
     }
 
@@ -154,6 +155,7 @@ impl<B: Book> Office<B> {
             Resource::Quotas => self.one_quota(alloc, id),
             Resource::Vouchers => self.one_voucher(alloc, id),
             Resource::Carts => self.one_cart(alloc, id),
+            Resource::Orders => Err(AllocError),
         }
     }
 

@@ -6,8 +6,8 @@ ghost use Rattle.bo_office.specs.Refusals.{number_of_refusal};
 use crate::command::{Kind, Resource};
 use bo_base::List;
 use bo_catalogue::{CatalogueRefusal, ItemRows, PricedVariation, Quota};
-use bo_lists::{Availability, CartPos, Voucher};
-use bo_orders::OrderRefusal;
+use bo_lists::{Availability, CartPos, OrderRows, Voucher};
+use bo_orders::{OrderRefusal, Outcome};
 use bo_vouchers::VoucherRefusal;
 
 /// Why a request is refused.
@@ -45,6 +45,8 @@ pub enum Shown {
     /// A voucher, and how many positions of pending and paid orders name it.
     Voucher(Voucher, u64),
     Cart(CartPos),
+    /// An order with its positions.
+    Order(OrderRows),
 }
 
 /// A page of a list: how many rows the whole list has, and those of the page, at most 50.
@@ -63,6 +65,8 @@ pub enum Reply {
     Made(Shown),
     /// A row that stands, as it is now.
     Found(Shown),
+    /// What became of each entry of a bulk call.
+    Results(List<Outcome>),
     /// A page of a list.
     Listed(Page),
     /// A row was deleted.

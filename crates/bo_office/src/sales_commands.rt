@@ -1,4 +1,4 @@
-//! Commands on vouchers and carts.
+//! Commands on vouchers, carts and orders.
 
 ghost use Rattle.std.specs.Prelude.{◌≡◌, ◌≤◌, ℕ, IfOk};
 ghost use Rattle.bo_base.specs.declared.draw.Draw.{Draw};
@@ -12,7 +12,7 @@ use crate::reply::{Refusal, Reply, Shown};
 use bo_base::{Draw, Moment};
 use bo_draft::Draft;
 use bo_lists::Changes;
-use bo_orders::{NewCart, OrderRefusal, add_position, drop_position};
+use bo_orders::{Entry, Move, NewCart, NewOrder, OrderRefusal, add_position, drop_position};
 use bo_usage::Book;
 use bo_vouchers::{NewVoucher, VoucherPatch, VoucherRefusal, decide_voucher};
 use std::alloc::{AllocError, Global};
@@ -95,6 +95,48 @@ impl<B: Book> Office<B> {
             Err(refusal) => Reply::Refused(Kind::AddCart, Refusal::Order(refusal)),
         };
         Ok((draft.finish(), reply))
+    }
+
+    // Adds a cart position for each entry.
+    pub(crate) fn add_carts(
+        &self,
+        alloc: Global,
+        at: Moment,
+        draw: Draw,
+        entries: &[Entry],
+    ) -> Result<(Changes, Reply), AllocError>
+        requires { self.now.state.moment ≤ at }
+        ensures { IfOk result (λ r. (applied r.0 at self.now.state, r.1) ≡ step (Command.AddCarts entries.now) at draw self.now.state) }
+    {
+        Err(AllocError)
+    }
+
+    // Makes an order.
+    pub(crate) fn add_order(
+        &self,
+        alloc: Global,
+        at: Moment,
+        draw: Draw,
+        new: &NewOrder,
+    ) -> Result<(Changes, Reply), AllocError>
+        requires { self.now.state.moment ≤ at }
+        ensures { IfOk result (λ r. (applied r.0 at self.now.state, r.1) ≡ step (Command.AddOrder new.now) at draw self.now.state) }
+    {
+        Err(AllocError)
+    }
+
+    // Moves an order, with whatever draw.
+    pub(crate) fn move_order(
+        &self,
+        alloc: Global,
+        at: Moment,
+        number: u64,
+        change: Move,
+    ) -> Result<(Changes, Reply), AllocError>
+        requires { self.now.state.moment ≤ at }
+        ensures { IfOk result (λ r. (draw : Draw) → (applied r.0 at self.now.state, r.1) ≡ step (Command.MoveOrder number change) at draw self.now.state) }
+    {
+        Err(AllocError)
     }
 
     // Deletes a cart position, with whatever draw.

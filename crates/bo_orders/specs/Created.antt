@@ -23,22 +23,24 @@ use Rattle.bo_lists.specs.Sound.{AreNumbered}
 use Rattle.bo_vouchers.specs.declared.refusal.VoucherRefusal.{VoucherRefusal}
 use Rattle.bo_vouchers.specs.declared.refusal.VoucherRefusal.TheVariants.{Catalogue, NoHeadroom, SoldOut}
 use Rattle.bo_orders.specs.declared.new_order.NewOrder.{NewOrder}
+use Rattle.bo_orders.specs.declared.new_order.Start.{Start}
+use Rattle.bo_orders.specs.declared.new_order.Start.TheVariants as starts
 use Rattle.bo_orders.specs.declared.sold.Asked.{Asked}
 use Rattle.bo_orders.specs.declared.sold.Sold.{Sold}
 use Rattle.bo_orders.specs.declared.refusal.OrderRefusal.{OrderRefusal}
 use Rattle.bo_orders.specs.declared.refusal.OrderRefusal.TheVariants.{Voucher as OfVoucher, Empty, TooMany}
 use Rattle.bo_orders.specs.Sold.{sold_for}
 
-abbrev pub status_of : Bool → Status
-status_of true = Paid
-status_of false = Pending
+abbrev pub status_of : Start → Status
+status_of starts.Pending = Pending
+status_of starts.Paid = Paid
 
 -- the order's row: it has the next number, and 14 days where no end is given
 abbrev pub order_row : NewOrder → State → Order
 order_row new state = record {
   id = state.next.order;
   email = new.email;
-  status = status_of new.paid;
+  status = status_of new.start;
   made_at = state.moment;
   expires = unwrap_or new.expires (min (state.moment + 1209600) last_moment);
 }

@@ -14,7 +14,7 @@ use crate::sold::{Asked, sold_for};
 use bo_base::{Draw, List, Text, secret};
 use bo_catalogue::{CatalogueRefusal, LAST_ID};
 use bo_draft::Draft;
-use bo_lists::{Order, OrderPos, OrderRows, Own, Status};
+use bo_lists::{Order, OrderPos, OrderRows, Own};
 use bo_usage::Book;
 use bo_vouchers::VoucherRefusal;
 use std::alloc::{AllocError, Global};
@@ -91,11 +91,7 @@ fn new_order<B: Book>(
     Ok(Order {
         id: draft.next_order(),
         email,
-        status: if new.paid {
-            Status::Paid
-        } else {
-            Status::Pending
-        },
+        status: new.start.status(),
         made_at: draft.moment(),
         expires: new.expires.unwrap_or(draft.moment().later(1209600)),
     })

@@ -4,8 +4,8 @@ use Rattle.std.specs.Str.Lossy.{utf8_lossy}
 use Rattle.serde_json.specs.Data.{Data, string, array, item, no_items, object, member, no_members}
 use Rattle.bo_base.specs.declared.answer.Methods.{Methods}
 use Rattle.bo_base.specs.declared.answer.Told.{Told}
-use Rattle.bo_words.specs.declared.fields.Fault.{Fault}
-use Rattle.bo_words.specs.Fields.{field_name, problem_text}
+use Rattle.bo_faults.specs.declared.fields.Fault.{Fault}
+use Rattle.bo_faults.specs.Fields.{field_name, problem_text}
 use Rattle.bo_words.specs.Told.{told, detail_body}
 
 -- `{"field":["text"]}`

@@ -1,4 +1,3 @@
-pub mod Fields
 pub mod Values
 pub mod Rows
 pub mod VoucherParts

@@ -17,8 +17,8 @@ use Rattle.bo_lists.specs.declared.rows.Status.{Status}
 use Rattle.bo_lists.specs.declared.rows.Status.TheVariants as statuses
 use Rattle.bo_words.specs.Values.{count}
 use Rattle.bo_words.specs.Told.{told, empty_body}
-use Rattle.bo_words.specs.declared.fields.Field.TheVariants as fields
-use Rattle.bo_words.specs.declared.fields.Problem.TheVariants as problems
+use Rattle.bo_faults.specs.declared.fields.Field.TheVariants as fields
+use Rattle.bo_faults.specs.declared.fields.Problem.TheVariants as problems
 use Rattle.bo_words.specs.Faults.{not_found, invalid_page, field_fault}
 
 -- the sentence that tells a refusal; want of memory is never told as a refusal

@@ -2,7 +2,6 @@
 #![tactic(auto)]
 
 pub mod faults;
-pub mod fields;
 pub mod laws;
 mod pages;
 mod refusals;
@@ -16,5 +15,4 @@ pub use faults::{
     field_fault, invalid_data, invalid_page, invalid_token, method_not_allowed, no_credentials,
     not_found, parse_error,
 };
-pub use fields::{Fault, Field, Problem};
 pub use replies::words;

@@ -8,7 +8,7 @@ ghost use Rattle.bo_words.specs.Faults.{not_found, field_fault};
 ghost use Rattle.bo_words.specs.Refusals.{catalogue_detail, voucher_detail, order_detail, detail, quota_of, quota_named, names_item, names_quota, names_voucher, is_of_path, refusal_body, status_of, status_letter, wrong_status_body, refused_by, refused};
 
 use crate::faults::{field_fault, invalid_page, not_found};
-use crate::fields::{Fault, Field, Problem};
+use bo_faults::{Fault, Field, Problem};
 use crate::told::told_value;
 use bo_base::Told;
 use bo_catalogue::CatalogueRefusal;

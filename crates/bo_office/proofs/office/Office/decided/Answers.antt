@@ -24,3 +24,6 @@ returns-in-DropVoucher g c = rw c.in-DropVoucher.is (IfOk-weaker c.drop_voucher.
 
 pub returns-in-DropCart : goal.returns-in-DropCart
 returns-in-DropCart g c = rw c.in-DropCart.is (IfOk-weaker c.drop_cart.result _ _ (λ r h. h c.args.draw) c.drop_cart.ensures)
+
+pub returns-in-MoveOrder : goal.returns-in-MoveOrder
+returns-in-MoveOrder g c = rw c.in-MoveOrder.is (IfOk-weaker c.move_order.result _ _ (λ r h. h c.args.draw) c.move_order.ensures)

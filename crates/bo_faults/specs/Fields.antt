@@ -1,9 +1,9 @@
 -- The names of fields, and the sentences that say what is wrong with one.
 use Rattle.std.specs.Prelude.{ℕ, List, codes}
-use Rattle.bo_words.specs.declared.fields.Field.{Field}
-use Rattle.bo_words.specs.declared.fields.Field.TheVariants as fields
-use Rattle.bo_words.specs.declared.fields.Problem.{Problem}
-use Rattle.bo_words.specs.declared.fields.Problem.TheVariants as problems
+use Rattle.bo_faults.specs.declared.fields.Field.{Field}
+use Rattle.bo_faults.specs.declared.fields.Field.TheVariants as fields
+use Rattle.bo_faults.specs.declared.fields.Problem.{Problem}
+use Rattle.bo_faults.specs.declared.fields.Problem.TheVariants as problems
 
 -- the name by which a body gives the field
 abbrev pub field_name : Field → List ℕ
@@ -29,6 +29,10 @@ field_name fields.PriceMode = codes "price_mode"
 field_name fields.Quota = codes "quota"
 field_name fields.Tag = codes "tag"
 field_name fields.Comment = codes "comment"
+field_name fields.Email = codes "email"
+field_name fields.Status = codes "status"
+field_name fields.ConsumeCarts = codes "consume_carts"
+field_name fields.Positions = codes "positions"
 
 abbrev pub problem_text : Problem → List ℕ
 problem_text problems.Required = codes "This field is required."

@@ -1,7 +1,7 @@
 //! The fields of requests, and what may be wrong with one.
 
 ghost use Rattle.std.specs.Prelude.{◌≡◌};
-ghost use Rattle.bo_words.specs.Fields.{field_name, problem_text};
+ghost use Rattle.bo_faults.specs.Fields.{field_name, problem_text};
 
 /// A field of a request.
 #[derive(Clone, Copy, Debug, PartialEq, Eq)]
@@ -28,6 +28,10 @@ pub enum Field {
     Quota,
     Tag,
     Comment,
+    Email,
+    Status,
+    ConsumeCarts,
+    Positions,
 }
 
 /// What is wrong with a field.
@@ -52,6 +56,15 @@ pub enum Problem {
 pub struct Fault {
     pub field: Field,
     pub problem: Problem,
+}
+
+/// What is wrong with an entry of a bulk call.
+#[derive(Clone, Copy, Debug, PartialEq, Eq)]
+pub enum EntryFault {
+    /// It is no object.
+    InvalidData,
+    /// A field of it is wrong.
+    Field(Fault),
 }
 
 impl Field {
@@ -82,6 +95,10 @@ impl Field {
             Field::Quota => "quota",
             Field::Tag => "tag",
             Field::Comment => "comment",
+            Field::Email => "email",
+            Field::Status => "status",
+            Field::ConsumeCarts => "consume_carts",
+            Field::Positions => "positions",
         }
     }
 }

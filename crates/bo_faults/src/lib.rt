@@ -1,0 +1,6 @@
+//! The fields of requests, and what may be wrong with one.
+#![tactic(auto)]
+
+pub mod fields;
+
+pub use fields::{EntryFault, Fault, Field, Problem};

@@ -1,0 +1,53 @@
+-- What is known where many cart positions were added.
+use Rattle.std.proofs.Common.{◌≡◌, ℕ, Bool, true, false, List, [], ◌∷◌, Result, Ok, Err, refl, sym, ap, ◌∙◌}
+use Rattle.std.specs.Prelude.{nat_lt, length, if◌then◌else◌}
+use Rattle.bo_base.specs.declared.draw.Draw.{Draw}
+use Rattle.bo_lists.specs.declared.rows.CartPos.{CartPos}
+use Rattle.bo_lists.specs.Lists.{State}
+use Rattle.bo_lists.specs.Sound.{IsSound}
+use Rattle.bo_orders.specs.declared.new_cart.NewCart.{NewCart}
+use Rattle.bo_orders.specs.declared.bulk.Entry.{Entry}
+use Rattle.bo_orders.specs.declared.bulk.Entry.TheVariants.{New, Faulty}
+use Rattle.bo_orders.specs.declared.bulk.Outcome.{Outcome}
+use Rattle.bo_orders.specs.declared.refusal.OrderRefusal.{OrderRefusal}
+use Rattle.bo_orders.specs.declared.refusal.OrderRefusal.TheVariants.{TooMany}
+use Rattle.bo_orders.specs.Bulk.{outcome_of, entry_added, all_added, most_entries, many_added}
+use Rattle.bo_orders.specs.Carts.{position_added}
+use Rattle.bo_orders.proofs.Added.{added_sound, added_moment}
+
+module _ (new : NewCart) (draw : Draw) (state : State) where
+  one_sound : (made : Result (State × CartPos) OrderRefusal) → position_added new draw state ≡ made → IsSound state → IsSound (outcome_of state made).0
+  one_sound (Err refusal) is sound = sound
+  one_sound (Ok (after, row)) is sound = added_sound new draw state after row sound is
+
+  one_moment : (made : Result (State × CartPos) OrderRefusal) → position_added new draw state ≡ made → (outcome_of state made).0.moment ≡ state.moment
+  one_moment (Err refusal) is = refl
+  one_moment (Ok (after, row)) is = added_moment new draw state after row is
+
+pub entry_sound : (entry : Entry) (draw : Draw) (state : State) → IsSound state → IsSound (entry_added entry draw state).0
+entry_sound (New new) draw state sound = one_sound new draw state (position_added new draw state) refl sound
+entry_sound (Faulty fault) draw state sound = sound
+
+pub entry_moment : (entry : Entry) (draw : Draw) (state : State) → (entry_added entry draw state).0.moment ≡ state.moment
+entry_moment (New new) draw state = one_moment new draw state (position_added new draw state) refl
+entry_moment (Faulty fault) draw state = refl
+
+pub all_sound : (entries : List Entry) (draw : Draw) (state : State) → IsSound state → IsSound (all_added entries draw state).0
+all_sound [] draw state sound = sound
+all_sound (entry ∷ entries) draw state sound = all_sound entries draw (entry_added entry draw state).0 (entry_sound entry draw state sound)
+
+pub all_moment : (entries : List Entry) (draw : Draw) (state : State) → (all_added entries draw state).0.moment ≡ state.moment
+all_moment [] draw state = refl
+all_moment (entry ∷ entries) draw state = all_moment entries draw (entry_added entry draw state).0 ∙ entry_moment entry draw state
+
+ok_many : (a b : State × List Outcome) → (let all : Result (State × List Outcome) OrderRefusal = Ok a in all ≡ Ok b) → a ≡ b
+ok_many a b h = cc
+
+-- where it wasn't refused as a whole, it is what all its entries make
+pub many_is : (entries : List Entry) (draw : Draw) (state : State) (made : State × List Outcome) → many_added entries draw state ≡ Ok made → all_added entries draw state ≡ made
+unfolding many_added
+many_is entries draw state made h = by_count (nat_lt most_entries (length entries)) h
+  where
+    by_count : (many : Bool) → (if many then Err TooMany else Ok (all_added entries draw state)) ≡ Ok made → all_added entries draw state ≡ made
+    by_count true e = absurd (cc)
+    by_count false e = ok_many (all_added entries draw state) made e

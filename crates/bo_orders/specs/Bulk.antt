@@ -1,0 +1,36 @@
+-- Adding many cart positions in one call: each entry by itself, after those before it.
+use Rattle.std.specs.Prelude.{ℕ, nat_lt, List, [], ◌∷◌, length, Result, Ok, Err, if◌then◌else◌}
+use Rattle.bo_base.specs.declared.draw.Draw.{Draw}
+use Rattle.bo_lists.specs.declared.rows.CartPos.{CartPos}
+use Rattle.bo_lists.specs.Lists.{State}
+use Rattle.bo_orders.specs.Carts.{position_added}
+use Rattle.bo_orders.specs.declared.bulk.Entry.{Entry}
+use Rattle.bo_orders.specs.declared.bulk.Entry.TheVariants as entries
+use Rattle.bo_orders.specs.declared.bulk.Outcome.{Outcome}
+use Rattle.bo_orders.specs.declared.bulk.Outcome.TheVariants as outcomes
+use Rattle.bo_orders.specs.declared.refusal.OrderRefusal.{OrderRefusal}
+use Rattle.bo_orders.specs.declared.refusal.OrderRefusal.TheVariants.{TooMany}
+
+abbrev pub outcome_of : State → Result (State × CartPos) OrderRefusal → State × Outcome
+outcome_of state (Ok (after, row)) = (after, outcomes.Added row)
+outcome_of state (Err refusal) = (state, outcomes.Refused refusal)
+
+-- an entry is what a request for one cart position is; a faulty one is handed on
+abbrev pub entry_added : Entry → Draw → State → State × Outcome
+entry_added (entries.New new) draw state = outcome_of state (position_added new draw state)
+entry_added (entries.Faulty fault) draw state = (state, outcomes.Faulty fault)
+
+abbrev pub with_outcome : Outcome → State × List Outcome → State × List Outcome
+with_outcome outcome rest = (rest.0, outcome ∷ rest.1)
+
+-- one entry after another, whatever becomes of each
+abbrev pub all_added : List Entry → Draw → State → State × List Outcome
+all_added [] draw state = (state, [])
+all_added (entry ∷ more) draw state = with_outcome (entry_added entry draw state).1 (all_added more draw (entry_added entry draw state).0)
+
+abbrev pub most_entries : ℕ
+most_entries = 500
+
+-- the box office with all that could be added, and what became of each entry; or there are too many
+unfoldable pub many_added : List Entry → Draw → State → Result (State × List Outcome) OrderRefusal
+many_added entries draw state = if nat_lt most_entries (length entries) then Err TooMany else Ok (all_added entries draw state)
