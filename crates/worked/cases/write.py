@@ -13,6 +13,8 @@ from forms import cases
 import first_path  # noqa: F401
 import catalogue  # noqa: F401
 import vouchers  # noqa: F401
+import orders  # noqa: F401
+import bulk  # noqa: F401
 
 HERE = Path(__file__).parent.parent
 
