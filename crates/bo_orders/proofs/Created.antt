@@ -33,7 +33,7 @@ use Rattle.bo_orders.specs.declared.sold.Sold.{Sold}
 use Rattle.bo_orders.specs.declared.refusal.OrderRefusal.{OrderRefusal}
 use Rattle.bo_orders.specs.declared.refusal.OrderRefusal.TheVariants.{Voucher as OfVoucher}
 use Rattle.bo_orders.specs.Sold.{sold_for}
-use Rattle.bo_orders.specs.Created.{order_row, position_row, position_of_sold, position_for, and_rows, rows_for, position_put, with_positions, with_ids_used, unless_over, placed_with, AreCounted, with_order_row, order_placed, created_of, has_ids, created_with_ids, counts_test, created_if, order_created}
+use Rattle.bo_orders.specs.Created.{order_row, position_row, position_of_sold, position_for, and_rows, rows_for, position_put, with_positions, with_ids_used, unless_over, placed_with, AreCounted, with_order_row, order_placed, created_of, counts_test, created_if, order_created}
 use Rattle.bo_orders.proofs.SoldLemmas.{sold_fits}
 use Rattle.bo_orders.proofs.Rows.{by_force, counted, puts_next}
 
@@ -93,13 +93,9 @@ module _ (new : NewOrder) (draw : Draw) (before after : State) (made : OrderRows
   by_rows (Err refusal) e h = absurd (cc)
   by_rows (Ok rows) e h = placed_is rows e h
 
-  by_ids : (ids : Bool) → Gives (created_with_ids new draw before ids) → IsCreated new draw before after made
-  by_ids false h = absurd (cc)
-  by_ids true h = by_rows (rows_for draw before before.next.position 1 new.positions) refl h
-
   by_counts : (counts : Result (Unit {0}) OrderRefusal) → Gives (created_if new draw before counts) → IsCreated new draw before after made
   by_counts (Err refusal) h = absurd (cc)
-  by_counts (Ok _) h = by_ids (has_ids (length new.positions) before) h
+  by_counts (Ok _) h = by_rows (rows_for draw before before.next.position 1 new.positions) refl h
 
   pub created_is : Gives (order_created new draw before) → IsCreated new draw before after made
   unfolding order_created
