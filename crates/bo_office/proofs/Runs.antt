@@ -62,12 +62,6 @@ record IsFine (state : State) (made : State × Reply) : Type 0 where
   moment : made.0.moment ≡ state.moment
   refused : (kind : Kind) (refusal : Refusal) → made.1 ≡ Refused kind refusal → made.0 ≡ state
 
-
-
-
-
-
-
 module _ (state : State) where
   refused_fine : (kind : Kind) (refusal : Refusal) → IsFine state (state, Refused kind refusal)
   refused_fine kind refusal = record {
@@ -121,7 +115,6 @@ module _ (state : State) where
     sound : IsSound state → IsSound after
     moment : after.moment ≡ state.moment
 
-
   voucher_fine : (r : Result (State × Voucher) VoucherRefusal) → ((after : State) (row : Voucher) → r ≡ Ok (after, row) → IsVoucherFine after row) → IsFine state (voucher_step state r)
   unfolding show_voucher
   voucher_fine (Err refusal) known = refused_fine _ _
@@ -152,7 +145,6 @@ module _ (state : State) where
   record IsCartFine (after : State) (row : CartPos) : Type 0 where
     sound : IsSound state → IsSound after
     moment : after.moment ≡ state.moment
-
 
   cart_fine : (r : Result (State × CartPos) OrderRefusal) → ((after : State) (row : CartPos) → r ≡ Ok (after, row) → IsCartFine after row) → IsFine state (cart_step state r)
   cart_fine (Err refusal) known = refused_fine _ _
@@ -228,9 +220,6 @@ below_max a b = omega arith
 -- the step of an arrival, from the office at its moment
 fine_at : (arrival : Arrival) (state : State) → IsFine (record state { moment = moment_at arrival.clock state }) (step arrival.command (moment_at arrival.clock state) arrival.draw state)
 fine_at arrival state = step_fine arrival.command arrival.draw (record state { moment = moment_at arrival.clock state })
-
-
-
 
 pub sound_all : (arrivals : List Arrival) (state : State) → IsSound state → AllByRecursion LeavesSound (trace arrivals state)
 sound_all [] state sound = tt

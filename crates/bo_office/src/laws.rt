@@ -6,9 +6,6 @@ ghost use Rattle.bo_lists.specs.Lists.{State};
 ghost use Rattle.bo_lists.specs.Sound.{IsSound};
 ghost use Rattle.bo_office.specs.Runs.{Arrival, trace, LeavesSound, StoresItsMoment, ChangesNothingElse, NeverGoesBack};
 
-
-
-
 /// Whatever commands come, a sound office stays sound.
 pub fn always_sound()
     ensures { (arrivals : List Arrival) (state : State) → IsSound state → AllByRecursion LeavesSound (trace arrivals state) }
