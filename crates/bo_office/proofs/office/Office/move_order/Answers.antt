@@ -1,11 +1,5 @@
-use Rattle.std.proofs.Common.{◌≤◌, sym, subst}
-use Rattle.bo_lists.specs.Lists.{State}
-use Rattle.bo_lists.specs.Sound.{IsSound}
-use Rattle.bo_lists.proofs.Sound.{sound_later}
-use Rattle.bo_draft.specs.DraftState.{DraftState, now}
+use Rattle.bo_office.proofs.Opened.{opened_sound}
 use Rattle.bo_office.proofs.office.Office.move_order.Goals as goal
 
 pub move_order-requires-clause-sound : goal.move_order-requires-clause-sound
-move_order-requires-clause-sound g c =
-    let later = subst (λ (s : State). s.moment ≤ c.args.at) (sym c.book.ensures.state) c.requires in
-    subst (λ (d : DraftState). IsSound (now d)) (sym c.in_ok-draft.ensures) (sound_later _ c.args.at later c.book.ensures.sound)
+move_order-requires-clause-sound g c = opened_sound (g.B.Book.state c.book.result.now) c.args.self.now.state c.args.at c.in_ok-draft.draft c.in_ok-draft.ensures c.book.ensures.state c.requires c.book.ensures.sound
