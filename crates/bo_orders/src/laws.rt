@@ -5,7 +5,6 @@ ghost use Rattle.std.specs.List.{AllByRecursion};
 ghost use Rattle.bo_base.specs.declared.draw.Draw.{Draw};
 ghost use Rattle.bo_catalogue.specs.CatalogueLists.{quota_at};
 ghost use Rattle.bo_catalogue.specs.declared.rows.Quota.{Quota};
-ghost use Rattle.bo_lists.specs.Fits.{AllExact};
 ghost use Rattle.bo_lists.specs.Lists.{State, order_at};
 ghost use Rattle.bo_lists.specs.Over.{first_over, ignores};
 ghost use Rattle.bo_lists.specs.declared.rows.CartPos.{CartPos};
@@ -76,11 +75,10 @@ pub fn revivals_take_no_more()
         order_moved number change before ≡ Ok (after, rows) → TakesNoMore before after }
 {}
 
-/// No other move raises the usage of a quota that stands, where each voucher that blocks places and that an order
-/// position names tells its product whole.
+/// In a sound box office no other move raises the usage of a quota that stands.
 pub fn other_moves_lower()
     ensures { (number : ℕ) (change : Move) (before after : State) (rows : OrderRows) (old : Order) (quota : Quota) →
-        IsSound before → AllExact before.lists → quota_at quota.id before.lists.catalogue ≡ Some quota →
+        IsSound before → quota_at quota.id before.lists.catalogue ≡ Some quota →
         order_at number before.lists ≡ Some old → (is_in_force old.status ≡ true) ⊎ (is_in_force rows.order.status ≡ false) →
         order_moved number change before ≡ Ok (after, rows) → used after quota ≤ used before quota }
 {}
