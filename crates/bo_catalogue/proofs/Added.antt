@@ -123,10 +123,11 @@ module _ (id : ℕ) (patch : QuotaPatch) (lists : CatalogueLists) (row : Quota) 
   pub resized_is : resized id patch lists ≡ Ok row → IsResized id patch lists row
   resized_is h = by_quota (quota_at id lists) refl h
 
--- the item, the room for one more variation, and its row
+-- the item, which is sold by variation, the room for one more, and its row
 pub record IsVariationAdded (item : ℕ) (new : NewVariation) (id : ℕ) (lists : CatalogueLists) (made : PricedVariation) : Type 0 where
   pub of : Item
   pub stood : item_at item lists ≡ Some of
+  pub varied : of.varied ≡ true
   pub has_room : takes_row id lists.variations ≡ true
   pub is_made : priced_variation of (variation_row new of.id id) ≡ made
 
@@ -134,17 +135,17 @@ module _ (item : ℕ) (new : NewVariation) (id : ℕ) (lists : CatalogueLists) (
   abbrev GivesVariation : Result PricedVariation CatalogueRefusal → Type 0
   GivesVariation result = result ≡ Ok made
 
-  by_variation_room : (of : Item) (fits : Bool) → item_at item lists ≡ Some of → takes_row id lists.variations ≡ fits → GivesVariation (if fits then Ok (priced_variation of (variation_row new of.id id)) else Err Full) → IsVariationAdded item new id lists made
-  by_variation_room of true stood is h = record { of = of; stood = stood; has_room = is; is_made = cc }
-  by_variation_room of false stood is h = absurd (cc)
+  by_variation_room : (of : Item) (fits : Bool) → item_at item lists ≡ Some of → of.varied ≡ true → takes_row id lists.variations ≡ fits → GivesVariation (if fits then Ok (priced_variation of (variation_row new of.id id)) else Err Full) → IsVariationAdded item new id lists made
+  by_variation_room of true stood varied is h = record { of = of; stood = stood; varied = varied; has_room = is; is_made = cc }
+  by_variation_room of false stood varied is h = absurd (cc)
 
-  by_varied : (of : Item) (varied : Bool) → item_at item lists ≡ Some of → GivesVariation (if varied then variation_in new of id lists else Err Plain) → IsVariationAdded item new id lists made
-  by_varied of true stood h = by_variation_room of (takes_row id lists.variations) stood refl h
-  by_varied of false stood h = absurd (cc)
+  by_varied : (of : Item) (varied : Bool) → item_at item lists ≡ Some of → of.varied ≡ varied → GivesVariation (if varied then variation_in new of id lists else Err Plain) → IsVariationAdded item new id lists made
+  by_varied of true stood is h = by_variation_room of (takes_row id lists.variations) stood is refl h
+  by_varied of false stood is h = absurd (cc)
 
   by_of : (found : Option Item) → item_at item lists ≡ found → GivesVariation (variation_of_item new id lists found) → IsVariationAdded item new id lists made
   by_of None stood h = absurd (cc)
-  by_of (Some of) stood h = by_varied of of.varied stood h
+  by_of (Some of) stood h = by_varied of of.varied stood refl h
 
   pub variation_added_is : variation_added item new id lists ≡ Ok made → IsVariationAdded item new id lists made
   unfolding variation_added

@@ -1,8 +1,9 @@
 -- A draft that goes on keeps its marks.
-use Rattle.std.proofs.Common.{◌≡◌, ◌≤◌, List, [], ◌∷◌, length, refl, sym, ap, ◌∙◌, arith, length-append}
+use Rattle.std.proofs.Common.{◌≡◌, ◌≤◌, List, [], ◌∷◌, length, refl, sym, ap, ◌∙◌, subst, arith, length-append}
 use Rattle.std.proofs.lemmas.List.{take-append-le}
 use Rattle.bo_lists.specs.declared.changes.Change.{Change}
 use Rattle.bo_lists.specs.Change.{changed}
+use Rattle.bo_lists.specs.Headroom.{AllHaveHeadroom}
 use Rattle.bo_draft.specs.DraftState.{DraftState, MarkState, Extends, now, back, with_change, usages_of}
 use Rattle.bo_draft.proofs.Steps.{after_all-push}
 
@@ -22,6 +23,7 @@ extends_with_change draft change = record {
           within = omega (arith, is.within, length-append draft.log.changes (change ∷ []));
           usages = is.usages ∙ ap (λ (d : DraftState). usages_of (now d).lists draft.moment) (sym same);
           carts = is.carts ∙ ap (λ (d : DraftState). length (now d).lists.carts) (sym same);
+          headroom = subst (λ (d : DraftState). AllHaveHeadroom draft.moment (now d).lists) (sym same) is.headroom;
         },
         same,
       );

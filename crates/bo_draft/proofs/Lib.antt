@@ -9,3 +9,4 @@ pub mod Overs
 pub mod Extensions
 pub mod Holds
 pub mod Redeems
+pub mod CanCome

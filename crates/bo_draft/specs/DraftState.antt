@@ -6,6 +6,7 @@ use Rattle.bo_lists.specs.declared.changes.Change.{Change}
 use Rattle.bo_lists.specs.declared.changes.Change.TheVariants.{PutItem, PutVariation, PutQuota, PutPosition}
 use Rattle.bo_lists.specs.Lists.{Lists, State, position_at}
 use Rattle.bo_lists.specs.Usage.{usage_of}
+use Rattle.bo_lists.specs.Headroom.{AllHaveHeadroom}
 use Rattle.bo_lists.specs.Change.{after_change, after_all}
 
 -- the rows in the book, and the changes since
@@ -68,6 +69,7 @@ pub record IsMarkOf (draft : DraftState) (mark : MarkState) : Type 0 where
   pub within : mark.count ≤ length draft.log.changes
   pub usages : mark.usages ≡ usages_of (now (back mark draft)).lists draft.moment
   pub carts : mark.carts ≡ length (now (back mark draft)).lists.carts
+  pub headroom : AllHaveHeadroom draft.moment (now (back mark draft)).lists
 
 -- the new draft has the old one's marks, and goes back to the same
 pub record Extends (old new : DraftState) : Type 0 where

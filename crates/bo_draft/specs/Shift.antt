@@ -101,11 +101,11 @@ pub record KeepsHeadroom (at : ℕ) (change : Change) (lists : Lists) : Type 0 w
   pub before : AllHaveHeadroom at lists
   pub after : AllHaveHeadroom at (after_change change lists)
 
--- what a draft can change after these changes: nothing that is for sale, and orders and new order positions only with headroom
+-- what a draft can change after these changes: nothing that is for sale, and the rest with headroom, where an order
+-- position is a new one
 abbrev pub CanCome : ℕ → Log → Change → Type 0
 CanCome at log (PutItem row) = ⊥
 CanCome at log (PutVariation row) = ⊥
 CanCome at log (PutQuota row) = ⊥
-CanCome at log (PutOrder row) = KeepsHeadroom at (PutOrder row) (rows_of log)
 CanCome at log (PutPosition row) = (position_at row.id (rows_of log) ≡ None) × KeepsHeadroom at (PutPosition row) (rows_of log)
-CanCome at log _ = Unit {0}
+CanCome at log change = KeepsHeadroom at change (rows_of log)

@@ -1,15 +1,17 @@
 //! A book with changes that aren't applied yet.
 
-ghost use Rattle.std.specs.Prelude.{◌≡◌, ◌++◌, [], ◌∷◌, ◌≤◌, ◌<◌, ◌+◌, ◌-◌, ◌^◌, ℕ, IfOk, OnOk, OnErr, length, slice_get, Some, None, count_by};
+ghost use Rattle.std.specs.Prelude.{true, not, ◌||◌, ◌≡◌, ◌++◌, [], ◌∷◌, ◌≤◌, ◌<◌, ◌+◌, ◌-◌, ◌^◌, ℕ, IfOk, OnOk, OnErr, length, slice_get, Some, None, count_by};
 ghost use Rattle.std.specs.Option.{option_copied};
 ghost use Rattle.bo_lists.specs.Full.{takes_cart, takes_voucher, takes_order, takes_positions};
 ghost use Rattle.bo_lists.specs.Lists.{voucher_at, cart_at, order_at, position_at, positions_of, waiting_at};
 ghost use Rattle.bo_lists.specs.Consumed.{consumed};
-ghost use Rattle.bo_lists.specs.Headroom.{has_use, held, AllHaveHeadroom};
+ghost use Rattle.bo_lists.specs.Headroom.{has_use, held, HasHeadroom, AllHaveHeadroom};
+ghost use Rattle.bo_lists.specs.Tests.{is_live_cart};
+ghost use Rattle.bo_base.specs.Tables.{AreInOrder};
 ghost use Rattle.bo_lists.specs.Named.{voucher_of, is_used};
 ghost use Rattle.bo_lists.specs.Over.{first_over, is_over, is_free, weighed};
 ghost use Rattle.bo_lists.specs.Change.{changed};
-ghost use Rattle.bo_draft.specs.DraftState.{DraftState, MarkState, IsMarkOf, Extends, now, back, usages_of};
+ghost use Rattle.bo_draft.specs.DraftState.{DraftState, MarkState, IsMarkOf, Extends, now, back, rows_of, usages_of};
 ghost use Rattle.bo_draft.specs.Shift.{CanCome};
 ghost use Rattle.bo_lists.specs.Usage.{usage_of, redeemed};
 
@@ -53,19 +55,22 @@ pub struct Draft<'a, B: Book> {
 impl<'a, B: Book> Model for Draft<'a, B> {
     ghost use Rattle.std.specs.Prelude.{◌≡◌, length};
     ghost use Rattle.bo_draft.specs.DraftState.{DraftState, rows_of, usages_of};
+    ghost use Rattle.bo_lists.specs.Headroom.{AllHaveHeadroom};
 
     ghost Value = { DraftState };
 
     ghost view = { λ d. record { log = d.overlay; next = d.next; moment = d.moment } };
 
-    // The usage of each quota and the number of cart positions are what counting afresh gives.
-    ghost invariant = { λ d. (d.usages.items ≡ usages_of (rows_of d.overlay) d.moment) × (d.carts ≡ length (rows_of d.overlay).carts) };
+    // The usage of each quota and the number of cart positions are what counting afresh gives, and no voucher is used
+    // more often than it may be.
+    ghost invariant = { λ d. (d.usages.items ≡ usages_of (rows_of d.overlay) d.moment) × ((d.carts ≡ length (rows_of d.overlay).carts) × AllHaveHeadroom d.moment (rows_of d.overlay)) };
 }
 
 impl<'a, B: Book> Draft<'a, B> {
-    /// The book as it stands, at a moment that isn't before its own.
+    /// The book as it stands, at a moment that isn't before its own and at which it has headroom.
     pub fn new(alloc: Global, book: &'a B, moment: Moment) -> Result<Self, AllocError>
-        requires { (B.state book.now).moment ≤ moment }
+        requires moment { (B.state book.now).moment ≤ moment }
+        requires headroom { AllHaveHeadroom moment (B.state book.now).lists }
         ensures { IfOk result (λ d. d ≡ record {
           log = record { base = (B.state book.now).lists; changes = [] };
           next = (B.state book.now).next;
@@ -80,6 +85,16 @@ impl<'a, B: Book> Draft<'a, B> {
             usages,
             carts: book.carts().len(),
         })
+    }
+
+    /// No voucher is used more often than it may be, and the ids of vouchers and of cart positions rise.
+    pub fn known(&self)
+        ensures headroom { AllHaveHeadroom self.now.moment (rows_of self.now.log) }
+        ensures vouchers { AreInOrder (λ r. r.id) (rows_of self.now.log).vouchers }
+        ensures carts { AreInOrder (λ r. r.id) (rows_of self.now.log).carts }
+    {
+        let _ = &self.moment;
+        self.overlay.known();
     }
 
     /// The moment of the changes.
@@ -287,12 +302,14 @@ impl<'a, B: Book> Draft<'a, B> {
         self.next.voucher += 1;
     }
 
-    /// Puts a voucher in the place of its id.
+    /// Puts a voucher in the place of its id. It isn't used more often than it may be.
     pub fn put_voucher(&mut self, alloc: Global, row: Voucher) -> Result<(), AllocError>
+        requires { HasHeadroom (now self.old).moment (now self.old).lists row }
         ensures ok { OnOk result (now self.new ≡ changed (Change.PutVoucher row) (now self.old)) }
         ensures extends { Extends self.old self.new }
         ensures err { OnErr result (self.new ≡ self.old) }
     {
+        self.known();
         self.change(alloc, Change::PutVoucher(row))
     }
 
@@ -302,15 +319,19 @@ impl<'a, B: Book> Draft<'a, B> {
         ensures extends { Extends self.old self.new }
         ensures err { OnErr result (self.new ≡ self.old) }
     {
+        self.known();
         self.change(alloc, Change::DropVoucher(id))
     }
 
-    /// Puts a cart position in the place of its id.
+    /// Puts a cart position in the place of its id. It is dead, or its voucher, if it names one, has a use left.
+    #[tactic(auto, using(crate::proofs::CanCome::can_put_cart))]
     pub fn put_cart(&mut self, alloc: Global, row: CartPos) -> Result<(), AllocError>
+        requires { (not (is_live_cart (now self.old).moment row) || has_use (now self.old).moment (now self.old).lists row.voucher) ≡ true }
         ensures ok { OnOk result (now self.new ≡ changed (Change.PutCart row) (now self.old)) }
         ensures extends { Extends self.old self.new }
         ensures err { OnErr result (self.new ≡ self.old) }
     {
+        self.known();
         self.change(alloc, Change::PutCart(row))
     }
 
@@ -320,49 +341,56 @@ impl<'a, B: Book> Draft<'a, B> {
         ensures extends { Extends self.old self.new }
         ensures err { OnErr result (self.new ≡ self.old) }
     {
+        self.known();
         self.change(alloc, Change::DropCart(id))
     }
 
     /// Puts a waiting entry in the place of its id.
+    #[tactic(auto, using(crate::proofs::CanCome::can_put_waiting))]
     pub fn put_waiting(&mut self, alloc: Global, row: Waiting) -> Result<(), AllocError>
         ensures ok { OnOk result (now self.new ≡ changed (Change.PutWaiting row) (now self.old)) }
         ensures extends { Extends self.old self.new }
         ensures err { OnErr result (self.new ≡ self.old) }
     {
+        self.known();
         self.change(alloc, Change::PutWaiting(row))
     }
 
     /// Removes the waiting entry of an id.
+    #[tactic(auto, using(crate::proofs::CanCome::can_drop_waiting))]
     pub fn drop_waiting(&mut self, alloc: Global, id: u64) -> Result<(), AllocError>
         ensures ok { OnOk result (now self.new ≡ changed (Change.DropWaiting id) (now self.old)) }
         ensures extends { Extends self.old self.new }
         ensures err { OnErr result (self.new ≡ self.old) }
     {
+        self.known();
         self.change(alloc, Change::DropWaiting(id))
     }
 
     /// Puts an order in the place of its id: a new one, or one whose status changed.
-    /// No voucher may be used too often, before it or after it.
+    /// No voucher may be used too often after it.
+    #[tactic(auto, using(crate::proofs::CanCome::can_put_order))]
     pub fn put_order(&mut self, alloc: Global, row: Order) -> Result<(), AllocError>
-        requires before { AllHaveHeadroom (now self.old).moment (now self.old).lists }
-        requires after { AllHaveHeadroom (now self.old).moment (changed (Change.PutOrder row) (now self.old)).lists }
+        requires { AllHaveHeadroom (now self.old).moment (changed (Change.PutOrder row) (now self.old)).lists }
         ensures ok { OnOk result (now self.new ≡ changed (Change.PutOrder row) (now self.old)) }
         ensures extends { Extends self.old self.new }
         ensures err { OnErr result (self.new ≡ self.old) }
     {
+        self.known();
         self.change(alloc, Change::PutOrder(row))
     }
 
     /// Puts a new order position.
-    /// No voucher may be used too often, before it or after it.
+    /// No voucher may be used too often after it.
+    #[tactic(auto, using(crate::proofs::CanCome::can_put_position))]
     pub fn put_position(&mut self, alloc: Global, row: OrderPos) -> Result<(), AllocError>
         requires new { position_at row.id (now self.old).lists ≡ None }
-        requires before { AllHaveHeadroom (now self.old).moment (now self.old).lists }
-        requires after { AllHaveHeadroom (now self.old).moment (changed (Change.PutPosition row) (now self.old)).lists }
+        requires headroom { AllHaveHeadroom (now self.old).moment (changed (Change.PutPosition row) (now self.old)).lists }
         ensures ok { OnOk result (now self.new ≡ changed (Change.PutPosition row) (now self.old)) }
         ensures extends { Extends self.old self.new }
         ensures err { OnErr result (self.new ≡ self.old) }
     {
+        self.known();
         self.change(alloc, Change::PutPosition(row))
     }
 

@@ -1,19 +1,22 @@
 -- A product whose voucher blocks a quota is in that quota.
-use Rattle.std.proofs.Common.{◌≡◌, ℕ, Bool, true, false, ◌&&◌, not, eqb, Option, Some, None, refl, sym, ap, ◌∙◌, arith}
+use Rattle.std.proofs.Common.{◌≡◌, ℕ, Bool, true, false, ◌&&◌, not, eqb, List, Option, Some, None, refl, sym, ap, ◌∙◌, arith}
 use Rattle.std.specs.Prelude.{◌||◌, is_some, is_none}
 use Rattle.std.specs.List.{AllByRecursion}
 use Rattle.std.proofs.lemmas.Bool.Decides.{nat_tests}
-use Rattle.bo_base.specs.Tables.{has}
+use Rattle.bo_base.specs.Tables.{has, row_at}
+use Rattle.bo_catalogue.specs.declared.rows.Item.{Item}
 use Rattle.bo_catalogue.specs.declared.rows.Product.{Product}
 use Rattle.bo_catalogue.specs.declared.rows.Quota.{Quota}
-use Rattle.bo_catalogue.specs.CatalogueLists.{quota_at}
+use Rattle.bo_catalogue.specs.CatalogueLists.{CatalogueLists, item_at, quota_at}
 use Rattle.bo_catalogue.specs.Member.{lists, is_in}
 use Rattle.bo_lists.specs.declared.rows.Voucher.{Voucher}
 use Rattle.bo_lists.specs.Tests.{is_live_voucher, hits_by_product, hits_by, hits, names}
-use Rattle.bo_lists.specs.Lists.{Lists, voucher_at}
+use Rattle.bo_lists.specs.Lists.{Lists, State, voucher_at}
 use Rattle.bo_lists.specs.Usage.{blocks_if, is_covered_by}
 use Rattle.bo_lists.specs.Fits.{has_variation, fits_item, fits_quota, fits_by, fits_if, is_fit, is_exact_if, is_exact, AllExact}
-use Rattle.bo_lists.proofs.EachRow.{all_weaker, all_both}
+use Rattle.bo_lists.specs.Varied.{sold_as, is_sold_as, is_plain, names_as_sold, is_product, is_whole, AllWhole}
+use Rattle.bo_lists.specs.Sound.{IsSound}
+use Rattle.bo_lists.proofs.EachRow.{all_weaker, all_both, all-row_at}
 
 both_first : (a b : Bool) → (a && b) ≡ true → a ≡ true
 both_first true b e = refl
@@ -64,3 +67,39 @@ pub all_inside : (shop : Lists) (at : ℕ) (quota : Quota) → quota_at quota.id
 all_inside shop at quota stands fit exact =
     all_weaker (λ p. (is_fit shop p.product p.voucher ≡ true) × (is_exact shop p.product p.voucher ≡ true)) (λ p. is_covered_by shop at quota p.voucher ≡ true → is_in quota p.product ≡ true) (λ p known hit. covered_inside shop at quota stands p.product p.voucher known.0 known.1 hit) shop.positions
     (all_both (λ p. is_fit shop p.product p.voucher ≡ true) (λ p. is_exact shop p.product p.voucher ≡ true) shop.positions fit exact)
+
+-- a voucher that blocks tells a product that it is for whole: what isn't sold by variation has none
+module _ (catalogue : CatalogueLists) (product : Product) (is : is_product catalogue.items product ≡ true) where
+  none_by : (variation : Option ℕ) (varied : Bool) → not varied ≡ true → names_as_sold variation varied ≡ true → is_none variation ≡ true
+  none_by variation true plain named = absurd (cc)
+  none_by variation false plain named = named
+
+  none_of : (found : Option Item) → sold_as (λ varied. not varied) found ≡ true → sold_as (names_as_sold product.variation) found ≡ true → is_none product.variation ≡ true
+  none_of None plain named = absurd (cc)
+  none_of (Some item) plain named = none_by product.variation item.varied plain named
+
+  exact_item : (item variation : Option ℕ) → fits_item item variation product ≡ true → (is_some variation || is_plain catalogue.items item) ≡ true → (is_some variation || is_none product.variation) ≡ true
+  exact_item item (Some variation) fit plain = refl
+  exact_item None None fit plain = absurd (cc)
+  exact_item (Some item) None fit plain =
+      let same : item ≡ product.item = grind (arith, nat_tests, both_first (eqb item product.item) true fit) in
+      none_of (item_at product.item catalogue) (sym (ap (λ (n : ℕ). is_sold_as (λ varied. not varied) n catalogue.items) same) ∙ plain) is
+
+  exact_by : (voucher : Voucher) (blocks : Bool) (quota : Option ℕ) → fits_by catalogue voucher product quota ≡ true → (not blocks || (is_some quota || (is_some voucher.variation || is_plain catalogue.items voucher.item))) ≡ true → (not blocks || (is_some quota || (is_some voucher.variation || is_none product.variation))) ≡ true
+  exact_by voucher false quota fit whole = refl
+  exact_by voucher true (Some quota) fit whole = refl
+  exact_by voucher true None fit whole = exact_item voucher.item voucher.variation fit whole
+
+  exact_voucher : (vouchers : List Voucher) → AllByRecursion (λ v. is_whole catalogue.items v ≡ true) vouchers → (id : ℕ) (found : Option Voucher) → row_at (λ r. r.id) id vouchers ≡ found → fits_if catalogue product found ≡ true → is_exact_if product found ≡ true
+  exact_voucher vouchers whole id None e fit = refl
+  exact_voucher vouchers whole id (Some voucher) e fit = exact_by voucher voucher.block_quota voucher.quota fit (all-row_at (λ (r : Voucher). r.id) (λ v. is_whole catalogue.items v ≡ true) id vouchers voucher e whole)
+
+exact_row : (shop : Lists) → AllWhole shop → (product : Product) (name : Option ℕ) → is_product shop.catalogue.items product ≡ true → is_fit shop product name ≡ true → is_exact shop product name ≡ true
+exact_row shop whole product None is fit = refl
+exact_row shop whole product (Some id) is fit = exact_voucher shop.catalogue product is shop.vouchers whole id (voucher_at id shop) refl fit
+
+-- each voucher that blocks and that an order position names tells the product whole
+pub sound_exact : (state : State) → IsSound state → AllExact state.lists
+sound_exact state h =
+    all_weaker (λ p. (is_product state.lists.catalogue.items p.product ≡ true) × (is_fit state.lists p.product p.voucher ≡ true)) (λ p. is_exact state.lists p.product p.voucher ≡ true) (λ p known. exact_row state.lists h.whole p.product p.voucher known.0 known.1) state.lists.positions
+    (all_both (λ p. is_product state.lists.catalogue.items p.product ≡ true) (λ p. is_fit state.lists p.product p.voucher ≡ true) state.lists.positions h.products h.fit.positions)

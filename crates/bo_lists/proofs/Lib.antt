@@ -6,6 +6,7 @@ pub mod OrderHeadroom
 pub mod Fit
 pub mod Fresh
 pub mod Codes
+pub mod Varied
 pub mod Sound
 pub mod SoundOrders
 pub mod Takes

@@ -20,12 +20,11 @@ use Rattle.bo_lists.specs.Change.{after_change}
 use Rattle.bo_lists.specs.Usage.{stands_as, is_covered_by, blocked_by, usage_of}
 use Rattle.bo_lists.specs.Total.{total}
 use Rattle.bo_lists.specs.Headroom.{AllHaveHeadroom}
-use Rattle.bo_lists.specs.Fits.{AllExact}
 use Rattle.bo_lists.specs.Sound.{IsSound}
 use Rattle.bo_lists.proofs.Time.{one, same_sums, gated}
 use Rattle.bo_lists.proofs.Orders.{sum_by_swap, counts, of_order, order_step, blocked_linear}
 use Rattle.bo_lists.proofs.OrderHeadroom.{headroom_kept_order}
-use Rattle.bo_lists.proofs.Exact.{all_inside}
+use Rattle.bo_lists.proofs.Exact.{all_inside, sound_exact}
 
 -- neither paid nor pending
 not_paid : (s : Status) → is_in_force s ≡ false → is_paid s ≡ false
@@ -150,10 +149,10 @@ module _ (row : Order) (lists : Lists) (at : ℕ) (quota : Quota) (now : is_in_f
       omega (arith, order_step is_paid inside row lists, order_step is_pending inside row lists, same_places, order_step is_in_force spent row lists, same_spent, blocked_linear at quota lists vouchers room, blocked_linear at quota later vouchers room_after)
 
 -- cancelling or expiring an order, its payment, and taking the payment back: no move but a revival raises the usage of a quota that stands
-pub moved_order_lowers : (state : State) (row old : Order) (quota : Quota) → order_at row.id state.lists ≡ Some old → quota_at quota.id state.lists.catalogue ≡ Some quota → (is_in_force row.status ≡ false) ⊎ (is_in_force old.status ≡ true) → AllExact state.lists → IsSound state → total (usage_of (after_change (PutOrder row) state.lists) state.moment quota) ≤ total (usage_of state.lists state.moment quota)
-moved_order_lowers state row old quota stood stands (inl ended) exact h = ended_order_lowers row state.lists state.moment quota ended h.vouchers.in_order h.headroom (all_inside state.lists state.moment quota stands h.fit.positions exact)
-moved_order_lowers state row old quota stood stands (inr kept) exact h = by_now (is_in_force row.status) refl
+pub moved_order_lowers : (state : State) (row old : Order) (quota : Quota) → order_at row.id state.lists ≡ Some old → quota_at quota.id state.lists.catalogue ≡ Some quota → (is_in_force row.status ≡ false) ⊎ (is_in_force old.status ≡ true) → IsSound state → total (usage_of (after_change (PutOrder row) state.lists) state.moment quota) ≤ total (usage_of state.lists state.moment quota)
+moved_order_lowers state row old quota stood stands (inl ended) h = ended_order_lowers row state.lists state.moment quota ended h.vouchers.in_order h.headroom (all_inside state.lists state.moment quota stands h.fit.positions (sound_exact state h))
+moved_order_lowers state row old quota stood stands (inr kept) h = by_now (is_in_force row.status) refl
   where
     by_now : (b : Bool) → is_in_force row.status ≡ b → total (usage_of (after_change (PutOrder row) state.lists) state.moment quota) ≤ total (usage_of state.lists state.moment quota)
-    by_now false ended = ended_order_lowers row state.lists state.moment quota ended h.vouchers.in_order h.headroom (all_inside state.lists state.moment quota stands h.fit.positions exact)
+    by_now false ended = ended_order_lowers row state.lists state.moment quota ended h.vouchers.in_order h.headroom (all_inside state.lists state.moment quota stands h.fit.positions (sound_exact state h))
     by_now true now = omega (arith, kept_order_same row state.lists state.moment quota now (ap (stands_as is_in_force) stood ∙ kept) h.vouchers.in_order h.headroom)

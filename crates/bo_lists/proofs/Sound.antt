@@ -1,6 +1,7 @@
 -- What keeps a box office sound.
-use Rattle.std.proofs.Common.{◌≡◌, ℕ, ◌+◌, ◌≤◌, ◌⊎◌, inl, inr, true, false, List, [], ◌∷◌, length, map, Option, Some, None, refl, sym, ap, ◌∙◌, subst, arith}
+use Rattle.std.proofs.Common.{◌≡◌, ℕ, ◌+◌, ◌≤◌, ◌⊎◌, inl, inr, Bool, true, false, List, [], ◌∷◌, length, map, Option, Some, None, refl, sym, ap, ◌∙◌, subst, arith}
 use Rattle.std.specs.Prelude.{◌||◌, not}
+use Rattle.std.specs.List.{AllByRecursion}
 use Rattle.bo_catalogue.specs.declared.rows.Item.{Item}
 use Rattle.bo_catalogue.specs.declared.rows.Variation.{Variation}
 use Rattle.bo_catalogue.specs.declared.rows.ItemRows.{ItemRows}
@@ -21,12 +22,14 @@ use Rattle.bo_lists.specs.Headroom.{held, HasHeadroom, AllHaveHeadroom, has_use}
 use Rattle.bo_lists.specs.Fits.{fits_quota, fits_by, fits, fits_if, is_fit, AllFit}
 use Rattle.bo_lists.specs.Named.{is_taken, is_used}
 use Rattle.bo_lists.specs.Numbered.{AreFrom, with_item, with_variation, with_quota, with_voucher, with_cart}
+use Rattle.bo_lists.specs.Varied.{sold_as, is_sold_as, is_of_varied, is_whole}
 use Rattle.bo_lists.specs.Sound.{IsSound}
 use Rattle.bo_lists.proofs.EachRow.{all-with_row, all-without_row, next_absent, numbered_put, numbered_changed, numbered_dropped}
 use Rattle.bo_lists.proofs.Headroom.{headroom_later, headroom_put, headroom_drop}
 use Rattle.bo_lists.proofs.Fit.{carts_stay, positions_stay, fit_same, fit_quota, fit_voucher, fit_put_other, fit_drop_other, carts_unless, positions_unless, all_fit_cart, all_fit_drop_cart}
 use Rattle.bo_lists.proofs.Fresh.{fresh_headroom}
 use Rattle.bo_lists.proofs.Codes.{unlike_put, unlike_drop}
+use Rattle.bo_lists.proofs.Varied.{AreOf, varied_stay, products_stay, whole_stay, put_of_varied}
 
 -- rows that don't change, in a catalogue of the same quotas
 fit_catalogue : (lists : Lists) (catalogue : CatalogueLists) → lists.catalogue.quotas ≡ catalogue.quotas → AllFit lists → AllFit (record lists { catalogue = catalogue })
@@ -52,6 +55,9 @@ sound_empty = record {
   fit = record { carts = tt; positions = tt };
   codes = tt;
   ordered = tt;
+  varied = tt;
+  products = tt;
+  whole = tt;
 }
 
 -- a box office stays sound as time goes on
@@ -69,6 +75,9 @@ sound_later state at le h = record {
   fit = h.fit;
   codes = h.codes;
   ordered = h.ordered;
+  varied = h.varied;
+  products = h.products;
+  whole = h.whole;
 }
 
 -- a new cart position that names no voucher, or one for its product, with a use left where the position is live
@@ -86,6 +95,9 @@ sound_cart state row e left fits h = record {
   fit = all_fit_cart state.lists row fits h.fit;
   codes = h.codes;
   ordered = h.ordered;
+  varied = h.varied;
+  products = h.products;
+  whole = h.whole;
 }
 
 -- a cart position that goes
@@ -103,6 +115,9 @@ sound_drop_cart state id h = record {
   fit = all_fit_drop_cart state.lists id h.fit;
   codes = h.codes;
   ordered = h.ordered;
+  varied = h.varied;
+  products = h.products;
+  whole = h.whole;
 }
 
 -- an item without its variations
@@ -120,11 +135,22 @@ put_item state row e h = record {
   fit = fit_catalogue state.lists (after_change (PutItem row) state.lists).catalogue refl h.fit;
   codes = h.codes;
   ordered = h.ordered;
+  varied = varied_stay row state.lists.catalogue.items kept state.lists.catalogue.variations h.varied;
+  products = products_stay row state.lists.catalogue.items kept state.lists.positions h.products;
+  whole = whole_stay row state.lists.catalogue.items kept state.lists.vouchers h.whole;
 }
+  where
+    absent : item_at row.id state.lists.catalogue ≡ None
+    absent = ap (λ (n : ℕ). item_at n state.lists.catalogue) e ∙ next_absent (λ (r : Item). r.id) state.next.item state.lists.catalogue.items h.items.below
 
--- a new variation
-pub sound_variation : (state : State) (row : Variation) → row.id ≡ state.next.variation → IsSound state → IsSound (with_variation row state)
-sound_variation state row e h = record {
+    kept : (test : Bool → Bool) → is_sold_as test row.id state.lists.catalogue.items ≡ true → test row.varied ≡ true
+    kept test is =
+        let never : false ≡ true = ap (sold_as test) (sym absent) ∙ is in
+        absurd (cc)
+
+-- a new variation of an item that is sold by variation
+pub sound_variation : (state : State) (row : Variation) → row.id ≡ state.next.variation → is_of_varied state.lists.catalogue.items row ≡ true → IsSound state → IsSound (with_variation row state)
+sound_variation state row e of h = record {
   items = h.items;
   variations = numbered_put (λ r. r.id) row state.next.variation state.lists.catalogue.variations e h.variations;
   quotas = h.quotas;
@@ -137,33 +163,36 @@ sound_variation state row e h = record {
   fit = fit_catalogue state.lists (after_change (PutVariation row) state.lists).catalogue refl h.fit;
   codes = h.codes;
   ordered = h.ordered;
+  varied = all-with_row (λ r. r.id) (λ v. is_of_varied state.lists.catalogue.items v ≡ true) row state.lists.catalogue.variations of h.varied;
+  products = h.products;
+  whole = h.whole;
 }
 
 -- some new variations
 abbrev more_variations : List Variation → State → State
 more_variations rows state = record state { lists = after_all (map PutVariation rows) state.lists; next = record state.next { variation = state.next.variation + length rows } }
 
-put_variations : (rows : List Variation) (state : State) → AreFrom state.next.variation rows → IsSound state → IsSound (more_variations rows state)
-put_variations [] state from h =
+put_variations : (rows : List Variation) (state : State) → AreFrom state.next.variation rows → AllByRecursion (λ v. is_of_varied state.lists.catalogue.items v ≡ true) rows → IsSound state → IsSound (more_variations rows state)
+put_variations [] state from of h =
     let none : state.next.variation ≡ state.next.variation + 0 = omega arith in
     subst (λ (n : ℕ). IsSound (record state { next = record state.next { variation = n } })) none h
-put_variations (row ∷ rows) state from h =
-    let more = put_variations rows (with_variation row state) from.1 (sound_variation state row from.0 h) in
+put_variations (row ∷ rows) state from of h =
+    let more = put_variations rows (with_variation row state) from.1 of.1 (sound_variation state row from.0 of.0 h) in
     let count : state.next.variation + 1 + length rows ≡ state.next.variation + length (row ∷ rows) = omega arith in
     subst (λ (n : ℕ). IsSound (record state { lists = after_all (map PutVariation rows) (after_change (PutVariation row) state.lists); next = record state.next { variation = n } })) count more
 
 -- a new item with its variations, whose ids count on
-pub sound_item : (state : State) (rows : ItemRows) → rows.item.id ≡ state.next.item → AreFrom state.next.variation rows.variations → IsSound state → IsSound (with_item rows state)
-sound_item state rows e from h = put_variations rows.variations (record state { lists = after_change (PutItem rows.item) state.lists; next = record state.next { item = state.next.item + 1 } }) from (put_item state rows.item e h)
+pub sound_item : (state : State) (rows : ItemRows) → rows.item.id ≡ state.next.item → AreFrom state.next.variation rows.variations → AreOf rows.item rows.variations → IsSound state → IsSound (with_item rows state)
+sound_item state rows e from of h = put_variations rows.variations (record state { lists = after_change (PutItem rows.item) state.lists; next = record state.next { item = state.next.item + 1 } }) from (put_of_varied rows.item state.lists.catalogue.items rows.variations of) (put_item state rows.item e h)
 
 -- those that are made with an item do
 pub variation_rows_count : (new : List NewVariation) (item first : ℕ) → AreFrom first (variation_rows new item first)
 variation_rows_count [] item first = tt
 variation_rows_count (variation ∷ variations) item first = (refl, variation_rows_count variations item (first + 1))
 
--- an item that is changed
-pub sound_changed_item : (state : State) (row old : Item) → item_at row.id state.lists.catalogue ≡ Some old → IsSound state → IsSound (changed (PutItem row) state)
-sound_changed_item state row old e h = record {
+-- an item that is changed, and sold as before
+pub sound_changed_item : (state : State) (row old : Item) → item_at row.id state.lists.catalogue ≡ Some old → row.varied ≡ old.varied → IsSound state → IsSound (changed (PutItem row) state)
+sound_changed_item state row old e varied h = record {
   items = numbered_changed (λ r. r.id) row old state.next.item state.lists.catalogue.items e h.items;
   variations = h.variations;
   quotas = h.quotas;
@@ -176,7 +205,13 @@ sound_changed_item state row old e h = record {
   fit = fit_catalogue state.lists (after_change (PutItem row) state.lists).catalogue refl h.fit;
   codes = h.codes;
   ordered = h.ordered;
+  varied = varied_stay row state.lists.catalogue.items kept state.lists.catalogue.variations h.varied;
+  products = products_stay row state.lists.catalogue.items kept state.lists.positions h.products;
+  whole = whole_stay row state.lists.catalogue.items kept state.lists.vouchers h.whole;
 }
+  where
+    kept : (test : Bool → Bool) → is_sold_as test row.id state.lists.catalogue.items ≡ true → test row.varied ≡ true
+    kept test is = ap test varied ∙ (ap (sold_as test) (sym e) ∙ is)
 
 -- a quota that has what the one in its place had
 fit_put_quota : (lists : Lists) (row : Quota) → ((product : Product) → fits_quota (quota_at row.id lists.catalogue) product ≡ true → is_in row product ≡ true) → AllFit lists → AllFit (after_change (PutQuota row) lists)
@@ -200,6 +235,9 @@ sound_quota state row e h = record {
   fit = fit_put_quota state.lists row nothing h.fit;
   codes = h.codes;
   ordered = h.ordered;
+  varied = h.varied;
+  products = h.products;
+  whole = h.whole;
 }
   where
     absent : quota_at row.id state.lists.catalogue ≡ None
@@ -225,6 +263,9 @@ sound_resized state row old e items variations h = record {
   fit = fit_put_quota state.lists row same h.fit;
   codes = h.codes;
   ordered = h.ordered;
+  varied = h.varied;
+  products = h.products;
+  whole = h.whole;
 }
   where
     by_variation : (variation : Option ℕ) (item : ℕ) → is_in old (record { item = item; variation = variation }) ≡ true → is_in row (record { item = item; variation = variation }) ≡ true
@@ -253,9 +294,9 @@ module _ (lists : Lists) (row : Voucher) where
   headroom_voucher : (at : ℕ) → redeemed row.id lists + held at row.id lists ≤ row.max_usages → AllHaveHeadroom at lists → AllHaveHeadroom at (after_change (PutVoucher row) lists)
   headroom_voucher at room h = all-with_row (λ r. r.id) (HasHeadroom at lists) row lists.vouchers room h
 
--- a new voucher whose code no other one has
-pub sound_voucher : (state : State) (row : Voucher) → row.id ≡ state.next.voucher → is_taken row.id row.code state.lists ≡ false → redeemed row.id state.lists + held state.moment row.id state.lists ≤ row.max_usages → IsSound state → IsSound (with_voucher row state)
-sound_voucher state row e code room h = record {
+-- a new voucher whose code no other one has, and that may block if it does
+pub sound_voucher : (state : State) (row : Voucher) → row.id ≡ state.next.voucher → is_taken row.id row.code state.lists ≡ false → redeemed row.id state.lists + held state.moment row.id state.lists ≤ row.max_usages → is_whole state.lists.catalogue.items row ≡ true → IsSound state → IsSound (with_voucher row state)
+sound_voucher state row e code room whole h = record {
   items = h.items;
   variations = h.variations;
   quotas = h.quotas;
@@ -268,6 +309,9 @@ sound_voucher state row e code room h = record {
   fit = fit_alike state.lists row nothing h.fit;
   codes = unlike_put row 0 state.lists.vouchers h.vouchers.in_order code h.codes;
   ordered = h.ordered;
+  varied = h.varied;
+  products = h.products;
+  whole = all-with_row (λ r. r.id) (λ v. is_whole state.lists.catalogue.items v ≡ true) row state.lists.vouchers whole h.whole;
 }
   where
     absent : voucher_at row.id state.lists ≡ None
@@ -279,11 +323,11 @@ sound_voucher state row e code room h = record {
         absurd (cc)
 
 -- it has headroom, since nothing names an id that wasn't given yet
-pub sound_new_voucher : (state : State) (row : Voucher) → row.id ≡ state.next.voucher → is_taken row.id row.code state.lists ≡ false → IsSound state → IsSound (with_voucher row state)
-sound_new_voucher state row e code h = sound_voucher state row e code (rw e (fresh_headroom state.lists state.next.voucher h.vouchers state.moment row.max_usages h.fit)) h
+pub sound_new_voucher : (state : State) (row : Voucher) → row.id ≡ state.next.voucher → is_taken row.id row.code state.lists ≡ false → is_whole state.lists.catalogue.items row ≡ true → IsSound state → IsSound (with_voucher row state)
+sound_new_voucher state row e code whole h = sound_voucher state row e code (rw e (fresh_headroom state.lists state.next.voucher h.vouchers state.moment row.max_usages h.fit)) whole h
 
--- a voucher that is changed: its code is its own, and it has headroom
-module _ (state : State) (row old : Voucher) (stands : voucher_at row.id state.lists ≡ Some old) (code : is_taken row.id row.code state.lists ≡ false) (room : redeemed row.id state.lists + held state.moment row.id state.lists ≤ row.max_usages) (h : IsSound state) where
+-- a voucher that is changed: its code is its own, it has headroom, and it may block if it does
+module _ (state : State) (row old : Voucher) (stands : voucher_at row.id state.lists ≡ Some old) (code : is_taken row.id row.code state.lists ≡ false) (room : redeemed row.id state.lists + held state.moment row.id state.lists ≤ row.max_usages) (whole : is_whole state.lists.catalogue.items row ≡ true) (h : IsSound state) where
   by_fit : AllFit (after_change (PutVoucher row) state.lists) → IsSound (changed (PutVoucher row) state)
   by_fit fit = record {
     items = h.items;
@@ -298,6 +342,9 @@ module _ (state : State) (row old : Voucher) (stands : voucher_at row.id state.l
     fit = fit;
     codes = unlike_put row 0 state.lists.vouchers h.vouchers.in_order code h.codes;
     ordered = h.ordered;
+    varied = h.varied;
+    products = h.products;
+    whole = all-with_row (λ r. r.id) (λ v. is_whole state.lists.catalogue.items v ≡ true) row state.lists.vouchers whole h.whole;
   }
 
   -- where nothing names it
@@ -338,4 +385,7 @@ sound_drop_voucher state id unused h = record {
   };
   codes = unlike_drop id state.lists.vouchers h.codes;
   ordered = h.ordered;
+  varied = h.varied;
+  products = h.products;
+  whole = all-without_row (λ r. r.id) (λ v. is_whole state.lists.catalogue.items v ≡ true) id state.lists.vouchers h.whole;
 }

@@ -13,6 +13,7 @@ use Rattle.bo_lists.specs.Headroom.{AllHaveHeadroom, has_use, have_room}
 use Rattle.bo_lists.specs.Fits.{is_fit, AllFit}
 use Rattle.bo_lists.specs.Ordered.{AllOrdered}
 use Rattle.bo_lists.specs.Numbered.{with_order, with_position}
+use Rattle.bo_lists.specs.Varied.{is_product}
 use Rattle.bo_lists.specs.Sound.{IsSound}
 use Rattle.bo_lists.proofs.EachRow.{all_weaker, all-with_row, next_absent, numbered_put, numbered_changed}
 use Rattle.bo_lists.proofs.Fit.{carts_stay, positions_stay, fit_same}
@@ -53,14 +54,17 @@ sound_order state row e h = record {
   fit = fit_order state.lists row h.fit;
   codes = h.codes;
   ordered = ordered_order state.lists row h.ordered;
+  varied = h.varied;
+  products = h.products;
+  whole = h.whole;
 }
   where
     absent : order_at row.id state.lists ≡ None
     absent = ap (λ (n : ℕ). order_at n state.lists) e ∙ next_absent (λ (r : Order). r.id) state.next.order state.lists.orders h.orders.below
 
--- a new position of an order that stands: fit, and with a use left where its order is in force
-pub sound_position : (state : State) (row : OrderPos) → row.id ≡ state.next.position → is_some (order_at row.order state.lists) ≡ true → is_fit state.lists row.product row.voucher ≡ true → (not (stands_as is_in_force (order_at row.order state.lists)) || has_use state.moment state.lists row.voucher) ≡ true → IsSound state → IsSound (with_position row state)
-sound_position state row e stands fits left h = record {
+-- a new position of an order that stands: fit, of a product as its item is sold, and with a use left where its order is in force
+pub sound_position : (state : State) (row : OrderPos) → row.id ≡ state.next.position → is_some (order_at row.order state.lists) ≡ true → is_fit state.lists row.product row.voucher ≡ true → is_product state.lists.catalogue.items row.product ≡ true → (not (stands_as is_in_force (order_at row.order state.lists)) || has_use state.moment state.lists row.voucher) ≡ true → IsSound state → IsSound (with_position row state)
+sound_position state row e stands fits product left h = record {
   items = h.items;
   variations = h.variations;
   quotas = h.quotas;
@@ -78,6 +82,9 @@ sound_position state row e stands fits left h = record {
       };
   codes = h.codes;
   ordered = all-with_row (λ r. r.id) (λ p. is_some (order_at p.order state.lists) ≡ true) row state.lists.positions stands h.ordered;
+  varied = h.varied;
+  products = all-with_row (λ r. r.id) (λ p. is_product state.lists.catalogue.items p.product ≡ true) row state.lists.positions product h.products;
+  whole = h.whole;
 }
 
 -- an order that is changed
@@ -96,6 +103,9 @@ module _ (state : State) (row old : Order) (stands : order_at row.id state.lists
     fit = fit_order state.lists row h.fit;
     codes = h.codes;
     ordered = ordered_order state.lists row h.ordered;
+    varied = h.varied;
+    products = h.products;
+    whole = h.whole;
   }
 
   was : stands_as is_in_force (order_at row.id state.lists) ≡ is_in_force old.status

@@ -10,6 +10,7 @@ pub mod Headroom
 pub mod Fits
 pub mod Named
 pub mod Ordered
+pub mod Varied
 pub mod Numbered
 pub mod Sound
 pub mod Full

@@ -7,6 +7,7 @@ use Rattle.bo_lists.specs.Headroom.{AllHaveHeadroom}
 use Rattle.bo_lists.specs.Fits.{AllFit}
 use Rattle.bo_lists.specs.Named.{AreUnlike}
 use Rattle.bo_lists.specs.Ordered.{AllOrdered}
+use Rattle.bo_lists.specs.Varied.{AllVaried, AllProducts, AllWhole}
 
 -- ids rise, and each is below the next one
 pub record AreNumbered {T : Type 0} (key : T → ℕ) (next : ℕ) (rows : List T) : Type 0 where
@@ -30,3 +31,9 @@ pub record IsSound (state : State) : Type 0 where
   pub codes : AreUnlike state.lists.vouchers
   -- an order position's order stands
   pub ordered : AllOrdered state.lists
+  -- a variation is of an item that is sold by variation
+  pub varied : AllVaried state.lists
+  -- an order position's product names a variation exactly where its item is sold by variation
+  pub products : AllProducts state.lists
+  -- a voucher that blocks names a quota, or a variation, or an item that isn't sold by variation
+  pub whole : AllWhole state.lists

@@ -4,6 +4,7 @@
 mod catalogue_commands;
 pub mod command;
 pub mod laws;
+mod lists;
 pub mod office;
 mod pages;
 mod queries;

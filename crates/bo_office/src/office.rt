@@ -55,8 +55,9 @@ impl<B: Book> Office<B> {
         }
     }
 
-    /// The book.
+    /// The book, which is sound.
     pub fn book(&self) -> &B
+        ensures sound { IsSound (B.state result.now) }
         ensures state { B.state result.now ≡ self.now.state }
         ensures room { B.room result.now ≡ self.now.room }
     {

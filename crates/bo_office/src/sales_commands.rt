@@ -12,7 +12,10 @@ use crate::reply::{Refusal, Reply, Shown};
 use bo_base::{Draw, Moment};
 use bo_draft::Draft;
 use bo_lists::Changes;
-use bo_orders::{Entry, Move, NewCart, NewOrder, OrderRefusal, add_position, drop_position};
+use bo_orders::{
+    Entry, Move, NewCart, NewOrder, OrderRefusal, add_many, add_position, create, drop_position,
+    move_order,
+};
 use bo_usage::Book;
 use bo_vouchers::{NewVoucher, VoucherPatch, VoucherRefusal, decide_voucher};
 use std::alloc::{AllocError, Global};
@@ -108,7 +111,13 @@ impl<B: Book> Office<B> {
         requires { self.now.state.moment ≤ at }
         ensures { IfOk result (λ r. (applied r.0 at self.now.state, r.1) ≡ step (Command.AddCarts entries.now) at draw self.now.state) }
     {
-        Err(AllocError)
+        let mut draft = Draft::new(alloc, self.book(), at)?;
+        let reply = match add_many(&mut draft, alloc, draw, entries) {
+            Ok(outcomes) => Reply::Results(outcomes),
+            Err(OrderRefusal::Memory) => return Err(AllocError),
+            Err(refusal) => Reply::Refused(Kind::AddCarts, Refusal::Order(refusal)),
+        };
+        Ok((draft.finish(), reply))
     }
 
     // Makes an order.
@@ -122,7 +131,13 @@ impl<B: Book> Office<B> {
         requires { self.now.state.moment ≤ at }
         ensures { IfOk result (λ r. (applied r.0 at self.now.state, r.1) ≡ step (Command.AddOrder new.now) at draw self.now.state) }
     {
-        Err(AllocError)
+        let mut draft = Draft::new(alloc, self.book(), at)?;
+        let reply = match create(&mut draft, alloc, draw, new) {
+            Ok(rows) => Reply::Made(Shown::Order(rows)),
+            Err(OrderRefusal::Memory) => return Err(AllocError),
+            Err(refusal) => Reply::Refused(Kind::AddOrder, Refusal::Order(refusal)),
+        };
+        Ok((draft.finish(), reply))
     }
 
     // Moves an order, with whatever draw.
@@ -136,7 +151,13 @@ impl<B: Book> Office<B> {
         requires { self.now.state.moment ≤ at }
         ensures { IfOk result (λ r. (draw : Draw) → (applied r.0 at self.now.state, r.1) ≡ step (Command.MoveOrder number change) at draw self.now.state) }
     {
-        Err(AllocError)
+        let mut draft = Draft::new(alloc, self.book(), at)?;
+        let reply = match move_order(&mut draft, alloc, number, change) {
+            Ok(rows) => Reply::Found(Shown::Order(rows)),
+            Err(OrderRefusal::Memory) => return Err(AllocError),
+            Err(refusal) => Reply::Refused(Kind::MoveOrder, Refusal::Order(refusal)),
+        };
+        Ok((draft.finish(), reply))
     }
 
     // Deletes a cart position, with whatever draw.

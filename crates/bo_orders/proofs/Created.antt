@@ -6,6 +6,7 @@ use Rattle.std.proofs.lemmas.Bool.Decides.{nat_tests}
 use Rattle.bo_base.specs.Tables.{AreInOrder}
 use Rattle.bo_base.specs.declared.draw.Draw.{Draw}
 use Rattle.bo_base.proofs.Edits.{row_at-with_row}
+use Rattle.bo_catalogue.specs.declared.rows.Item.{Item}
 use Rattle.bo_catalogue.specs.declared.refusal.CatalogueRefusal.TheVariants.{Full}
 use Rattle.bo_lists.specs.declared.rows.NextIds.{NextIds}
 use Rattle.bo_lists.specs.declared.rows.Order.{Order}
@@ -23,6 +24,7 @@ use Rattle.bo_lists.specs.Full.{takes_order, takes_positions}
 use Rattle.bo_lists.specs.Headroom.{has_use}
 use Rattle.bo_lists.specs.Over.{first_over}
 use Rattle.bo_lists.specs.Sound.{IsSound}
+use Rattle.bo_lists.specs.Varied.{AllVaried, is_product}
 use Rattle.bo_lists.proofs.Fit.{fit_same}
 use Rattle.bo_lists.proofs.SoundOrders.{sound_order, sound_position, sound_drop_carts}
 use Rattle.bo_vouchers.specs.declared.refusal.VoucherRefusal.{VoucherRefusal}
@@ -33,8 +35,8 @@ use Rattle.bo_orders.specs.declared.sold.Sold.{Sold}
 use Rattle.bo_orders.specs.declared.refusal.OrderRefusal.{OrderRefusal}
 use Rattle.bo_orders.specs.declared.refusal.OrderRefusal.TheVariants.{Voucher as OfVoucher}
 use Rattle.bo_orders.specs.Sold.{sold_for}
-use Rattle.bo_orders.specs.Created.{order_row, position_row, position_of_sold, position_for, and_rows, rows_for, position_put, with_positions, with_ids_used, unless_over, placed_with, AreCounted, with_order_row, order_placed, created_of, has_ids, created_with_ids, counts_test, created_if, order_created}
-use Rattle.bo_orders.proofs.SoldLemmas.{sold_fits}
+use Rattle.bo_orders.specs.Created.{order_row, position_row, position_of_sold, position_for, and_rows, rows_for, position_put, with_positions, with_ids_used, unless_over, placed_with, AreCounted, with_order_row, order_placed, created_of, counts_test, created_if, order_created}
+use Rattle.bo_orders.proofs.SoldLemmas.{sold_fits, sold_is_product}
 use Rattle.bo_orders.proofs.Rows.{by_force, counted, puts_next}
 
 ok_made : (a b : State × OrderRows) → (let all : Result (State × OrderRows) OrderRefusal = Ok a in all ≡ Ok b) → a ≡ b
@@ -93,13 +95,9 @@ module _ (new : NewOrder) (draw : Draw) (before after : State) (made : OrderRows
   by_rows (Err refusal) e h = absurd (cc)
   by_rows (Ok rows) e h = placed_is rows e h
 
-  by_ids : (ids : Bool) → Gives (created_with_ids new draw before ids) → IsCreated new draw before after made
-  by_ids false h = absurd (cc)
-  by_ids true h = by_rows (rows_for draw before before.next.position 1 new.positions) refl h
-
   by_counts : (counts : Result (Unit {0}) OrderRefusal) → Gives (created_if new draw before counts) → IsCreated new draw before after made
   by_counts (Err refusal) h = absurd (cc)
-  by_counts (Ok _) h = by_ids (has_ids (length new.positions) before) h
+  by_counts (Ok _) h = by_rows (rows_for draw before before.next.position 1 new.positions) refl h
 
   pub created_is : Gives (order_created new draw before) → IsCreated new draw before after made
   unfolding order_created
@@ -142,6 +140,10 @@ carts_keep_quotas : (ids : List ℕ) (lists : Lists) → (after_all (map DropCar
 carts_keep_quotas [] lists = refl
 carts_keep_quotas (id ∷ ids) lists = carts_keep_quotas ids (after_change (DropCart id) lists)
 
+carts_keep_items : (ids : List ℕ) (lists : Lists) → (after_all (map DropCart ids) lists).catalogue.items ≡ lists.catalogue.items
+carts_keep_items [] lists = refl
+carts_keep_items (id ∷ ids) lists = carts_keep_items ids (after_change (DropCart id) lists)
+
 carts_keep_vouchers : (ids : List ℕ) (lists : Lists) → (after_all (map DropCart ids) lists).vouchers ≡ lists.vouchers
 carts_keep_vouchers [] lists = refl
 carts_keep_vouchers (id ∷ ids) lists = carts_keep_vouchers ids (after_change (DropCart id) lists)
@@ -153,16 +155,16 @@ order_stands row lists =
     let found : order_at row.id (after_change (PutOrder row) lists) ≡ Some row = grind (arith, nat_tests, e) in
     ap (λ (o : Option Order). is_some o) found
 
--- each row is the order's, and its voucher is for its product
+-- each row is the order's, its voucher is for its product, and the product is named as its item is sold
 abbrev IsOwn : Lists → ℕ → OrderPos → Type 0
-IsOwn lists number p = (p.order ≡ number) × (is_fit lists p.product p.voucher ≡ true)
+IsOwn lists number p = (p.order ≡ number) × ((is_fit lists p.product p.voucher ≡ true) × (is_product lists.catalogue.items p.product ≡ true))
 
-module _ (draw : Draw) (state : State) (order : AreInOrder (λ r. r.id) state.lists.vouchers) where
+module _ (draw : Draw) (state : State) (order : AreInOrder (λ r. r.id) state.lists.vouchers) (of_varied : AllVaried state.lists) where
   own_sold : (id number : ℕ) (asked : Asked) (sold : Result Sold VoucherRefusal) (row : OrderPos) → sold_for asked state ≡ sold → position_of_sold draw state.next.order id number sold ≡ Ok row → IsOwn state.lists state.next.order row
   own_sold id number asked (Err refusal) row e h = absurd (cc (h))
   own_sold id number asked (Ok sold) row e h =
       let same : position_row draw state.next.order id number sold ≡ row = cc (h) in
-      subst (IsOwn state.lists state.next.order) same (refl, sold_fits asked state order sold e)
+      subst (IsOwn state.lists state.next.order) same (refl, (sold_fits asked state order sold e, sold_is_product asked state of_varied sold e))
 
   own_row : (id number : ℕ) (asked : Asked) (row : OrderPos) → position_for draw state id number asked ≡ Ok row → IsOwn state.lists state.next.order row
   unfolding position_for
@@ -187,6 +189,7 @@ numbered id state = record state { next = record state.next { order = state.next
 module _ (lists : Lists) (number : ℕ) where
   -- it sells the same, and the order stands
   record Goes (id : ℕ) (state : State) : Type 0 where
+    items : lists.catalogue.items ≡ state.lists.catalogue.items
     quotas : lists.catalogue.quotas ≡ state.lists.catalogue.quotas
     vouchers : lists.vouchers ≡ state.lists.vouchers
     stands : is_some (order_at number state.lists) ≡ true
@@ -194,12 +197,14 @@ module _ (lists : Lists) (number : ℕ) where
 
   goes_on : (id : ℕ) (row : OrderPos) (state : State) → row.id ≡ id → IsOwn lists number row → has_use state.moment state.lists row.voucher ≡ true → Goes id state → Goes (id + 1) (changed (PutPosition row) state)
   goes_on id row state e own left g = record {
+    items = g.items;
     quotas = g.quotas;
     vouchers = g.vouchers;
     stands = g.stands;
     sound = sound_position (numbered id state) row e
         (ap (λ (n : ℕ). is_some (order_at n state.lists)) own.0 ∙ g.stands)
-        (fit_same lists state.lists g.quotas g.vouchers row.product row.voucher own.1)
+        (fit_same lists state.lists g.quotas g.vouchers row.product row.voucher own.1.0)
+        (subst (λ (items : List Item). is_product items row.product ≡ true) g.items own.1.1)
         (by_force (stands_as is_in_force (order_at row.order state.lists)) (has_use state.moment state.lists row.voucher) left)
         g.sound;
   }
@@ -227,11 +232,12 @@ created_sound new draw before after made sound h =
     let state = with_order_row made.order new.consume_carts before in
     let id : made.order.id ≡ before.next.order = sym (ap (λ (o : Order). o.id) m.is_order) in
     let g : Goes before.lists before.next.order start state = record {
+      items = sym (carts_keep_items ids before.lists);
       quotas = sym (carts_keep_quotas ids before.lists);
       vouchers = sym (carts_keep_vouchers ids before.lists);
       stands = subst (λ (n : ℕ). is_some (order_at n state.lists) ≡ true) id (order_stands made.order (without_carts ids before).lists);
       sound = sound_order (without_carts ids before) made.order id (sound_drop_carts ids before sound);
     } in
     let next = puts_next made.positions state m.put m.puts in
-    let all = puts_sound before.lists before.next.order made.positions start state m.put (counted draw before start 1 new.positions made.positions m.are_rows) (are_own draw before sound.vouchers.in_order start 1 new.positions made.positions m.are_rows) g m.puts in
+    let all = puts_sound before.lists before.next.order made.positions start state m.put (counted draw before start 1 new.positions made.positions m.are_rows) (are_own draw before sound.vouchers.in_order sound.varied start 1 new.positions made.positions m.are_rows) g m.puts in
     subst IsSound m.is_after (subst (λ (n : ℕ). IsSound (numbered n m.put)) (ap (λ (x : NextIds). x.position + length made.positions) (sym next)) all)

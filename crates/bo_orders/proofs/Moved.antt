@@ -9,7 +9,6 @@ use Rattle.bo_lists.specs.declared.rows.Own.TheVariants.{Position}
 use Rattle.bo_lists.specs.declared.changes.Change.TheVariants.{PutOrder}
 use Rattle.bo_lists.specs.Lists.{State, order_at, positions_of}
 use Rattle.bo_lists.specs.Change.{after_change, changed}
-use Rattle.bo_lists.specs.Fits.{AllExact}
 use Rattle.std.specs.List.{AllByRecursion}
 use Rattle.bo_lists.specs.Over.{first_over, ignores}
 use Rattle.bo_lists.specs.Sound.{IsSound}
@@ -180,12 +179,12 @@ module _ (number : ℕ) (change : Move) (before after : State) (rows : OrderRows
       subst (λ (s : State). TakesNoMore before s) m.is_after (revival_takes_no_more before rows.order sound.positions.in_order own weighed)
 
   -- any other move raises no usage of a quota that stands
-  pub moved_lowers : (old : Order) (quota : Quota) → IsSound before → AllExact before.lists → quota_at quota.id before.lists.catalogue ≡ Some quota → order_at number before.lists ≡ Some old → (is_in_force old.status ≡ true) ⊎ (is_in_force rows.order.status ≡ false) → Gives (order_moved number change before) → used after quota ≤ used before quota
-  moved_lowers old quota sound exact stands stood which h = subst (λ (s : State). used s quota ≤ used before quota) m.is_after (by_which which)
+  pub moved_lowers : (old : Order) (quota : Quota) → IsSound before → quota_at quota.id before.lists.catalogue ≡ Some quota → order_at number before.lists ≡ Some old → (is_in_force old.status ≡ true) ⊎ (is_in_force rows.order.status ≡ false) → Gives (order_moved number change before) → used after quota ≤ used before quota
+  moved_lowers old quota sound stands stood which h = subst (λ (s : State). used s quota ≤ used before quota) m.is_after (by_which which)
     where
       m : IsMoved number change before after rows
       m = moved_is h
 
       by_which : (is_in_force old.status ≡ true) ⊎ (is_in_force rows.order.status ≡ false) → used (changed (PutOrder rows.order) before) quota ≤ used before quota
-      by_which (inl kept) = moved_order_lowers before rows.order m.old quota (stood_as m) stands (inr (its_old m old stood ∙ kept)) exact sound
-      by_which (inr ended) = moved_order_lowers before rows.order m.old quota (stood_as m) stands (inl ended) exact sound
+      by_which (inl kept) = moved_order_lowers before rows.order m.old quota (stood_as m) stands (inr (its_old m old stood ∙ kept)) sound
+      by_which (inr ended) = moved_order_lowers before rows.order m.old quota (stood_as m) stands (inl ended) sound

@@ -1,5 +1,5 @@
 -- Adding many cart positions in one call: each entry by itself, after those before it.
-use Rattle.std.specs.Prelude.{ℕ, nat_lt, List, [], ◌∷◌, length, Result, Ok, Err, if◌then◌else◌}
+use Rattle.std.specs.Prelude.{ℕ, nat_lt, List, [], ◌∷◌, ◌++◌, length, Result, Ok, Err, if◌then◌else◌}
 use Rattle.bo_base.specs.declared.draw.Draw.{Draw}
 use Rattle.bo_lists.specs.declared.rows.CartPos.{CartPos}
 use Rattle.bo_lists.specs.Lists.{State}
@@ -22,6 +22,10 @@ entry_added (entries.Faulty fault) draw state = (state, outcomes.Faulty fault)
 
 abbrev pub with_outcome : Outcome → State × List Outcome → State × List Outcome
 with_outcome outcome rest = (rest.0, outcome ∷ rest.1)
+
+-- outcomes in front of others
+abbrev pub after_outcomes : List Outcome → State × List Outcome → State × List Outcome
+after_outcomes outcomes rest = (rest.0, outcomes ++ rest.1)
 
 -- one entry after another, whatever becomes of each
 abbrev pub all_added : List Entry → Draw → State → State × List Outcome

@@ -1,11 +1,10 @@
 -- Making an order out of carts.
-use Rattle.std.specs.Prelude.{◌≡◌, ℕ, ◌+◌, Bool, true, false, ◌&&◌, nat_lt, nat_le, List, [], ◌∷◌, ◌++◌, ◌==◌, length, map, min, unwrap_or, Option, Some, None, Result, Ok, Err, if◌then◌else◌}
+use Rattle.std.specs.Prelude.{◌≡◌, ℕ, ◌+◌, ◌&&◌, nat_lt, List, [], ◌∷◌, ◌++◌, ◌==◌, length, map, min, unwrap_or, Option, Some, None, Result, Ok, Err, if◌then◌else◌}
 use Rattle.bo_base.specs.Moments.{last_moment}
 use Rattle.bo_base.specs.Secrets.{secret}
 use Rattle.bo_base.specs.Tables.{AreInOrder}
 use Rattle.bo_base.specs.declared.draw.Draw.{Draw}
 use Rattle.bo_catalogue.specs.declared.refusal.CatalogueRefusal.TheVariants.{Full}
-use Rattle.bo_catalogue.specs.Limits.{last_id}
 use Rattle.bo_lists.specs.declared.rows.Order.{Order}
 use Rattle.bo_lists.specs.declared.rows.OrderPos.{OrderPos}
 use Rattle.bo_lists.specs.declared.rows.OrderRows.{OrderRows}
@@ -137,18 +136,9 @@ counts_test new =
     else (if nat_lt most_positions (length new.positions) then Err TooMany
     else (if nat_lt most_positions (length new.consume_carts) then Err TooMany else Ok tt))
 
--- there are ids for so many more order positions
-abbrev pub has_ids : ℕ → State → Bool
-has_ids count state = nat_le (state.next.position + count) (last_id + 1)
-
--- without ids for its positions an order has no rows that could be tested any further
-abbrev pub created_with_ids : NewOrder → Draw → State → Bool → Result (State × OrderRows) OrderRefusal
-created_with_ids new draw state true = created_of new state (rows_for draw state state.next.position 1 new.positions)
-created_with_ids new draw state false = Err (OfVoucher (Catalogue Full))
-
 abbrev pub created_if : NewOrder → Draw → State → Result (Unit {0}) OrderRefusal → Result (State × OrderRows) OrderRefusal
 created_if new draw state (Err refusal) = Err refusal
-created_if new draw state (Ok _) = created_with_ids new draw state (has_ids (length new.positions) state)
+created_if new draw state (Ok _) = created_of new state (rows_for draw state state.next.position 1 new.positions)
 
 -- the box office with the new order, and that order with its positions, or the first refusal
 unfoldable pub order_created : NewOrder → Draw → State → Result (State × OrderRows) OrderRefusal

@@ -6,13 +6,13 @@ ghost use Rattle.bo_lists.specs.Change.{without_carts};
 ghost use Rattle.bo_lists.specs.Full.{takes_order, takes_positions};
 ghost use Rattle.bo_lists.specs.Sound.{IsSound};
 ghost use Rattle.bo_lists.specs.declared.rows.Own.TheVariants.{Position};
-ghost use Rattle.bo_orders.specs.Created.{order_created, counts_test, has_ids, order_row, position_for, rows_for, position_put, with_positions, with_order_row, order_placed, IsReady, AreCounted};
+ghost use Rattle.bo_orders.specs.Created.{order_created, counts_test, order_row, position_for, rows_for, position_put, with_positions, with_order_row, order_placed, IsReady, AreCounted};
 
 use crate::new_order::NewOrder;
 use crate::refusal::OrderRefusal;
 use crate::sold::{Asked, sold_for};
 use bo_base::{Draw, List, Text, secret};
-use bo_catalogue::{CatalogueRefusal, LAST_ID};
+use bo_catalogue::CatalogueRefusal;
 use bo_draft::Draft;
 use bo_lists::{Order, OrderPos, OrderRows, Own};
 use bo_usage::Book;
@@ -24,10 +24,10 @@ const MOST_POSITIONS: usize = 500;
 
 /// Makes an order, in a draft without changes, and answers a copy of it with its positions. The carts that it names are
 /// consumed: all their positions go, exactly if the order is made, and uses and places are tested without them.
-/// Refusals, in this order: 43 `Empty`; 44 `TooMany` of more than 500 positions or cart ids; 16 `Full` where there are
-/// no ids for the positions; position by position 10 `NoItem`, 11 `NoVariation`, 12 `NeedsVariation`, 15 `Inactive`,
-/// 18 `NotSold`, 23 `NoVoucher`, 24 `VoucherExpired`, 26 `WrongProduct`; then for the whole order 25 `NoHeadroom`,
-/// 28 `SoldOut` with the least quota of which it takes too much, 16 `Full`.
+/// Refusals, in this order: 43 `Empty`; 44 `TooMany` of more than 500 positions or cart ids; position by position
+/// 10 `NoItem`, 11 `NoVariation`, 12 `NeedsVariation`, 15 `Inactive`, 18 `NotSold`, 23 `NoVoucher`,
+/// 24 `VoucherExpired`, 26 `WrongProduct`; then for the whole order 25 `NoHeadroom`, 28 `SoldOut` with the least
+/// quota of which it takes too much, 16 `Full`.
 #[tactic(auto, unfolding(crate::specs::Created::order_created), using(crate::proofs::Rows::counted))]
 pub fn create<B: Book>(
     draft: &mut Draft<'_, B>,
@@ -43,9 +43,6 @@ pub fn create<B: Book>(
     ensures same { OnErr result (draft.new ≡ draft.old) }
 {
     test_counts(new)?;
-    if !has_ids(draft, new.positions.as_slice().len()) {
-        return Err(OrderRefusal::Voucher(VoucherRefusal::Catalogue(CatalogueRefusal::Full)));
-    }
     let rows = new_rows(draft, alloc, draw, new.positions.as_slice())?;
     let order = new_order(draft, alloc, new)?;
     place(draft, alloc, new.consume_carts.as_slice(), order, rows)
@@ -66,14 +63,6 @@ fn test_counts(new: &NewOrder) -> Result<(), OrderRefusal>
         return Err(OrderRefusal::TooMany);
     }
     Ok(())
-}
-
-// Whether there are ids for so many more order positions.
-fn has_ids<B: Book>(draft: &Draft<'_, B>, count: usize) -> bool
-    requires { count ≤ 500 }
-    ensures { result ≡ has_ids count (now draft.now) }
-{
-    draft.next_position() <= LAST_ID + 1 - count as u64
 }
 
 // The order's row.
@@ -123,7 +112,8 @@ fn new_row<B: Book>(
     })
 }
 
-// The rows of all that is asked for, or the first refusal.
+// The rows of all that is asked for, or the first refusal. Their ids count on, past the last one too: whether the table
+// takes them comes last. An id of 2^64, which no book reaches, is refused as a want of memory.
 fn new_rows<B: Book>(
     draft: &Draft<'_, B>,
     alloc: Global,
@@ -132,7 +122,6 @@ fn new_rows<B: Book>(
 ) -> Result<Vec<OrderPos>, OrderRefusal>
     requires vouchers { (now draft.now).lists.vouchers ≡ draft.now.log.base.vouchers }
     requires few { length asked.now ≤ 500 }
-    requires ids { (now draft.now).next.position + length asked.now ≤ 9007199254740992 }
     ensures done { IfOk result (λ rows. rows_for draw (now draft.now) (now draft.now).next.position 1 asked.now ≡ Ok rows.items) }
     ensures refused { IfErr result (λ e. e ≢ OrderRefusal.Memory → rows_for draw (now draft.now) (now draft.now).next.position 1 asked.now ≡ Err e) }
 {
@@ -142,7 +131,7 @@ fn new_rows<B: Book>(
     for entry in asked {
         rows.push(new_row(draft, alloc, draw, id, number, entry)?)
             .map_err(AllocError::from)?;
-        id += 1;
+        id = id.checked_add(1).ok_or(OrderRefusal::Memory)?;
         number += 1;
     }
     Ok(rows)

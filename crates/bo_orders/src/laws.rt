@@ -1,11 +1,10 @@
 //! Laws of the decisions.
 
-ghost use Rattle.std.specs.Prelude.{◌≡◌, ℕ, ◌≤◌, ◌⊎◌, true, false, [], ◌∷◌, map, Some, None, Ok};
+ghost use Rattle.std.specs.Prelude.{◌≡◌, ℕ, ◌≤◌, ◌⊎◌, true, false, List, [], ◌∷◌, ◌++◌, map, Some, None, Ok};
 ghost use Rattle.std.specs.List.{AllByRecursion};
 ghost use Rattle.bo_base.specs.declared.draw.Draw.{Draw};
 ghost use Rattle.bo_catalogue.specs.CatalogueLists.{quota_at};
 ghost use Rattle.bo_catalogue.specs.declared.rows.Quota.{Quota};
-ghost use Rattle.bo_lists.specs.Fits.{AllExact};
 ghost use Rattle.bo_lists.specs.Lists.{State, order_at};
 ghost use Rattle.bo_lists.specs.Over.{first_over, ignores};
 ghost use Rattle.bo_lists.specs.declared.rows.CartPos.{CartPos};
@@ -14,8 +13,10 @@ ghost use Rattle.bo_lists.specs.declared.rows.OrderRows.{OrderRows};
 ghost use Rattle.bo_lists.specs.declared.rows.Own.{Own};
 ghost use Rattle.bo_lists.specs.Sound.{IsSound};
 ghost use Rattle.bo_lists.specs.Tests.{is_in_force};
+ghost use Rattle.bo_orders.specs.declared.bulk.Entry.{Entry};
 ghost use Rattle.bo_orders.specs.declared.new_cart.NewCart.{NewCart};
 ghost use Rattle.bo_orders.specs.declared.new_order.NewOrder.{NewOrder};
+ghost use Rattle.bo_orders.specs.Bulk.{all_added, after_outcomes};
 ghost use Rattle.bo_orders.specs.Carts.{position_added};
 ghost use Rattle.bo_orders.specs.Created.{order_created};
 ghost use Rattle.bo_orders.specs.Moves.{order_moved};
@@ -36,6 +37,14 @@ pub fn added_takes_no_more()
     ensures { (new : NewCart) (draw : Draw) (before after : State) (row : CartPos) →
         position_added new draw before ≡ Ok (after, row) → ignores after.lists row.voucher ≡ false →
         TakesNoMore before after }
+{}
+
+/// Each entry of a bulk call is decided by itself, after those before it: entries in two calls, one after the other,
+/// add what all of them add in one, and have the same outcomes.
+pub fn bulk_is_each_by_itself()
+    ensures { (xs ys : List Entry) (draw : Draw) (state : State) →
+        all_added (xs ++ ys) draw state ≡
+        after_outcomes (all_added xs draw state).1 (all_added ys draw (all_added xs draw state).0) }
 {}
 
 /// Each order that is made was weighed, without the carts that it consumes: it takes too much of no quota, where
@@ -76,11 +85,10 @@ pub fn revivals_take_no_more()
         order_moved number change before ≡ Ok (after, rows) → TakesNoMore before after }
 {}
 
-/// No other move raises the usage of a quota that stands, where each voucher that blocks places and that an order
-/// position names tells its product whole.
+/// In a sound box office no other move raises the usage of a quota that stands.
 pub fn other_moves_lower()
     ensures { (number : ℕ) (change : Move) (before after : State) (rows : OrderRows) (old : Order) (quota : Quota) →
-        IsSound before → AllExact before.lists → quota_at quota.id before.lists.catalogue ≡ Some quota →
+        IsSound before → quota_at quota.id before.lists.catalogue ≡ Some quota →
         order_at number before.lists ≡ Some old → (is_in_force old.status ≡ true) ⊎ (is_in_force rows.order.status ≡ false) →
         order_moved number change before ≡ Ok (after, rows) → used after quota ≤ used before quota }
 {}

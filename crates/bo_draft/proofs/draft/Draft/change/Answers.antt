@@ -1,6 +1,8 @@
-use Rattle.std.proofs.Common.{◌≡◌, length, sym, ap, ◌∙◌}
+use Rattle.std.proofs.Common.{◌≡◌, length, sym, ap, ◌∙◌, subst}
 use Rattle.bo_lists.specs.Lists.{Lists}
 use Rattle.bo_lists.specs.Change.{after_change, changed}
+use Rattle.bo_lists.specs.Headroom.{AllHaveHeadroom}
+use Rattle.bo_draft.proofs.CanCome.{headroom_after}
 use Rattle.bo_draft.specs.DraftState.{DraftState, Log, usages_of, rows_of, now}
 use Rattle.bo_draft.proofs.Extensions.{now-with_change}
 use Rattle.bo_draft.proofs.Steps.{after_all-push}
@@ -12,7 +14,13 @@ invariant_of-self-2 g c =
     let log = inside.overlay in
     let rows : rows_of c.push.new.self ≡ after_change c.args.change (rows_of log) = ap rows_of c.in_ok-push.ensures.ok ∙ after_all-push log.changes c.args.change log.base in (
       c.in_ok-usages.ensures ∙ sym (ap (λ lists. usages_of lists inside.moment) rows),
-      c.carts_after-carts.ensures ∙ sym (ap (λ (lists : Lists). length lists.carts) rows),
+      (
+        c.carts_after-carts.ensures ∙ sym (ap (λ (lists : Lists). length lists.carts) rows),
+        (
+          let after : AllHaveHeadroom inside.moment (after_change c.args.change (rows_of log)) = subst (λ (d : DraftState). AllHaveHeadroom d.moment (after_change c.args.change (rows_of d.log))) (sym c.self.view_is) (headroom_after c.args.self.now.moment c.args.self.now.log c.args.change c.requires) in
+          subst (λ (lists : Lists). AllHaveHeadroom inside.moment lists) (sym rows) after
+        ),
+      ),
     )
 
 pub returns-clause-ok : goal.returns-clause-ok

@@ -1,0 +1,70 @@
+-- What keeps variations, products and blocking vouchers fit to how their items are sold.
+use Rattle.std.proofs.Common.{◌≡◌, ℕ, ◌+◌, ◌≢◌, ◌⊎◌, inl, inr, Bool, true, false, not, eqb, cond, List, [], ◌∷◌, Option, Some, None, refl, sym, ap, ◌∙◌, subst}
+use Rattle.std.specs.Prelude.{◌||◌, is_some}
+use Rattle.std.specs.List.{AllByRecursion}
+use Rattle.std.proofs.lemmas.Bool.Decides.{eqb_tells}
+use Rattle.bo_base.specs.Tables.{row_at, with_row}
+use Rattle.bo_base.proofs.Edits.{row_at-with_row}
+use Rattle.bo_catalogue.specs.declared.rows.Item.{Item}
+use Rattle.bo_catalogue.specs.declared.rows.Variation.{Variation}
+use Rattle.bo_catalogue.specs.declared.requests.NewVariation.{NewVariation}
+use Rattle.bo_catalogue.specs.ItemAdded.{is_varied, variation_rows}
+use Rattle.bo_lists.specs.declared.rows.OrderPos.{OrderPos}
+use Rattle.bo_lists.specs.declared.rows.Voucher.{Voucher}
+use Rattle.bo_lists.specs.Varied.{sold_as, is_sold_as, is_plain, is_of_varied, is_product, is_whole}
+use Rattle.bo_lists.proofs.EachRow.{all_weaker}
+
+-- an item that is put is sold as the one in its place was
+module _ (row : Item) (items : List Item) (as_before : (test : Bool → Bool) → is_sold_as test row.id items ≡ true → test row.varied ≡ true) where
+  abbrev later : List Item
+  later = with_row (λ r. r.id) row items
+
+  stays : (test : Bool → Bool) (id : ℕ) → is_sold_as test id items ≡ true → is_sold_as test id later ≡ true
+  stays test id h = ap (sold_as test) (row_at-with_row (λ r. r.id) id row items) ∙ by_id (eqb_tells row.id id)
+    where
+      by_id : ((eqb row.id id ≡ true) × (row.id ≡ id)) ⊎ ((eqb row.id id ≡ false) × (row.id ≢ id)) → sold_as test (cond (eqb row.id id) (Some row) (row_at (λ r. r.id) id items)) ≡ true
+      by_id (inl same) = rw same.0 (as_before test (subst (λ (n : ℕ). is_sold_as test n items ≡ true) (sym same.1) h))
+      by_id (inr other) = rw other.0 h
+
+  plain_stays : (name : Option ℕ) → is_plain items name ≡ true → is_plain later name ≡ true
+  plain_stays None h = h
+  plain_stays (Some id) h = stays (λ varied. not varied) id h
+
+  by_parts : (blocks quota variation : Bool) (name : Option ℕ) → (not blocks || (quota || (variation || is_plain items name))) ≡ true → (not blocks || (quota || (variation || is_plain later name))) ≡ true
+  by_parts false quota variation name h = refl
+  by_parts true true variation name h = refl
+  by_parts true false true name h = refl
+  by_parts true false false name h = plain_stays name h
+
+  pub varied_stay : (rows : List Variation) → AllByRecursion (λ v. is_of_varied items v ≡ true) rows → AllByRecursion (λ v. is_of_varied later v ≡ true) rows
+  varied_stay rows h = all_weaker (λ v. is_of_varied items v ≡ true) (λ v. is_of_varied later v ≡ true) (λ v e. stays (λ varied. varied) v.item e) rows h
+
+  pub products_stay : (rows : List OrderPos) → AllByRecursion (λ p. is_product items p.product ≡ true) rows → AllByRecursion (λ p. is_product later p.product ≡ true) rows
+  products_stay rows h = all_weaker (λ p. is_product items p.product ≡ true) (λ p. is_product later p.product ≡ true) (λ p e. stays _ p.product.item e) rows h
+
+  pub whole_stay : (rows : List Voucher) → AllByRecursion (λ v. is_whole items v ≡ true) rows → AllByRecursion (λ v. is_whole later v ≡ true) rows
+  whole_stay rows h = all_weaker (λ v. is_whole items v ≡ true) (λ v. is_whole later v ≡ true) (λ v e. by_parts v.block_quota (is_some v.quota) (is_some v.variation) v.item e) rows h
+
+-- what an item that was put is sold by
+pub put_sold_as : (row : Item) (items : List Item) (test : Bool → Bool) → test row.varied ≡ true → is_sold_as test row.id (with_row (λ r. r.id) row items) ≡ true
+put_sold_as row items test h = ap (sold_as test) (row_at-with_row (λ r. r.id) row.id row items) ∙ by_own (eqb_tells row.id row.id)
+  where
+    by_own : ((eqb row.id row.id ≡ true) × (row.id ≡ row.id)) ⊎ ((eqb row.id row.id ≡ false) × (row.id ≢ row.id)) → sold_as test (cond (eqb row.id row.id) (Some row) (row_at (λ r. r.id) row.id items)) ≡ true
+    by_own (inl same) = rw same.0 h
+    by_own (inr other) = absurd (other.1 refl)
+
+-- variations of this item, which is sold by them
+abbrev pub AreOf : Item → List Variation → Type 0
+AreOf item rows = AllByRecursion (λ v. (v.item ≡ item.id) × (item.varied ≡ true)) rows
+
+pub put_of_varied : (row : Item) (items : List Item) (rows : List Variation) → AreOf row rows → AllByRecursion (λ v. is_of_varied (with_row (λ r. r.id) row items) v ≡ true) rows
+put_of_varied row items rows h = all_weaker (λ v. (v.item ≡ row.id) × (row.varied ≡ true)) (λ v. is_of_varied (with_row (λ r. r.id) row items) v ≡ true) (λ v known. subst (λ (n : ℕ). is_sold_as (λ varied. varied) n (with_row (λ r. r.id) row items) ≡ true) (sym known.0) (put_sold_as row items (λ varied. varied) known.1)) rows h
+
+-- those that are made with an item are
+variations_of_it : (varied : Bool) → varied ≡ true → (new : List NewVariation) (item first : ℕ) → AllByRecursion (λ v. (v.item ≡ item) × (varied ≡ true)) (variation_rows new item first)
+variations_of_it varied is [] item first = tt
+variations_of_it varied is (variation ∷ variations) item first = ((refl, is), variations_of_it varied is variations item (first + 1))
+
+pub made_of_it : (new : List NewVariation) (item first : ℕ) → AllByRecursion (λ v. (v.item ≡ item) × (is_varied new ≡ true)) (variation_rows new item first)
+made_of_it [] item first = tt
+made_of_it (variation ∷ variations) item first = variations_of_it true refl (variation ∷ variations) item first
