@@ -231,11 +231,7 @@ fn refusal_status(kind: Kind, refusal: Refusal) -> StatusCode
 
 /// The body for a refusal of a request of that kind.
 #[tactic(auto, unfolding(crate::specs::Refusals::refusal_data))]
-pub(crate) fn refusal_data(
-    alloc: Global,
-    kind: Kind,
-    refusal: Refusal,
-) -> Result<Value, AllocError>
+pub(crate) fn refusal_data(alloc: Global, kind: Kind, refusal: Refusal) -> Result<Value, AllocError>
     ensures { IfOk result (λ v. view v ≡ refusal_data kind refusal) }
 {
     match refusal {
