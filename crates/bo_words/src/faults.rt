@@ -11,7 +11,8 @@ use http::StatusCode;
 use serde_json::{Value, json};
 use std::alloc::{AllocError, Global};
 
-fn fault_value(alloc: Global, fault: Fault) -> Result<Value, AllocError>
+/// `{"field":["text"]}`.
+pub(crate) fn fault_value(alloc: Global, fault: Fault) -> Result<Value, AllocError>
     ensures { IfOk result (λ v. view v ≡ fault_body fault) }
 {
     let name = fault.field.name();
