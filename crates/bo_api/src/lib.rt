@@ -3,9 +3,11 @@
 
 mod body;
 pub mod call;
+mod cart_bodies;
 mod catalogue_bodies;
 mod copies;
 mod endpoint;
+mod order_bodies;
 mod page;
 mod path;
 mod requests;
