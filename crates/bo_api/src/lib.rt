@@ -6,6 +6,7 @@ pub mod call;
 mod catalogue_bodies;
 mod copies;
 mod endpoint;
+mod order_bodies;
 mod page;
 mod path;
 mod requests;
