@@ -7,6 +7,7 @@ pub mod Verbs
 pub mod Endpoints
 pub mod CatalogueBodies
 pub mod VoucherBodies
+pub mod CartBodies
 pub mod OrderBodies
 pub mod Requests
 pub mod Body

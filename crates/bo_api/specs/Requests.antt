@@ -5,16 +5,12 @@ use Rattle.serde_json.specs.Find.{as_array}
 use Rattle.bo_orders.specs.declared.bulk.Entry.{Entry}
 use Rattle.bo_orders.specs.declared.moves.Move.{Move}
 use Rattle.bo_orders.specs.declared.moves.Move.TheVariants as moves
-use Rattle.bo_orders.specs.declared.new_cart.NewCart.{NewCart}
 use Rattle.bo_office.specs.declared.command.Command.{Command}
 use Rattle.bo_office.specs.declared.command.Command.TheVariants as commands
-use Rattle.bo_faults.specs.declared.fields.Field.TheVariants as fields
 use Rattle.bo_fields.specs.declared.error.BodyFault.{BodyFault}
 use Rattle.bo_fields.specs.declared.error.BodyFault.TheVariants as faults
 use Rattle.bo_fields.specs.Reading.{◌>>=◌}
-use Rattle.bo_fields.specs.Modes.{required}
-use Rattle.bo_fields.specs.Kinds.{id}
-use Rattle.bo_fields.specs.Lacking.{optional_id, optional_text, optional_loose_text, optional_money, optional_moment}
+use Rattle.bo_api.specs.CartBodies.{cart_of}
 use Rattle.bo_api.specs.CatalogueBodies.{item_of, item_patch_of, variation_of, quota_of, quota_patch_of}
 use Rattle.bo_api.specs.VoucherBodies.{voucher_of, voucher_patch_of}
 use Rattle.bo_api.specs.OrderBodies.{order_of, end_of, entries_of}
@@ -22,18 +18,6 @@ use Rattle.bo_api.specs.declared.routes.MoveName.{MoveName}
 use Rattle.bo_api.specs.declared.routes.MoveName.TheVariants as names
 use Rattle.bo_api.specs.declared.endpoint.Form.{Form}
 use Rattle.bo_api.specs.declared.endpoint.Form.TheVariants as forms
-
--- a new cart position; its voucher is a code, and an empty one is a code that no voucher has
-unfoldable pub cart_of : Data → Result NewCart BodyFault
-cart_of d = do
-  i ← required fields.Item d
-  item ← id fields.Item i
-  variation ← optional_id fields.Variation d
-  price ← optional_money fields.Price d
-  cart ← optional_text fields.CartId d
-  expires ← optional_moment fields.Expires d
-  voucher ← optional_loose_text fields.Voucher d
-  Ok (record { asked = record { item = item; variation = variation; price = price; voucher = voucher }; cart_id = cart; expires = expires })
 
 -- the entries of a body that is a list
 abbrev pub list_from : Option Items → Result Items BodyFault

@@ -9,12 +9,12 @@ ghost use Rattle.serde_json.specs.View.{view, items_view};
 use crate::copies::copied;
 use bo_base::{List, Text};
 use bo_catalogue::{ItemPatch, NewItem, NewQuota, NewVariation, QuotaPatch};
+use bo_faults::Field;
 use bo_fields::{
     BodyFault, ReadError, entry_object, ids_or_none, list, money, name, nullable, optional_money,
     patched_money, patched_name, patched_truth, patched_whole_or_null, present, required, truth_or,
     whole,
 };
-use bo_faults::Field;
 use serde_json::Value;
 use std::alloc::Global;
 

@@ -3,6 +3,7 @@
 
 mod body;
 pub mod call;
+mod cart_bodies;
 mod catalogue_bodies;
 mod copies;
 mod endpoint;

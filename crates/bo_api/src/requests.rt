@@ -2,48 +2,21 @@
 
 ghost use Rattle.std.specs.Prelude.{◌≡◌};
 ghost use Rattle.bo_fields.specs.Reading.{Reads, Shows, items_of_slice};
-ghost use Rattle.bo_api.specs.Requests.{cart_of, list_of, carts_of, move_of, command_of};
+ghost use Rattle.bo_api.specs.Requests.{list_of, carts_of, move_of, command_of};
 ghost use Rattle.serde_json.specs.View.{view};
 
+use crate::cart_bodies::cart_of;
 use crate::catalogue_bodies::{item_of, item_patch_of, quota_of, quota_patch_of, variation_of};
-use crate::copies::copied;
 use crate::endpoint::Form;
 use crate::order_bodies::{end_of, entries_of, order_of};
 use crate::routes::MoveName;
 use crate::voucher_bodies::{voucher_of, voucher_patch_of};
 use bo_base::List;
-use bo_fields::{
-    BodyFault, ReadError, id, optional_id, optional_loose_text, optional_moment, optional_money,
-    optional_text, required,
-};
+use bo_fields::{BodyFault, ReadError};
 use bo_office::Command;
-use bo_orders::{Asked, Entry, Move, NewCart};
-use bo_faults::Field;
+use bo_orders::{Entry, Move};
 use serde_json::Value;
 use std::alloc::Global;
-
-/// A new cart position.
-#[tactic(auto, unfolding(crate::specs::Requests::cart_of))]
-fn cart_of(alloc: Global, body: &Value) -> Result<NewCart, ReadError>
-    ensures { Reads result (cart_of (view body.now)) }
-{
-    let item = id(Field::Item, required(Field::Item, body)?)?;
-    let variation = optional_id(Field::Variation, body)?;
-    let price = optional_money(Field::Price, body)?;
-    let cart_id = optional_text(Field::CartId, body)?;
-    let expires = optional_moment(Field::Expires, body)?;
-    let voucher = optional_loose_text(Field::Voucher, body)?;
-    Ok(NewCart {
-        cart_id: copied(alloc, cart_id)?,
-        expires,
-        asked: Asked {
-            item,
-            variation,
-            price,
-            voucher: copied(alloc, voucher)?,
-        },
-    })
-}
 
 /// The entries of a body that is a list.
 fn list_of(body: &Value) -> Result<&[Value], BodyFault>

@@ -7,6 +7,7 @@ ghost use Rattle.serde_json.specs.View.{view};
 
 use crate::copies::copied;
 use bo_base::{PriceMode, Text};
+use bo_faults::Field;
 use bo_fields::{
     BodyFault, ReadError, optional_id, optional_moment, optional_money, optional_text,
     patched_id_or_null, patched_loose_text, patched_moment_or_null, patched_money_or_null,
@@ -14,7 +15,6 @@ use bo_fields::{
     truth_or, whole_or,
 };
 use bo_vouchers::{NewVoucher, VoucherPatch};
-use bo_faults::Field;
 use serde_json::Value;
 use std::alloc::Global;
 

@@ -4,7 +4,7 @@ use Rattle.std.specs.List.{list_any}
 use Rattle.serde_json.specs.Data.{Data, Members, no_members, member}
 use Rattle.serde_json.specs.Find.{as_bool, as_str, as_number, as_u64, as_i64, as_object}
 use Rattle.bo_base.specs.Money.{money_of}
-use Rattle.bo_base.specs.Moments.{moment_of}
+use Rattle.bo_base.specs.Moments.{moment_of, day_of}
 use Rattle.bo_base.specs.Texts.{same_text}
 use Rattle.bo_base.specs.declared.price_mode.PriceMode.{PriceMode}
 use Rattle.bo_base.specs.declared.price_mode.PriceMode.TheVariants as modes
@@ -121,6 +121,18 @@ moment_from f (Some s) = moment_read f (moment_of s)
 
 abbrev pub moment : Field → Data → Result ℕ BodyFault
 moment f v = moment_from f (as_str v)
+
+-- the end that a text writes: ten bytes are a day, which stands for its last second in UTC
+abbrev pub end_in : List ℕ → Result ℕ ValueRefusal
+end_in s = if length s == 10 then day_of s else moment_of s
+
+-- a moment at which something ends: an instant, or a day
+abbrev pub end_from : Field → Option (List ℕ) → Result ℕ BodyFault
+end_from f None = Err (fault f problems.Invalid)
+end_from f (Some s) = moment_read f (end_in s)
+
+abbrev pub end : Field → Data → Result ℕ BodyFault
+end f v = end_from f (as_str v)
 
 -- the price mode that a word names
 abbrev pub mode_named : List ℕ → Option PriceMode

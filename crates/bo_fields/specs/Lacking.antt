@@ -7,7 +7,7 @@ use Rattle.bo_fields.specs.declared.error.BodyFault.{BodyFault}
 use Rattle.bo_fields.specs.Reading.{◌>>=◌}
 use Rattle.bo_fields.specs.Modes.{optional, present}
 use Rattle.bo_fields.specs.Kinds.{truth, whole, id, loose_text, text, money, moment, price_mode}
-use Rattle.bo_fields.specs.Lists.{ids}
+use Rattle.bo_fields.specs.Lists.{ids, texts}
 
 -- the reading of a value that may be lacking
 abbrev pub each : {A : Type 0} → (Data → Result A BodyFault) → Option Data → Result (Option A) BodyFault
@@ -58,3 +58,7 @@ optional_moment f d = each (moment f) (optional f d)
 -- a list of ids that may be absent, and then is empty
 abbrev pub ids_or_none : Field → Data → Result (List ℕ) BodyFault
 ids_or_none f d = present f d >>= or_else (ids f) []
+
+-- a list of texts that may be absent, and then is empty
+abbrev pub texts_or_none : Field → Data → Result (List (List ℕ)) BodyFault
+texts_or_none f d = present f d >>= or_else (texts f) []

@@ -7,7 +7,7 @@ use Rattle.bo_faults.specs.declared.fields.Problem.TheVariants as problems
 use Rattle.bo_fields.specs.declared.error.BodyFault.{BodyFault}
 use Rattle.bo_fields.specs.Reading.{◌>>=◌, fault}
 use Rattle.bo_fields.specs.Modes.{not_null}
-use Rattle.bo_fields.specs.Kinds.{id}
+use Rattle.bo_fields.specs.Kinds.{id, text}
 
 -- a list
 abbrev pub list_from : Field → Option Items → Result Items BodyFault
@@ -37,6 +37,14 @@ entry_object f d = not_null f d >>= λ v. object_from f v (as_object v)
 -- a list of ids
 abbrev pub ids : Field → Data → Result (List ℕ) BodyFault
 ids f d = list f d >>= all_of (entry_id f)
+
+-- an entry that is a text which isn't empty; its faults are the list's
+abbrev pub entry_text : Field → Data → Result (List ℕ) BodyFault
+entry_text f d = not_null f d >>= text f
+
+-- a list of texts
+abbrev pub texts : Field → Data → Result (List (List ℕ)) BodyFault
+texts f d = list f d >>= all_of (entry_text f)
 
 -- the entries that were read, and those of the rest
 abbrev pub with_front : {A : Type 0} → List A → Result (List A) BodyFault → Result (List A) BodyFault

@@ -4,14 +4,13 @@
 ghost use Rattle.std.specs.Prelude.{◌≡◌, ◌≤◌, IfOk, option_map};
 ghost use Rattle.std.specs.List.{list_any};
 ghost use Rattle.bo_base.specs.Money.{money_of};
-ghost use Rattle.bo_base.specs.Moments.{moment_of};
 ghost use Rattle.bo_fields.specs.Reading.{Shows, text_of, view_of};
 ghost use Rattle.bo_base.specs.Texts.{same_text};
-ghost use Rattle.bo_fields.specs.Kinds.{truth, whole, id, is_control, is_unfit, fit, loose_text, text, first_member, first_name, name, money_read, units_from, count_in, money, moment_read, moment, mode_named, price_mode};
+ghost use Rattle.bo_fields.specs.Kinds.{truth, whole, id, is_control, is_unfit, fit, loose_text, text, first_member, first_name, name, money_read, units_from, count_in, money, moment_read, moment, end_in, end, mode_named, price_mode};
 ghost use Rattle.serde_json.specs.View.{view, members_view};
 
 use crate::error::{BodyFault, fault};
-use bo_base::{Cents, Moment, PriceMode, ValueRefusal, read_cents, read_moment};
+use bo_base::{Cents, Moment, PriceMode, ValueRefusal, read_cents, read_day, read_moment};
 use bo_faults::{Field, Problem};
 use serde_json::{Map, Value};
 
@@ -177,11 +176,11 @@ pub fn money(field: Field, value: &Value) -> Result<Cents, BodyFault>
     }
 }
 
-/// A moment from its text.
-fn moment_read(field: Field, text: &str) -> Result<Moment, BodyFault>
-    ensures { result ≡ moment_read field (moment_of text.now) }
+/// The moment that was read from a text.
+fn moment_read(field: Field, read: Result<Moment, ValueRefusal>) -> Result<Moment, BodyFault>
+    ensures { result ≡ moment_read field read }
 {
-    match read_moment(text) {
+    match read {
         Ok(moment) => Ok(moment),
         Err(ValueRefusal::OutOfRange) => fault(field, Problem::OutOfRange),
         Err(_) => fault(field, Problem::Invalid),
@@ -194,7 +193,29 @@ pub fn moment(field: Field, value: &Value) -> Result<Moment, BodyFault>
 {
     match value.as_str() {
         None => fault(field, Problem::Invalid),
-        Some(text) => moment_read(field, text),
+        Some(text) => moment_read(field, read_moment(text)),
+    }
+}
+
+/// The moment that a text writes, or the last second in UTC of the day that it writes in ten bytes.
+fn end_in(text: &str) -> Result<Moment, ValueRefusal>
+    ensures { result ≡ end_in text.now }
+{
+    if text.len() == 10 {
+        read_day(text)
+    } else {
+        read_moment(text)
+    }
+}
+
+/// A moment at which something ends: the text of an instant, rounded down to the second, or a text of exactly
+/// ten bytes that is a day, as `2026-05-01`, and stands for its last second in UTC.
+pub fn end(field: Field, value: &Value) -> Result<Moment, BodyFault>
+    ensures { result ≡ end field (view value.now) }
+{
+    match value.as_str() {
+        None => fault(field, Problem::Invalid),
+        Some(text) => moment_read(field, end_in(text)),
     }
 }
 

@@ -2,14 +2,14 @@
 
 ghost use Rattle.std.specs.Prelude.{◌≡◌, ◌≤◌, IfOk, option_map};
 ghost use Rattle.bo_fields.specs.Reading.{Reads, Shows, text_of};
-ghost use Rattle.bo_fields.specs.Lacking.{truth_or, whole_or, text_or_empty, price_mode_or, optional_id, optional_text, optional_loose_text, optional_money, optional_moment, ids_or_none};
+ghost use Rattle.bo_fields.specs.Lacking.{truth_or, whole_or, text_or_empty, price_mode_or, optional_id, optional_text, optional_loose_text, optional_money, optional_moment, ids_or_none, texts_or_none};
 ghost use Rattle.serde_json.specs.View.{view};
 
 use crate::error::{BodyFault, ReadError};
 use crate::kinds::{id, loose_text, moment, money, price_mode, text, truth, whole};
-use crate::lists::ids;
+use crate::lists::{ids, texts};
 use crate::modes::{optional, present};
-use bo_base::{Cents, Ids, Moment, PriceMode};
+use bo_base::{Cents, Ids, List, Moment, PriceMode, Text};
 use bo_faults::Field;
 use serde_json::Value;
 use std::alloc::Global;
@@ -118,5 +118,16 @@ pub fn ids_or_none(alloc: Global, field: Field, body: &Value) -> Result<Ids, Rea
     match present(field, body)? {
         None => Ok(Ids::new(Vec::new(alloc))),
         Some(value) => ids(alloc, field, value),
+    }
+}
+
+/// A list of texts that may be absent: then it is empty. None of the texts is empty, each has at most 254 bytes and no
+/// control byte. All faults are the list's. `Memory` where there is none for the copies.
+pub fn texts_or_none(alloc: Global, field: Field, body: &Value) -> Result<List<Text>, ReadError>
+    ensures { Reads result (texts_or_none field (view body.now)) }
+{
+    match present(field, body)? {
+        None => Ok(List::new(Vec::new(alloc))),
+        Some(value) => texts(alloc, field, value),
     }
 }

@@ -9,12 +9,12 @@ pub mod modes;
 pub mod patched;
 
 pub use error::{BodyFault, ReadError};
-pub use kinds::{id, loose_text, moment, money, name, price_mode, text, truth, whole};
+pub use kinds::{end, id, loose_text, moment, money, name, price_mode, text, truth, whole};
 pub use lacking::{
     ids_or_none, optional_id, optional_loose_text, optional_moment, optional_money, optional_text,
-    price_mode_or, text_or_empty, truth_or, whole_or,
+    price_mode_or, text_or_empty, texts_or_none, truth_or, whole_or,
 };
-pub use lists::{entry_object, ids, list};
+pub use lists::{entry_object, ids, list, texts};
 pub use modes::{maybe, nullable, optional, present, required};
 pub use patched::{
     patched_id_or_null, patched_loose_text, patched_moment_or_null, patched_money,

@@ -1,0 +1,180 @@
+//! The bodies of orders and of bulk calls, field by field. Only the first fault is answered.
+
+ghost use Rattle.std.specs.Prelude.{◌≡◌, Ok};
+ghost use Rattle.bo_base.specs.Texts.{same_text};
+ghost use Rattle.bo_fields.specs.Reading.{Reads};
+ghost use Rattle.bo_fields.specs.Lists.{all_of};
+ghost use Rattle.bo_api.specs.CartBodies.{cart_of};
+ghost use Rattle.bo_api.specs.OrderBodies.{asked_of, position_entry, positions_of, start_named, start, start_of, order_of, end_of, entry_from, bulk_entry, entries_of};
+ghost use Rattle.serde_json.specs.View.{view, items_view};
+
+use crate::cart_bodies::cart_of;
+use crate::copies::copied;
+use bo_base::{List, Moment};
+use bo_faults::{EntryFault, Fault, Field, Problem};
+use bo_fields::{
+    BodyFault, ReadError, end, entry_object, id, list, optional_id, optional_loose_text,
+    optional_moment, optional_money, optional_text, present, required, texts_or_none,
+};
+use bo_orders::{Asked, Entry, NewOrder, Start};
+use serde_json::Value;
+use std::alloc::Global;
+
+/// What is asked for one position.
+#[tactic(auto, unfolding(crate::specs::OrderBodies::asked_of))]
+pub fn asked_of(alloc: Global, body: &Value) -> Result<Asked, ReadError>
+    ensures { Reads result (asked_of (view body.now)) }
+{
+    let item = id(Field::Item, required(Field::Item, body)?)?;
+    let variation = optional_id(Field::Variation, body)?;
+    let price = optional_money(Field::Price, body)?;
+    let voucher = optional_loose_text(Field::Voucher, body)?;
+    Ok(Asked {
+        item,
+        variation,
+        price,
+        voucher: copied(alloc, voucher)?,
+    })
+}
+
+/// An entry of an order's positions. All its faults are faults of the list.
+fn position_entry(alloc: Global, entry: &Value) -> Result<Asked, ReadError>
+    ensures { Reads result (position_entry (view entry.now)) }
+{
+    let body = entry_object(Field::Positions, entry)?;
+    match asked_of(alloc, body) {
+        Ok(asked) => Ok(asked),
+        Err(ReadError::Memory) => Err(ReadError::Memory),
+        Err(ReadError::Body(fault)) => Err(ReadError::Body(fault.of(Field::Positions))),
+    }
+}
+
+/// The positions that a list's entries ask for.
+fn position_entries(alloc: Global, list: &[Value]) -> Result<List<Asked>, ReadError>
+    ensures { Reads result (all_of position_entry (items_view list.now)) }
+{
+    let mut found = Vec::new(alloc);
+    for entry in list {
+        let asked = position_entry(alloc, entry)?;
+        if found.push(asked).is_err() {
+            return Err(ReadError::Memory);
+        }
+    }
+    Ok(List::new(found))
+}
+
+/// The positions of a new order, which have to be there.
+fn positions_of(alloc: Global, body: &Value) -> Result<List<Asked>, ReadError>
+    ensures { Reads result (positions_of (view body.now)) }
+{
+    let value = required(Field::Positions, body)?;
+    position_entries(alloc, list(Field::Positions, value)?)
+}
+
+/// Whether two texts are the same.
+fn is(text: &str, word: &str) -> bool
+    ensures { result ≡ same_text text.now word.now }
+{
+    text == word
+}
+
+/// What an order starts as, by its word.
+fn start_named(word: &str) -> Option<Start>
+    ensures { result ≡ start_named word.now }
+{
+    if is(word, "n") {
+        Some(Start::Pending)
+    } else if is(word, "p") {
+        Some(Start::Paid)
+    } else {
+        None
+    }
+}
+
+/// What an order starts as: `n` or `p`.
+fn start(value: &Value) -> Result<Start, BodyFault>
+    ensures { result ≡ start (view value.now) }
+{
+    match value.as_str().and_then(start_named) {
+        None => Err(BodyFault::Field(Fault {
+            field: Field::Status,
+            problem: Problem::Invalid,
+        })),
+        Some(start) => Ok(start),
+    }
+}
+
+/// What a new order starts as: pending, where it isn't said.
+fn start_of(body: &Value) -> Result<Start, BodyFault>
+    ensures { result ≡ start_of (view body.now) }
+{
+    match present(Field::Status, body)? {
+        None => Ok(Start::Pending),
+        Some(value) => start(value),
+    }
+}
+
+/// A new order.
+#[tactic(auto, unfolding(crate::specs::OrderBodies::order_of))]
+pub fn order_of(alloc: Global, body: &Value) -> Result<NewOrder, ReadError>
+    ensures { Reads result (order_of (view body.now)) }
+{
+    let email = optional_text(Field::Email, body)?;
+    let start = start_of(body)?;
+    let expires = optional_moment(Field::Expires, body)?;
+    let consume_carts = texts_or_none(alloc, Field::ConsumeCarts, body)?;
+    let positions = positions_of(alloc, body)?;
+    Ok(NewOrder {
+        email: copied(alloc, email)?,
+        start,
+        expires,
+        consume_carts,
+        positions,
+    })
+}
+
+/// The end to which an order is extended: an instant, or a day, which stands for its last second in UTC.
+pub fn end_of(body: &Value) -> Result<Moment, BodyFault>
+    ensures { result ≡ end_of (view body.now) }
+{
+    end(Field::Expires, required(Field::Expires, body)?)
+}
+
+/// The cart position that an object asks for, or the first of its fields that is wrong.
+fn read_entry(alloc: Global, entry: &Value) -> Result<Entry, ReadError>
+    ensures { Reads result (Ok (entry_from (cart_of (view entry.now)))) }
+{
+    match cart_of(alloc, entry) {
+        Ok(new) => Ok(Entry::New(new)),
+        Err(ReadError::Memory) => Err(ReadError::Memory),
+        Err(ReadError::Body(BodyFault::Field(fault))) => {
+            Ok(Entry::Faulty(EntryFault::Field(fault)))
+        }
+        Err(ReadError::Body(_)) => Ok(Entry::Faulty(EntryFault::InvalidData)),
+    }
+}
+
+/// An entry of a bulk call: a cart position that is asked for, or what is wrong with it.
+fn bulk_entry(alloc: Global, entry: &Value) -> Result<Entry, ReadError>
+    ensures { Reads result (bulk_entry (view entry.now)) }
+{
+    if entry.is_object() {
+        read_entry(alloc, entry)
+    } else {
+        Ok(Entry::Faulty(EntryFault::InvalidData))
+    }
+}
+
+/// The entries of a bulk call. What is wrong with one is told of it alone: `Memory` is the only error.
+pub fn entries_of(alloc: Global, list: &[Value]) -> Result<List<Entry>, ReadError>
+    ensures { Reads result (entries_of (items_view list.now)) }
+{
+    let mut found = Vec::new(alloc);
+    for value in list {
+        let entry = bulk_entry(alloc, value)?;
+        if found.push(entry).is_err() {
+            return Err(ReadError::Memory);
+        }
+    }
+    Ok(List::new(found))
+}
