@@ -32,14 +32,18 @@ abbrev pub refused_by : Bool → Told → Call
 refused_by true told = calls.WriteRefused told
 refused_by false told = calls.ReadRefused told
 
+-- a write whose body isn't read
+abbrev pub refused_body : BodyFault → Call
+refused_body fault = calls.WriteRefused (told_fault fault)
+
 abbrev pub written : Result Command BodyFault → Call
 written (Ok command) = calls.Write command
-written (Err fault) = calls.WriteRefused (told_fault fault)
+written (Err fault) = refused_body fault
 
 -- a move of an order that there isn't: its body is read first, and only then it is 404
 abbrev pub missing : Result Move BodyFault → Call
 missing (Ok move) = calls.WriteRefused not_found
-missing (Err fault) = calls.WriteRefused (told_fault fault)
+missing (Err fault) = refused_body fault
 
 -- a page of a list: 404 where its number can't be read
 abbrev pub listed : Resource → Option ℕ → Call

@@ -2,7 +2,7 @@
 
 ghost use Rattle.std.specs.Prelude.{◌≡◌, IfOk};
 ghost use Rattle.bo_api.specs.Body.{read_command, read_move};
-ghost use Rattle.bo_api.specs.Call.{told_fault, refused_by, written, missing, listed, call_at, call_of};
+ghost use Rattle.bo_api.specs.Call.{told_fault, refused_by, refused_body, written, missing, listed, call_at, call_of};
 ghost use Rattle.bo_api.specs.Page.{page_of};
 ghost use Rattle.bo_api.specs.Verbs.{is_write, verb_of};
 
@@ -56,6 +56,13 @@ fn refused(verb: Verb, told: Told) -> Call
     }
 }
 
+/// The refusal of a write whose body isn't read.
+fn refused_body(alloc: Global, fault: BodyFault) -> Result<Call, AllocError>
+    ensures { IfOk result (λ call. call ≡ refused_body fault) }
+{
+    Ok(Call::WriteRefused(told_fault(alloc, fault)?))
+}
+
 /// The command of a body of that form, or the refusal of the body.
 fn written(alloc: Global, form: Form, body: &[u8]) -> Result<Call, AllocError>
     ensures { IfOk result (λ call. call ≡ written (read_command form body.now)) }
@@ -63,7 +70,7 @@ fn written(alloc: Global, form: Form, body: &[u8]) -> Result<Call, AllocError>
     match read_command(alloc, form, body) {
         Ok(command) => Ok(Call::Write(command)),
         Err(ReadError::Memory) => Err(AllocError),
-        Err(ReadError::Body(fault)) => Ok(Call::WriteRefused(told_fault(alloc, fault)?)),
+        Err(ReadError::Body(fault)) => refused_body(alloc, fault),
     }
 }
 
@@ -74,7 +81,7 @@ fn missing(alloc: Global, name: MoveName, body: &[u8]) -> Result<Call, AllocErro
     match read_move(alloc, name, body) {
         Ok(_) => Ok(Call::WriteRefused(not_found(alloc)?)),
         Err(ReadError::Memory) => Err(AllocError),
-        Err(ReadError::Body(fault)) => Ok(Call::WriteRefused(told_fault(alloc, fault)?)),
+        Err(ReadError::Body(fault)) => refused_body(alloc, fault),
     }
 }
 
