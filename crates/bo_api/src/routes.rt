@@ -85,9 +85,21 @@ fn add_orders(router: &mut Router<Route>) -> Result<(), InsertError>
     add(router, "/orders/", Route::Orders)?;
     add(router, "/orders/{code}/", Route::Order)?;
     add_move(router, "/orders/{code}/mark_paid/", MoveName::MarkPaid)?;
-    add_move(router, "/orders/{code}/mark_pending/", MoveName::MarkPending)?;
-    add_move(router, "/orders/{code}/mark_expired/", MoveName::MarkExpired)?;
-    add_move(router, "/orders/{code}/mark_canceled/", MoveName::MarkCanceled)?;
+    add_move(
+        router,
+        "/orders/{code}/mark_pending/",
+        MoveName::MarkPending,
+    )?;
+    add_move(
+        router,
+        "/orders/{code}/mark_expired/",
+        MoveName::MarkExpired,
+    )?;
+    add_move(
+        router,
+        "/orders/{code}/mark_canceled/",
+        MoveName::MarkCanceled,
+    )?;
     add_move(router, "/orders/{code}/extend/", MoveName::Extend)?;
     Ok(())
 }
