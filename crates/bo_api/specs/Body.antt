@@ -1,4 +1,4 @@
--- The body of a write: JSON, an object, its fields.
+-- The body of a write: JSON, an object or for a bulk call a list, its fields.
 use Rattle.std.specs.Prelude.{ℕ, ◌==◌, List, length, Option, Some, None, Result, Ok, Err, if◌then◌else◌, is_some, codes}
 use Rattle.std.specs.Str.{is_utf8}
 use Rattle.serde_json.specs.Data.{Data}
@@ -8,8 +8,11 @@ use Rattle.bo_office.specs.declared.command.Command.{Command}
 use Rattle.bo_fields.specs.declared.error.BodyFault.{BodyFault}
 use Rattle.bo_fields.specs.declared.error.BodyFault.TheVariants as faults
 use Rattle.bo_fields.specs.Reading.{◌>>=◌}
+use Rattle.bo_orders.specs.declared.moves.Move.{Move}
 use Rattle.bo_api.specs.declared.endpoint.Form.{Form}
-use Rattle.bo_api.specs.Requests.{command_of}
+use Rattle.bo_api.specs.declared.endpoint.Form.TheVariants as forms
+use Rattle.bo_api.specs.declared.routes.MoveName.{MoveName}
+use Rattle.bo_api.specs.Requests.{command_of, move_of}
 
 -- the text of a body: `{}` for an empty one
 abbrev pub body_text : List ℕ → List ℕ
@@ -27,9 +30,21 @@ json_of text = if is_utf8 text then json_from (read text) else Err faults.NotJso
 abbrev pub object_of : Data → Result (Unit {0}) BodyFault
 object_of d = if is_some (as_object d) then Ok tt else Err faults.InvalidData
 
+-- the body of every call is an object, but for a bulk call, whose list is tested where its entries are read
+abbrev pub shape_of : Form → Data → Result (Unit {0}) BodyFault
+shape_of forms.Carts d = Ok tt
+shape_of _ d = object_of d
+
 -- the command that a body of that form says
 unfoldable pub read_command : Form → List ℕ → Result Command BodyFault
 read_command form bytes = do
   d ← json_of (body_text bytes)
-  is ← object_of d
+  is ← shape_of form d
   command_of form d
+
+-- what a body says of a move with that name
+unfoldable pub read_move : MoveName → List ℕ → Result Move BodyFault
+read_move name bytes = do
+  d ← json_of (body_text bytes)
+  is ← object_of d
+  move_of name d

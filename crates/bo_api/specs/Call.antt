@@ -3,6 +3,7 @@ use Rattle.std.specs.Prelude.{ℕ, Bool, true, false, List, Option, Some, None, 
 use Rattle.bo_base.specs.declared.answer.Told.{Told}
 use Rattle.bo_http.specs.Messages.{Message}
 use Rattle.bo_office.specs.declared.command.Command.{Command}
+use Rattle.bo_orders.specs.declared.moves.Move.{Move}
 use Rattle.bo_office.specs.declared.command.Query.TheVariants as queries
 use Rattle.bo_office.specs.declared.command.Resource.{Resource}
 use Rattle.bo_words.specs.Faults.{no_credentials, invalid_token, not_found, invalid_page, method_not_allowed, parse_error, invalid_data, field_fault}
@@ -18,7 +19,7 @@ use Rattle.bo_api.specs.Path.{place_of}
 use Rattle.bo_api.specs.Page.{page_of}
 use Rattle.bo_api.specs.Verbs.{verb_of, is_write}
 use Rattle.bo_api.specs.Endpoints.{endpoint_of, methods_of}
-use Rattle.bo_api.specs.Body.{read_command}
+use Rattle.bo_api.specs.Body.{read_command, read_move}
 
 -- the words for a body that isn't read: 400
 abbrev pub told_fault : BodyFault → Told
@@ -31,9 +32,18 @@ abbrev pub refused_by : Bool → Told → Call
 refused_by true told = calls.WriteRefused told
 refused_by false told = calls.ReadRefused told
 
+-- a write whose body isn't read
+abbrev pub refused_body : BodyFault → Call
+refused_body fault = calls.WriteRefused (told_fault fault)
+
 abbrev pub written : Result Command BodyFault → Call
 written (Ok command) = calls.Write command
-written (Err fault) = calls.WriteRefused (told_fault fault)
+written (Err fault) = refused_body fault
+
+-- a move of an order that there isn't: its body is read first, and only then it is 404
+abbrev pub missing : Result Move BodyFault → Call
+missing (Ok move) = calls.WriteRefused not_found
+missing (Err fault) = refused_body fault
 
 -- a page of a list: 404 where its number can't be read
 abbrev pub listed : Resource → Option ℕ → Call
@@ -46,6 +56,8 @@ call_by m place None = refused_by (is_write (verb_of m.method)) (method_not_allo
 call_by m place (Some (endpoints.Page resource)) = listed resource (page_of m.target)
 call_by m place (Some (endpoints.Read query)) = calls.Read query
 call_by m place (Some (endpoints.Write form)) = written (read_command form m.body)
+call_by m place (Some endpoints.ReadMissing) = calls.ReadRefused not_found
+call_by m place (Some (endpoints.MoveMissing name)) = missing (read_move name m.body)
 
 abbrev pub call_at : Message → Place → Call
 call_at m place = call_by m place (endpoint_of place (verb_of m.method))

@@ -4,6 +4,7 @@ use Rattle.bo_base.specs.declared.answer.Methods.{Methods}
 use Rattle.bo_office.specs.declared.command.Query.TheVariants as queries
 use Rattle.bo_office.specs.declared.command.Resource.{Resource}
 use Rattle.bo_office.specs.declared.command.Resource.TheVariants as resources
+use Rattle.bo_api.specs.declared.routes.MoveName.{MoveName}
 use Rattle.bo_api.specs.declared.path.Place.{Place}
 use Rattle.bo_api.specs.declared.path.Place.TheVariants as places
 use Rattle.bo_api.specs.declared.verb.Verb.{Verb}
@@ -19,15 +20,17 @@ new_form resources.Items = forms.Item
 new_form resources.Quotas = forms.Quota
 new_form resources.Vouchers = forms.Voucher
 new_form resources.Carts = forms.Cart
+new_form resources.Orders = forms.Order
 
--- the form of a change; cart positions have none
+-- the form of a change; cart positions and orders have none
 abbrev pub change_form : Resource → ℕ → Option Form
 change_form resources.Items id = Some (forms.ItemPatch id)
 change_form resources.Quotas id = Some (forms.QuotaPatch id)
 change_form resources.Vouchers id = Some (forms.VoucherPatch id)
 change_form resources.Carts id = None
+change_form resources.Orders id = None
 
--- the form of a deletion; items and quotas have none
+-- the form of a deletion; items, quotas and orders have none
 abbrev pub drop_form : Resource → ℕ → Option Form
 drop_form resources.Vouchers id = Some (forms.DropVoucher id)
 drop_form resources.Carts id = Some (forms.DropCart id)
@@ -37,6 +40,16 @@ abbrev pub write_of : Option Form → Option Endpoint
 write_of None = None
 write_of (Some form) = Some (endpoints.Write form)
 
+-- an order is read by its number; none stands for an order that there isn't
+abbrev pub read_order : Option ℕ → Endpoint
+read_order None = endpoints.ReadMissing
+read_order (Some number) = endpoints.Read (queries.One resources.Orders number)
+
+-- an order is moved by its number; none stands for an order that there isn't
+abbrev pub move_order : Option ℕ → MoveName → Endpoint
+move_order None name = endpoints.MoveMissing name
+move_order (Some number) name = endpoints.Write (forms.Move number name)
+
 abbrev pub endpoint_of : Place → Verb → Option Endpoint
 endpoint_of (places.All resource) verbs.Get = Some (endpoints.Page resource)
 endpoint_of (places.All resource) verbs.Post = Some (endpoints.Write (new_form resource))
@@ -45,6 +58,9 @@ endpoint_of (places.One resource id) verbs.Patch = write_of (change_form resourc
 endpoint_of (places.One resource id) verbs.Delete = write_of (drop_form resource id)
 endpoint_of (places.Variations item) verbs.Post = Some (endpoints.Write (forms.Variation item))
 endpoint_of (places.Availability quota) verbs.Get = Some (endpoints.Read (queries.Availability quota))
+endpoint_of places.Bulk verbs.Post = Some (endpoints.Write forms.Carts)
+endpoint_of (places.Order number) verbs.Get = Some (read_order number)
+endpoint_of (places.Moved number name) verbs.Post = Some (move_order number name)
 endpoint_of _ _ = None
 
 -- the methods that a place has: those that ask for something there

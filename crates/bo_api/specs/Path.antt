@@ -2,6 +2,8 @@
 use Rattle.std.specs.Prelude.{ℕ, ◌+◌, ◌==◌, List, [], length, take, drop, position, Option, Some, None, if◌then◌else◌, codes, bytes_eq, slice_get}
 use Rattle.std.specs.Borrow.{Bor}
 use Rattle.std.specs.List.{slice_split}
+use Rattle.std.specs.Result.{result_ok}
+use Rattle.bo_base.specs.Codes.{number_of_code}
 use Rattle.bo_base.specs.Digits.{number_of}
 use Rattle.bo_office.specs.declared.command.Resource.{Resource}
 use Rattle.bo_office.specs.declared.command.Resource.TheVariants as resources
@@ -67,7 +69,15 @@ id_in path = segment 2 path >>= number_of
 abbrev pub one_in : List ℕ → Resource → Option Place
 one_in path resource = id_in path >>= λ id. Some (places.One resource id)
 
--- what a path of that route names
+-- the number of the order with this code, where it is an order's code
+abbrev pub order_named : List ℕ → Option ℕ
+order_named code = result_ok (number_of_code code)
+
+-- the number of the order whose code stands behind the first name of a path
+abbrev pub order_in : List ℕ → Option ℕ
+order_in path = segment 2 path >>= order_named
+
+-- what a path of that route names; with another text in the place of a code it names an order that there isn't
 abbrev pub place_by : List ℕ → Route → Option Place
 place_by path routes.Items = Some (places.All resources.Items)
 place_by path routes.Item = one_in path resources.Items
@@ -79,6 +89,10 @@ place_by path routes.Vouchers = Some (places.All resources.Vouchers)
 place_by path routes.Voucher = one_in path resources.Vouchers
 place_by path routes.CartPositions = Some (places.All resources.Carts)
 place_by path routes.CartPosition = one_in path resources.Carts
+place_by path routes.BulkCreate = Some places.Bulk
+place_by path routes.Orders = Some (places.All resources.Orders)
+place_by path routes.Order = Some (places.Order (order_in path))
+place_by path (routes.Move name) = Some (places.Moved (order_in path) name)
 
 -- what a target names, in the shop of those slugs
 unfoldable pub place_of : List ℕ → List ℕ → List ℕ → Option Place

@@ -1,15 +1,43 @@
 -- The bodies of commands, field by field in the order of their tests.
-use Rattle.std.specs.Prelude.{Result, Ok}
-use Rattle.serde_json.specs.Data.{Data}
+use Rattle.std.specs.Prelude.{List, Option, Some, None, Result, Ok, Err}
+use Rattle.serde_json.specs.Data.{Data, Items}
+use Rattle.serde_json.specs.Find.{as_array}
+use Rattle.bo_orders.specs.declared.bulk.Entry.{Entry}
+use Rattle.bo_orders.specs.declared.moves.Move.{Move}
+use Rattle.bo_orders.specs.declared.moves.Move.TheVariants as moves
 use Rattle.bo_office.specs.declared.command.Command.{Command}
 use Rattle.bo_office.specs.declared.command.Command.TheVariants as commands
 use Rattle.bo_fields.specs.declared.error.BodyFault.{BodyFault}
+use Rattle.bo_fields.specs.declared.error.BodyFault.TheVariants as faults
 use Rattle.bo_fields.specs.Reading.{◌>>=◌}
 use Rattle.bo_api.specs.CartBodies.{cart_of}
 use Rattle.bo_api.specs.CatalogueBodies.{item_of, item_patch_of, variation_of, quota_of, quota_patch_of}
 use Rattle.bo_api.specs.VoucherBodies.{voucher_of, voucher_patch_of}
+use Rattle.bo_api.specs.OrderBodies.{order_of, end_of, entries_of}
+use Rattle.bo_api.specs.declared.routes.MoveName.{MoveName}
+use Rattle.bo_api.specs.declared.routes.MoveName.TheVariants as names
 use Rattle.bo_api.specs.declared.endpoint.Form.{Form}
 use Rattle.bo_api.specs.declared.endpoint.Form.TheVariants as forms
+
+-- the entries of a body that is a list
+abbrev pub list_from : Option Items → Result Items BodyFault
+list_from None = Err faults.InvalidData
+list_from (Some ds) = Ok ds
+
+abbrev pub list_of : Data → Result Items BodyFault
+list_of d = list_from (as_array d)
+
+-- the entries of a bulk call; what is wrong with one of them is no fault of the body
+abbrev pub carts_of : Data → Result (List Entry) BodyFault
+carts_of d = list_of d >>= entries_of
+
+-- the move with that name; only `extend` reads a field
+abbrev pub move_of : MoveName → Data → Result Move BodyFault
+move_of names.MarkPaid d = Ok moves.MarkPaid
+move_of names.MarkPending d = Ok moves.MarkPending
+move_of names.MarkExpired d = Ok moves.MarkExpired
+move_of names.MarkCanceled d = Ok moves.MarkCanceled
+move_of names.Extend d = end_of d >>= λ end. Ok (moves.Extend end)
 
 -- the command that a body's fields say
 abbrev pub command_of : Form → Data → Result Command BodyFault
@@ -22,4 +50,7 @@ command_of forms.Voucher d = voucher_of d >>= λ new. Ok (commands.AddVoucher ne
 command_of (forms.VoucherPatch id) d = voucher_patch_of d >>= λ patch. Ok (commands.ChangeVoucher id patch)
 command_of (forms.DropVoucher id) d = Ok (commands.DropVoucher id)
 command_of forms.Cart d = cart_of d >>= λ new. Ok (commands.AddCart new)
+command_of forms.Carts d = carts_of d >>= λ entries. Ok (commands.AddCarts entries)
 command_of (forms.DropCart id) d = Ok (commands.DropCart id)
+command_of forms.Order d = order_of d >>= λ new. Ok (commands.AddOrder new)
+command_of (forms.Move number name) d = move_of name d >>= λ move. Ok (commands.MoveOrder number move)

@@ -9,6 +9,7 @@ use Rattle.matchit.specs.Seek.{first}
 use Rattle.matchit.specs.declared.error.InsertError.{InsertError}
 use Rattle.bo_api.specs.declared.routes.Route.{Route}
 use Rattle.bo_api.specs.declared.routes.Route.TheVariants as routes
+use Rattle.bo_api.specs.declared.routes.MoveName.TheVariants as names
 
 abbrev pub Rows : Type 0
 Rows = RowsOf (RouteOf Route)
@@ -30,12 +31,19 @@ catalogue_routes rows =
 -- the rows with the routes of vouchers and cart positions
 unfoldable pub sale_routes : Rows → Rows
 sale_routes rows =
-    with_route (codes "/cartpositions/{id}/") routes.CartPosition (with_route (codes "/cartpositions/") routes.CartPositions
-    (with_route (codes "/vouchers/{id}/") routes.Voucher (with_route (codes "/vouchers/") routes.Vouchers rows)))
+    with_route (codes "/cartpositions/bulk_create/") routes.BulkCreate (with_route (codes "/cartpositions/{id}/") routes.CartPosition (with_route (codes "/cartpositions/") routes.CartPositions
+    (with_route (codes "/vouchers/{id}/") routes.Voucher (with_route (codes "/vouchers/") routes.Vouchers rows))))
+
+-- the rows with the routes of orders and their moves
+unfoldable pub order_routes : Rows → Rows
+order_routes rows =
+    with_route (codes "/orders/{code}/extend/") (routes.Move names.Extend) (with_route (codes "/orders/{code}/mark_canceled/") (routes.Move names.MarkCanceled)
+    (with_route (codes "/orders/{code}/mark_expired/") (routes.Move names.MarkExpired) (with_route (codes "/orders/{code}/mark_pending/") (routes.Move names.MarkPending)
+    (with_route (codes "/orders/{code}/mark_paid/") (routes.Move names.MarkPaid) (with_route (codes "/orders/{code}/") routes.Order (with_route (codes "/orders/") routes.Orders rows))))))
 
 -- all routes
 unfoldable pub all_routes : Rows
-all_routes = sale_routes (catalogue_routes [])
+all_routes = order_routes (sale_routes (catalogue_routes []))
 
 -- what stands beside a route that was found
 abbrev pub found : Option (RouteOf Route) → Option Route

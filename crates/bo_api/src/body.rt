@@ -3,12 +3,14 @@
 ghost use Rattle.std.specs.Prelude.{◌≡◌};
 ghost use Rattle.serde_json.specs.View.{view};
 ghost use Rattle.bo_fields.specs.Reading.{Gives, Reads};
-ghost use Rattle.bo_api.specs.Body.{body_text, json_of, object_of, read_command};
+ghost use Rattle.bo_api.specs.Body.{body_text, json_of, object_of, shape_of, read_command, read_move};
 
 use crate::endpoint::Form;
-use crate::requests::command_of;
+use crate::requests::{command_of, move_of};
+use crate::routes::MoveName;
 use bo_fields::{BodyFault, ReadError};
 use bo_office::Command;
+use bo_orders::Move;
 use serde_json::Value;
 use std::alloc::Global;
 
@@ -46,12 +48,33 @@ fn check_object(value: &Value) -> Result<(), BodyFault>
     }
 }
 
+/// Whether a value is of the kind that a body of that form has. That the body of a bulk call is a list is tested where
+/// its entries are read.
+fn check_shape(form: Form, value: &Value) -> Result<(), BodyFault>
+    ensures { result ≡ shape_of form (view value.now) }
+{
+    match form {
+        Form::Carts => Ok(()),
+        _ => check_object(value),
+    }
+}
+
 /// The command that a body of that form says.
 #[tactic(auto, unfolding(crate::specs::Body::read_command))]
 pub fn read_command(alloc: Global, form: Form, body: &[u8]) -> Result<Command, ReadError>
     ensures { Reads result (read_command form body.now) }
 {
     let value = json_of(alloc, body_text(body))?;
-    check_object(&value)?;
+    check_shape(form, &value)?;
     command_of(alloc, form, &value)
+}
+
+/// What a body says of a move with that name.
+#[tactic(auto, unfolding(crate::specs::Body::read_move))]
+pub fn read_move(alloc: Global, name: MoveName, body: &[u8]) -> Result<Move, ReadError>
+    ensures { Reads result (read_move name body.now) }
+{
+    let value = json_of(alloc, body_text(body))?;
+    check_object(&value)?;
+    Ok(move_of(name, &value)?)
 }

@@ -1,15 +1,16 @@
 //! What a message asks for, and how it is refused where it asks for nothing.
 
 ghost use Rattle.std.specs.Prelude.{◌≡◌, IfOk};
-ghost use Rattle.bo_api.specs.Body.{read_command};
-ghost use Rattle.bo_api.specs.Call.{told_fault, refused_by, written, listed, call_at, call_of};
+ghost use Rattle.bo_api.specs.Body.{read_command, read_move};
+ghost use Rattle.bo_api.specs.Call.{told_fault, refused_by, refused_body, written, missing, listed, call_at, call_of};
 ghost use Rattle.bo_api.specs.Page.{page_of};
 ghost use Rattle.bo_api.specs.Verbs.{is_write, verb_of};
 
-use crate::body::read_command;
+use crate::body::{read_command, read_move};
 use crate::endpoint::{Endpoint, Form, endpoint_of, methods_of};
 use crate::page::page_of;
 use crate::path::Place;
+use crate::routes::MoveName;
 use crate::verb::{Verb, verb_of};
 use bo_base::Told;
 use bo_fields::{BodyFault, ReadError};
@@ -26,10 +27,10 @@ pub enum Call {
     /// 401: there is no token, or an unknown one.
     Unauthorized(Told),
     Read(Query),
-    /// 404 or 405 of a method that doesn't write, or 404 for the page of a list.
+    /// 404 or 405 of a method that doesn't write, or 404 for the page of a list or for an order's code.
     ReadRefused(Told),
     Write(Command),
-    /// 404 or 405 of a POST, PATCH or DELETE, or 400 for its body.
+    /// 404 or 405 of a POST, PATCH or DELETE, or 400 for its body, or after that 404 for an order's code.
     WriteRefused(Told),
 }
 
@@ -55,6 +56,13 @@ fn refused(verb: Verb, told: Told) -> Call
     }
 }
 
+/// The refusal of a write whose body isn't read.
+fn refused_body(alloc: Global, fault: BodyFault) -> Result<Call, AllocError>
+    ensures { IfOk result (λ call. call ≡ refused_body fault) }
+{
+    Ok(Call::WriteRefused(told_fault(alloc, fault)?))
+}
+
 /// The command of a body of that form, or the refusal of the body.
 fn written(alloc: Global, form: Form, body: &[u8]) -> Result<Call, AllocError>
     ensures { IfOk result (λ call. call ≡ written (read_command form body.now)) }
@@ -62,7 +70,18 @@ fn written(alloc: Global, form: Form, body: &[u8]) -> Result<Call, AllocError>
     match read_command(alloc, form, body) {
         Ok(command) => Ok(Call::Write(command)),
         Err(ReadError::Memory) => Err(AllocError),
-        Err(ReadError::Body(fault)) => Ok(Call::WriteRefused(told_fault(alloc, fault)?)),
+        Err(ReadError::Body(fault)) => refused_body(alloc, fault),
+    }
+}
+
+/// The refusal of a move of an order that there isn't: what is wrong with its body, or else 404.
+fn missing(alloc: Global, name: MoveName, body: &[u8]) -> Result<Call, AllocError>
+    ensures { IfOk result (λ call. call ≡ missing (read_move name body.now)) }
+{
+    match read_move(alloc, name, body) {
+        Ok(_) => Ok(Call::WriteRefused(not_found(alloc)?)),
+        Err(ReadError::Memory) => Err(AllocError),
+        Err(ReadError::Body(fault)) => refused_body(alloc, fault),
     }
 }
 
@@ -90,6 +109,8 @@ fn call_at(alloc: Global, frame: &Frame<'_>, place: Place) -> Result<Call, Alloc
         Some(Endpoint::Page(resource)) => listed(alloc, resource, frame.target()),
         Some(Endpoint::Read(query)) => Ok(Call::Read(query)),
         Some(Endpoint::Write(form)) => written(alloc, form, frame.body()),
+        Some(Endpoint::ReadMissing) => Ok(Call::ReadRefused(not_found(alloc)?)),
+        Some(Endpoint::MoveMissing(name)) => missing(alloc, name, frame.body()),
     }
 }
 

@@ -1,14 +1,15 @@
 //! What a method asks for at a place.
 
 ghost use Rattle.std.specs.Prelude.{◌≡◌};
-ghost use Rattle.bo_api.specs.Endpoints.{new_form, change_form, drop_form, write_of, endpoint_of, methods_of};
+ghost use Rattle.bo_api.specs.Endpoints.{new_form, change_form, drop_form, write_of, read_order, move_order, endpoint_of, methods_of};
 
 use crate::path::Place;
+use crate::routes::MoveName;
 use crate::verb::Verb;
 use bo_base::Methods;
 use bo_office::{Query, Resource};
 
-/// Which fields a body has, and the id of the row that the path names for them.
+/// Which fields a body has, and the id of the row that the path names for them. A body is an object, but for `Carts`.
 #[derive(Clone, Copy, Debug, PartialEq, Eq)]
 pub enum Form {
     Item,
@@ -22,8 +23,13 @@ pub enum Form {
     /// No field is read.
     DropVoucher(u64),
     Cart,
+    /// A list, whose entries are as the bodies of new cart positions.
+    Carts,
     /// No field is read.
     DropCart(u64),
+    Order,
+    /// A move of the order with this number. The moment of `Extend` is the one field that a move has.
+    Move(u64, MoveName),
 }
 
 /// What a method asks for at a place.
@@ -35,6 +41,10 @@ pub enum Endpoint {
     Read(Query),
     /// A command, whose body has that form.
     Write(Form),
+    /// An order that there isn't: its path has no order's code. Neither the target's query nor the body is looked at.
+    ReadMissing,
+    /// A move of an order that there isn't: its path has no order's code. The body is read first.
+    MoveMissing(MoveName),
 }
 
 /// The form of a new row.
@@ -46,6 +56,7 @@ fn new_form(resource: Resource) -> Form
         Resource::Quotas => Form::Quota,
         Resource::Vouchers => Form::Voucher,
         Resource::Carts => Form::Cart,
+        Resource::Orders => Form::Order,
     }
 }
 
@@ -57,7 +68,7 @@ fn change_form(resource: Resource, id: u64) -> Option<Form>
         Resource::Items => Some(Form::ItemPatch(id)),
         Resource::Quotas => Some(Form::QuotaPatch(id)),
         Resource::Vouchers => Some(Form::VoucherPatch(id)),
-        Resource::Carts => None,
+        Resource::Carts | Resource::Orders => None,
     }
 }
 
@@ -68,7 +79,7 @@ fn drop_form(resource: Resource, id: u64) -> Option<Form>
     match resource {
         Resource::Vouchers => Some(Form::DropVoucher(id)),
         Resource::Carts => Some(Form::DropCart(id)),
-        Resource::Items | Resource::Quotas => None,
+        Resource::Items | Resource::Quotas | Resource::Orders => None,
     }
 }
 
@@ -77,6 +88,26 @@ fn write_of(form: Option<Form>) -> Option<Endpoint>
     ensures { result ≡ write_of form }
 {
     form.map(Endpoint::Write)
+}
+
+/// The reading of the order with this number.
+fn read_order(number: Option<u64>) -> Endpoint
+    ensures { result ≡ read_order number }
+{
+    match number {
+        None => Endpoint::ReadMissing,
+        Some(number) => Endpoint::Read(Query::One(Resource::Orders, number)),
+    }
+}
+
+/// A move of the order with this number.
+fn move_order(number: Option<u64>, name: MoveName) -> Endpoint
+    ensures { result ≡ move_order number name }
+{
+    match number {
+        None => Endpoint::MoveMissing(name),
+        Some(number) => Endpoint::Write(Form::Move(number, name)),
+    }
 }
 
 /// What a method asks for at a place, if the place has it.
@@ -93,6 +124,9 @@ pub fn endpoint_of(place: Place, verb: Verb) -> Option<Endpoint>
         (Place::Availability(quota), Verb::Get) => {
             Some(Endpoint::Read(Query::Availability(quota)))
         }
+        (Place::Bulk, Verb::Post) => Some(Endpoint::Write(Form::Carts)),
+        (Place::Order(number), Verb::Get) => Some(read_order(number)),
+        (Place::Moved(number, name), Verb::Post) => Some(move_order(number, name)),
         _ => None,
     }
 }

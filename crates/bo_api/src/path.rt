@@ -1,11 +1,11 @@
 //! What a target's path names, and its query.
 
 ghost use Rattle.std.specs.Prelude.{◌≡◌, ◌<◌, length, option_map, IfSome};
-ghost use Rattle.bo_api.specs.Path.{bytes_of, mark_of, path_of, query_of, after, within, segment, id_in, one_in, place_by, place_of};
+ghost use Rattle.bo_api.specs.Path.{bytes_of, mark_of, path_of, query_of, after, within, segment, id_in, one_in, order_named, order_in, place_by, place_of};
 ghost use Rattle.bo_api.specs.Routes.{all_routes, route_of};
 
-use crate::routes::{Route, route_of};
-use bo_base::number_of;
+use crate::routes::{MoveName, Route, route_of};
+use bo_base::{number_of, read_code};
 use bo_office::Resource;
 use matchit::Router;
 
@@ -20,6 +20,12 @@ pub enum Place {
     Variations(u64),
     /// What is left of the quota with this id.
     Availability(u64),
+    /// Many cart positions in one call.
+    Bulk,
+    /// The order with this number; none where the path has no order's code.
+    Order(Option<u64>),
+    /// A move of the order with this number; none where the path has no order's code.
+    Moved(Option<u64>, MoveName),
 }
 
 /// Where the first question mark stands.
@@ -89,6 +95,23 @@ fn one_in(path: &[u8], resource: Resource) -> Option<Place>
     Some(Place::One(resource, id_in(path)?))
 }
 
+/// The number of the order with this code, 1 to 17,210,367; none where it is no order's code.
+fn order_named(code: &[u8]) -> Option<u64>
+    ensures { result ≡ order_named code.now }
+{
+    match str::from_utf8(code) {
+        Ok(text) => Some(u64::from(read_code(text).ok()?)),
+        Err(_) => None,
+    }
+}
+
+/// The number of the order whose code stands behind the first name of a path.
+fn order_in(path: &[u8]) -> Option<u64>
+    ensures { result ≡ order_in path.now }
+{
+    order_named(segment(2, path)?)
+}
+
 /// What a path of that route names.
 fn place_by(path: &[u8], route: Route) -> Option<Place>
     ensures { result ≡ place_by path.now route }
@@ -104,6 +127,10 @@ fn place_by(path: &[u8], route: Route) -> Option<Place>
         Route::Voucher => one_in(path, Resource::Vouchers),
         Route::CartPositions => Some(Place::All(Resource::Carts)),
         Route::CartPosition => one_in(path, Resource::Carts),
+        Route::BulkCreate => Some(Place::Bulk),
+        Route::Orders => Some(Place::All(Resource::Orders)),
+        Route::Order => Some(Place::Order(order_in(path))),
+        Route::Move(name) => Some(Place::Moved(order_in(path), name)),
     }
 }
 

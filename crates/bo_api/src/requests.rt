@@ -1,17 +1,52 @@
 //! The bodies of commands, field by field. Only the first fault is answered.
 
-ghost use Rattle.bo_fields.specs.Reading.{Reads};
-ghost use Rattle.bo_api.specs.Requests.{command_of};
+ghost use Rattle.std.specs.Prelude.{◌≡◌};
+ghost use Rattle.bo_fields.specs.Reading.{Reads, Shows, items_of_slice};
+ghost use Rattle.bo_api.specs.Requests.{list_of, carts_of, move_of, command_of};
 ghost use Rattle.serde_json.specs.View.{view};
 
 use crate::cart_bodies::cart_of;
 use crate::catalogue_bodies::{item_of, item_patch_of, quota_of, quota_patch_of, variation_of};
 use crate::endpoint::Form;
+use crate::order_bodies::{end_of, entries_of, order_of};
+use crate::routes::MoveName;
 use crate::voucher_bodies::{voucher_of, voucher_patch_of};
-use bo_fields::ReadError;
+use bo_base::List;
+use bo_fields::{BodyFault, ReadError};
 use bo_office::Command;
+use bo_orders::{Entry, Move};
 use serde_json::Value;
 use std::alloc::Global;
+
+/// The entries of a body that is a list.
+fn list_of(body: &Value) -> Result<&[Value], BodyFault>
+    ensures { Shows items_of_slice result (list_of (view body.now)) }
+{
+    match body.as_array() {
+        None => Err(BodyFault::InvalidData),
+        Some(list) => Ok(list.as_slice()),
+    }
+}
+
+/// The entries of a bulk call.
+fn carts_of(alloc: Global, body: &Value) -> Result<List<Entry>, ReadError>
+    ensures { Reads result (carts_of (view body.now)) }
+{
+    entries_of(alloc, list_of(body)?)
+}
+
+/// The move with that name. Only `extend` reads a field.
+pub fn move_of(name: MoveName, body: &Value) -> Result<Move, BodyFault>
+    ensures { result ≡ move_of name (view body.now) }
+{
+    match name {
+        MoveName::MarkPaid => Ok(Move::MarkPaid),
+        MoveName::MarkPending => Ok(Move::MarkPending),
+        MoveName::MarkExpired => Ok(Move::MarkExpired),
+        MoveName::MarkCanceled => Ok(Move::MarkCanceled),
+        MoveName::Extend => Ok(Move::Extend(end_of(body)?)),
+    }
+}
 
 /// The command that a body's fields say.
 pub fn command_of(alloc: Global, form: Form, body: &Value) -> Result<Command, ReadError>
@@ -27,6 +62,9 @@ pub fn command_of(alloc: Global, form: Form, body: &Value) -> Result<Command, Re
         Form::VoucherPatch(id) => Ok(Command::ChangeVoucher(id, voucher_patch_of(alloc, body)?)),
         Form::DropVoucher(id) => Ok(Command::DropVoucher(id)),
         Form::Cart => Ok(Command::AddCart(cart_of(alloc, body)?)),
+        Form::Carts => Ok(Command::AddCarts(carts_of(alloc, body)?)),
         Form::DropCart(id) => Ok(Command::DropCart(id)),
+        Form::Order => Ok(Command::AddOrder(order_of(alloc, body)?)),
+        Form::Move(number, name) => Ok(Command::MoveOrder(number, move_of(name, body)?)),
     }
 }

@@ -1,13 +1,23 @@
 //! The routes of the shop.
 
 ghost use Rattle.std.specs.Prelude.{◌≡◌, IfOk, OnOk};
-ghost use Rattle.bo_api.specs.Routes.{with_route, catalogue_routes, sale_routes, all_routes, route_of, found};
+ghost use Rattle.bo_api.specs.Routes.{with_route, catalogue_routes, sale_routes, order_routes, all_routes, route_of, found};
 ghost use Rattle.matchit.specs.Seek.{first};
 
 use matchit::{InsertError, Router};
 use std::alloc::Global;
 
-/// A path of the table, whatever ids stand in it.
+/// A move of an order, by the last name of its path.
+#[derive(Clone, Copy, Debug, Drop, PartialEq, Eq)]
+pub enum MoveName {
+    MarkPaid,
+    MarkPending,
+    MarkExpired,
+    MarkCanceled,
+    Extend,
+}
+
+/// A path of the table, whatever ids and codes stand in it.
 #[derive(Clone, Copy, Debug, Drop, PartialEq, Eq)]
 pub enum Route {
     Items,
@@ -20,6 +30,10 @@ pub enum Route {
     Voucher,
     CartPositions,
     CartPosition,
+    BulkCreate,
+    Orders,
+    Order,
+    Move(MoveName),
 }
 
 /// One more route.
@@ -52,6 +66,41 @@ fn add_sale(router: &mut Router<Route>) -> Result<(), InsertError>
     add(router, "/vouchers/{id}/", Route::Voucher)?;
     add(router, "/cartpositions/", Route::CartPositions)?;
     add(router, "/cartpositions/{id}/", Route::CartPosition)?;
+    add(router, "/cartpositions/bulk_create/", Route::BulkCreate)?;
+    Ok(())
+}
+
+/// The route of a move, whose path ends with that name.
+fn add_move(router: &mut Router<Route>, text: &str, name: MoveName) -> Result<(), InsertError>
+    ensures { OnOk result (router.new ≡ with_route text.now (Route.Move name) router.old) }
+{
+    add(router, text, Route::Move(name))
+}
+
+/// The routes of orders.
+#[tactic(auto, unfolding(crate::specs::Routes::order_routes))]
+fn add_orders(router: &mut Router<Route>) -> Result<(), InsertError>
+    ensures { OnOk result (router.new ≡ order_routes router.old) }
+{
+    add(router, "/orders/", Route::Orders)?;
+    add(router, "/orders/{code}/", Route::Order)?;
+    add_move(router, "/orders/{code}/mark_paid/", MoveName::MarkPaid)?;
+    add_move(
+        router,
+        "/orders/{code}/mark_pending/",
+        MoveName::MarkPending,
+    )?;
+    add_move(
+        router,
+        "/orders/{code}/mark_expired/",
+        MoveName::MarkExpired,
+    )?;
+    add_move(
+        router,
+        "/orders/{code}/mark_canceled/",
+        MoveName::MarkCanceled,
+    )?;
+    add_move(router, "/orders/{code}/extend/", MoveName::Extend)?;
     Ok(())
 }
 
@@ -63,6 +112,7 @@ pub fn routes(alloc: Global) -> Result<Router<Route>, InsertError>
     let mut router = Router::new(alloc);
     add_catalogue(&mut router)?;
     add_sale(&mut router)?;
+    add_orders(&mut router)?;
     Ok(router)
 }
 

@@ -66,7 +66,8 @@ impl Words {
 
     /// What a message asks for, where `known` is the row of its token, if the shop has it.
     /// The tests go in this order: the token (401), the path (404), the method (405), for a list
-    /// its page (404), and for a write the body as JSON, as an object and by its fields (400).
+    /// its page (404), for a write the body as JSON, as an object or for a bulk call as a list, and by its fields (400),
+    /// and then for an order's path its code (404).
     #[tactic(auto, unfolding(crate::specs::Call::call))]
     pub fn read_request(
         &self,
