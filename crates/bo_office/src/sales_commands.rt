@@ -1,8 +1,10 @@
 //! Commands on vouchers, carts and orders.
 
-ghost use Rattle.std.specs.Prelude.{◌≡◌, ◌≤◌, ℕ, IfOk};
+ghost use Rattle.std.specs.Prelude.{◌≡◌, ◌≤◌, ℕ, [], IfOk};
 ghost use Rattle.bo_base.specs.declared.draw.Draw.{Draw};
+ghost use Rattle.bo_draft.specs.DraftState.{now};
 ghost use Rattle.bo_lists.specs.Change.{applied};
+ghost use Rattle.bo_lists.specs.Sound.{IsSound};
 ghost use Rattle.bo_office.specs.Step.{step};
 ghost use Rattle.bo_office.specs.declared.command.Command.{Command};
 
@@ -21,6 +23,19 @@ use bo_vouchers::{NewVoucher, VoucherPatch, VoucherRefusal, decide_voucher};
 use std::alloc::{AllocError, Global};
 
 impl<B: Book> Office<B> {
+    // A draft of the book at a moment.
+    fn open(&self, alloc: Global, at: Moment) -> Result<Draft<'_, B>, AllocError>
+        requires { self.now.state.moment ≤ at }
+        ensures draft { IfOk result (λ d. d ≡ record {
+          log = record { base = self.now.state.lists; changes = [] };
+          next = self.now.state.next;
+          moment = at;
+        }) }
+        ensures sound { IfOk result (λ d. IsSound (now d)) }
+    {
+        Draft::new(alloc, self.book(), at)
+    }
+
     // Makes a voucher.
     pub(crate) fn add_voucher(
         &self,
@@ -32,7 +47,7 @@ impl<B: Book> Office<B> {
         requires { self.now.state.moment ≤ at }
         ensures { IfOk result (λ r. (applied r.0 at self.now.state, r.1) ≡ step (Command.AddVoucher new.now) at draw self.now.state) }
     {
-        let mut draft = Draft::new(alloc, self.book(), at)?;
+        let mut draft = self.open(alloc, at)?;
         let reply = match decide_voucher::make(&mut draft, alloc, draw, new) {
             Ok(row) => Reply::Made(self.show_voucher(row)),
             Err(VoucherRefusal::Memory) => return Err(AllocError),
@@ -52,7 +67,7 @@ impl<B: Book> Office<B> {
         requires { self.now.state.moment ≤ at }
         ensures { IfOk result (λ r. (draw : Draw) → (applied r.0 at self.now.state, r.1) ≡ step (Command.ChangeVoucher id patch.now) at draw self.now.state) }
     {
-        let mut draft = Draft::new(alloc, self.book(), at)?;
+        let mut draft = self.open(alloc, at)?;
         let reply = match decide_voucher::patch(&mut draft, alloc, id, patch) {
             Ok(row) => Reply::Found(self.show_voucher(row)),
             Err(VoucherRefusal::Memory) => return Err(AllocError),
@@ -71,7 +86,7 @@ impl<B: Book> Office<B> {
         requires { self.now.state.moment ≤ at }
         ensures { IfOk result (λ r. (draw : Draw) → (applied r.0 at self.now.state, r.1) ≡ step (Command.DropVoucher id) at draw self.now.state) }
     {
-        let mut draft = Draft::new(alloc, self.book(), at)?;
+        let mut draft = self.open(alloc, at)?;
         let reply = match decide_voucher::delete(&mut draft, alloc, id) {
             Ok(()) => Reply::Gone,
             Err(VoucherRefusal::Memory) => return Err(AllocError),
@@ -91,7 +106,7 @@ impl<B: Book> Office<B> {
         requires { self.now.state.moment ≤ at }
         ensures { IfOk result (λ r. (applied r.0 at self.now.state, r.1) ≡ step (Command.AddCart new.now) at draw self.now.state) }
     {
-        let mut draft = Draft::new(alloc, self.book(), at)?;
+        let mut draft = self.open(alloc, at)?;
         let reply = match add_position(&mut draft, alloc, draw, new) {
             Ok(row) => Reply::Made(Shown::Cart(row)),
             Err(OrderRefusal::Memory) => return Err(AllocError),
@@ -111,7 +126,7 @@ impl<B: Book> Office<B> {
         requires { self.now.state.moment ≤ at }
         ensures { IfOk result (λ r. (applied r.0 at self.now.state, r.1) ≡ step (Command.AddCarts entries.now) at draw self.now.state) }
     {
-        let mut draft = Draft::new(alloc, self.book(), at)?;
+        let mut draft = self.open(alloc, at)?;
         let reply = match add_many(&mut draft, alloc, draw, entries) {
             Ok(outcomes) => Reply::Results(outcomes),
             Err(OrderRefusal::Memory) => return Err(AllocError),
@@ -131,7 +146,7 @@ impl<B: Book> Office<B> {
         requires { self.now.state.moment ≤ at }
         ensures { IfOk result (λ r. (applied r.0 at self.now.state, r.1) ≡ step (Command.AddOrder new.now) at draw self.now.state) }
     {
-        let mut draft = Draft::new(alloc, self.book(), at)?;
+        let mut draft = self.open(alloc, at)?;
         let reply = match create(&mut draft, alloc, draw, new) {
             Ok(rows) => Reply::Made(Shown::Order(rows)),
             Err(OrderRefusal::Memory) => return Err(AllocError),
@@ -151,7 +166,7 @@ impl<B: Book> Office<B> {
         requires { self.now.state.moment ≤ at }
         ensures { IfOk result (λ r. (draw : Draw) → (applied r.0 at self.now.state, r.1) ≡ step (Command.MoveOrder number change) at draw self.now.state) }
     {
-        let mut draft = Draft::new(alloc, self.book(), at)?;
+        let mut draft = self.open(alloc, at)?;
         let reply = match move_order(&mut draft, alloc, number, change) {
             Ok(rows) => Reply::Found(Shown::Order(rows)),
             Err(OrderRefusal::Memory) => return Err(AllocError),
@@ -170,7 +185,7 @@ impl<B: Book> Office<B> {
         requires { self.now.state.moment ≤ at }
         ensures { IfOk result (λ r. (draw : Draw) → (applied r.0 at self.now.state, r.1) ≡ step (Command.DropCart id) at draw self.now.state) }
     {
-        let mut draft = Draft::new(alloc, self.book(), at)?;
+        let mut draft = self.open(alloc, at)?;
         let reply = match drop_position(&mut draft, alloc, id) {
             Ok(()) => Reply::Gone,
             Err(OrderRefusal::Memory) => return Err(AllocError),

@@ -1,5 +1,5 @@
 use Rattle.std.proofs.Common.{rules, ◌≡◌, sym, ap, ◌∙◌}
-use Rattle.bo_lists.specs.Lists.{Lists, State}
+use Rattle.bo_lists.specs.Lists.{Lists}
 use Rattle.bo_draft.specs.DraftState.{DraftState, now}
 use Rattle.bo_office.specs.ShownRows.{show_voucher}
 use Rattle.bo_office.specs.declared.reply.Shown.{Shown}
@@ -10,7 +10,7 @@ use Rattle.bo_office.proofs.office.Office.add_voucher.Goals as goal
 
 pub returns : goal.returns
 returns g c =
-    let before : (now c.in_ok-draft.draft).lists ≡ c.args.self.now.state.lists = ap (λ (d : DraftState). (now d).lists) c.in_ok-draft.ensures ∙ ap (λ (s : State). s.lists) c.book.ensures.state in
+    let before : (now c.in_ok-draft.draft).lists ≡ c.args.self.now.state.lists = ap (λ (d : DraftState). (now d).lists) c.in_ok-draft.ensures.draft in
     elim c.match-make.branch [
       | in-Ok w ↦ (let known : c.match-make.reply ≡ Made (show_voucher (now c.make.new.draft).lists w.in-Ok.row) = w.reply-is ∙ ap (λ (s : Shown). Made s) (w.show_voucher.ensures ∙ (ap (λ (l : Lists). show_voucher l w.in-Ok.row) (sym before) ∙ made_shown _ _ _ _ _ w.in-Ok.ensures.done)) in search rules)
       | in-Err w ↦ search rules
