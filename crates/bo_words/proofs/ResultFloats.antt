@@ -1,5 +1,6 @@
 -- The bodies of refusals and of bulk calls have no float.
 use Rattle.std.proofs.Common.{◌≡◌, ℕ, Bool, true, false, List, [], ◌∷◌, map, Option, Some, None, if◌then◌else◌, refl}
+use Rattle.serde_json.specs.Data.{Data}
 use Rattle.serde_json.specs.View.{items_of}
 use Rattle.serde_json.specs.Written.{has_float, items_have_float}
 use Rattle.bo_vouchers.specs.declared.refusal.VoucherRefusal.TheVariants as voucher
