@@ -8,11 +8,7 @@ use Rattle.bo_draft.specs.DraftState.{now}
 use Rattle.bo_orders.proofs.Rows.{order_headroom, carts_headroom}
 use Rattle.bo_orders.proofs.creating.put_order.Goals as goal
 
-pub put_order-requires-clause-before : goal.put_order-requires-clause-before
-put_order-requires-clause-before g c =
-    subst (λ (s : State). AllHaveHeadroom s.moment s.lists) (sym c.in_ok-drop_carts.ensures.done) (carts_headroom c.deref.result.now (now c.args.draft.now) c.requires.sound)
-
-pub put_order-requires-clause-after : goal.put_order-requires-clause-after
-put_order-requires-clause-after g c =
+pub put_order-requires : goal.put_order-requires
+put_order-requires g c =
     subst (λ (r : Order). AllHaveHeadroom c.drop_carts.new.draft.moment (changed (PutOrder r) (now c.drop_carts.new.draft)).lists) (sym c.in_ok-copy.ensures)
     (subst (λ (s : State). AllHaveHeadroom s.moment (changed (PutOrder c.args.order.now) s).lists) (sym c.in_ok-drop_carts.ensures.done) (order_headroom c.args.order.now c.deref.result.now (now c.args.draft.now) c.requires.new c.requires.sound))

@@ -12,8 +12,8 @@ pub put_position-requires-clause-new : goal.put_position-requires-clause-new
 put_position-requires-clause-new g c =
     subst (λ (r : OrderPos). position_at r.id (now c.args.draft.now).lists ≡ None) (sym c.in_ok-copy.ensures) (ready_absent c.args.row.now (now c.args.draft.now) c.requires)
 
-pub put_position-requires-clause-after : goal.put_position-requires-clause-after
-put_position-requires-clause-after g c =
+pub put_position-requires-clause-headroom : goal.put_position-requires-clause-headroom
+put_position-requires-clause-headroom g c =
     let state = now c.args.draft.now in
     let left : has_use state.moment state.lists c.args.row.now.voucher ≡ true = cc (c.if-not-has_use.ensures) in
     subst (λ (r : OrderPos). AllHaveHeadroom state.moment (changed (PutPosition r) state).lists) (sym c.in_ok-copy.ensures) (put_headroom c.args.row.now state c.requires left)
