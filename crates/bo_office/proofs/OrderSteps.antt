@@ -9,7 +9,6 @@ use Rattle.bo_lists.specs.declared.rows.Order.{Order}
 use Rattle.bo_lists.specs.declared.rows.OrderRows.{OrderRows}
 use Rattle.bo_lists.specs.declared.rows.Own.TheVariants.{Position}
 use Rattle.bo_lists.specs.Lists.{State, order_at}
-use Rattle.bo_lists.specs.Fits.{AllExact}
 use Rattle.bo_lists.specs.Over.{first_over, ignores}
 use Rattle.bo_lists.specs.Sound.{IsSound}
 use Rattle.bo_lists.specs.Takes.{used, TakesNoMore}
@@ -75,10 +74,6 @@ not_back true true e = inl refl
 not_back true false e = absurd (cc)
 not_back false before e = inr refl
 
--- from bo_lists
-sound_exact : (state : State) → IsSound state → AllExact state.lists
-sound_exact state sound = ?
-
 module _ (number : ℕ) (change : Move) (state after : State) (rows : OrderRows) (h : order_moved number change state ≡ Ok (after, rows)) where
   m : IsMoved number change state after rows
   m = moved_is number change state after rows h
@@ -104,5 +99,5 @@ module _ (number : ℕ) (change : Move) (state after : State) (rows : OrderRows)
     moment = moved_moment number change state after rows h;
     not_over = λ comes. revived_none_over number change state after rows m.old m.stood (came_back comes).1 (came_back comes).0 h;
     within = λ sound comes heed. revived_takes_no_more number change state after rows m.old sound m.stood (came_back comes).1 (came_back comes).0 heed h;
-    lowers = λ sound stays quota stands. moved_lowers number change state after rows m.old quota sound (sound_exact state sound) stands m.stood (stayed stays) h;
+    lowers = λ sound stays quota stands. moved_lowers number change state after rows m.old quota sound stands m.stood (stayed stays) h;
   }
