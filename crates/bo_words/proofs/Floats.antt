@@ -12,7 +12,10 @@ use Rattle.bo_lists.specs.declared.rows.Voucher.{Voucher}
 use Rattle.bo_office.specs.declared.reply.Page.{Page}
 use Rattle.bo_office.specs.declared.reply.Shown.{Shown}
 use Rattle.bo_office.specs.declared.reply.Shown.TheVariants as shown
-use Rattle.bo_words.specs.Values.{count, count_or_null, money_or_null, moment_or_null}
+use Rattle.bo_words.specs.Values.{count, count_or_null, money_or_null, moment_or_null, text_or_null}
+use Rattle.bo_lists.specs.declared.rows.Order.{Order}
+use Rattle.bo_lists.specs.declared.rows.OrderPos.{OrderPos}
+use Rattle.bo_words.specs.OrderRows.{position_body, order_body}
 use Rattle.bo_words.specs.Rows.{variation_body, priced_body, item_body, quota_body, cart_body, voucher_body, shown_body}
 use Rattle.bo_words.specs.Pages.{next_path, previous_path, page_body}
 
@@ -31,6 +34,10 @@ money_no_float (Some cents) = refl
 moment_no_float : (at : Option ℕ) → has_float (moment_or_null at) ≡ false
 moment_no_float None = refl
 moment_no_float (Some at) = refl
+
+words_no_float : (text : Option (List ℕ)) → has_float (text_or_null text) ≡ false
+words_no_float None = refl
+words_no_float (Some text) = refl
 
 text_no_float : (b : Bool) (text : List ℕ) → has_float (if b then string text else null) ≡ false
 text_no_float true text = refl
@@ -52,11 +59,21 @@ item_no_float i vs = rw (variations_no_float i.default_price vs) refl
 quota_no_float : (q : Quota) → has_float (quota_body q) ≡ false
 quota_no_float q = rw (counts_no_float q.items, number_no_float q.size, counts_no_float q.variations) refl
 
-cart_no_float : (c : CartPos) → has_float (cart_body c) ≡ false
+pub cart_no_float : (c : CartPos) → has_float (cart_body c) ≡ false
 cart_no_float c = rw (number_no_float c.product.variation, number_no_float c.voucher) refl
 
 voucher_no_float : (v : Voucher) (redeemed : ℕ) → has_float (voucher_body v redeemed) ≡ false
 voucher_no_float v redeemed = rw (number_no_float v.item, number_no_float v.quota, moment_no_float v.valid_until, money_no_float v.value, number_no_float v.variation) refl
+
+position_no_float : (p : OrderPos) → has_float (position_body p) ≡ false
+position_no_float p = rw (number_no_float p.product.variation, number_no_float p.voucher) refl
+
+positions_no_float : (ps : List OrderPos) → items_have_float (items_of (map position_body ps)) ≡ false
+positions_no_float [] = refl
+positions_no_float (p ∷ ps) = rw (position_no_float p) (positions_no_float ps)
+
+order_no_float : (o : Order) (ps : List OrderPos) → has_float (order_body o ps) ≡ false
+order_no_float o ps = rw (words_no_float o.email, positions_no_float ps) refl
 
 pub shown_no_float : (s : Shown) → has_float (shown_body s) ≡ false
 shown_no_float (shown.Item rows) = item_no_float rows.item rows.variations
@@ -64,6 +81,7 @@ shown_no_float (shown.Variation priced) = priced_no_float priced
 shown_no_float (shown.Quota quota) = quota_no_float quota
 shown_no_float (shown.Voucher voucher redeemed) = voucher_no_float voucher redeemed
 shown_no_float (shown.Cart cart) = cart_no_float cart
+shown_no_float (shown.Order rows) = order_no_float rows.order rows.positions
 
 rows_no_float : (rows : List Shown) → items_have_float (items_of (map shown_body rows)) ≡ false
 rows_no_float [] = refl

@@ -18,8 +18,12 @@ field_fault fault = told 400 None (fault_body fault)
 unfoldable pub parse_error : Told
 parse_error = told 400 None (detail_body (codes "JSON parse error."))
 
+-- `{"detail":"Invalid data."}`
+abbrev pub invalid_data_body : Data
+invalid_data_body = detail_body (codes "Invalid data.")
+
 unfoldable pub invalid_data : Told
-invalid_data = told 400 None (detail_body (codes "Invalid data."))
+invalid_data = told 400 None invalid_data_body
 
 unfoldable pub no_credentials : Told
 no_credentials = told 401 None (detail_body (codes "Authentication credentials were not provided."))
@@ -27,11 +31,19 @@ no_credentials = told 401 None (detail_body (codes "Authentication credentials w
 unfoldable pub invalid_token : Told
 invalid_token = told 401 None (detail_body (codes "Invalid token."))
 
+-- `{"detail":"Not found."}`
+abbrev pub not_found_body : Data
+not_found_body = detail_body (codes "Not found.")
+
 unfoldable pub not_found : Told
-not_found = told 404 None (detail_body (codes "Not found."))
+not_found = told 404 None not_found_body
+
+-- `{"detail":"Invalid page."}`
+abbrev pub invalid_page_body : Data
+invalid_page_body = detail_body (codes "Invalid page.")
 
 unfoldable pub invalid_page : Told
-invalid_page = told 404 None (detail_body (codes "Invalid page."))
+invalid_page = told 404 None invalid_page_body
 
 -- the method stands in the text as it stands in the head
 abbrev pub method_text : List ℕ → List ℕ

@@ -1,8 +1,10 @@
 pub mod Values
+pub mod OrderRows
 pub mod Rows
 pub mod VoucherParts
 pub mod Told
 pub mod Faults
 pub mod Refusals
+pub mod Results
 pub mod Pages
 pub mod Replies

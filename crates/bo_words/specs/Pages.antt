@@ -3,7 +3,7 @@ use Rattle.std.specs.Prelude.{ℕ, ◌+◌, ◌-◌, ◌*◌, List, ◌++◌, ma
 use Rattle.std.specs.Fmt.{decimal}
 use Rattle.serde_json.specs.Data.{Data, string, null, object, member, no_members}
 use Rattle.bo_office.specs.declared.command.Resource.{Resource}
-use Rattle.bo_office.specs.declared.command.Resource.TheVariants.{Items, Quotas, Vouchers, Carts}
+use Rattle.bo_office.specs.declared.command.Resource.TheVariants.{Items, Quotas, Vouchers, Carts, Orders}
 use Rattle.bo_office.specs.declared.reply.Page.{Page}
 use Rattle.bo_words.specs.Values.{count, list}
 use Rattle.bo_words.specs.Rows.{shown_body}
@@ -14,6 +14,7 @@ resource_path Items = codes "/items/"
 resource_path Quotas = codes "/quotas/"
 resource_path Vouchers = codes "/vouchers/"
 resource_path Carts = codes "/cartpositions/"
+resource_path Orders = codes "/orders/"
 
 -- the path of a page: that of the list, and its number
 unfoldable pub page_path : List ℕ → List ℕ → Resource → ℕ → List ℕ

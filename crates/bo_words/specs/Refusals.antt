@@ -14,12 +14,12 @@ use Rattle.bo_office.specs.declared.command.Kind.TheVariants as kinds
 use Rattle.bo_office.specs.declared.reply.Refusal.{Refusal}
 use Rattle.bo_office.specs.declared.reply.Refusal.TheVariants as refusals
 use Rattle.bo_lists.specs.declared.rows.Status.{Status}
-use Rattle.bo_lists.specs.declared.rows.Status.TheVariants as statuses
 use Rattle.bo_words.specs.Values.{count}
+use Rattle.bo_words.specs.OrderRows.{status_letter}
 use Rattle.bo_words.specs.Told.{told, empty_body}
 use Rattle.bo_faults.specs.declared.fields.Field.TheVariants as fields
 use Rattle.bo_faults.specs.declared.fields.Problem.TheVariants as problems
-use Rattle.bo_words.specs.Faults.{not_found, invalid_page, field_fault}
+use Rattle.bo_words.specs.Faults.{not_found_body, invalid_page_body, fault_body}
 
 -- the sentence that tells a refusal; want of memory is never told as a refusal
 abbrev pub catalogue_detail : CatalogueRefusal → Option (List ℕ)
@@ -120,13 +120,6 @@ abbrev pub status_of : Refusal → ℕ
 status_of (refusals.Voucher voucher.InUse) = 403
 status_of refusal = 400
 
--- the letter of an order's status
-abbrev pub status_letter : Status → List ℕ
-status_letter statuses.Pending = codes "n"
-status_letter statuses.Paid = codes "p"
-status_letter statuses.Expired = codes "e"
-status_letter statuses.Cancelled = codes "c"
-
 -- `{"code":42,"detail":"text","status":"c"}`
 abbrev pub wrong_status_body : Status → Data
 wrong_status_body status = object (
@@ -136,14 +129,27 @@ wrong_status_body status = object (
     no_members)))
 
 -- a refusal that no request is told has status 200 and `{}`
-abbrev pub refused_by : Refusal → Option (List ℕ) → Told
-refused_by refusal None = told 200 None empty_body
-refused_by refusal (Some text) = told (status_of refusal) None (refusal_body (number_of_refusal refusal) text (quota_named refusal))
+abbrev pub status_by : Refusal → Option (List ℕ) → ℕ
+status_by refusal None = 200
+status_by refusal (Some text) = status_of refusal
+
+abbrev pub data_by : Refusal → Option (List ℕ) → Data
+data_by refusal None = empty_body
+data_by refusal (Some text) = refusal_body (number_of_refusal refusal) text (quota_named refusal)
+
+-- a page that isn't there has 404, and so has what the path names and isn't there
+abbrev pub refusal_status : Kind → Refusal → ℕ
+refusal_status kind refusals.NoPage = 404
+refusal_status kind refusal = if is_of_path kind refusal then 404 else status_by refusal (detail refusal)
 
 -- more than 100 percent is told as a fault of the field, a page that isn't there as a path that isn't there, and an
 -- order's status that doesn't allow a move with that status
+unfoldable pub refusal_data : Kind → Refusal → Data
+refusal_data kind (refusals.Voucher voucher.TooLarge) = fault_body (record { field = fields.Value; problem = problems.OutOfRange })
+refusal_data kind refusals.NoPage = invalid_page_body
+refusal_data kind (refusals.Order (order.WrongStatus status)) = wrong_status_body status
+refusal_data kind refusal = if is_of_path kind refusal then not_found_body else data_by refusal (detail refusal)
+
+-- a refusal is told by its status and its body
 unfoldable pub refused : Kind → Refusal → Told
-refused kind (refusals.Voucher voucher.TooLarge) = field_fault (record { field = fields.Value; problem = problems.OutOfRange })
-refused kind refusals.NoPage = invalid_page
-refused kind (refusals.Order (order.WrongStatus status)) = told 400 None (wrong_status_body status)
-refused kind refusal = if is_of_path kind refusal then not_found else refused_by refusal (detail refusal)
+refused kind refusal = told (refusal_status kind refusal) None (refusal_data kind refusal)

@@ -5,6 +5,7 @@ use Rattle.bo_office.specs.declared.reply.Reply.{Reply}
 use Rattle.bo_office.specs.declared.reply.Reply.TheVariants as replies
 use Rattle.bo_words.specs.Told.{told}
 use Rattle.bo_words.specs.Rows.{shown_body, availability_body}
+use Rattle.bo_words.specs.Results.{results_body}
 use Rattle.bo_words.specs.Pages.{page_body}
 use Rattle.bo_words.specs.Refusals.{refused}
 
@@ -12,10 +13,11 @@ use Rattle.bo_words.specs.Refusals.{refused}
 abbrev pub gone : Told
 gone = record { status = 204; allow = None; body = [] }
 
--- 201 for what was made, 200 for what was asked for, 204 for what was deleted, in the shop of these slugs
+-- 201 for what was made, 200 for what was asked for and for a bulk call, 204 for what was deleted, in the shop of these slugs
 unfoldable pub words : List ℕ → List ℕ → Reply → Told
 words organizer event (replies.Made row) = told 201 None (shown_body row)
 words organizer event (replies.Found row) = told 200 None (shown_body row)
+words organizer event (replies.Results outcomes) = told 200 None (results_body outcomes)
 words organizer event (replies.Listed page) = told 200 None (page_body organizer event page)
 words organizer event replies.Gone = gone
 words organizer event (replies.Availability left) = told 200 None (availability_body left)

@@ -12,6 +12,7 @@ use Rattle.bo_lists.specs.declared.rows.Voucher.{Voucher}
 use Rattle.bo_office.specs.declared.reply.Shown.{Shown}
 use Rattle.bo_office.specs.declared.reply.Shown.TheVariants as shown
 use Rattle.bo_lists.specs.declared.rows.Availability.{Availability}
+use Rattle.bo_words.specs.OrderRows.{order_body}
 use Rattle.bo_words.specs.Values.{count, count_or_null, money, money_or_null, moment, moment_or_null, list, counts}
 
 -- a variation of an item that costs price: its own price may be null, and what it costs is its own or the item's
@@ -101,6 +102,7 @@ shown_body (shown.Variation priced) = priced_body priced
 shown_body (shown.Quota quota) = quota_body quota
 shown_body (shown.Voucher voucher redeemed) = voucher_body voucher redeemed
 shown_body (shown.Cart cart) = cart_body cart
+shown_body (shown.Order rows) = order_body rows.order rows.positions
 
 -- what is left of a quota, and what uses it; size and what is left are null where it is unlimited
 abbrev pub availability_body : Availability → Data

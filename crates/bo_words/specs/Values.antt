@@ -28,6 +28,11 @@ abbrev pub moment_or_null : Option ℕ → Data
 moment_or_null None = null
 moment_or_null (Some seconds) = moment seconds
 
+-- a text, or null
+abbrev pub text_or_null : Option (List ℕ) → Data
+text_or_null None = null
+text_or_null (Some text) = string text
+
 abbrev pub list : List Data → Data
 list values = array (items_of values)
 

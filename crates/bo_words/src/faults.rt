@@ -4,14 +4,15 @@ ghost use Rattle.std.specs.Prelude.{◌≡◌, IfOk, string_bytes};
 ghost use Rattle.serde_json.specs.View.{view};
 ghost use Rattle.bo_words.specs.Faults.{fault_body, field_fault, parse_error, invalid_data, no_credentials, invalid_token, not_found, invalid_page, method_text, method_not_allowed};
 
-use bo_faults::Fault;
 use crate::told::{detailed, told};
 use bo_base::{Methods, Told};
+use bo_faults::Fault;
 use http::StatusCode;
 use serde_json::{Value, json};
 use std::alloc::{AllocError, Global};
 
-fn fault_value(alloc: Global, fault: Fault) -> Result<Value, AllocError>
+/// `{"field":["text"]}`.
+pub(crate) fn fault_value(alloc: Global, fault: Fault) -> Result<Value, AllocError>
     ensures { IfOk result (λ v. view v ≡ fault_body fault) }
 {
     let name = fault.field.name();

@@ -3,9 +3,11 @@
 
 pub mod faults;
 pub mod laws;
+mod orders;
 mod pages;
 mod refusals;
 pub mod replies;
+mod results;
 mod rows;
 mod told;
 mod values;

@@ -20,6 +20,7 @@ fn resource_path(resource: Resource) -> &'static str
         Resource::Quotas => "/quotas/",
         Resource::Vouchers => "/vouchers/",
         Resource::Carts => "/cartpositions/",
+        Resource::Orders => "/orders/",
     }
 }
 

@@ -1,17 +1,17 @@
 //! The words for a refusal.
 
-ghost use Rattle.std.specs.Prelude.{◌≡◌, None, IfOk, if◌then◌else◌};
+ghost use Rattle.std.specs.Prelude.{◌≡◌, IfOk, if◌then◌else◌};
 ghost use Rattle.std.specs.Option.{option_copied};
 ghost use Rattle.serde_json.specs.View.{view};
-ghost use Rattle.bo_words.specs.Told.{told, empty_body};
-ghost use Rattle.bo_words.specs.Faults.{not_found, field_fault};
-ghost use Rattle.bo_words.specs.Refusals.{catalogue_detail, voucher_detail, order_detail, detail, quota_of, quota_named, names_item, names_quota, names_voucher, is_of_path, refusal_body, status_of, status_letter, wrong_status_body, refused_by, refused};
+ghost use Rattle.bo_words.specs.Faults.{not_found_body, fault_body};
+ghost use Rattle.bo_words.specs.Refusals.{catalogue_detail, voucher_detail, order_detail, detail, quota_of, quota_named, names_item, names_quota, names_voucher, is_of_path, refusal_body, status_of, wrong_status_body, status_by, data_by, refusal_status, refusal_data, refused};
 
-use crate::faults::{field_fault, invalid_page, not_found};
-use bo_faults::{Fault, Field, Problem};
-use crate::told::told_value;
+use crate::faults::fault_value;
+use crate::orders::status_letter;
+use crate::told::{detail_value, told_value};
 use bo_base::Told;
 use bo_catalogue::CatalogueRefusal;
+use bo_faults::{Fault, Field, Problem};
 use bo_lists::Status;
 use bo_office::{Kind, Refusal};
 use bo_orders::OrderRefusal;
@@ -167,77 +167,47 @@ fn status_of(refusal: Refusal) -> StatusCode
     }
 }
 
-/// That status, number and sentence, and the quota that is named.
-fn told_refusal(
-    alloc: Global,
-    status: StatusCode,
-    number: u8,
-    text: &str,
-    quota: Option<u64>,
-) -> Result<Told, AllocError>
-    ensures { IfOk result (λ t. t ≡ told status None (refusal_body number text.now quota)) }
+/// 200 for what no request is told, 403 for what is forbidden, else 400.
+fn status_by(refusal: Refusal) -> StatusCode
+    ensures { result ≡ status_by refusal (detail refusal) }
 {
-    let value = refusal_value(alloc, number, text, quota)?;
-    told_value(alloc, status, &value)
-}
-
-/// 200 and `{}`.
-fn told_nothing(alloc: Global) -> Result<Told, AllocError>
-    ensures { IfOk result (λ t. t ≡ told 200 None empty_body) }
-{
-    let value = json!(in alloc; {})?;
-    told_value(alloc, StatusCode::OK, &value)
-}
-
-/// A refusal by its status, its number and its sentence.
-fn refused_by(alloc: Global, refusal: Refusal) -> Result<Told, AllocError>
-    ensures { IfOk result (λ t. t ≡ refused_by refusal (detail refusal)) }
-{
-    let number = refusal.number();
     match detail(refusal) {
-        None => told_nothing(alloc),
-        Some(text) => told_refusal(
-            alloc,
-            status_of(refusal),
-            number,
-            text,
-            quota_named(refusal),
-        ),
+        None => StatusCode::OK,
+        Some(_) => status_of(refusal),
     }
 }
 
-/// 404 where the path names what wasn't found, else the refusal.
-fn refused_or_missing(alloc: Global, kind: Kind, refusal: Refusal) -> Result<Told, AllocError>
-    ensures { IfOk result (λ t. t ≡ (if is_of_path kind refusal then not_found else refused_by refusal (detail refusal))) }
+/// A refusal by its number and its sentence, or `{}`.
+fn data_by(alloc: Global, refusal: Refusal) -> Result<Value, AllocError>
+    ensures { IfOk result (λ v. view v ≡ data_by refusal (detail refusal)) }
+{
+    let number = refusal.number();
+    match detail(refusal) {
+        None => json!(in alloc; {}),
+        Some(text) => refusal_value(alloc, number, text, quota_named(refusal)),
+    }
+}
+
+/// `Not found.` where the path names what wasn't found, else the refusal.
+fn data_or_missing(alloc: Global, kind: Kind, refusal: Refusal) -> Result<Value, AllocError>
+    ensures { IfOk result (λ v. view v ≡ (if is_of_path kind refusal then not_found_body else data_by refusal (detail refusal))) }
 {
     if is_of_path(kind, refusal) {
-        not_found(alloc)
+        detail_value(alloc, "Not found.")
     } else {
-        refused_by(alloc, refusal)
+        data_by(alloc, refusal)
     }
 }
 
 /// A voucher's value is out of range.
-fn too_large(alloc: Global) -> Result<Told, AllocError>
-    ensures { IfOk result (λ t. t ≡ field_fault (record { field = Field.Value; problem = Problem.OutOfRange })) }
+fn too_large(alloc: Global) -> Result<Value, AllocError>
+    ensures { IfOk result (λ v. view v ≡ fault_body (record { field = Field.Value; problem = Problem.OutOfRange })) }
 {
     let fault = Fault {
         field: Field::Value,
         problem: Problem::OutOfRange,
     };
-    field_fault(alloc, fault)
-}
-
-/// The letter of an order's status.
-fn status_letter(status: Status) -> &'static str
-    ensures { result.now ≡ status_letter status }
-{
-    match status {
-        Status::Pending => "n",
-        Status::Paid => "p",
-        Status::Expired => "e",
-        Status::Cancelled => "c",
-    }
+    fault_value(alloc, fault)
 }
 
 /// Number 42, its sentence, and the order's status.
@@ -248,12 +218,28 @@ fn wrong_status_value(alloc: Global, status: Status) -> Result<Value, AllocError
     json!(in alloc; {"code": 42, "detail": "Not possible in this status.", "status": letter})
 }
 
-/// The order's status doesn't allow it.
-fn wrong_status(alloc: Global, status: Status) -> Result<Told, AllocError>
-    ensures { IfOk result (λ t. t ≡ told 400 None (wrong_status_body status)) }
+/// The status of a refusal of a request of that kind.
+fn refusal_status(kind: Kind, refusal: Refusal) -> StatusCode
+    ensures { result ≡ refusal_status kind refusal }
 {
-    let value = wrong_status_value(alloc, status)?;
-    told_value(alloc, StatusCode::BAD_REQUEST, &value)
+    match refusal {
+        Refusal::NoPage => StatusCode::NOT_FOUND,
+        _ if is_of_path(kind, refusal) => StatusCode::NOT_FOUND,
+        _ => status_by(refusal),
+    }
+}
+
+/// The body for a refusal of a request of that kind.
+#[tactic(auto, unfolding(crate::specs::Refusals::refusal_data))]
+pub(crate) fn refusal_data(alloc: Global, kind: Kind, refusal: Refusal) -> Result<Value, AllocError>
+    ensures { IfOk result (λ v. view v ≡ refusal_data kind refusal) }
+{
+    match refusal {
+        Refusal::Voucher(VoucherRefusal::TooLarge) => too_large(alloc),
+        Refusal::NoPage => detail_value(alloc, "Invalid page."),
+        Refusal::Order(OrderRefusal::WrongStatus(status)) => wrong_status_value(alloc, status),
+        _ => data_or_missing(alloc, kind, refusal),
+    }
 }
 
 /// The words for a refusal of a request of that kind.
@@ -261,10 +247,6 @@ fn wrong_status(alloc: Global, status: Status) -> Result<Told, AllocError>
 pub(crate) fn refused(alloc: Global, kind: Kind, refusal: Refusal) -> Result<Told, AllocError>
     ensures { IfOk result (λ t. t ≡ refused kind refusal) }
 {
-    match refusal {
-        Refusal::Voucher(VoucherRefusal::TooLarge) => too_large(alloc),
-        Refusal::NoPage => invalid_page(alloc),
-        Refusal::Order(OrderRefusal::WrongStatus(status)) => wrong_status(alloc, status),
-        _ => refused_or_missing(alloc, kind, refusal),
-    }
+    let value = refusal_data(alloc, kind, refusal)?;
+    told_value(alloc, refusal_status(kind, refusal), &value)
 }

@@ -3,16 +3,19 @@
 ghost use Rattle.std.specs.Prelude.{◌≡◌, None, IfOk};
 ghost use Rattle.bo_words.specs.Told.{told};
 ghost use Rattle.bo_words.specs.Pages.{page_body};
+ghost use Rattle.bo_words.specs.Results.{results_body};
 ghost use Rattle.bo_words.specs.Rows.{shown_body, availability_body};
 ghost use Rattle.bo_words.specs.Replies.{gone, words};
 
 use crate::pages::page_value;
 use crate::refusals::refused;
+use crate::results::results_value;
 use crate::rows::{availability_value, shown_value};
 use crate::told::told_value;
 use bo_base::{Body, Told};
 use bo_lists::Availability;
 use bo_office::{Page, Reply, Shown};
+use bo_orders::Outcome;
 use http::StatusCode;
 use std::alloc::{AllocError, Global};
 
@@ -29,6 +32,14 @@ fn page_told(alloc: Global, organizer: &str, event: &str, page: &Page) -> Result
     ensures { IfOk result (λ t. t ≡ told 200 None (page_body organizer.now event.now page.now)) }
 {
     let value = page_value(alloc, organizer, event, page)?;
+    told_value(alloc, StatusCode::OK, &value)
+}
+
+/// 200 and what became of each entry of a bulk call.
+fn results_told(alloc: Global, outcomes: &[Outcome]) -> Result<Told, AllocError>
+    ensures { IfOk result (λ t. t ≡ told 200 None (results_body outcomes.now)) }
+{
+    let value = results_value(alloc, outcomes)?;
     told_value(alloc, StatusCode::OK, &value)
 }
 
@@ -51,9 +62,9 @@ fn availability_told(alloc: Global, left: &Availability) -> Result<Told, AllocEr
     told_value(alloc, StatusCode::OK, &value)
 }
 
-/// The words of a reply, in the shop of these slugs: 201 for what was made, 200 for what was asked for, 204 for what
-/// was deleted, and for a refusal its status, its number and its sentence. A refusal for want of memory, which no
-/// request is told, has 200 and `{}`.
+/// The words of a reply, in the shop of these slugs: 201 for what was made, 200 for what was asked for and for a bulk
+/// call, 204 for what was deleted, and for a refusal its status, its number and its sentence. A refusal for want of
+/// memory, which no request is told, has 200 and `{}`.
 #[tactic(auto, unfolding(crate::specs::Replies::words))]
 pub fn words(alloc: Global, organizer: &str, event: &str, reply: &Reply) -> Result<Told, AllocError>
     ensures { IfOk result (λ told. told ≡ words organizer.now event.now reply.now) }
@@ -61,6 +72,7 @@ pub fn words(alloc: Global, organizer: &str, event: &str, reply: &Reply) -> Resu
     match reply {
         Reply::Made(shown) => row_told(alloc, StatusCode::CREATED, shown),
         Reply::Found(shown) => row_told(alloc, StatusCode::OK, shown),
+        Reply::Results(outcomes) => results_told(alloc, outcomes.as_slice()),
         Reply::Listed(page) => page_told(alloc, organizer, event, page),
         Reply::Gone => Ok(gone(alloc)),
         Reply::Availability(left) => availability_told(alloc, left),

@@ -5,6 +5,7 @@ ghost use Rattle.serde_json.specs.View.{view};
 ghost use Rattle.bo_words.specs.Values.{list};
 ghost use Rattle.bo_words.specs.Rows.{variation_body, priced_body, item_body, quota_body, cart_body, shown_body, availability_body};
 
+use crate::orders::order_value;
 use crate::values::{count_or_null, counts, moment, money, money_or_null};
 use crate::vouchers::voucher_value;
 use bo_base::Cents;
@@ -92,7 +93,7 @@ fn quota_value(alloc: Global, quota: &Quota) -> Result<Value, AllocError>
 }
 
 /// A cart position.
-fn cart_value(alloc: Global, cart: &CartPos) -> Result<Value, AllocError>
+pub(crate) fn cart_value(alloc: Global, cart: &CartPos) -> Result<Value, AllocError>
     ensures { IfOk result (λ v. view v ≡ cart_body cart.now) }
 {
     let made_at = moment(alloc, cart.made_at)?;
@@ -122,6 +123,7 @@ pub(crate) fn shown_value(alloc: Global, shown: &Shown) -> Result<Value, AllocEr
         Shown::Quota(quota) => quota_value(alloc, quota),
         Shown::Voucher(voucher, redeemed) => voucher_value(alloc, voucher, *redeemed),
         Shown::Cart(cart) => cart_value(alloc, cart),
+        Shown::Order(rows) => order_value(alloc, &rows.order, rows.positions.as_slice()),
     }
 }
 

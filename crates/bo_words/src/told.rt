@@ -41,7 +41,7 @@ pub(crate) fn told_value(
 }
 
 /// `{"detail":"text"}`.
-fn detail_value(alloc: Global, text: &str) -> Result<Value, AllocError>
+pub(crate) fn detail_value(alloc: Global, text: &str) -> Result<Value, AllocError>
     ensures { IfOk result (λ v. view v ≡ detail_body text.now) }
 {
     json!(in alloc; {"detail": text})

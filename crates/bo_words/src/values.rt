@@ -1,7 +1,8 @@
 //! Numbers, amounts, moments and lists as JSON.
 
-ghost use Rattle.std.specs.Prelude.{◌≡◌, IfOk};
+ghost use Rattle.std.specs.Prelude.{◌≡◌, IfOk, string_bytes};
 ghost use Rattle.serde_json.specs.View.{view};
+ghost use Rattle.bo_base.specs.Money.{cents_text};
 ghost use Rattle.bo_words.specs.Values.{count_or_null, money, money_or_null, moment, moment_or_null, counts};
 
 use bo_base::{Cents, Moment, cents_text, moment_text};
@@ -23,6 +24,16 @@ pub(crate) fn money(alloc: Global, amount: Cents) -> Result<Value, AllocError>
     ensures { IfOk result (λ v. view v ≡ money amount) }
 {
     Ok(Value::String(cents_text(alloc, amount)?))
+}
+
+/// The text of so many cents, which may be more than an amount has.
+pub(crate) fn total_text(alloc: Global, cents: u128) -> Result<String, AllocError>
+    ensures { IfOk result (λ s. string_bytes s ≡ cents_text cents) }
+{
+    let units = cents / 100;
+    let tens = cents / 10 % 10;
+    let ones = cents % 10;
+    format!(in alloc; "{units}.{tens}{ones}")
 }
 
 /// An amount, or null.

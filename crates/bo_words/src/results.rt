@@ -1,0 +1,77 @@
+//! What became of the entries of a bulk call, as JSON.
+
+ghost use Rattle.std.specs.Prelude.{◌≡◌, IfOk, map};
+ghost use Rattle.serde_json.specs.View.{view};
+ghost use Rattle.bo_words.specs.Values.{list};
+ghost use Rattle.bo_words.specs.Results.{entry_fault_body, result_body, outcome_body, results_body};
+
+use crate::faults::fault_value;
+use crate::refusals::refusal_data;
+use crate::rows::cart_value;
+use crate::told::detail_value;
+use bo_faults::EntryFault;
+use bo_office::{Kind, Refusal};
+use bo_orders::Outcome;
+use serde_json::{Value, json};
+use std::alloc::{AllocError, Global};
+
+/// What is wrong with an entry, as a request of its own is told it.
+fn entry_fault_value(alloc: Global, fault: EntryFault) -> Result<Value, AllocError>
+    ensures { IfOk result (λ v. view v ≡ entry_fault_body fault) }
+{
+    match fault {
+        EntryFault::InvalidData => detail_value(alloc, "Invalid data."),
+        EntryFault::Field(fault) => fault_value(alloc, fault),
+    }
+}
+
+/// The result of an entry: what is shown of it, or else what was wrong.
+fn result_value(
+    alloc: Global,
+    shown: Value,
+    errors: Value,
+    success: bool,
+) -> Result<Value, AllocError>
+    ensures { IfOk result (λ v. view v ≡ result_body (view shown) (view errors) success) }
+{
+    json!(in alloc; {"data": shown, "errors": errors, "success": success})
+}
+
+/// What became of an entry.
+fn outcome_value(alloc: Global, outcome: &Outcome) -> Result<Value, AllocError>
+    ensures { IfOk result (λ v. view v ≡ outcome_body outcome.now) }
+{
+    match outcome {
+        Outcome::Added(cart) => {
+            let shown = cart_value(alloc, cart)?;
+            result_value(alloc, shown, Value::Null, true)
+        }
+        Outcome::Refused(refusal) => {
+            let errors = refusal_data(alloc, Kind::AddCart, Refusal::Order(*refusal))?;
+            result_value(alloc, Value::Null, errors, false)
+        }
+        Outcome::Faulty(fault) => {
+            let errors = entry_fault_value(alloc, *fault)?;
+            result_value(alloc, Value::Null, errors, false)
+        }
+    }
+}
+
+/// What became of each entry.
+fn outcomes_value(alloc: Global, outcomes: &[Outcome]) -> Result<Value, AllocError>
+    ensures { IfOk result (λ v. view v ≡ list (map outcome_body outcomes.now)) }
+{
+    let mut values = Vec::with_capacity(alloc, outcomes.len())?;
+    for outcome in outcomes {
+        values.push(outcome_value(alloc, outcome)?)?;
+    }
+    Ok(Value::Array(values))
+}
+
+/// The results of a bulk call.
+pub(crate) fn results_value(alloc: Global, outcomes: &[Outcome]) -> Result<Value, AllocError>
+    ensures { IfOk result (λ v. view v ≡ results_body outcomes.now) }
+{
+    let results = outcomes_value(alloc, outcomes)?;
+    json!(in alloc; {"results": results})
+}
