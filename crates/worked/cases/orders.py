@@ -65,7 +65,7 @@ case("an_order_is_made_as_paid", setup(2) + [
                                                     expires="2026-05-01T22:00:00Z", status="n", total="30.50", email="null"))),
     (T, ask, availability(2, 0, pending=2)),
     (T, patch("/quotas/1/", '{"size":3}'), answer(200, quota_row(1, "A", 3, items="1"))),
-    (T, hold, cart(1, 7, T, half_past)),
+    (T, hold, cart(1, 8, T, half_past)),
     (T, delete("/cartpositions/1/"), gone()),
     (T, ask, availability(3, 1, pending=2)),
 ])
