@@ -1,4 +1,5 @@
 pub mod Steps
+pub mod LastPlaces
 pub mod Sales
 pub mod Kept
 pub mod Counts
