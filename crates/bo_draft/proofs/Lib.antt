@@ -1,5 +1,7 @@
-pub mod Steps
 pub mod LastPlaces
+pub mod Indexes
+pub mod EarlierPlaces
+pub mod Steps
 pub mod Sales
 pub mod Kept
 pub mod Counts

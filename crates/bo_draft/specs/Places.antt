@@ -62,6 +62,7 @@ place_before place change log = last_place (touches (table_of change) (id_of cha
 
 -- the index of a log: for each row the last place that touches it, and for each place the one before it of the same row
 pub record IsIndex (log : List Change) (tables : List (List Touch)) (before : List (Option ℕ)) : Type 0 where
+  pub eight : length tables ≡ 8
   pub lasts : (table id : ℕ) → table < 8 → place_in id (slice_index_or tables table []) ≡ last_place (touches table id) log
   pub count : length before ≡ length log
   pub befores : (place : ℕ) (d : Change) → place < length log → slice_index_or before place None ≡ place_before place (slice_index_or log place d) log

@@ -1,6 +1,7 @@
 //! A log of changes, with an index of the rows that it touches.
 
 ghost use Rattle.std.specs.Prelude.{◌≡◌, ◌≤◌, ◌<◌, ◌-◌, ◌++◌, [], ◌∷◌, length, take, OnOk, OnErr, slice_index_or};
+ghost use Rattle.std.specs.Option.{IfSome};
 ghost use Rattle.bo_lists.specs.declared.changes.Change.{Change};
 ghost use Rattle.bo_draft.specs.Places.{table_of, id_of, touches, last_place, place_before};
 
@@ -45,6 +46,7 @@ impl Model for ChangeLog {
 
 impl ChangeLog {
     /// No changes.
+    #[tactic(auto, using(crate::proofs::Indexes::index_none))]
     pub fn new(alloc: Global) -> Self
         ensures { result ≡ [] }
     {
@@ -62,6 +64,21 @@ impl ChangeLog {
             ],
             before: Vec::new(alloc),
         }
+    }
+
+    /// How many changes there are.
+    pub fn len(&self) -> usize
+        ensures { result ≡ length self.now }
+    {
+        self.changes.len()
+    }
+
+    /// The change at a place.
+    pub fn get(&self, place: usize) -> &Change
+        requires { place < length self.now }
+        ensures { result.now ≡ slice_index_or self.now place result.now }
+    {
+        &self.changes[place]
     }
 
     /// The changes in order.
@@ -86,9 +103,27 @@ impl ChangeLog {
     /// The last place that touches the row of a table.
     pub fn last(&self, table: usize, id: u64) -> Option<usize>
         requires { table < 8 }
-        ensures { result ≡ last_place (touches table id) self.now }
+        ensures value { result ≡ last_place (touches table id) self.now }
+        ensures within { IfSome result (λ place. place < length self.now) }
     {
         self.tables[table].last(id)
+    }
+
+    /// The last of the first so many places that touches the row of a table.
+    pub fn last_before(&self, count: usize, table: usize, id: u64) -> Option<usize>
+        requires table { table < 8 }
+        requires count { count ≤ length self.now }
+        ensures value { result ≡ last_place (touches table id) (take count self.now) }
+        ensures within { IfSome result (λ place. place < count) }
+    {
+        let mut found = self.last(table, id);
+        'earlier: while let Some(place) = found {
+            if place < count {
+                return found;
+            }
+            found = self.before(place);
+        }
+        None
     }
 
     /// The place before this one that touches the same row.
@@ -100,6 +135,7 @@ impl ChangeLog {
     }
 
     /// One more change.
+    #[tactic(auto, using(crate::proofs::Indexes::pushed))]
     pub fn push(&mut self, change: Change) -> Result<(), AllocError>
         ensures ok { OnOk result (self.new ≡ self.old ++ change ∷ []) }
         ensures err { OnErr result (self.new ≡ self.old) }
@@ -119,20 +155,24 @@ impl ChangeLog {
     pub fn truncate(&mut self, count: usize)
         ensures { self.new ≡ take count self.old }
     {
-        while count < self.changes.len() {
+        'back: while count < self.len() {
             self.undo();
         }
     }
 
     // All but the last change.
+    #[tactic(auto, using(crate::proofs::Indexes::popped, crate::proofs::Indexes::is_touched))]
     fn undo(&mut self)
         requires { 0 < length self.old }
         ensures { self.new ≡ take (length self.old - 1) self.old }
     {
-        if let Some(change) = self.changes.pop() {
-            let before = self.before.pop().flatten();
-            self.tables[table_of(&change)].go_back(id_of(&change), before);
-        }
+        let last = self.changes.len() - 1;
+        let change = &self.changes[last];
+        let table = table_of(change);
+        let id = id_of(change);
+        self.tables[table].go_back(id, self.before[last]);
+        self.before.truncate(last);
+        self.changes.truncate(last);
     }
 }
 
