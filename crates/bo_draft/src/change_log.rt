@@ -135,7 +135,6 @@ impl ChangeLog {
     }
 
     /// One more change.
-    #[tactic(auto, using(crate::proofs::Indexes::pushed))]
     pub fn push(&mut self, change: Change) -> Result<(), AllocError>
         ensures ok { OnOk result (self.new ≡ self.old ++ change ∷ []) }
         ensures err { OnErr result (self.new ≡ self.old) }
@@ -161,7 +160,7 @@ impl ChangeLog {
     }
 
     // All but the last change.
-    #[tactic(auto, using(crate::proofs::Indexes::popped, crate::proofs::Indexes::is_touched))]
+    #[tactic(auto, using(crate::proofs::Indexes::is_touched))]
     fn undo(&mut self)
         requires { 0 < length self.old }
         ensures { self.new ≡ take (length self.old - 1) self.old }
