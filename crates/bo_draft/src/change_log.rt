@@ -139,12 +139,13 @@ impl ChangeLog {
         ensures ok { OnOk result (self.new ≡ self.old ++ change ∷ []) }
         ensures err { OnErr result (self.new ≡ self.old) }
     {
+        let place = self.changes.len();
         self.changes.reserve(1)?;
         self.before.reserve(1)?;
         let table = table_of(&change);
         let id = id_of(&change);
         let before = self.tables[table].last(id);
-        self.tables[table].touch(id, self.changes.len())?;
+        self.tables[table].touch(id, place)?;
         self.before.push(before)?;
         self.changes.push(change)?;
         Ok(())
