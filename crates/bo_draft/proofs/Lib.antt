@@ -1,3 +1,6 @@
+pub mod LastPlaces
+pub mod Indexes
+pub mod EarlierPlaces
 pub mod Steps
 pub mod Sales
 pub mod Kept

@@ -1,5 +1,5 @@
 -- What changes of sales leave as it is, and the order positions that they put.
-use Rattle.std.proofs.Common.{◌≡◌, ℕ, zero, suc, ◌+◌, ◌<◌, Bool, List, [], ◌∷◌, ◌++◌, length, take, get_or, refl, ap, ◌∙◌, count_by, arith}
+use Rattle.std.proofs.Common.{◌≡◌, ℕ, zero, suc, ◌+◌, ◌<◌, ◌≤◌, Bool, List, [], ◌∷◌, ◌++◌, length, take, get_or, refl, ap, ◌∙◌, count_by, arith}
 use Rattle.std.specs.Prelude.{if◌then◌else◌}
 use Rattle.std.proofs.lemmas.List.Sums.{sum_by-cons}
 use Rattle.bo_base.specs.Tables.{sum_at}
@@ -44,6 +44,11 @@ pub sales_front : (count : ℕ) (changes : List Change) (lists : Lists) → AreS
 sales_front zero changes lists are = tt
 sales_front (suc count) [] lists are = tt
 sales_front (suc count) (c ∷ cs) lists are = (are.0, sales_front count cs (after_change c lists) are.1)
+
+pub front_le : {T : Type 0} (count : ℕ) (rows : List T) → length (take count rows) ≤ length rows
+front_le zero rows = omega arith
+front_le (suc count) [] = omega arith
+front_le (suc count) (r ∷ rows) = omega (arith, front_le count rows)
 
 pub sales_more : (changes : List Change) (change : Change) (lists : Lists) → AreSales changes lists → IsSale change (after_all changes lists) → AreSales (changes ++ change ∷ []) lists
 sales_more [] change lists are is = (is, tt)

@@ -1,3 +1,4 @@
 pub mod Steps
 pub mod DraftState
+pub mod Places
 pub mod Shift

@@ -2,8 +2,10 @@
 #![tactic(auto)]
 
 mod cart_tests;
+mod change_log;
 pub mod draft;
 mod overlay;
 mod shift;
+mod touched;
 
 pub use draft::{Draft, Mark};

@@ -15,9 +15,10 @@ ghost use Rattle.bo_draft.specs.Shift.{count_ordered};
 ghost use Rattle.bo_lists.specs.Over.{is_free, is_free_cart, is_free_position, ignores, weighed, is_over_size, first_over_among};
 ghost use Rattle.bo_lists.specs.Total.{total};
 ghost use Rattle.bo_lists.specs.Usage.{usage_of, stands_as, uses, redeemed, is_covered_by, is_covered, cart_counts, position_counts};
-ghost use Rattle.bo_draft.specs.Steps.{voucher_step, cart_step, order_step, position_step, waiting_step, puts};
+ghost use Rattle.bo_draft.specs.Steps.{voucher_put, cart_put, order_put, position_put, waiting_put, puts};
 
 use crate::cart_tests::{CartTest, Holds, HoldsIn};
+use crate::change_log::{CARTS, ChangeLog, ORDERS, POSITIONS, VOUCHERS, WAITING};
 use bo_base::{List, Moment, Text};
 use bo_catalogue::{Catalogue, Quota};
 use bo_lists::{CartPos, Change, Order, OrderPos, Own, Usage, Voucher, Waiting};
@@ -29,7 +30,7 @@ use std::marker::Model;
 #[derive(Drop)]
 pub struct Overlay<'a, B: Book> {
     book: &'a B,
-    log: Vec<Change>,
+    log: ChangeLog,
 }
 
 impl<'a, B: Book> Model for Overlay<'a, B> {
@@ -38,10 +39,10 @@ impl<'a, B: Book> Model for Overlay<'a, B> {
 
     ghost Value = { Log };
 
-    ghost view = { λ s. record { base = (B.state s.book.now).lists; changes = s.log.items } };
+    ghost view = { λ s. record { base = (B.state s.book.now).lists; changes = s.log } };
 
     // What is for sale is as in the book, and each order position that is put is a new one.
-    ghost invariant = { λ s. (length s.log.items ≤ 4294967296) × AreSales s.log.items (B.state s.book.now).lists };
+    ghost invariant = { λ s. (length s.log ≤ 4294967296) × AreSales s.log (B.state s.book.now).lists };
 }
 
 impl<'a, B: Book> Overlay<'a, B> {
@@ -51,7 +52,7 @@ impl<'a, B: Book> Overlay<'a, B> {
     {
         Overlay {
             book,
-            log: Vec::new(alloc),
+            log: ChangeLog::new(alloc),
         }
     }
 
@@ -151,7 +152,7 @@ impl<'a, B: Book> Overlay<'a, B> {
         ensures few { result ≤ 4294967296 + i + 1 }
     {
         self.book.known();
-        match &self.log[i] {
+        match self.log.get(i) {
             Change::PutOrder(row) => {
                 let own = self.count_ordered(i, row.id, &Names { voucher });
                 let more = count_if(row.status.is_in_force(), own);
@@ -183,17 +184,14 @@ impl<'a, B: Book> Overlay<'a, B> {
     }
 
     // The order as it was before a change.
-    #[tactic(auto, using(crate::proofs::Steps::order_more))]
     fn order_at(&self, i: usize, id: u64) -> Option<&Order>
         requires { i ≤ length self.now.changes }
         ensures { option_copied result ≡ order_at id (rows_at i self.now) }
     {
-        let mut found = self.book.order(id);
-        let log = &self.log[..i];
-        for change in log {
-            found = order_after(change, id, found);
+        match self.log.last_before(i, ORDERS, id) {
+            None => self.book.order(id),
+            Some(place) => order_put(self.log.get(place)),
         }
-        found
     }
 
     /// How many positions of the order, as they were before a change, pass the test.
@@ -213,8 +211,9 @@ impl<'a, B: Book> Overlay<'a, B> {
         ensures value { result ≡ count_by (puts (λ p. order == p.order && T.passes test.now p)) (take i self.now.changes) }
         ensures few { result ≤ 4294967296 }
     {
-        let log = &self.log[..i];
-        log.iter()
+        let log = self.log.as_slice();
+        log[..i]
+            .iter()
             .filter(|change| puts_ordered(change, order, test))
             .count() as u64
     }
@@ -259,7 +258,7 @@ impl<'a, B: Book> Overlay<'a, B> {
         ensures few { result ≤ 4294967296 + i + 1 }
     {
         self.book.known();
-        match &self.log[i] {
+        match self.log.get(i) {
             Change::PutCart(row) => {
                 let come = u64::from(test.passes(row));
                 let gone = self.count_at(i, row.id, test);
@@ -282,17 +281,14 @@ impl<'a, B: Book> Overlay<'a, B> {
     }
 
     // The cart position as it was before a change.
-    #[tactic(auto, using(crate::proofs::Steps::cart_more))]
     fn cart_at(&self, i: usize, id: u64) -> Option<&CartPos>
         requires { i ≤ length self.now.changes }
         ensures { option_copied result ≡ cart_at id (rows_at i self.now) }
     {
-        let mut found = self.book.cart(id);
-        let log = &self.log[..i];
-        for change in log {
-            found = cart_after(change, id, found);
+        match self.log.last_before(i, CARTS, id) {
+            None => self.book.cart(id),
+            Some(place) => cart_put(self.log.get(place)),
         }
-        found
     }
 
     /// Ids rise in each list of sales, no list is too long to be counted, and what is for sale hasn't changed.
@@ -447,114 +443,102 @@ impl<'a, B: Book> Overlay<'a, B> {
         ensures { result.items ≡ self.entry.changes }
     {
         let Overlay { book: _, log } = self;
-        log
+        log.into_vec()
     }
 
-    #[tactic(auto, using(crate::proofs::Steps::voucher_more))]
     pub fn voucher(&self, id: u64) -> Option<&Voucher>
         ensures { option_copied result ≡ voucher_at id (rows_of self.now) }
     {
-        let mut found = self.book.voucher(id);
-        for change in &self.log {
-            found = voucher_after(change, id, found);
+        match self.log.last(VOUCHERS, id) {
+            None => self.book.voucher(id),
+            Some(place) => voucher_put(self.log.get(place)),
         }
-        found
     }
 
-    #[tactic(auto, using(crate::proofs::Steps::cart_more))]
     pub fn cart(&self, id: u64) -> Option<&CartPos>
         ensures { option_copied result ≡ cart_at id (rows_of self.now) }
     {
-        let mut found = self.book.cart(id);
-        for change in &self.log {
-            found = cart_after(change, id, found);
+        match self.log.last(CARTS, id) {
+            None => self.book.cart(id),
+            Some(place) => cart_put(self.log.get(place)),
         }
-        found
     }
 
-    #[tactic(auto, using(crate::proofs::Steps::order_more))]
     pub fn order(&self, id: u64) -> Option<&Order>
         ensures { option_copied result ≡ order_at id (rows_of self.now) }
     {
-        let mut found = self.book.order(id);
-        for change in &self.log {
-            found = order_after(change, id, found);
+        match self.log.last(ORDERS, id) {
+            None => self.book.order(id),
+            Some(place) => order_put(self.log.get(place)),
         }
-        found
     }
 
-    #[tactic(auto, using(crate::proofs::Steps::position_more))]
     pub fn position(&self, id: u64) -> Option<&OrderPos>
         ensures { option_copied result ≡ position_at id (rows_of self.now) }
     {
-        let mut found = self.book.position(id);
-        for change in &self.log {
-            found = position_after(change, id, found);
+        match self.log.last(POSITIONS, id) {
+            None => self.book.position(id),
+            Some(place) => position_put(self.log.get(place)),
         }
-        found
     }
 
-    #[tactic(auto, using(crate::proofs::Steps::waiting_more))]
     pub fn waiting(&self, id: u64) -> Option<&Waiting>
         ensures { option_copied result ≡ waiting_at id (rows_of self.now) }
     {
-        let mut found = self.book.entry(id);
-        for change in &self.log {
-            found = waiting_after(change, id, found);
+        match self.log.last(WAITING, id) {
+            None => self.book.entry(id),
+            Some(place) => waiting_put(self.log.get(place)),
         }
-        found
     }
 }
 
-fn voucher_after<'a>(change: &'a Change, id: u64, found: Option<&'a Voucher>) -> Option<&'a Voucher>
-    ensures { option_copied result ≡ voucher_step id change.now (option_copied found.entry) }
+// The voucher that a change puts.
+fn voucher_put(change: &Change) -> Option<&Voucher>
+    ensures { option_copied result ≡ voucher_put change.now }
 {
     match change {
-        Change::PutVoucher(row) if row.id == id => Some(row),
-        Change::DropVoucher(dropped) if *dropped == id => None,
-        _ => found,
+        Change::PutVoucher(row) => Some(row),
+        _ => None,
     }
 }
 
-fn cart_after<'a>(change: &'a Change, id: u64, found: Option<&'a CartPos>) -> Option<&'a CartPos>
-    ensures { option_copied result ≡ cart_step id change.now (option_copied found.entry) }
+// The cart position that a change puts.
+fn cart_put(change: &Change) -> Option<&CartPos>
+    ensures { option_copied result ≡ cart_put change.now }
 {
     match change {
-        Change::PutCart(row) if row.id == id => Some(row),
-        Change::DropCart(dropped) if *dropped == id => None,
-        _ => found,
+        Change::PutCart(row) => Some(row),
+        _ => None,
     }
 }
 
-fn waiting_after<'a>(change: &'a Change, id: u64, found: Option<&'a Waiting>) -> Option<&'a Waiting>
-    ensures { option_copied result ≡ waiting_step id change.now (option_copied found.entry) }
+// The waiting entry that a change puts.
+fn waiting_put(change: &Change) -> Option<&Waiting>
+    ensures { option_copied result ≡ waiting_put change.now }
 {
     match change {
-        Change::PutWaiting(row) if row.id == id => Some(row),
-        Change::DropWaiting(dropped) if *dropped == id => None,
-        _ => found,
+        Change::PutWaiting(row) => Some(row),
+        _ => None,
     }
 }
 
-fn order_after<'a>(change: &'a Change, id: u64, found: Option<&'a Order>) -> Option<&'a Order>
-    ensures { option_copied result ≡ order_step id change.now (option_copied found.entry) }
+// The order that a change puts.
+fn order_put(change: &Change) -> Option<&Order>
+    ensures { option_copied result ≡ order_put change.now }
 {
     match change {
-        Change::PutOrder(row) if row.id == id => Some(row),
-        _ => found,
+        Change::PutOrder(row) => Some(row),
+        _ => None,
     }
 }
 
-fn position_after<'a>(
-    change: &'a Change,
-    id: u64,
-    found: Option<&'a OrderPos>,
-) -> Option<&'a OrderPos>
-    ensures { option_copied result ≡ position_step id change.now (option_copied found.entry) }
+// The order position that a change puts.
+fn position_put(change: &Change) -> Option<&OrderPos>
+    ensures { option_copied result ≡ position_put change.now }
 {
     match change {
-        Change::PutPosition(row) if row.id == id => Some(row),
-        _ => found,
+        Change::PutPosition(row) => Some(row),
+        _ => None,
     }
 }
 

@@ -5,4 +5,4 @@ use Rattle.bo_draft.proofs.overlay.Overlay.catalogue.Goals as goal
 pub returns : goal.returns
 returns g c =
     let base = (g.B.Book.state c.self.inside.book.now).lists in
-    rw (← c.self.view_is) (c.catalogue.ensures ∙ sym (sales_catalogue c.self.inside.log.items base c.self.invariant.1))
+    rw (← c.self.view_is) (c.catalogue.ensures ∙ sym (sales_catalogue c.self.inside.log base c.self.invariant.1))
