@@ -17,9 +17,9 @@ invariant_of-self-2 g c =
       (
         c.carts_after-carts.ensures ∙ sym (ap (λ (lists : Lists). length lists.carts) rows),
         (
-          let after : AllHaveHeadroom inside.moment (after_change c.args.change (rows_of log)) = subst (λ (d : DraftState). AllHaveHeadroom d.moment (after_change c.args.change (rows_of d.log))) (sym c.self.view_is) (headroom_after c.args.self.now.moment c.args.self.now.log c.args.change c.requires) in
-          subst (λ (lists : Lists). AllHaveHeadroom inside.moment lists) (sym rows) after
-        ),
+            let after : AllHaveHeadroom inside.moment (after_change c.args.change (rows_of log)) = subst (λ (d : DraftState). AllHaveHeadroom d.moment (after_change c.args.change (rows_of d.log))) (sym c.self.view_is) (headroom_after c.args.self.now.moment c.args.self.now.log c.args.change c.requires) in
+            subst (λ (lists : Lists). AllHaveHeadroom inside.moment lists) (sym rows) after
+            ),
       ),
     )
 
