@@ -33,7 +33,7 @@ pub use moment::{Moment, moment_text, read_day, read_moment};
 pub use percent::Percent;
 pub use price_mode::{PriceMode, price};
 pub use refusal::ValueRefusal;
-pub use rows::{Row, Rows};
+pub use rows::{Row, Rows, place_of};
 pub use secrets::secret;
 pub use std_device::Device;
 pub use steps::Steps;

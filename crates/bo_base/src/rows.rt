@@ -125,8 +125,8 @@ impl<T: Row + Drop> Rows<T> {
     }
 }
 
-// Where the row of the id is, or where it would go.
-fn place_of<T: Row>(rows: &[T], id: u64) -> Result<usize, usize>
+/// Where the row of an id is in rows in order of id, or where it would go.
+pub fn place_of<T: Row>(rows: &[T], id: u64) -> Result<usize, usize>
     requires { AreInOrder T.key rows.now }
     ensures found { IfOk result (IsPlace T.key rows.now id) }
     ensures absent { IfErr result (IsGap T.key rows.now id) }

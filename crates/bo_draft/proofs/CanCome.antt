@@ -15,7 +15,7 @@ use Rattle.bo_lists.specs.Lists.{position_at}
 use Rattle.bo_lists.specs.Tests.{is_live_cart}
 use Rattle.bo_lists.proofs.EachRow.{all-with_row, all-without_row}
 use Rattle.bo_lists.proofs.Headroom.{headroom_put, headroom_drop}
-use Rattle.bo_draft.specs.DraftState.{Log, rows_of}
+use Rattle.bo_overlay.specs.Logs.{Log, IsSale, rows_of}
 use Rattle.bo_draft.specs.Shift.{CanCome}
 
 module _ (at : ℕ) (log : Log) (before : AllHaveHeadroom at (rows_of log)) where
@@ -56,3 +56,17 @@ headroom_after at log (PutOrder row) can = can.after
 headroom_after at log (PutPosition row) can = can.1.after
 headroom_after at log (PutWaiting row) can = can.after
 headroom_after at log (DropWaiting id) can = can.after
+
+-- what a draft can change is a sale
+pub can_sale : (at : ℕ) (log : Log) (change : Change) → CanCome at log change → IsSale change (rows_of log)
+can_sale at log (PutItem row) can = absurd can
+can_sale at log (PutVariation row) can = absurd can
+can_sale at log (PutQuota row) can = absurd can
+can_sale at log (PutPosition row) can = can.0
+can_sale at log (PutVoucher row) can = tt
+can_sale at log (PutCart row) can = tt
+can_sale at log (PutOrder row) can = tt
+can_sale at log (PutWaiting row) can = tt
+can_sale at log (DropVoucher id) can = tt
+can_sale at log (DropCart id) can = tt
+can_sale at log (DropWaiting id) can = tt

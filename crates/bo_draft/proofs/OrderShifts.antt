@@ -17,28 +17,9 @@ use Rattle.bo_lists.specs.Kept.{IsKept}
 use Rattle.bo_lists.specs.Usage.{usage_of, stands_as, blocked_by, is_covered_by}
 use Rattle.bo_lists.proofs.Time.{one, same_sums, gated}
 use Rattle.bo_lists.proofs.Orders.{counts, of_order, order_step, position_step, blocked_linear}
-use Rattle.bo_draft.specs.Shift.{KeepsHeadroom, count_ordered, if_stands, usage_with_order, usage_with_position}
-
--- the positions of an order have one status
-pub of_one : (test : Status → Bool) (more : OrderPos → Bool) (id : ℕ) (lists : Lists) → count_by (λ p. eqb id p.order && (stands_as test (order_at p.order lists) && more p)) lists.positions ≡ if_stands test (order_at id lists) (count_ordered id more lists)
-of_one test more id lists =
-    same_sums (λ p. one (eqb id p.order && (stands_as test (order_at p.order lists) && more p))) (λ p. one (stands_as test (order_at id lists) && (eqb id p.order && more p))) lists.positions
-    (λ p. turned (eqb id p.order) (stands_as test (order_at p.order lists)) (stands_as test (order_at id lists)) (more p) (λ e. same p.order e))
-    ∙ gated (stands_as test (order_at id lists)) (λ p. eqb id p.order && more p) lists.positions
-  where
-    same : (x : ℕ) → eqb id x ≡ true → stands_as test (order_at x lists) ≡ stands_as test (order_at id lists)
-    same x e =
-        let is : x ≡ id = grind (arith, nat_tests, e) in
-        ap (λ y. stands_as test (order_at y lists)) is
-
-    turned : (of s t m : Bool) → (of ≡ true → s ≡ t) → one (of && (s && m)) ≡ one (t && (of && m))
-    turned of s t m h = grind (arith, h)
-
--- a put order stands
-pub order_put_is : (order : Order) (lists : Lists) → order_at order.id (after_change (PutOrder order) lists) ≡ Some order
-order_put_is order lists =
-    let same : eqb order.id order.id ≡ true = grind (arith, nat_tests) in
-    row_at-with_row (λ r. r.id) order.id order lists.orders ∙ ap (λ b. if b then Some order else order_at order.id lists) same
+use Rattle.bo_draft.specs.Shift.{KeepsHeadroom, usage_with_order, usage_with_position}
+use Rattle.bo_overlay.proofs.OrderSums.{of_one, order_put_is}
+use Rattle.bo_overlay.specs.Ordered.{count_ordered, if_stands}
 
 module _ (lists : Lists) (at limit : ℕ) (kept : IsKept limit lists) (quota : Quota) where
   abbrev in_it : OrderPos → Bool

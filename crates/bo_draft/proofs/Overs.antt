@@ -5,8 +5,9 @@ use Rattle.bo_catalogue.specs.declared.rows.Quota.{Quota}
 use Rattle.bo_catalogue.specs.CatalogueLists.{CatalogueLists}
 use Rattle.bo_lists.specs.declared.rows.Own.{Own}
 use Rattle.bo_lists.specs.Lists.{Lists}
-use Rattle.bo_draft.specs.DraftState.{DraftState, MarkState, IsMarkOf, AreSales, now, back, usages_of}
-use Rattle.bo_draft.proofs.Sales.{sales_catalogue, sales_front}
+use Rattle.bo_draft.specs.DraftState.{DraftState, MarkState, IsMarkOf, now, back, usages_of}
+use Rattle.bo_overlay.specs.Logs.{AreSales}
+use Rattle.bo_overlay.proofs.Sales.{sales_catalogue, sales_front}
 use Rattle.bo_lists.specs.Usage.{usage_of}
 use Rattle.bo_lists.specs.Over.{first_over_among, is_over}
 

@@ -13,9 +13,11 @@ use Rattle.bo_lists.specs.Lists.{Lists}
 use Rattle.bo_lists.specs.Kept.{IsKept}
 use Rattle.bo_lists.specs.Change.{after_change}
 use Rattle.bo_lists.specs.Usage.{usage_of, cart_counts, blocked_by, waits_for}
-use Rattle.bo_draft.specs.DraftState.{Log, rows_of, usages_of}
+use Rattle.bo_overlay.specs.Logs.{Log, rows_of}
+use Rattle.bo_draft.specs.DraftState.{usages_of}
 use Rattle.bo_draft.specs.Shift.{CanCome, usage_after, usage_with_cart, usage_with_waiting}
-use Rattle.bo_draft.proofs.Sales.{can_sale, sale_catalogue}
+use Rattle.bo_draft.proofs.CanCome.{can_sale}
+use Rattle.bo_overlay.proofs.Sales.{sale_catalogue}
 use Rattle.bo_draft.proofs.VoucherShifts.{voucher_put, voucher_drop}
 use Rattle.bo_draft.proofs.OrderShifts.{order_put, position_put}
 

@@ -1,4 +1,3 @@
-pub mod Steps
+pub mod Uses
 pub mod DraftState
-pub mod Places
 pub mod Shift

@@ -17,7 +17,8 @@ use Rattle.bo_lists.specs.Lists.{Lists, voucher_at, cart_at, order_at, position_
 use Rattle.bo_lists.specs.Change.{after_change}
 use Rattle.bo_lists.specs.Usage.{usage_of, stands_as, position_counts, cart_counts, blocked_by, blocks_if, is_covered_by, waits_for}
 use Rattle.bo_lists.specs.Headroom.{held_in, AllHaveHeadroom}
-use Rattle.bo_draft.specs.DraftState.{Log, rows_of}
+use Rattle.bo_overlay.specs.Logs.{Log, rows_of}
+use Rattle.bo_overlay.specs.Ordered.{count_ordered, if_stands}
 
 -- a cart position counts once, or not
 abbrev pub cart_share : Lists → ℕ → Quota → Option CartPos → ℕ
@@ -60,10 +61,6 @@ usage_with_position lists at row quota = record (usage_of lists at quota) {
   blocked = (usage_of lists at quota).blocked - (if stands_as is_in_force (order_at row.order lists) && is_covered_by lists at quota row.voucher then 1 else 0);
 }
 
--- how many positions of the order pass
-abbrev pub count_ordered : ℕ → (OrderPos → Bool) → Lists → ℕ
-count_ordered id passes lists = count_by (λ p. id == p.order && passes p) lists.positions
-
 -- its positions in the quota
 abbrev pub ordered_in : Lists → Quota → ℕ → ℕ
 ordered_in lists quota id = count_ordered id (λ p. is_in quota p.product) lists
@@ -71,10 +68,6 @@ ordered_in lists quota id = count_ordered id (λ p. is_in quota p.product) lists
 -- its positions whose vouchers block places of the quota
 abbrev pub ordered_covered : Lists → ℕ → Quota → ℕ → ℕ
 ordered_covered lists at quota id = count_ordered id (λ p. is_covered_by lists at quota p.voucher) lists
-
--- as many, where the order has such a status
-abbrev pub if_stands : (Status → Bool) → Option Order → ℕ → ℕ
-if_stands test order count = if stands_as test order then count else 0
 
 -- the usage where this order stands in the place of its id: its positions count by the new status, and no more by the old one
 unfoldable pub usage_with_order : Lists → ℕ → Order → Quota → Usage

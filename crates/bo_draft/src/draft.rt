@@ -11,15 +11,19 @@ ghost use Rattle.bo_base.specs.Tables.{AreInOrder};
 ghost use Rattle.bo_lists.specs.Named.{voucher_of, is_used};
 ghost use Rattle.bo_lists.specs.Over.{first_over, is_over, is_free, weighed};
 ghost use Rattle.bo_lists.specs.Change.{changed};
-ghost use Rattle.bo_draft.specs.DraftState.{DraftState, MarkState, IsMarkOf, Extends, now, back, rows_of, usages_of};
+ghost use Rattle.bo_draft.specs.DraftState.{DraftState, MarkState, IsMarkOf, Extends, now, back, usages_of};
+ghost use Rattle.bo_overlay.specs.Logs.{rows_of};
 ghost use Rattle.bo_draft.specs.Shift.{CanCome};
 ghost use Rattle.bo_lists.specs.Usage.{usage_of, redeemed};
 
-use crate::overlay::Overlay;
+use crate::shift::{carts_after, usages_after};
+use crate::use_shift::use_shift;
+use crate::uses::Uses;
 use bo_base::codes::LAST_ORDER;
 use bo_base::{List, Moment, Steps, Text};
-use bo_catalogue::{Catalogue, LAST_ID, MOST_ROWS, Quota, takes_rows};
+use bo_catalogue::{Catalogue, LAST_ID, MOST_ROWS, takes_rows};
 use bo_lists::{CartPos, Change, Changes, NextIds, Order, OrderPos, Own, Usage, Voucher, Waiting};
+use bo_overlay::Overlay;
 use bo_usage::Book;
 use std::alloc::{AllocError, Global};
 use std::marker::{Brand, Model};
@@ -32,6 +36,7 @@ pub struct Mark {
     next: NextIds,
     usages: Vec<Usage>,
     carts: usize,
+    uses: Uses,
 }
 
 impl Model for Mark {
@@ -39,7 +44,7 @@ impl Model for Mark {
 
     ghost Value = { MarkState };
 
-    ghost view = { λ m. record { count = m.count; next = m.next; usages = m.usages.items; carts = m.carts } };
+    ghost view = { λ m. record { count = m.count; next = m.next; usages = m.usages.items; carts = m.carts; uses = m.uses } };
 }
 
 /// A book at a moment, with changes that aren't applied yet.
@@ -50,20 +55,23 @@ pub struct Draft<'a, B: Book> {
     moment: Moment,
     usages: Vec<Usage>,
     carts: usize,
+    uses: Uses,
 }
 
 impl<'a, B: Book> Model for Draft<'a, B> {
     ghost use Rattle.std.specs.Prelude.{◌≡◌, length};
-    ghost use Rattle.bo_draft.specs.DraftState.{DraftState, rows_of, usages_of};
+    ghost use Rattle.bo_draft.specs.DraftState.{DraftState, usages_of};
+    ghost use Rattle.bo_overlay.specs.Logs.{rows_of};
     ghost use Rattle.bo_lists.specs.Headroom.{AllHaveHeadroom};
+    ghost use Rattle.bo_draft.specs.Uses.{AreKept};
 
     ghost Value = { DraftState };
 
     ghost view = { λ d. record { log = d.overlay; next = d.next; moment = d.moment } };
 
-    // The usage of each quota and the number of cart positions are what counting afresh gives, and no voucher is used
-    // more often than it may be.
-    ghost invariant = { λ d. (d.usages.items ≡ usages_of (rows_of d.overlay) d.moment) × ((d.carts ≡ length (rows_of d.overlay).carts) × AllHaveHeadroom d.moment (rows_of d.overlay)) };
+    // The usage of each quota, the number of cart positions and the uses of vouchers are what counting afresh gives,
+    // and no voucher is used more often than it may be.
+    ghost invariant = { λ d. (d.usages.items ≡ usages_of (rows_of d.overlay) d.moment) × ((d.carts ≡ length (rows_of d.overlay).carts) × (AllHaveHeadroom d.moment (rows_of d.overlay) × AreKept d.moment d.overlay.base (rows_of d.overlay) d.uses)) };
 }
 
 impl<'a, B: Book> Draft<'a, B> {
@@ -84,6 +92,7 @@ impl<'a, B: Book> Draft<'a, B> {
             moment,
             usages,
             carts: book.carts().len(),
+            uses: Uses::new(alloc),
         })
     }
 
@@ -135,10 +144,16 @@ impl<'a, B: Book> Draft<'a, B> {
     }
 
     /// How often the voucher is used: by the positions of pending and paid orders, and by live cart positions.
-    pub fn uses(&self, voucher: u64) -> u64
+    pub fn uses(&self, voucher: u64) -> u128
         ensures { result ≡ redeemed voucher (now self.now).lists + held (now self.now).moment voucher (now self.now).lists }
     {
-        self.overlay.redeemed(voucher) + self.overlay.held(voucher, self.moment)
+        if !self.uses.are_known() {
+            let used = self.overlay.redeemed(voucher) + self.overlay.held(voucher, self.moment);
+            return u128::from(used);
+        }
+        let before = self.overlay.uses_before(voucher, self.moment);
+        let since = self.uses.of(voucher);
+        (u128::from(before) + u128::from(since.come)).saturating_sub(u128::from(since.gone))
     }
 
     /// The cart position of an id.
@@ -195,10 +210,7 @@ impl<'a, B: Book> Draft<'a, B> {
         };
         match self.overlay.voucher(id) {
             None => true,
-            Some(row) => {
-                let used = self.overlay.redeemed(row.id) + self.overlay.held(row.id, self.moment);
-                used < u64::from(row.max_usages)
-            }
+            Some(row) => self.uses(row.id) < u128::from(row.max_usages),
         }
     }
 
@@ -394,20 +406,21 @@ impl<'a, B: Book> Draft<'a, B> {
         self.change(alloc, Change::PutPosition(row))
     }
 
-    // Makes one change, with what it does to the usage of each quota and to the number of cart positions.
+    // Makes one change, with what it does to the usage of each quota, to the number of cart positions and to the uses
+    // of vouchers.
     fn change(&mut self, alloc: Global, change: Change) -> Result<(), AllocError>
         requires { CanCome self.old.moment self.old.log change }
         ensures ok { OnOk result (now self.new ≡ changed change (now self.old)) }
         ensures extends { Extends self.old self.new }
         ensures err { OnErr result (self.new ≡ self.old) }
     {
-        let usages = self
-            .overlay
-            .usages_after(alloc, self.moment, &self.usages, &change)?;
-        let carts = self.overlay.carts_after(self.carts, &change);
+        let usages = usages_after(&self.overlay, alloc, self.moment, &self.usages, &change)?;
+        let carts = carts_after(&self.overlay, self.carts, &change);
+        let shift = use_shift(&self.overlay, self.moment, &change);
         self.overlay.push(change)?;
         self.usages = usages;
         self.carts = carts;
+        self.uses.shift(shift);
         Ok(())
     }
 
@@ -421,6 +434,7 @@ impl<'a, B: Book> Draft<'a, B> {
             next: self.next,
             usages: self.usages.to_vec(alloc)?,
             carts: self.carts,
+            uses: self.uses.copy(alloc)?,
         })
     }
 
@@ -446,11 +460,13 @@ impl<'a, B: Book> Draft<'a, B> {
             next,
             usages,
             carts,
+            uses,
         } = mark;
         self.overlay.truncate(count);
         self.next = next;
         self.usages = usages;
         self.carts = carts;
+        self.uses = uses;
     }
 
     /// The changes, with the next ids that stand afterwards.
@@ -464,6 +480,7 @@ impl<'a, B: Book> Draft<'a, B> {
             moment: _,
             usages: _,
             carts: _,
+            uses: _,
         } = self;
         Changes::new(overlay.into_log(), next)
     }

@@ -293,7 +293,7 @@ fn uses_again<B: Book>(
     requires back { is_in_force row.now.status ≡ true }
     ensures { result ≡ redeemed voucher (after_change (PutOrder row.now) (now draft.now).lists) + held (now draft.now).moment voucher (now draft.now).lists }
 {
-    u128::from(draft.uses(voucher)) + named_by(positions, voucher) as u128
+    draft.uses(voucher) + named_by(positions, voucher) as u128
 }
 
 // How many of the positions name the voucher.

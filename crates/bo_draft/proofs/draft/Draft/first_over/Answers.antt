@@ -2,7 +2,8 @@ use Rattle.std.proofs.Common.{List, length, map, sym, ap, ◌∙◌, subst}
 use Rattle.std.proofs.lemmas.List.{length-map}
 use Rattle.bo_catalogue.specs.declared.rows.Quota.{Quota}
 use Rattle.bo_lists.specs.Usage.{usage_of}
-use Rattle.bo_draft.specs.DraftState.{DraftState, MarkState, AreSales, now, back, usages_of, rows_of}
+use Rattle.bo_draft.specs.DraftState.{DraftState, MarkState, now, back, usages_of}
+use Rattle.bo_overlay.specs.Logs.{AreSales, rows_of}
 use Rattle.bo_lists.specs.Over.{first_over_among}
 use Rattle.bo_draft.proofs.Overs.{among_all, usages_at}
 use Rattle.bo_draft.proofs.draft.Draft.first_over.Goals as goal

@@ -1,0 +1,61 @@
+-- The uses of vouchers, and how many of them came and went with the changes of a draft.
+use Rattle.std.specs.Prelude.{◌≡◌, ℕ, ◌+◌, Bool, true, List, Option, Some, None, if◌then◌else◌}
+use Rattle.bo_base.specs.Tables.{row_at, sum_at}
+use Rattle.bo_lists.specs.declared.changes.Change.{Change}
+use Rattle.bo_lists.specs.declared.rows.CartPos.{CartPos}
+use Rattle.bo_lists.specs.declared.rows.OrderPos.{OrderPos}
+use Rattle.bo_lists.specs.Change.{after_change}
+use Rattle.bo_lists.specs.Headroom.{held}
+use Rattle.bo_lists.specs.Lists.{Lists, order_at}
+use Rattle.bo_lists.specs.Tests.{is_in_force, is_live_cart, names}
+use Rattle.bo_lists.specs.Usage.{redeemed, stands_as}
+use Rattle.bo_draft.specs.declared.use_shift.UseShift.{UseShift}
+use Rattle.bo_draft.specs.declared.uses.UseCount.{UseCount}
+
+-- the uses of a voucher: by the positions of orders in force, and by live cart positions
+abbrev pub uses_of : ℕ → Lists → ℕ → ℕ
+uses_of at lists voucher = redeemed voucher lists + held at voucher lists
+
+-- one use, where the name is the voucher's
+abbrev pub one_use : ℕ → Option ℕ → ℕ
+one_use voucher name = if names voucher name then 1 else 0
+
+-- the voucher of which a cart position holds a use: the one that it names, while it lives
+abbrev pub held_by : ℕ → Option CartPos → Option ℕ
+held_by at None = None
+held_by at (Some cart) = if is_live_cart at cart then cart.voucher else None
+
+-- the voucher that an order position uses: the one that it names, while its order is in force
+abbrev pub used_by : Lists → OrderPos → Option ℕ
+used_by lists position = if stands_as is_in_force (order_at position.order lists) then position.voucher else None
+
+-- with the change the uses of each voucher are more by one where a use comes, and less by one where one goes
+abbrev pub IsShift : ℕ → Change → Lists → UseShift → Type 0
+IsShift at change lists shift = (voucher : ℕ) → uses_of at (after_change change lists) voucher + one_use voucher shift.gone ≡ uses_of at lists voucher + one_use voucher shift.come
+
+-- how often a use of the voucher came; never where it has no row
+abbrev pub came : ℕ → List UseCount → ℕ
+came voucher rows = sum_at (λ r. r.come) (row_at (λ r. r.voucher) voucher rows)
+
+-- how often one went
+abbrev pub went : ℕ → List UseCount → ℕ
+went voucher rows = sum_at (λ r. r.gone) (row_at (λ r. r.voucher) voucher rows)
+
+-- counts by voucher, and whether they are known
+pub record UsesState : Type 0 where
+  pub rows : List UseCount
+  pub known : Bool
+
+-- where they are known, the uses of each voucher are those of the book with what came and without what went
+abbrev pub AreKept : ℕ → Lists → Lists → UsesState → Type 0
+AreKept at base lists uses = uses.known ≡ true → (voucher : ℕ) → uses_of at lists voucher + went voucher uses.rows ≡ uses_of at base voucher + came voucher uses.rows
+
+-- the new rows count one use more of each name
+pub record CountsMore (come gone : Option ℕ) (old new : List UseCount) : Type 0 where
+  pub comes : (voucher : ℕ) → came voucher new ≡ came voucher old + one_use voucher come
+  pub goes : (voucher : ℕ) → went voucher new ≡ went voucher old + one_use voucher gone
+
+-- the new rows count the shift; none counts the uses of a whole order
+abbrev pub CountsShift : Option UseShift → List UseCount → List UseCount → Type 0
+CountsShift None old new = ⊥
+CountsShift (Some shift) old new = CountsMore shift.come shift.gone old new

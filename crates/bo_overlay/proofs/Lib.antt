@@ -1,0 +1,9 @@
+pub mod LastPlaces
+pub mod Indexes
+pub mod EarlierPlaces
+pub mod Steps
+pub mod Sales
+pub mod Kept
+pub mod OrderSums
+pub mod Holds
+pub mod Redeems

@@ -1,0 +1,4 @@
+pub mod Logs
+pub mod Steps
+pub mod Ordered
+pub mod Places

@@ -1,0 +1,9 @@
+//! The rows of a book with changes laid over it: look-ups, counts, and what a request takes too much of.
+#![tactic(auto)]
+
+mod cart_tests;
+mod change_log;
+mod overlay;
+mod touched;
+
+pub use overlay::{Overlay, count_if};

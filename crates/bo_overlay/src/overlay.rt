@@ -1,0 +1,582 @@
+//! The rows of a book, with changes.
+
+ghost use Rattle.std.specs.Prelude.{◌≡◌, ◌++◌, [], ◌∷◌, IfOk, OnOk, OnErr, length, take, ◌≤◌, ◌<◌, ◌+◌, ◌-◌, ◌^◌, ◌==◌, ◌&&◌, count_by, map, if◌then◌else◌};
+ghost use Rattle.std.specs.Option.{option_copied};
+ghost use Rattle.bo_lists.specs.Change.{after_change, after_all};
+ghost use Rattle.bo_lists.specs.Lists.{voucher_at, cart_at, order_at, position_at, positions_of, waiting_at};
+ghost use Rattle.bo_lists.specs.Named.{voucher_of, is_used};
+ghost use Rattle.bo_lists.specs.Consumed.{consumed};
+ghost use Rattle.bo_lists.specs.Kept.{IsKept};
+ghost use Rattle.bo_base.specs.Tables.{sum_at};
+ghost use Rattle.bo_lists.specs.Headroom.{held, held_in};
+ghost use Rattle.bo_overlay.specs.Logs.{Log, rows_of, rows_at, IsSale, AreSales};
+ghost use Rattle.bo_lists.specs.Tests.{is_in_force, names, holds};
+ghost use Rattle.bo_overlay.specs.Ordered.{count_ordered};
+ghost use Rattle.bo_lists.specs.Over.{is_free, is_free_cart, is_free_position, ignores, weighed, is_over_size, first_over_among};
+ghost use Rattle.bo_lists.specs.Total.{total};
+ghost use Rattle.bo_lists.specs.Usage.{usage_of, stands_as, uses, redeemed, is_covered_by, is_covered, cart_counts, position_counts};
+ghost use Rattle.bo_overlay.specs.Steps.{voucher_put, cart_put, order_put, position_put, waiting_put, puts};
+
+use crate::cart_tests::{CartTest, Holds, HoldsIn};
+use crate::change_log::{ChangeLog, Table};
+use bo_base::{List, Moment, Text};
+use bo_catalogue::{Catalogue, Quota};
+use bo_lists::{CartPos, Change, Order, OrderPos, Own, Usage, Voucher, Waiting};
+use bo_usage::{Book, PositionTest};
+use std::alloc::{AllocError, Global};
+use std::marker::Model;
+
+/// The rows of a book, with changes that aren't applied yet.
+#[derive(Drop)]
+pub struct Overlay<'a, B: Book> {
+    book: &'a B,
+    log: ChangeLog,
+}
+
+impl<'a, B: Book> Model for Overlay<'a, B> {
+    ghost use Rattle.std.specs.Prelude.{◌≤◌, length};
+    ghost use Rattle.bo_overlay.specs.Logs.{Log, AreSales};
+
+    ghost Value = { Log };
+
+    ghost view = { λ s. record { base = (B.state s.book.now).lists; changes = s.log } };
+
+    // What is for sale is as in the book, and each order position that is put is a new one.
+    ghost invariant = { λ s. (length s.log ≤ 4294967296) × AreSales s.log (B.state s.book.now).lists };
+}
+
+impl<'a, B: Book> Overlay<'a, B> {
+    pub fn new(alloc: Global, book: &'a B) -> Self
+        ensures base { result.base ≡ (B.state book.now).lists }
+        ensures log { result.changes ≡ [] }
+    {
+        Overlay {
+            book,
+            log: ChangeLog::new(alloc),
+        }
+    }
+
+    pub fn catalogue(&self) -> &Catalogue
+        ensures { result.now.lists ≡ (rows_of self.now).catalogue }
+    {
+        self.book.catalogue()
+    }
+
+    /// The first voucher with that code, where no voucher has changed.
+    pub fn voucher_of(&self, code: &str) -> Option<&Voucher>
+        requires { (rows_of self.now).vouchers ≡ self.now.base.vouchers }
+        ensures { option_copied result ≡ voucher_of code.now (rows_of self.now) }
+    {
+        self.book.voucher_of(code)
+    }
+
+    /// Whether a row names the voucher, where nothing has changed.
+    pub fn is_used(&self, voucher: u64) -> bool
+        requires { self.now.changes ≡ [] }
+        ensures { result ≡ is_used voucher (rows_of self.now) }
+    {
+        self.book.is_used(voucher)
+    }
+
+    /// How many vouchers there are, where nothing has changed.
+    pub fn voucher_count(&self) -> usize
+        requires { self.now.changes ≡ [] }
+        ensures { result ≡ length (rows_of self.now).vouchers }
+    {
+        self.book.vouchers().len()
+    }
+
+    /// All orders, by id, where none has changed.
+    pub fn orders(&self) -> &[Order]
+        requires { (rows_of self.now).orders ≡ self.now.base.orders }
+        ensures { result.now ≡ (rows_of self.now).orders }
+    {
+        self.book.orders()
+    }
+
+    /// All order positions, by id, where none has changed.
+    pub fn positions(&self) -> &[OrderPos]
+        requires { (rows_of self.now).positions ≡ self.now.base.positions }
+        ensures { result.now ≡ (rows_of self.now).positions }
+    {
+        self.book.positions()
+    }
+
+    /// Copies of the positions of an order, by id, where no order position has changed.
+    pub fn positions_of(&self, alloc: Global, order: u64) -> Result<List<OrderPos>, AllocError>
+        requires { (rows_of self.now).positions ≡ self.now.base.positions }
+        ensures { IfOk result (λ rows. rows ≡ positions_of order (rows_of self.now)) }
+    {
+        self.book.positions_of(alloc, order)
+    }
+
+    /// The ids of the cart positions of these carts, where no cart position has changed.
+    pub fn carts_in(&self, alloc: Global, carts: &[Text]) -> Result<Vec<u64>, AllocError>
+        requires { (rows_of self.now).carts ≡ self.now.base.carts }
+        ensures { IfOk result (λ ids. ids.items ≡ consumed carts.now (rows_of self.now)) }
+    {
+        self.book.carts_in(alloc, carts)
+    }
+
+    /// One more change, or a refusal where 2^32 stand.
+    pub fn push(&mut self, change: Change) -> Result<(), AllocError>
+        requires { IsSale change (rows_of self.old) }
+        ensures ok { OnOk result (self.new ≡ record self.old { changes = self.old.changes ++ change ∷ [] }) }
+        ensures err { OnErr result (self.new ≡ self.old) }
+    {
+        if self.log.len() == 4294967296 {
+            return Err(AllocError);
+        }
+        self.log.push(change)?;
+        Ok(())
+    }
+
+    /// How often orders that stand use the voucher.
+    pub fn redeemed(&self, voucher: u64) -> u64
+        ensures value { result ≡ redeemed voucher (rows_of self.now) }
+        ensures few { result ≤ 8589934592 }
+    {
+        let mut count = self.book.redeemed(voucher);
+        for i in 0..self.log.len() {
+            count = self.redeemed_after(i, voucher, count);
+        }
+        count
+    }
+
+    /// How often the voucher was used before the changes: by orders that stood and by carts that are live at a moment.
+    pub fn uses_before(&self, voucher: u64, at: Moment) -> u64
+        ensures value { result ≡ redeemed voucher self.now.base + held at voucher self.now.base }
+        ensures few { result ≤ 8589934592 }
+    {
+        self.book.redeemed(voucher) + self.book.held(voucher, at)
+    }
+
+    // The count after one more change.
+    fn redeemed_after(&self, i: usize, voucher: u64, count: u64) -> u64
+        requires place { i < length self.now.changes }
+        requires before { count ≡ redeemed voucher (rows_at i self.now) }
+        requires few { count ≤ 4294967296 + i }
+        ensures value { result ≡ redeemed voucher (rows_at (i + 1) self.now) }
+        ensures few { result ≤ 4294967296 + i + 1 }
+    {
+        self.book.known();
+        match self.log.get(i) {
+            Change::PutOrder(row) => {
+                let own = self.count_ordered(i, row.id, &Names { voucher });
+                let more = count_if(row.status.is_in_force(), own);
+                let less = count_if(self.is_in_force_at(i, row.id), own);
+                (count + more).saturating_sub(less)
+            }
+            Change::PutPosition(row) => count + u64::from(self.uses_at(i, voucher, row)),
+            _ => count,
+        }
+    }
+
+    // Whether an order position used the voucher before a change.
+    fn uses_at(&self, i: usize, voucher: u64, position: &OrderPos) -> bool
+        requires { i ≤ length self.now.changes }
+        ensures { result ≡ uses voucher (rows_at i self.now) position.now }
+    {
+        position.voucher == Some(voucher) && self.is_in_force_at(i, position.order)
+    }
+
+    // Whether the order stood before a change, so that its positions used vouchers.
+    fn is_in_force_at(&self, i: usize, id: u64) -> bool
+        requires { i ≤ length self.now.changes }
+        ensures { result ≡ stands_as is_in_force (order_at id (rows_at i self.now)) }
+    {
+        match self.order_at(i, id) {
+            None => false,
+            Some(order) => order.status.is_in_force(),
+        }
+    }
+
+    // The order as it was before a change.
+    fn order_at(&self, i: usize, id: u64) -> Option<&Order>
+        requires { i ≤ length self.now.changes }
+        ensures { option_copied result ≡ order_at id (rows_at i self.now) }
+    {
+        match self.log.last_before(i, Table::Orders, id) {
+            None => self.book.order(id),
+            Some(place) => order_put(self.log.get(place)),
+        }
+    }
+
+    /// How many positions of the order, as they were before a change, pass the test.
+    pub fn count_ordered<T: PositionTest>(&self, i: usize, order: u64, test: &T) -> u64
+        requires { i ≤ length self.now.changes }
+        ensures value { result ≡ count_ordered order (T.passes test.now) (rows_at i self.now) }
+        ensures few { result ≤ 8589934592 }
+    {
+        self.book.known();
+        let kept = self.book.count_ordered(order, test);
+        kept + self.count_put(i, order, test)
+    }
+
+    // How many of them the changes before that one put.
+    fn count_put<T: PositionTest>(&self, i: usize, order: u64, test: &T) -> u64
+        requires { i ≤ length self.now.changes }
+        ensures value { result ≡ count_by (puts (λ p. order == p.order && T.passes test.now p)) (take i self.now.changes) }
+        ensures few { result ≤ 4294967296 }
+    {
+        let log = self.log.as_slice();
+        log[..i]
+            .iter()
+            .filter(|change| puts_ordered(change, order, test))
+            .count() as u64
+    }
+
+    /// How many cart positions that are live at a moment name the voucher.
+    pub fn held(&self, voucher: u64, at: Moment) -> u64
+        ensures value { result ≡ held at voucher (rows_of self.now) }
+        ensures few { result ≤ 8589934592 }
+    {
+        let count = self.book.held(voucher, at);
+        self.count_carts(count, &Holds { at, voucher })
+    }
+
+    /// How many of them are for a product of the quota.
+    pub fn held_in(&self, voucher: u64, quota: &Quota, at: Moment) -> u64
+        ensures { result ≡ held_in at quota.now voucher (rows_of self.now) }
+    {
+        let count = self.book.held_in(voucher, quota, at);
+        self.count_carts(count, &HoldsIn { at, voucher, quota })
+    }
+
+    // How many cart positions pass the test, by the number in the book.
+    fn count_carts<T: CartTest>(&self, book: u64, test: &T) -> u64
+        requires before { book ≡ count_by (T.passes test.now) self.now.base.carts }
+        requires few { book ≤ 4294967296 }
+        ensures value { result ≡ count_by (T.passes test.now) (rows_of self.now).carts }
+        ensures few { result ≤ 8589934592 }
+    {
+        let mut count = book;
+        for i in 0..self.log.len() {
+            count = self.count_after(i, test, count);
+        }
+        count
+    }
+
+    // The count after one more change.
+    fn count_after<T: CartTest>(&self, i: usize, test: &T, count: u64) -> u64
+        requires place { i < length self.now.changes }
+        requires before { count ≡ count_by (T.passes test.now) (rows_at i self.now).carts }
+        requires few { count ≤ 4294967296 + i }
+        ensures value { result ≡ count_by (T.passes test.now) (rows_at (i + 1) self.now).carts }
+        ensures few { result ≤ 4294967296 + i + 1 }
+    {
+        self.book.known();
+        match self.log.get(i) {
+            Change::PutCart(row) => {
+                let come = u64::from(test.passes(row));
+                let gone = self.count_at(i, row.id, test);
+                (count + come).saturating_sub(gone)
+            }
+            Change::DropCart(id) => count.saturating_sub(self.count_at(i, *id, test)),
+            _ => count,
+        }
+    }
+
+    // Whether the row that a cart position had before a change passes the test.
+    fn count_at<T: CartTest>(&self, i: usize, id: u64, test: &T) -> u64
+        requires { i ≤ length self.now.changes }
+        ensures { result ≡ sum_at (λ c. if T.passes test.now c then 1 else 0) (cart_at id (rows_at i self.now)) }
+    {
+        match self.cart_at(i, id) {
+            None => 0,
+            Some(cart) => u64::from(test.passes(cart)),
+        }
+    }
+
+    // The cart position as it was before a change.
+    fn cart_at(&self, i: usize, id: u64) -> Option<&CartPos>
+        requires { i ≤ length self.now.changes }
+        ensures { option_copied result ≡ cart_at id (rows_at i self.now) }
+    {
+        match self.log.last_before(i, Table::Carts, id) {
+            None => self.book.cart(id),
+            Some(place) => cart_put(self.log.get(place)),
+        }
+    }
+
+    /// Ids rise in each list of sales, no list is too long to be counted, and what is for sale hasn't changed.
+    pub fn known(&self)
+        ensures kept { IsKept (4294967296 + length self.now.changes) (rows_of self.now) }
+        ensures few { length self.now.changes ≤ 4294967296 }
+        ensures sales { AreSales self.now.changes self.now.base }
+    {
+        self.book.known();
+    }
+
+    pub fn len(&self) -> usize
+        ensures value { result ≡ length self.now.changes }
+        ensures few { result ≤ 4294967296 }
+    {
+        self.log.len()
+    }
+
+    pub fn is_covered(&self, at: Moment, quota: &Quota, cart: &CartPos) -> bool
+        ensures { result ≡ is_covered (rows_of self.now) at quota.now cart.now }
+    {
+        self.covers(at, quota, cart.voucher)
+    }
+
+    /// Whether a row's voucher blocks places of the quota.
+    pub fn covers(&self, at: Moment, quota: &Quota, voucher: Option<u64>) -> bool
+        ensures { result ≡ is_covered_by (rows_of self.now) at quota.now voucher }
+    {
+        match voucher {
+            None => false,
+            Some(id) => match self.voucher(id) {
+                None => false,
+                Some(voucher) => voucher.blocks(at, quota),
+            },
+        }
+    }
+
+    pub fn cart_counts(&self, at: Moment, quota: &Quota, cart: &CartPos) -> bool
+        ensures { result ≡ cart_counts (rows_of self.now) at quota.now cart.now }
+    {
+        cart.is_live(at) && quota.has(cart.product) && !self.is_covered(at, quota, cart)
+    }
+
+    // Whether a request's own row counts in the quota, and its voucher ignores quotas.
+    fn is_free(&self, at: Moment, quota: &Quota, own: Own) -> bool
+        ensures { result ≡ is_free (rows_of self.now) at quota.now own }
+    {
+        match own {
+            Own::Cart(id) => self.is_free_cart(at, quota, self.cart(id)),
+            Own::Position(id) => self.is_free_position(quota, self.position(id)),
+        }
+    }
+
+    fn is_free_cart(&self, at: Moment, quota: &Quota, cart: Option<&CartPos>) -> bool
+        ensures { result ≡ is_free_cart (rows_of self.now) at quota.now (option_copied cart.entry) }
+    {
+        match cart {
+            None => false,
+            Some(cart) => self.cart_counts(at, quota, cart) && self.ignores(cart.voucher),
+        }
+    }
+
+    fn is_free_position(&self, quota: &Quota, position: Option<&OrderPos>) -> bool
+        ensures { result ≡ is_free_position (rows_of self.now) quota.now (option_copied position.entry) }
+    {
+        match position {
+            None => false,
+            Some(row) => self.position_counts(quota, row) && self.ignores(row.voucher),
+        }
+    }
+
+    // Whether an order position is for a product of the quota, and its order is paid or pending.
+    fn position_counts(&self, quota: &Quota, position: &OrderPos) -> bool
+        ensures { result ≡ position_counts is_in_force (rows_of self.now) quota.now position.now }
+    {
+        let in_force = match self.order(position.order) {
+            None => false,
+            Some(order) => order.status.is_in_force(),
+        };
+        in_force && quota.has(position.product)
+    }
+
+    fn ignores(&self, voucher: Option<u64>) -> bool
+        ensures { result ≡ ignores (rows_of self.now) voucher }
+    {
+        match voucher {
+            None => false,
+            Some(id) => self.voucher(id).is_some_and(|v| v.allow_ignore_quota),
+        }
+    }
+
+    fn free_count(&self, at: Moment, quota: &Quota, own: &[Own]) -> usize
+        ensures { result ≡ count_by (is_free (rows_of self.now) at quota.now) own.now }
+    {
+        own.iter()
+            .filter(|row| self.is_free(at, quota, **row))
+            .count()
+    }
+
+    /// Whether a request takes too much of a quota that was used and is used as these say.
+    #[tactic(auto, unfolding(bo_lists::specs::Over::weighed))]
+    pub fn is_over(
+        &self,
+        at: Moment,
+        quota: &Quota,
+        own: &[Own],
+        before: &Usage,
+        after: &Usage,
+    ) -> bool
+        requires { after.now ≡ usage_of (rows_of self.now) at quota.now }
+        ensures { result ≡ is_over_size quota.now.size (total before.now) (weighed (rows_of self.now) at quota.now own.now) }
+    {
+        let Some(size) = quota.size else {
+            return false;
+        };
+        let weight = after
+            .total()
+            .saturating_sub(self.free_count(at, quota, own) as u128);
+        u128::from(size) < weight && before.total() < weight
+    }
+
+    /// The first of the quotas of which a request takes too much, by their usage before and after it.
+    pub fn first_over(
+        &self,
+        at: Moment,
+        quotas: &[Quota],
+        own: &[Own],
+        before: &[Usage],
+        after: &[Usage],
+    ) -> Option<u64>
+        requires before { length before.now ≡ length quotas.now }
+        requires after { after.now ≡ map (usage_of (rows_of self.now) at) quotas.now }
+        ensures { result ≡ first_over_among (rows_of self.now) at own.now before.now quotas.now }
+    {
+        for i in 0..quotas.len() {
+            let quota = &quotas[i];
+            if self.is_over(at, quota, own, &before[i], &after[i]) {
+                return Some(quota.id);
+            }
+        }
+        None
+    }
+
+    pub fn truncate(&mut self, count: usize)
+        requires { count ≤ length self.old.changes }
+        ensures { self.new ≡ record self.old { changes = take count self.old.changes } }
+    {
+        self.log.truncate(count);
+    }
+
+    pub fn into_log(self) -> Vec<Change>
+        ensures { result.items ≡ self.entry.changes }
+    {
+        let Overlay { book: _, log } = self;
+        log.into_vec()
+    }
+
+    pub fn voucher(&self, id: u64) -> Option<&Voucher>
+        ensures { option_copied result ≡ voucher_at id (rows_of self.now) }
+    {
+        match self.log.last(Table::Vouchers, id) {
+            None => self.book.voucher(id),
+            Some(place) => voucher_put(self.log.get(place)),
+        }
+    }
+
+    pub fn cart(&self, id: u64) -> Option<&CartPos>
+        ensures { option_copied result ≡ cart_at id (rows_of self.now) }
+    {
+        match self.log.last(Table::Carts, id) {
+            None => self.book.cart(id),
+            Some(place) => cart_put(self.log.get(place)),
+        }
+    }
+
+    pub fn order(&self, id: u64) -> Option<&Order>
+        ensures { option_copied result ≡ order_at id (rows_of self.now) }
+    {
+        match self.log.last(Table::Orders, id) {
+            None => self.book.order(id),
+            Some(place) => order_put(self.log.get(place)),
+        }
+    }
+
+    pub fn position(&self, id: u64) -> Option<&OrderPos>
+        ensures { option_copied result ≡ position_at id (rows_of self.now) }
+    {
+        match self.log.last(Table::Positions, id) {
+            None => self.book.position(id),
+            Some(place) => position_put(self.log.get(place)),
+        }
+    }
+
+    pub fn waiting(&self, id: u64) -> Option<&Waiting>
+        ensures { option_copied result ≡ waiting_at id (rows_of self.now) }
+    {
+        match self.log.last(Table::Waiting, id) {
+            None => self.book.entry(id),
+            Some(place) => waiting_put(self.log.get(place)),
+        }
+    }
+}
+
+// The voucher that a change puts.
+fn voucher_put(change: &Change) -> Option<&Voucher>
+    ensures { option_copied result ≡ voucher_put change.now }
+{
+    match change {
+        Change::PutVoucher(row) => Some(row),
+        _ => None,
+    }
+}
+
+// The cart position that a change puts.
+fn cart_put(change: &Change) -> Option<&CartPos>
+    ensures { option_copied result ≡ cart_put change.now }
+{
+    match change {
+        Change::PutCart(row) => Some(row),
+        _ => None,
+    }
+}
+
+// The waiting entry that a change puts.
+fn waiting_put(change: &Change) -> Option<&Waiting>
+    ensures { option_copied result ≡ waiting_put change.now }
+{
+    match change {
+        Change::PutWaiting(row) => Some(row),
+        _ => None,
+    }
+}
+
+// The order that a change puts.
+fn order_put(change: &Change) -> Option<&Order>
+    ensures { option_copied result ≡ order_put change.now }
+{
+    match change {
+        Change::PutOrder(row) => Some(row),
+        _ => None,
+    }
+}
+
+// The order position that a change puts.
+fn position_put(change: &Change) -> Option<&OrderPos>
+    ensures { option_copied result ≡ position_put change.now }
+{
+    match change {
+        Change::PutPosition(row) => Some(row),
+        _ => None,
+    }
+}
+
+/// All of a count, or nothing.
+pub fn count_if(test: bool, count: u64) -> u64
+    ensures { result ≡ (if test then count else 0) }
+{
+    if test { count } else { 0 }
+}
+
+// Whether the change puts a position of the order that passes the test.
+fn puts_ordered<T: PositionTest>(change: &Change, order: u64, test: &T) -> bool
+    ensures { result ≡ puts (λ p. order == p.order && T.passes test.now p) change.now }
+{
+    match change {
+        Change::PutPosition(row) => row.order == order && test.passes(row),
+        _ => false,
+    }
+}
+
+// A test of order positions: those that name the voucher.
+#[derive(Drop)]
+struct Names {
+    voucher: u64,
+}
+
+impl PositionTest for Names {
+    ghost passes = { λ t p. names t.voucher p.voucher };
+
+    fn passes(&self, position: &OrderPos) -> bool {
+        position.voucher == Some(self.voucher)
+    }
+}
