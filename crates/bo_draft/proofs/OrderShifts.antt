@@ -1,9 +1,6 @@
 -- The usage after a new order position, and after an order's status changed.
-use Rattle.std.proofs.Common.{◌≡◌, ℕ, Bool, true, ◌&&◌, eqb, Some, None, ap, ◌∙◌, count_by, arith}
-use Rattle.std.specs.Prelude.{if◌then◌else◌}
-use Rattle.std.proofs.lemmas.Bool.Decides.{nat_tests}
+use Rattle.std.proofs.Common.{◌≡◌, ℕ, Bool, ◌&&◌, Some, None, ap, ◌∙◌, count_by, arith}
 use Rattle.bo_base.specs.Tables.{sum_at}
-use Rattle.bo_base.proofs.Edits.{row_at-with_row}
 use Rattle.bo_catalogue.specs.declared.rows.Quota.{Quota}
 use Rattle.bo_catalogue.specs.Member.{is_in}
 use Rattle.bo_lists.specs.declared.rows.Order.{Order}
@@ -14,8 +11,8 @@ use Rattle.bo_lists.specs.Tests.{is_paid, is_pending, is_in_force}
 use Rattle.bo_lists.specs.Lists.{Lists, order_at, position_at}
 use Rattle.bo_lists.specs.Change.{after_change}
 use Rattle.bo_lists.specs.Kept.{IsKept}
-use Rattle.bo_lists.specs.Usage.{usage_of, stands_as, blocked_by, is_covered_by}
-use Rattle.bo_lists.proofs.Time.{one, same_sums, gated}
+use Rattle.bo_lists.specs.Usage.{usage_of, blocked_by, is_covered_by}
+use Rattle.bo_lists.proofs.Time.{one}
 use Rattle.bo_lists.proofs.Orders.{counts, of_order, order_step, position_step, blocked_linear}
 use Rattle.bo_draft.specs.Shift.{KeepsHeadroom, usage_with_order, usage_with_position}
 use Rattle.bo_overlay.proofs.OrderSums.{of_one, order_put_is}

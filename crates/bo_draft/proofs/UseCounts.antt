@@ -10,7 +10,7 @@ use Rattle.bo_lists.specs.declared.changes.Change.{Change}
 use Rattle.bo_lists.specs.Lists.{Lists}
 use Rattle.bo_draft.specs.declared.use_shift.UseShift.{UseShift}
 use Rattle.bo_draft.specs.declared.uses.UseCount.{UseCount}
-use Rattle.bo_draft.specs.Uses.{came, went, uses_of, IsShift, UsesState, AreKept, CountsShift}
+use Rattle.bo_draft.specs.Uses.{IsShift, UsesState, AreKept, CountsShift}
 
 -- a row that is put adds to its voucher's counts
 module _ (part : UseCount → ℕ) (row : UseCount) (rows : List UseCount) (more : ℕ) where

@@ -1,6 +1,6 @@
 -- What a change shifts of the uses of vouchers.
 use mathlib.Core.Bool.{beq}
-use Rattle.std.proofs.Common.{◌≡◌, ℕ, ◌+◌, ◌≤◌, Bool, true, false, ◌&&◌, eqb, List, [], ◌∷◌, Option, None, Some, refl, ap, count_by, arith}
+use Rattle.std.proofs.Common.{◌≡◌, ℕ, ◌≤◌, Bool, true, false, ◌&&◌, eqb, List, [], ◌∷◌, Option, None, Some, refl, ap, count_by, arith}
 use Rattle.std.proofs.lemmas.List.Sums.{sum_by-cons}
 use Rattle.std.specs.Prelude.{if◌then◌else◌}
 use Rattle.bo_base.specs.Tables.{sum_at, AreInOrder}
@@ -16,7 +16,6 @@ use Rattle.bo_lists.specs.Usage.{redeemed, stands_as, uses}
 use Rattle.bo_lists.proofs.Time.{one}
 use Rattle.bo_overlay.specs.Ordered.{count_ordered, if_stands}
 use Rattle.bo_overlay.proofs.Redeems.{named, redeemed_order, redeemed_position}
-use Rattle.bo_draft.specs.declared.use_shift.UseShift.{UseShift}
 use Rattle.bo_draft.specs.Uses.{one_use, held_by, used_by, IsShift}
 
 held_is : (at v : ℕ) (cart : Option CartPos) → sum_at (λ c. if holds at v c then 1 else 0) cart ≡ one_use v (held_by at cart)

@@ -1,6 +1,6 @@
 //! A book with changes that aren't applied yet.
 
-ghost use Rattle.std.specs.Prelude.{true, not, ◌||◌, ◌≡◌, ◌++◌, [], ◌∷◌, ◌≤◌, ◌<◌, ◌+◌, ◌-◌, ◌^◌, ℕ, IfOk, OnOk, OnErr, length, slice_get, Some, None, count_by};
+ghost use Rattle.std.specs.Prelude.{true, not, ◌||◌, ◌≡◌, [], ◌≤◌, ◌<◌, ◌+◌, ◌-◌, IfOk, OnOk, OnErr, length, Some, None};
 ghost use Rattle.std.specs.Option.{option_copied};
 ghost use Rattle.bo_lists.specs.Full.{takes_cart, takes_voucher, takes_order, takes_positions};
 ghost use Rattle.bo_lists.specs.Lists.{voucher_at, cart_at, order_at, position_at, positions_of, waiting_at};
@@ -9,12 +9,12 @@ ghost use Rattle.bo_lists.specs.Headroom.{has_use, held, HasHeadroom, AllHaveHea
 ghost use Rattle.bo_lists.specs.Tests.{is_live_cart};
 ghost use Rattle.bo_base.specs.Tables.{AreInOrder};
 ghost use Rattle.bo_lists.specs.Named.{voucher_of, is_used};
-ghost use Rattle.bo_lists.specs.Over.{first_over, is_over, is_free, weighed};
+ghost use Rattle.bo_lists.specs.Over.{first_over};
 ghost use Rattle.bo_lists.specs.Change.{changed};
 ghost use Rattle.bo_draft.specs.DraftState.{DraftState, MarkState, IsMarkOf, Extends, now, back, usages_of};
 ghost use Rattle.bo_overlay.specs.Logs.{rows_of};
 ghost use Rattle.bo_draft.specs.Shift.{CanCome};
-ghost use Rattle.bo_lists.specs.Usage.{usage_of, redeemed};
+ghost use Rattle.bo_lists.specs.Usage.{redeemed};
 
 use crate::shift::{carts_after, usages_after};
 use crate::use_shift::use_shift;
@@ -145,8 +145,10 @@ impl<'a, B: Book> Draft<'a, B> {
 
     /// How often the voucher is used: by the positions of pending and paid orders, and by live cart positions.
     pub fn uses(&self, voucher: u64) -> u128
-        ensures { result ≡ redeemed voucher (now self.now).lists + held (now self.now).moment voucher (now self.now).lists }
+        ensures value { result ≡ redeemed voucher (now self.now).lists + held (now self.now).moment voucher (now self.now).lists }
+        ensures few { result ≤ 17179869184 }
     {
+        self.overlay.known();
         if !self.uses.are_known() {
             let used = self.overlay.redeemed(voucher) + self.overlay.held(voucher, self.moment);
             return u128::from(used);

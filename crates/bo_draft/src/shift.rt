@@ -1,6 +1,6 @@
 //! What a change of one row does to the usage of each quota.
 
-ghost use Rattle.std.specs.Prelude.{◌≡◌, ℕ, ◌+◌, ◌-◌, IfOk, [], length, map, Some, None, if◌then◌else◌};
+ghost use Rattle.std.specs.Prelude.{◌≡◌, ◌+◌, ◌-◌, IfOk, length, map, Some, None, if◌then◌else◌};
 ghost use Rattle.std.specs.Option.{option_copied};
 ghost use Rattle.bo_base.specs.Tables.{sum_at};
 ghost use Rattle.bo_lists.specs.Change.{after_change};
@@ -350,8 +350,8 @@ fn is_pending(order: Option<&Order>) -> bool
     }
 }
 
-// Whether an order stands and its positions use vouchers.
-fn is_in_force(order: Option<&Order>) -> bool
+/// Whether an order stands and its positions use vouchers.
+pub fn is_in_force(order: Option<&Order>) -> bool
     ensures { result ≡ stands_as is_in_force (option_copied order.entry) }
 {
     match order {

@@ -4,12 +4,11 @@ ghost use Rattle.std.specs.Prelude.{◌≡◌, ℕ, true, None, Some};
 ghost use Rattle.std.specs.Option.{IfSome, option_copied};
 ghost use Rattle.bo_lists.specs.Change.{after_change};
 ghost use Rattle.bo_lists.specs.declared.changes.Change.TheVariants.{PutOrder};
-ghost use Rattle.bo_lists.specs.Tests.{is_in_force};
-ghost use Rattle.bo_lists.specs.Lists.{order_at};
-ghost use Rattle.bo_lists.specs.Usage.{redeemed, stands_as};
+ghost use Rattle.bo_lists.specs.Usage.{redeemed};
 ghost use Rattle.bo_overlay.specs.Logs.{rows_of, IsSale};
 ghost use Rattle.bo_draft.specs.Uses.{held_by, used_by, IsShift};
 
+use crate::shift::is_in_force;
 use bo_base::Moment;
 use bo_lists::{CartPos, Change, Order, OrderPos};
 use bo_overlay::Overlay;
@@ -71,27 +70,18 @@ fn held_by(at: Moment, cart: Option<&CartPos>) -> Option<u64>
 fn used_by<B: Book>(overlay: &Overlay<'_, B>, position: &OrderPos) -> Option<u64>
     ensures { result ≡ used_by (rows_of overlay.now) position.now }
 {
-    if is_in_force(overlay, position.order) {
+    if is_in_force(overlay.order(position.order)) {
         position.voucher
     } else {
         None
     }
 }
 
-// Whether an order stands and its positions use vouchers.
-fn is_in_force<B: Book>(overlay: &Overlay<'_, B>, order: u64) -> bool
-    ensures { result ≡ stands_as is_in_force (order_at order (rows_of overlay.now)) }
-{
-    overlay
-        .order(order)
-        .is_some_and(|order| order.status.is_in_force())
-}
-
 // Whether an order is in force as it was before, or has no positions, so that it turns no uses.
 fn keeps_uses<B: Book>(overlay: &Overlay<'_, B>, row: &Order) -> bool
     ensures { result ≡ true → (v : ℕ) → redeemed v (after_change (PutOrder row.now) (rows_of overlay.now)) ≡ redeemed v (rows_of overlay.now) }
 {
-    row.status.is_in_force() == is_in_force(overlay, row.id)
+    is_in_force(Some(row)) == is_in_force(overlay.order(row.id))
         || overlay.count_ordered(overlay.len(), row.id, &Every) == 0
 }
 

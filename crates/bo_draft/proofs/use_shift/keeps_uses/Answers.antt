@@ -3,13 +3,15 @@ use Rattle.std.proofs.Math.Seq.{take-length}
 use Rattle.std.proofs.lemmas.Bool.Decides.{nat_tests}
 use Rattle.bo_lists.specs.declared.changes.Change.{Change}
 use Rattle.bo_lists.specs.Change.{after_all}
+use Rattle.bo_lists.specs.Tests.{is_in_force}
+use Rattle.bo_lists.specs.Usage.{stands_as}
 use Rattle.bo_overlay.specs.Logs.{rows_at, rows_of}
 use Rattle.bo_overlay.specs.Ordered.{count_ordered}
 use Rattle.bo_draft.proofs.UseShifts.{equal, same_force, no_positions}
 use Rattle.bo_draft.proofs.use_shift.keeps_uses.Goals as goal
 
 pub returns-then-is_in_force : goal.returns-then-is_in_force
-returns-then-is_in_force g c same = same_force (rows_of c.args.overlay.now) c.args.row.now (sym c.is_in_force.ensures ∙ equal _ _ same ∙ c.is_in_force-2.ensures)
+returns-then-is_in_force g c same = same_force (rows_of c.args.overlay.now) c.args.row.now (sym c.is_in_force.ensures ∙ equal _ _ same ∙ c.is_in_force-2.ensures ∙ ap (stands_as is_in_force) c.order.ensures)
 
 pub returns-else-is_in_force : goal.returns-else-is_in_force
 returns-else-is_in_force g c none =

@@ -1,7 +1,6 @@
-use Rattle.std.proofs.Common.{◌≡◌, Option, None, Some, sym, ap, ◌∙◌, subst, option_copied}
+use Rattle.std.proofs.Common.{None, sym, ap, ◌∙◌, subst}
 use Rattle.bo_lists.specs.declared.changes.Change.{Change}
 use Rattle.bo_overlay.specs.Logs.{IsSale, rows_of}
-use Rattle.bo_draft.specs.declared.use_shift.UseShift.{UseShift}
 use Rattle.bo_draft.specs.Uses.{held_by, IsShift}
 use Rattle.bo_draft.proofs.UseShifts.{shift_put_cart, shift_drop_cart, shift_put_position, shift_put_order}
 use Rattle.bo_draft.proofs.use_shift.use_shift.Goals as goal

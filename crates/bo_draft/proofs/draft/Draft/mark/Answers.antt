@@ -1,4 +1,4 @@
-use Rattle.std.proofs.Common.{◌≡◌, length, sym, ap, ◌∙◌, subst}
+use Rattle.std.proofs.Common.{◌≡◌, sym, ◌∙◌, subst}
 use Rattle.bo_overlay.specs.Logs.{rows_of}
 use Rattle.bo_draft.specs.DraftState.{DraftState, MarkState, IsMarkOf, usages_of}
 use Rattle.bo_draft.specs.Uses.{UsesState, AreKept}
