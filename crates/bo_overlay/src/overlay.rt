@@ -45,6 +45,7 @@ impl<'a, B: Book> Model for Overlay<'a, B> {
 }
 
 impl<'a, B: Book> Overlay<'a, B> {
+    /// The rows of a book, without changes.
     pub fn new(alloc: Global, book: &'a B) -> Self
         ensures base { result.base ≡ (B.state book.now).lists }
         ensures log { result.changes ≡ [] }
@@ -55,6 +56,7 @@ impl<'a, B: Book> Overlay<'a, B> {
         }
     }
 
+    /// All that is for sale.
     pub fn catalogue(&self) -> &Catalogue
         ensures { result.now.lists ≡ (rows_of self.now).catalogue }
     {
@@ -307,6 +309,7 @@ impl<'a, B: Book> Overlay<'a, B> {
         self.book.known();
     }
 
+    /// How many changes there are: at most 2^32.
     pub fn len(&self) -> usize
         ensures value { result ≡ length self.now.changes }
         ensures few { result ≤ 4294967296 }
@@ -314,6 +317,7 @@ impl<'a, B: Book> Overlay<'a, B> {
         self.log.len()
     }
 
+    /// Whether the voucher of a cart position blocks places of the quota, so that it takes none of its own.
     pub fn is_covered(&self, at: Moment, quota: &Quota, cart: &CartPos) -> bool
         ensures { result ≡ is_covered (rows_of self.now) at quota.now cart.now }
     {
@@ -333,6 +337,7 @@ impl<'a, B: Book> Overlay<'a, B> {
         }
     }
 
+    /// Whether a cart position counts in the quota: it is live, for one of its products, and not covered.
     pub fn cart_counts(&self, at: Moment, quota: &Quota, cart: &CartPos) -> bool
         ensures { result ≡ cart_counts (rows_of self.now) at quota.now cart.now }
     {
@@ -439,6 +444,7 @@ impl<'a, B: Book> Overlay<'a, B> {
         None
     }
 
+    /// Undoes all but the first changes.
     pub fn truncate(&mut self, count: usize)
         requires { count ≤ length self.old.changes }
         ensures { self.new ≡ record self.old { changes = take count self.old.changes } }
@@ -446,6 +452,7 @@ impl<'a, B: Book> Overlay<'a, B> {
         self.log.truncate(count);
     }
 
+    /// The changes in order.
     pub fn into_log(self) -> Vec<Change>
         ensures { result.items ≡ self.entry.changes }
     {
@@ -453,6 +460,7 @@ impl<'a, B: Book> Overlay<'a, B> {
         log.into_vec()
     }
 
+    /// The voucher of an id.
     pub fn voucher(&self, id: u64) -> Option<&Voucher>
         ensures { option_copied result ≡ voucher_at id (rows_of self.now) }
     {
@@ -462,6 +470,7 @@ impl<'a, B: Book> Overlay<'a, B> {
         }
     }
 
+    /// The cart position of an id.
     pub fn cart(&self, id: u64) -> Option<&CartPos>
         ensures { option_copied result ≡ cart_at id (rows_of self.now) }
     {
@@ -471,6 +480,7 @@ impl<'a, B: Book> Overlay<'a, B> {
         }
     }
 
+    /// The order of an id.
     pub fn order(&self, id: u64) -> Option<&Order>
         ensures { option_copied result ≡ order_at id (rows_of self.now) }
     {
@@ -480,6 +490,7 @@ impl<'a, B: Book> Overlay<'a, B> {
         }
     }
 
+    /// The order position of an id.
     pub fn position(&self, id: u64) -> Option<&OrderPos>
         ensures { option_copied result ≡ position_at id (rows_of self.now) }
     {
@@ -489,6 +500,7 @@ impl<'a, B: Book> Overlay<'a, B> {
         }
     }
 
+    /// The waiting entry of an id.
     pub fn waiting(&self, id: u64) -> Option<&Waiting>
         ensures { option_copied result ≡ waiting_at id (rows_of self.now) }
     {
