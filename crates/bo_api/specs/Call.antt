@@ -19,7 +19,7 @@ use Rattle.bo_api.specs.Path.{place_of}
 use Rattle.bo_api.specs.Page.{page_of}
 use Rattle.bo_api.specs.Verbs.{verb_of, is_write}
 use Rattle.bo_api.specs.Endpoints.{endpoint_of, methods_of}
-use Rattle.bo_api.specs.Body.{read_command, read_move}
+use Rattle.bo_bodies.specs.Body.{read_command, read_move}
 
 -- the words for a body that isn't read: 400
 abbrev pub told_fault : BodyFault → Told

@@ -4,13 +4,13 @@ use Rattle.bo_base.specs.declared.answer.Methods.{Methods}
 use Rattle.bo_office.specs.declared.command.Query.TheVariants as queries
 use Rattle.bo_office.specs.declared.command.Resource.{Resource}
 use Rattle.bo_office.specs.declared.command.Resource.TheVariants as resources
-use Rattle.bo_api.specs.declared.routes.MoveName.{MoveName}
+use Rattle.bo_bodies.specs.declared.form.MoveName.{MoveName}
 use Rattle.bo_api.specs.declared.path.Place.{Place}
 use Rattle.bo_api.specs.declared.path.Place.TheVariants as places
 use Rattle.bo_api.specs.declared.verb.Verb.{Verb}
 use Rattle.bo_api.specs.declared.verb.Verb.TheVariants as verbs
-use Rattle.bo_api.specs.declared.endpoint.Form.{Form}
-use Rattle.bo_api.specs.declared.endpoint.Form.TheVariants as forms
+use Rattle.bo_bodies.specs.declared.form.Form.{Form}
+use Rattle.bo_bodies.specs.declared.form.Form.TheVariants as forms
 use Rattle.bo_api.specs.declared.endpoint.Endpoint.{Endpoint}
 use Rattle.bo_api.specs.declared.endpoint.Endpoint.TheVariants as endpoints
 

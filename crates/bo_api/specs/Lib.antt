@@ -5,10 +5,4 @@ pub mod Page
 pub mod Token
 pub mod Verbs
 pub mod Endpoints
-pub mod CatalogueBodies
-pub mod VoucherBodies
-pub mod CartBodies
-pub mod OrderBodies
-pub mod Requests
-pub mod Body
 pub mod Call

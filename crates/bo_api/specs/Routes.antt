@@ -9,7 +9,7 @@ use Rattle.matchit.specs.Seek.{first}
 use Rattle.matchit.specs.declared.error.InsertError.{InsertError}
 use Rattle.bo_api.specs.declared.routes.Route.{Route}
 use Rattle.bo_api.specs.declared.routes.Route.TheVariants as routes
-use Rattle.bo_api.specs.declared.routes.MoveName.TheVariants as names
+use Rattle.bo_bodies.specs.declared.form.MoveName.TheVariants as names
 
 abbrev pub Rows : Type 0
 Rows = RowsOf (RouteOf Route)

@@ -1,18 +1,17 @@
 //! What a message asks for, and how it is refused where it asks for nothing.
 
 ghost use Rattle.std.specs.Prelude.{◌≡◌, IfOk};
-ghost use Rattle.bo_api.specs.Body.{read_command, read_move};
+ghost use Rattle.bo_bodies.specs.Body.{read_command, read_move};
 ghost use Rattle.bo_api.specs.Call.{told_fault, refused_by, refused_body, written, missing, listed, call_at, call_of};
 ghost use Rattle.bo_api.specs.Page.{page_of};
 ghost use Rattle.bo_api.specs.Verbs.{is_write, verb_of};
 
-use crate::body::{read_command, read_move};
-use crate::endpoint::{Endpoint, Form, endpoint_of, methods_of};
+use crate::endpoint::{Endpoint, endpoint_of, methods_of};
 use crate::page::page_of;
 use crate::path::Place;
-use crate::routes::MoveName;
 use crate::verb::{Verb, verb_of};
 use bo_base::Told;
+use bo_bodies::{Form, MoveName, read_command, read_move};
 use bo_fields::{BodyFault, ReadError};
 use bo_http::Frame;
 use bo_office::{Command, Query, Resource};

@@ -4,33 +4,10 @@ ghost use Rattle.std.specs.Prelude.{◌≡◌};
 ghost use Rattle.bo_api.specs.Endpoints.{new_form, change_form, drop_form, write_of, read_order, move_order, endpoint_of, methods_of};
 
 use crate::path::Place;
-use crate::routes::MoveName;
 use crate::verb::Verb;
 use bo_base::Methods;
+use bo_bodies::{Form, MoveName};
 use bo_office::{Query, Resource};
-
-/// Which fields a body has, and the id of the row that the path names for them. A body is an object, but for `Carts`.
-#[derive(Clone, Copy, Debug, PartialEq, Eq)]
-pub enum Form {
-    Item,
-    ItemPatch(u64),
-    /// A new variation of the item with this id.
-    Variation(u64),
-    Quota,
-    QuotaPatch(u64),
-    Voucher,
-    VoucherPatch(u64),
-    /// No field is read.
-    DropVoucher(u64),
-    Cart,
-    /// A list, whose entries are as the bodies of new cart positions.
-    Carts,
-    /// No field is read.
-    DropCart(u64),
-    Order,
-    /// A move of the order with this number. The moment of `Extend` is the one field that a move has.
-    Move(u64, MoveName),
-}
 
 /// What a method asks for at a place.
 #[derive(Clone, Copy, Debug, PartialEq, Eq)]

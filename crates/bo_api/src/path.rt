@@ -4,8 +4,9 @@ ghost use Rattle.std.specs.Prelude.{◌≡◌, ◌<◌, length, option_map, IfSo
 ghost use Rattle.bo_api.specs.Path.{bytes_of, mark_of, path_of, query_of, after, within, segment, id_in, one_in, order_named, order_in, place_by, place_of};
 ghost use Rattle.bo_api.specs.Routes.{all_routes, route_of};
 
-use crate::routes::{MoveName, Route, route_of};
+use crate::routes::{Route, route_of};
 use bo_base::{number_of, read_code};
+use bo_bodies::MoveName;
 use bo_office::Resource;
 use matchit::Router;
 

@@ -4,18 +4,9 @@ ghost use Rattle.std.specs.Prelude.{◌≡◌, IfOk, OnOk};
 ghost use Rattle.bo_api.specs.Routes.{with_route, catalogue_routes, sale_routes, order_routes, all_routes, route_of, found};
 ghost use Rattle.matchit.specs.Seek.{first};
 
+use bo_bodies::MoveName;
 use matchit::{InsertError, Router};
 use std::alloc::Global;
-
-/// A move of an order, by the last name of its path.
-#[derive(Clone, Copy, Debug, Drop, PartialEq, Eq)]
-pub enum MoveName {
-    MarkPaid,
-    MarkPending,
-    MarkExpired,
-    MarkCanceled,
-    Extend,
-}
 
 /// A path of the table, whatever ids and codes stand in it.
 #[derive(Clone, Copy, Debug, Drop, PartialEq, Eq)]

@@ -1,14 +1,17 @@
 -- The uses of vouchers, and how many of them came and went with the changes of a draft.
-use Rattle.std.specs.Prelude.{◌≡◌, ℕ, ◌+◌, Bool, true, List, Option, Some, None, if◌then◌else◌}
+use Rattle.std.specs.Prelude.{◌≡◌, ℕ, ◌+◌, ◌<◌, Bool, true, not, List, Option, Some, None, if◌then◌else◌}
 use Rattle.bo_base.specs.Tables.{row_at, sum_at}
 use Rattle.bo_lists.specs.declared.changes.Change.{Change}
+use Rattle.bo_lists.specs.declared.changes.Change.TheVariants.{PutOrder}
 use Rattle.bo_lists.specs.declared.rows.CartPos.{CartPos}
+use Rattle.bo_lists.specs.declared.rows.Order.{Order}
 use Rattle.bo_lists.specs.declared.rows.OrderPos.{OrderPos}
 use Rattle.bo_lists.specs.Change.{after_change}
 use Rattle.bo_lists.specs.Headroom.{held}
 use Rattle.bo_lists.specs.Lists.{Lists, order_at}
 use Rattle.bo_lists.specs.Tests.{is_in_force, is_live_cart, names}
 use Rattle.bo_lists.specs.Usage.{redeemed, stands_as}
+use Rattle.bo_overlay.specs.Ordered.{count_ordered}
 use Rattle.bo_draft.specs.declared.use_shift.UseShift.{UseShift}
 use Rattle.bo_draft.specs.declared.uses.UseCount.{UseCount}
 
@@ -32,6 +35,16 @@ used_by lists position = if stands_as is_in_force (order_at position.order lists
 -- with the change the uses of each voucher are more by one where a use comes, and less by one where one goes
 abbrev pub IsShift : ℕ → Change → Lists → UseShift → Type 0
 IsShift at change lists shift = (voucher : ℕ) → uses_of at (after_change change lists) voucher + one_use voucher shift.gone ≡ uses_of at lists voucher + one_use voucher shift.come
+
+-- an order with positions comes into force, or is in force no more
+pub record Turns (row : Order) (lists : Lists) : Type 0 where
+  pub turns : is_in_force row.status ≡ not (stands_as is_in_force (order_at row.id lists))
+  pub some : 0 < count_ordered row.id (λ p. true) lists
+
+-- a change that turns the uses of a whole order; no other one does
+abbrev pub TurnsUses : Change → Lists → Type 0
+TurnsUses (PutOrder row) lists = Turns row lists
+TurnsUses _ lists = ⊥
 
 -- how often a use of the voucher came; never where it has no row
 abbrev pub came : ℕ → List UseCount → ℕ

@@ -422,7 +422,7 @@ impl<'a, B: Book> Draft<'a, B> {
         self.overlay.push(change)?;
         self.usages = usages;
         self.carts = carts;
-        self.uses.shift(shift);
+        let _ = self.uses.shift(shift);
         Ok(())
     }
 

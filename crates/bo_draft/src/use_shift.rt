@@ -1,12 +1,12 @@
 //! The vouchers that a change gives a use, and those from which it takes one.
 
-ghost use Rattle.std.specs.Prelude.{◌≡◌, ℕ, true, None, Some};
+ghost use Rattle.std.specs.Prelude.{◌≡◌, ℕ, true, false, None, Some};
 ghost use Rattle.std.specs.Option.{IfSome, option_copied};
 ghost use Rattle.bo_lists.specs.Change.{after_change};
 ghost use Rattle.bo_lists.specs.declared.changes.Change.TheVariants.{PutOrder};
 ghost use Rattle.bo_lists.specs.Usage.{redeemed};
 ghost use Rattle.bo_overlay.specs.Logs.{rows_of, IsSale};
-ghost use Rattle.bo_draft.specs.Uses.{held_by, used_by, IsShift};
+ghost use Rattle.bo_draft.specs.Uses.{held_by, used_by, IsShift, Turns, TurnsUses};
 
 use crate::shift::is_in_force;
 use bo_base::Moment;
@@ -29,7 +29,8 @@ const NOTHING: UseShift = UseShift {
 /// What a change shifts; none where the uses of an order's positions come or go together.
 pub fn use_shift<B: Book>(overlay: &Overlay<'_, B>, at: Moment, change: &Change) -> Option<UseShift>
     requires { IsSale change.now (rows_of overlay.now) }
-    ensures { IfSome result (IsShift at change.now (rows_of overlay.now)) }
+    ensures shift { IfSome result (IsShift at change.now (rows_of overlay.now)) }
+    ensures none { result ≡ None → TurnsUses change.now (rows_of overlay.now) }
 {
     overlay.known();
     match change {
@@ -79,7 +80,8 @@ fn used_by<B: Book>(overlay: &Overlay<'_, B>, position: &OrderPos) -> Option<u64
 
 // Whether an order is in force as it was before, or has no positions, so that it turns no uses.
 fn keeps_uses<B: Book>(overlay: &Overlay<'_, B>, row: &Order) -> bool
-    ensures { result ≡ true → (v : ℕ) → redeemed v (after_change (PutOrder row.now) (rows_of overlay.now)) ≡ redeemed v (rows_of overlay.now) }
+    ensures turns { result ≡ false → Turns row.now (rows_of overlay.now) }
+    ensures keeps { result ≡ true → (v : ℕ) → redeemed v (after_change (PutOrder row.now) (rows_of overlay.now)) ≡ redeemed v (rows_of overlay.now) }
 {
     is_in_force(Some(row)) == is_in_force(overlay.order(row.id))
         || overlay.count_ordered(overlay.len(), row.id, &Every) == 0

@@ -1,6 +1,6 @@
 //! The uses of vouchers that came and went with the changes of a draft.
 
-ghost use Rattle.std.specs.Prelude.{◌≡◌, ℕ, ◌+◌, true, [], IfOk, OnOk, if◌then◌else◌};
+ghost use Rattle.std.specs.Prelude.{◌≡◌, ℕ, ◌+◌, ◌&&◌, true, [], IfOk, OnOk, is_some, if◌then◌else◌};
 ghost use Rattle.bo_base.specs.Tables.{AreInOrder, with_row};
 ghost use Rattle.bo_lists.specs.Tests.{names};
 ghost use Rattle.bo_draft.specs.Uses.{came, went, CountsMore, CountsShift};
@@ -72,16 +72,20 @@ impl Uses {
         counted(&self.rows, voucher)
     }
 
-    /// Counts what one more change shifts, or doesn't know the counts any more.
-    pub fn shift(&mut self, shift: Option<UseShift>)
+    /// Counts what one more change shifts. Where that turns the uses of a whole order, or where memory for a count
+    /// is refused, the counts aren't known any more.
+    pub fn shift(&mut self, shift: Option<UseShift>) -> Result<(), AllocError>
+        ensures ok { OnOk result (self.new.known ≡ (self.old.known && is_some shift)) }
         ensures known { self.new.known ≡ true → self.old.known ≡ true }
         ensures counts { self.new.known ≡ true → CountsShift shift self.old.rows self.new.rows }
     {
-        let counted = match shift {
-            None => false,
-            Some(shift) => count(&mut self.rows, shift).is_ok(),
-        };
-        self.known = self.known && counted;
+        let known = self.known;
+        self.known = false;
+        if let Some(shift) = shift {
+            count(&mut self.rows, shift)?;
+            self.known = known;
+        }
+        Ok(())
     }
 
     /// The same counts.

@@ -1,7 +1,9 @@
 //! Lists in a body.
 
-ghost use Rattle.std.specs.Prelude.{◌≡◌};
-ghost use Rattle.bo_fields.specs.Reading.{Reads, Shows, items_of_slice, text_of, view_of};
+ghost use Rattle.std.specs.Prelude.{◌≡◌, Result};
+ghost use Rattle.bo_fields.specs.declared.error.BodyFault.{BodyFault};
+ghost use Rattle.serde_json.specs.Data.{Data};
+ghost use Rattle.bo_fields.specs.Reading.{Gives, Reads, Shows, items_of_slice, text_of, view_of};
 ghost use Rattle.bo_fields.specs.Lists.{list, entry_id, entry_object, all_of, ids, entry_text, texts};
 ghost use Rattle.serde_json.specs.View.{view, items_view};
 
@@ -41,25 +43,54 @@ pub fn entry_object<'v>(field: Field, entry: &'v Value) -> Result<&'v Value, Bod
     }
 }
 
-/// The ids that a list's entries are.
-fn entries(alloc: Global, field: Field, list: &[Value]) -> Result<Ids, ReadError>
-    ensures { Reads result (all_of (entry_id field) (items_view list.now)) }
+/// How the entries of a list are read.
+pub trait Reading<T: Drop> {
+    /// What an entry says, or its fault.
+    ghost reading: { Self → Data → Result T BodyFault };
+
+    /// What this entry says, or its fault. `Memory` where there is none for it.
+    fn read(&self, alloc: Global, entry: &Value) -> Result<T, ReadError>
+        ensures { Reads result (reading self.now (view entry.now)) };
+}
+
+/// What the entries of a list say, or the first fault. `Memory` where there is none for them.
+pub fn entries<T: Drop, R: Reading<T>>(
+    alloc: Global,
+    reading: &R,
+    list: &[Value],
+) -> Result<Vec<T>, ReadError>
+    ensures { Gives (λ all. all.items) result (all_of (R.reading reading.now) (items_view list.now)) }
 {
     let mut found = Vec::new(alloc);
     for entry in list {
-        let found_id = entry_id(field, entry)?;
-        if found.push(found_id).is_err() {
+        let said = reading.read(alloc, entry)?;
+        if found.push(said).is_err() {
             return Err(ReadError::Memory);
         }
     }
-    Ok(Ids::new(found))
+    Ok(found)
+}
+
+// Entries that are ids.
+#[derive(Drop)]
+struct AreIds {
+    field: Field,
+}
+
+impl Reading<u64> for AreIds {
+    ghost reading = { λ r d. entry_id r.field d };
+
+    fn read(&self, _alloc: Global, entry: &Value) -> Result<u64, ReadError> {
+        Ok(entry_id(self.field, entry)?)
+    }
 }
 
 /// A list of ids as the body gives them. `Memory` where there is none for them.
 pub fn ids(alloc: Global, field: Field, value: &Value) -> Result<Ids, ReadError>
     ensures { Reads result (ids field (view value.now)) }
 {
-    entries(alloc, field, list(field, value)?)
+    let found = entries(alloc, &AreIds { field }, list(field, value)?)?;
+    Ok(Ids::new(found))
 }
 
 /// An entry that is a text, which isn't empty.
@@ -69,18 +100,18 @@ fn entry_text<'v>(field: Field, entry: &'v Value) -> Result<&'v str, BodyFault>
     text(field, not_null(field, entry)?)
 }
 
-/// Copies of the texts that a list's entries are.
-fn text_entries(alloc: Global, field: Field, list: &[Value]) -> Result<List<Text>, ReadError>
-    ensures { Reads result (all_of (entry_text field) (items_view list.now)) }
-{
-    let mut found = Vec::new(alloc);
-    for entry in list {
-        let copy = Text::copy_of(alloc, entry_text(field, entry)?)?;
-        if found.push(copy).is_err() {
-            return Err(ReadError::Memory);
-        }
+// Entries that are texts, of which copies are made.
+#[derive(Drop)]
+struct AreTexts {
+    field: Field,
+}
+
+impl Reading<Text> for AreTexts {
+    ghost reading = { λ r d. entry_text r.field d };
+
+    fn read(&self, alloc: Global, entry: &Value) -> Result<Text, ReadError> {
+        Ok(Text::copy_of(alloc, entry_text(self.field, entry)?)?)
     }
-    Ok(List::new(found))
 }
 
 /// A list of texts, none of them empty, each of at most 254 bytes and with no control byte. All faults are the list's.
@@ -88,5 +119,6 @@ fn text_entries(alloc: Global, field: Field, list: &[Value]) -> Result<List<Text
 pub fn texts(alloc: Global, field: Field, value: &Value) -> Result<List<Text>, ReadError>
     ensures { Reads result (texts field (view value.now)) }
 {
-    text_entries(alloc, field, list(field, value)?)
+    let found = entries(alloc, &AreTexts { field }, list(field, value)?)?;
+    Ok(List::new(found))
 }

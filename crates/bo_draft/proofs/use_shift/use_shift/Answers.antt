@@ -5,8 +5,8 @@ use Rattle.bo_draft.specs.Uses.{held_by, IsShift}
 use Rattle.bo_draft.proofs.UseShifts.{shift_put_cart, shift_drop_cart, shift_put_position, shift_put_order}
 use Rattle.bo_draft.proofs.use_shift.use_shift.Goals as goal
 
-pub returns-in-PutCart : goal.returns-in-PutCart
-returns-in-PutCart g c =
+pub returns-in-PutCart-clause-shift : goal.returns-in-PutCart-clause-shift
+returns-in-PutCart-clause-shift g c =
     let lists = rows_of c.args.overlay.now in
     let row = c.in-PutCart.row in
     let gone = c.held_by-in-PutCart.ensures ∙ ap (held_by c.args.at) c.cart.ensures in
@@ -16,20 +16,20 @@ returns-in-PutCart g c =
     rw (c.held_by.ensures, gone) shift
     )
 
-pub returns-in-DropCart : goal.returns-in-DropCart
-returns-in-DropCart g c =
+pub returns-in-DropCart-clause-shift : goal.returns-in-DropCart-clause-shift
+returns-in-DropCart-clause-shift g c =
     let lists = rows_of c.args.overlay.now in
     let gone = c.held_by-in-DropCart.ensures ∙ ap (held_by c.args.at) c.cart-in-DropCart.ensures in
     subst (λ (change : Change). IsShift c.args.at change lists (record { come = None; gone = c.held_by-in-DropCart.result })) (sym c.in-DropCart.is) (rw gone (shift_drop_cart c.args.at lists c.in-DropCart.id c.known.ensures.kept.carts.in_order))
 
-pub returns-in-PutPosition : goal.returns-in-PutPosition
-returns-in-PutPosition g c =
+pub returns-in-PutPosition-clause-shift : goal.returns-in-PutPosition-clause-shift
+returns-in-PutPosition-clause-shift g c =
     let lists = rows_of c.args.overlay.now in
     let row = c.in-PutPosition.row in
     let new = subst (λ (change : Change). IsSale change lists) c.in-PutPosition.is c.requires in
     subst (λ (change : Change). IsShift c.args.at change lists (record { come = c.used_by.result; gone = None })) (sym c.in-PutPosition.is) (rw c.used_by.ensures (shift_put_position c.args.at lists row c.known.ensures.kept.positions.in_order new))
 
-pub returns-then-keeps_uses : goal.returns-then-keeps_uses
-returns-then-keeps_uses g c =
+pub returns-then-keeps_uses-clause-shift : goal.returns-then-keeps_uses-clause-shift
+returns-then-keeps_uses-clause-shift g c =
     let lists = rows_of c.args.overlay.now in
-    subst (λ (change : Change). IsShift c.args.at change lists (record { come = None; gone = None })) (sym c.in-PutOrder.is) (shift_put_order c.args.at lists c.in-PutOrder.row (c.keeps_uses.ensures c.if-keeps_uses.true))
+    subst (λ (change : Change). IsShift c.args.at change lists (record { come = None; gone = None })) (sym c.in-PutOrder.is) (shift_put_order c.args.at lists c.in-PutOrder.row (c.keeps_uses.ensures.keeps c.if-keeps_uses.true))

@@ -25,7 +25,7 @@ invariant_of-self-2 g c =
               subst (λ (lists : Lists). AllHaveHeadroom inside.moment lists) (sym rows) after
               ),
           (
-              let more = kept_more inside.moment log.base (rows_of log) c.args.change c.use_shift-shift.result inside.uses c.shift.new.self c.self.invariant.1.1.1 c.shift.ensures.known c.shift.ensures.counts c.use_shift-shift.ensures in
+              let more = kept_more inside.moment log.base (rows_of log) c.args.change c.use_shift-shift.result inside.uses c.shift.new.self c.self.invariant.1.1.1 c.shift.ensures.known c.shift.ensures.counts c.use_shift-shift.ensures.shift in
               let pushed = subst (λ (lists : Lists). AreKept inside.moment log.base lists c.shift.new.self) (sym (after_all-push log.changes c.args.change log.base)) more in
               subst (λ (l : Log). AreKept inside.moment l.base (rows_of l) c.shift.new.self) (sym c.in_ok-push.ensures.ok) pushed
               ),

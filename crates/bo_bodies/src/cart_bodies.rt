@@ -1,7 +1,7 @@
 //! The body of a cart position, field by field. Only the first fault is answered.
 
 ghost use Rattle.bo_fields.specs.Reading.{Reads};
-ghost use Rattle.bo_api.specs.CartBodies.{cart_of};
+ghost use Rattle.bo_bodies.specs.CartBodies.{cart_of};
 ghost use Rattle.serde_json.specs.View.{view};
 
 use crate::copies::copied;

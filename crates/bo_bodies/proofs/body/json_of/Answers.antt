@@ -1,6 +1,6 @@
 use Rattle.serde_json.specs.Errors.{IsMemory}
-use Rattle.bo_api.proofs.Json.{json_read, json_refused}
-use Rattle.bo_api.proofs.body.json_of.Goals as goal
+use Rattle.bo_bodies.proofs.Json.{json_read, json_refused}
+use Rattle.bo_bodies.proofs.body.json_of.Goals as goal
 
 pub returns-in-Ok : goal.returns-in-Ok
 returns-in-Ok c = json_read _ _ c.in-Ok.ensures.ok.0 c.in-Ok.ensures.ok.1

@@ -3,11 +3,10 @@
 ghost use Rattle.std.specs.Prelude.{◌≡◌};
 ghost use Rattle.serde_json.specs.View.{view};
 ghost use Rattle.bo_fields.specs.Reading.{Gives, Reads};
-ghost use Rattle.bo_api.specs.Body.{body_text, json_of, object_of, shape_of, read_command, read_move};
+ghost use Rattle.bo_bodies.specs.Body.{body_text, json_of, object_of, shape_of, read_command, read_move};
 
-use crate::endpoint::Form;
+use crate::form::{Form, MoveName};
 use crate::requests::{command_of, move_of};
-use crate::routes::MoveName;
 use bo_fields::{BodyFault, ReadError};
 use bo_office::Command;
 use bo_orders::Move;

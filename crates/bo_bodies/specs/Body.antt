@@ -9,10 +9,10 @@ use Rattle.bo_fields.specs.declared.error.BodyFault.{BodyFault}
 use Rattle.bo_fields.specs.declared.error.BodyFault.TheVariants as faults
 use Rattle.bo_fields.specs.Reading.{◌>>=◌}
 use Rattle.bo_orders.specs.declared.moves.Move.{Move}
-use Rattle.bo_api.specs.declared.endpoint.Form.{Form}
-use Rattle.bo_api.specs.declared.endpoint.Form.TheVariants as forms
-use Rattle.bo_api.specs.declared.routes.MoveName.{MoveName}
-use Rattle.bo_api.specs.Requests.{command_of, move_of}
+use Rattle.bo_bodies.specs.declared.form.Form.{Form}
+use Rattle.bo_bodies.specs.declared.form.Form.TheVariants as forms
+use Rattle.bo_bodies.specs.declared.form.MoveName.{MoveName}
+use Rattle.bo_bodies.specs.Requests.{command_of, move_of}
 
 -- the text of a body: `{}` for an empty one
 abbrev pub body_text : List ℕ → List ℕ

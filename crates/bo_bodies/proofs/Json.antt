@@ -5,7 +5,7 @@ use Rattle.std.proofs.lemmas.Str.{IsUtf8-from_is_utf8, is_utf8-from_IsUtf8}
 use Rattle.serde_json.specs.Data.{Data}
 use Rattle.serde_json.specs.Read.{read}
 use Rattle.bo_fields.specs.declared.error.BodyFault.TheVariants as faults
-use Rattle.bo_api.specs.Body.{json_from, json_of}
+use Rattle.bo_bodies.specs.Body.{json_from, json_of}
 
 pub json_read : (text : List ℕ) (d : Data) → IsUtf8 text → read text ≡ Some d → json_of text ≡ Ok d
 unfolding json_of

@@ -10,14 +10,14 @@ use Rattle.bo_office.specs.declared.command.Command.TheVariants as commands
 use Rattle.bo_fields.specs.declared.error.BodyFault.{BodyFault}
 use Rattle.bo_fields.specs.declared.error.BodyFault.TheVariants as faults
 use Rattle.bo_fields.specs.Reading.{◌>>=◌}
-use Rattle.bo_api.specs.CartBodies.{cart_of}
-use Rattle.bo_api.specs.CatalogueBodies.{item_of, item_patch_of, variation_of, quota_of, quota_patch_of}
-use Rattle.bo_api.specs.VoucherBodies.{voucher_of, voucher_patch_of}
-use Rattle.bo_api.specs.OrderBodies.{order_of, end_of, entries_of}
-use Rattle.bo_api.specs.declared.routes.MoveName.{MoveName}
-use Rattle.bo_api.specs.declared.routes.MoveName.TheVariants as names
-use Rattle.bo_api.specs.declared.endpoint.Form.{Form}
-use Rattle.bo_api.specs.declared.endpoint.Form.TheVariants as forms
+use Rattle.bo_bodies.specs.CartBodies.{cart_of}
+use Rattle.bo_bodies.specs.CatalogueBodies.{item_of, item_patch_of, variation_of, quota_of, quota_patch_of}
+use Rattle.bo_bodies.specs.VoucherBodies.{voucher_of, voucher_patch_of}
+use Rattle.bo_bodies.specs.OrderBodies.{order_of, end_of, entries_of}
+use Rattle.bo_bodies.specs.declared.form.MoveName.{MoveName}
+use Rattle.bo_bodies.specs.declared.form.MoveName.TheVariants as names
+use Rattle.bo_bodies.specs.declared.form.Form.{Form}
+use Rattle.bo_bodies.specs.declared.form.Form.TheVariants as forms
 
 -- the entries of a body that is a list
 abbrev pub list_from : Option Items → Result Items BodyFault

@@ -2,14 +2,13 @@
 
 ghost use Rattle.std.specs.Prelude.{◌≡◌};
 ghost use Rattle.bo_fields.specs.Reading.{Reads, Shows, items_of_slice};
-ghost use Rattle.bo_api.specs.Requests.{list_of, carts_of, move_of, command_of};
+ghost use Rattle.bo_bodies.specs.Requests.{list_of, carts_of, move_of, command_of};
 ghost use Rattle.serde_json.specs.View.{view};
 
 use crate::cart_bodies::cart_of;
 use crate::catalogue_bodies::{item_of, item_patch_of, quota_of, quota_patch_of, variation_of};
-use crate::endpoint::Form;
+use crate::form::{Form, MoveName};
 use crate::order_bodies::{end_of, entries_of, order_of};
-use crate::routes::MoveName;
 use crate::voucher_bodies::{voucher_of, voucher_patch_of};
 use bo_base::List;
 use bo_fields::{BodyFault, ReadError};

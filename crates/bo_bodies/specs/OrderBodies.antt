@@ -20,7 +20,7 @@ use Rattle.bo_fields.specs.Modes.{present, required}
 use Rattle.bo_fields.specs.Kinds.{end, id}
 use Rattle.bo_fields.specs.Lists.{list, all_of, entry_object}
 use Rattle.bo_fields.specs.Lacking.{or_else, optional_id, optional_text, optional_loose_text, optional_money, optional_moment, texts_or_none}
-use Rattle.bo_api.specs.CartBodies.{cart_of}
+use Rattle.bo_bodies.specs.CartBodies.{cart_of}
 
 -- what is asked for one position; its voucher is a code, and an empty one is a code that no voucher has
 unfoldable pub asked_of : Data → Result Asked BodyFault

@@ -2,7 +2,7 @@
 
 ghost use Rattle.std.specs.Prelude.{◌≡◌};
 ghost use Rattle.bo_fields.specs.Reading.{Reads};
-ghost use Rattle.bo_api.specs.VoucherBodies.{max_usages, voucher_of, new_max_usages, voucher_patch_of};
+ghost use Rattle.bo_bodies.specs.VoucherBodies.{max_usages, voucher_of, new_max_usages, voucher_patch_of};
 ghost use Rattle.serde_json.specs.View.{view};
 
 use crate::copies::copied;

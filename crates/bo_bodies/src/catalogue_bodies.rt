@@ -2,18 +2,17 @@
 
 ghost use Rattle.std.specs.Prelude.{◌≡◌};
 ghost use Rattle.bo_fields.specs.Reading.{Reads};
-ghost use Rattle.bo_fields.specs.Lists.{all_of};
-ghost use Rattle.bo_api.specs.CatalogueBodies.{variation_of, variation_entry, variation_list, variations_of, item_of, item_patch_of, size_of, quota_of, new_size, quota_patch_of};
-ghost use Rattle.serde_json.specs.View.{view, items_view};
+ghost use Rattle.bo_bodies.specs.CatalogueBodies.{variation_of, variation_entry, variation_list, variations_of, item_of, item_patch_of, size_of, quota_of, new_size, quota_patch_of};
+ghost use Rattle.serde_json.specs.View.{view};
 
 use crate::copies::copied;
 use bo_base::{List, Text};
 use bo_catalogue::{ItemPatch, NewItem, NewQuota, NewVariation, QuotaPatch};
 use bo_faults::Field;
 use bo_fields::{
-    BodyFault, ReadError, entry_object, ids_or_none, list, money, name, nullable, optional_money,
-    patched_money, patched_name, patched_truth, patched_whole_or_null, present, required, truth_or,
-    whole,
+    BodyFault, ReadError, Reading, entries, entry_object, ids_or_none, list, money, name, nullable,
+    optional_money, patched_money, patched_name, patched_truth, patched_whole_or_null, present,
+    required, truth_or, whole,
 };
 use serde_json::Value;
 use std::alloc::Global;
@@ -33,37 +32,29 @@ pub fn variation_of(alloc: Global, body: &Value) -> Result<NewVariation, ReadErr
     })
 }
 
-/// An entry of an item's variations. All its faults are faults of the list.
-fn variation_entry(alloc: Global, entry: &Value) -> Result<NewVariation, ReadError>
-    ensures { Reads result (variation_entry (view entry.now)) }
-{
-    let body = entry_object(Field::Variations, entry)?;
-    match variation_of(alloc, body) {
-        Ok(new) => Ok(new),
-        Err(ReadError::Memory) => Err(ReadError::Memory),
-        Err(ReadError::Body(fault)) => Err(ReadError::Body(fault.of(Field::Variations))),
-    }
-}
+// Entries that are variations of a new item. All their faults are faults of the list.
+#[derive(Drop)]
+struct AreVariations;
 
-/// The variations that a list's entries are.
-fn entries(alloc: Global, list: &[Value]) -> Result<List<NewVariation>, ReadError>
-    ensures { Reads result (all_of variation_entry (items_view list.now)) }
-{
-    let mut found = Vec::new(alloc);
-    for entry in list {
-        let new = variation_entry(alloc, entry)?;
-        if found.push(new).is_err() {
-            return Err(ReadError::Memory);
+impl Reading<NewVariation> for AreVariations {
+    ghost reading = { λ r d. variation_entry d };
+
+    fn read(&self, alloc: Global, entry: &Value) -> Result<NewVariation, ReadError> {
+        let body = entry_object(Field::Variations, entry)?;
+        match variation_of(alloc, body) {
+            Ok(new) => Ok(new),
+            Err(ReadError::Memory) => Err(ReadError::Memory),
+            Err(ReadError::Body(fault)) => Err(ReadError::Body(fault.of(Field::Variations))),
         }
     }
-    Ok(List::new(found))
 }
 
 /// A list of variations.
 fn variation_list(alloc: Global, value: &Value) -> Result<List<NewVariation>, ReadError>
     ensures { Reads result (variation_list (view value.now)) }
 {
-    entries(alloc, list(Field::Variations, value)?)
+    let found = entries(alloc, &AreVariations, list(Field::Variations, value)?)?;
+    Ok(List::new(found))
 }
 
 /// The variations of a new item.

@@ -3,9 +3,8 @@
 ghost use Rattle.std.specs.Prelude.{◌≡◌, Ok};
 ghost use Rattle.bo_base.specs.Texts.{same_text};
 ghost use Rattle.bo_fields.specs.Reading.{Reads};
-ghost use Rattle.bo_fields.specs.Lists.{all_of};
-ghost use Rattle.bo_api.specs.CartBodies.{cart_of};
-ghost use Rattle.bo_api.specs.OrderBodies.{asked_of, position_entry, positions_of, start_named, start, start_of, order_of, end_of, entry_from, bulk_entry, entries_of};
+ghost use Rattle.bo_bodies.specs.CartBodies.{cart_of};
+ghost use Rattle.bo_bodies.specs.OrderBodies.{asked_of, position_entry, positions_of, start_named, start, start_of, order_of, end_of, entry_from, bulk_entry, entries_of};
 ghost use Rattle.serde_json.specs.View.{view, items_view};
 
 use crate::cart_bodies::cart_of;
@@ -13,8 +12,9 @@ use crate::copies::copied;
 use bo_base::{List, Moment};
 use bo_faults::{EntryFault, Fault, Field, Problem};
 use bo_fields::{
-    BodyFault, ReadError, end, entry_object, id, list, optional_id, optional_loose_text,
-    optional_moment, optional_money, optional_text, present, required, texts_or_none,
+    BodyFault, ReadError, Reading, end, entries, entry_object, id, list, optional_id,
+    optional_loose_text, optional_moment, optional_money, optional_text, present, required,
+    texts_or_none,
 };
 use bo_orders::{Asked, Entry, NewOrder, Start};
 use serde_json::Value;
@@ -37,30 +37,21 @@ pub fn asked_of(alloc: Global, body: &Value) -> Result<Asked, ReadError>
     })
 }
 
-/// An entry of an order's positions. All its faults are faults of the list.
-fn position_entry(alloc: Global, entry: &Value) -> Result<Asked, ReadError>
-    ensures { Reads result (position_entry (view entry.now)) }
-{
-    let body = entry_object(Field::Positions, entry)?;
-    match asked_of(alloc, body) {
-        Ok(asked) => Ok(asked),
-        Err(ReadError::Memory) => Err(ReadError::Memory),
-        Err(ReadError::Body(fault)) => Err(ReadError::Body(fault.of(Field::Positions))),
-    }
-}
+// Entries that are positions of an order. All their faults are faults of the list.
+#[derive(Drop)]
+struct ArePositions;
 
-/// The positions that a list's entries ask for.
-fn position_entries(alloc: Global, list: &[Value]) -> Result<List<Asked>, ReadError>
-    ensures { Reads result (all_of position_entry (items_view list.now)) }
-{
-    let mut found = Vec::new(alloc);
-    for entry in list {
-        let asked = position_entry(alloc, entry)?;
-        if found.push(asked).is_err() {
-            return Err(ReadError::Memory);
+impl Reading<Asked> for ArePositions {
+    ghost reading = { λ r d. position_entry d };
+
+    fn read(&self, alloc: Global, entry: &Value) -> Result<Asked, ReadError> {
+        let body = entry_object(Field::Positions, entry)?;
+        match asked_of(alloc, body) {
+            Ok(asked) => Ok(asked),
+            Err(ReadError::Memory) => Err(ReadError::Memory),
+            Err(ReadError::Body(fault)) => Err(ReadError::Body(fault.of(Field::Positions))),
         }
     }
-    Ok(List::new(found))
 }
 
 /// The positions of a new order, which have to be there.
@@ -68,7 +59,8 @@ fn positions_of(alloc: Global, body: &Value) -> Result<List<Asked>, ReadError>
     ensures { Reads result (positions_of (view body.now)) }
 {
     let value = required(Field::Positions, body)?;
-    position_entries(alloc, list(Field::Positions, value)?)
+    let found = entries(alloc, &ArePositions, list(Field::Positions, value)?)?;
+    Ok(List::new(found))
 }
 
 /// Whether two texts are the same.
@@ -154,14 +146,19 @@ fn read_entry(alloc: Global, entry: &Value) -> Result<Entry, ReadError>
     }
 }
 
-/// An entry of a bulk call: a cart position that is asked for, or what is wrong with it.
-fn bulk_entry(alloc: Global, entry: &Value) -> Result<Entry, ReadError>
-    ensures { Reads result (bulk_entry (view entry.now)) }
-{
-    if entry.is_object() {
-        read_entry(alloc, entry)
-    } else {
-        Ok(Entry::Faulty(EntryFault::InvalidData))
+// Entries of a bulk call: each is a cart position that is asked for, or what is wrong with it.
+#[derive(Drop)]
+struct AreCarts;
+
+impl Reading<Entry> for AreCarts {
+    ghost reading = { λ r d. bulk_entry d };
+
+    fn read(&self, alloc: Global, entry: &Value) -> Result<Entry, ReadError> {
+        if entry.is_object() {
+            read_entry(alloc, entry)
+        } else {
+            Ok(Entry::Faulty(EntryFault::InvalidData))
+        }
     }
 }
 
@@ -169,12 +166,5 @@ fn bulk_entry(alloc: Global, entry: &Value) -> Result<Entry, ReadError>
 pub fn entries_of(alloc: Global, list: &[Value]) -> Result<List<Entry>, ReadError>
     ensures { Reads result (entries_of (items_view list.now)) }
 {
-    let mut found = Vec::new(alloc);
-    for value in list {
-        let entry = bulk_entry(alloc, value)?;
-        if found.push(entry).is_err() {
-            return Err(ReadError::Memory);
-        }
-    }
-    Ok(List::new(found))
+    Ok(List::new(entries(alloc, &AreCarts, list)?))
 }
