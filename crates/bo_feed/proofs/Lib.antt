@@ -1,1 +1,2 @@
 pub mod TickLemmas
+pub mod FedLemmas

@@ -1,17 +1,23 @@
 -- What `feed` does.
-use Rattle.std.specs.Prelude.{◌≡◌, ℕ, List, [], Option, Some, None, Result, Ok, Err, if◌then◌else◌, nat_le}
+use Rattle.std.specs.Prelude.{◌≡◌, ℕ, List, [], Option, Some, None, Result, Ok, Err, if◌then◌else◌, nat_le, ⊤}
 use Rattle.bo_base.specs.declared.refusal.ValueRefusal.{ValueRefusal}
 use Rattle.bo_base.specs.Digits.{number_of}
 use Rattle.bo_base.specs.Moments.{moment_of}
 use Rattle.bo_base.specs.Told.{Gives}
 use Rattle.bo_serve.specs.declared.failure.Failure.{Failure}
 use Rattle.bo_serve.specs.BoxOfficeView.{BoxOfficeView}
-use Rattle.bo_serve.specs.Run.{Streams, place}
+use Rattle.bo_serve.specs.declared.failure.Failure.TheVariants as failures
+use Rattle.bo_serve.specs.Run.{Streams, CountedAll, place}
 use Rattle.bo_serve.specs.Served.{Serves}
 use Rattle.bo_feed.specs.declared.fault.Fault.{Fault}
 use Rattle.bo_feed.specs.declared.fault.Fault.TheVariants as faults
 use Rattle.bo_feed.specs.FeedTicks.{feed_ticks}
 use Rattle.bo_feed.specs.House.{fresh_house}
+
+-- the ticks end only once all numbers of a `u64` were told
+abbrev pub EndsTicks : ℕ → Result (Unit {0}) Failure → Type 0
+EndsTicks count (Err failures.Clock) = count ≡ 18446744073709551615
+EndsTicks count _ = ⊤
 
 -- What is read, what is written, and how it ends: a run from the fresh box office over the bytes that were read, with the first ticks,
 -- one for each whole request.
@@ -19,7 +25,12 @@ abbrev pub Feeds : ℕ → ℕ → Option (List ℕ) → Option (List ℕ) → O
 Feeds from step left left' taken taken' result =
     (bytes : List ℕ) × (count : ℕ) × (house : BoxOfficeView) × Gives left bytes left' × Streams Serves left'
     (place bytes (Some []) fresh_house taken)
-    (place [] (Some (feed_ticks from step count)) house taken') result
+    (place [] (Some (feed_ticks from step count)) house taken') result × EndsTicks count result
+
+-- A run ends with the failure of its reader or its writer where that failed, and the other one did not; else none failed, and
+-- the limit is met only by 1,000,000 reads.
+abbrev pub CountedFed : Result (Unit {0}) Failure → ℕ → ℕ → ℕ → ℕ → ℕ → ℕ → Type 0
+CountedFed result output output' input input' calls calls' = (clock : ℕ) × CountedAll result 0 clock output output' input input' calls calls'
 
 -- 0 to 31536000 seconds
 abbrev pub step_within : Option ℕ → Option ℕ

@@ -1,12 +1,12 @@
 //! `feed`: requests from a reader, answers to a writer.
 
-ghost use Rattle.std.specs.Prelude.{◌≡◌, ◌<◌, ◌≤◌};
-ghost use Rattle.bo_feed.specs.Feed.{Feeds, FeedsTexts, as_fault, feed_values};
+ghost use Rattle.std.specs.Prelude.{◌≡◌, ◌<◌, ◌≤◌, ◌+◌};
+ghost use Rattle.bo_feed.specs.Feed.{Feeds, CountedFed, FeedsTexts, as_fault, feed_values};
 
 use crate::fault::Fault;
 use crate::house::serve_house;
 use crate::ticks::{FeedTicks, Pace};
-use bo_base::{Device, Moment, Steps, number_of, read_moment};
+use bo_base::{Device, Drain, Moment, Source, Steps, number_of, read_moment};
 use bo_serve::Failure;
 use std::alloc::Global;
 use std::io::{Read, Write};
@@ -16,16 +16,65 @@ use std::sync::ledger::{Blank, Ledger};
 /// A reader and a writer that were used, and how it ended.
 #[derive(Drop)]
 pub struct Done<R, W, T> {
+    /// The reader, as far as it was read.
     pub input: R,
+    /// The writer, with what was written.
     pub output: W,
+    /// How it ended.
     pub ended: T,
 }
 
 /// The most seconds from one tick to the next, a year.
 const MOST_STEP: u64 = 31_536_000;
 
-// The same, with a ledger for each count.
-fn feed_with<P: Pace, A: Ledger, B: Ledger, C: Ledger, D: Ledger, E: Ledger, R: Read, W: Write>(
+// The same, with a ledger for the failures of its ticks.
+fn feed_with<P: Pace, E: Ledger, R: Source, W: Drain>(
+    alloc: Global,
+    from: Moment,
+    step: u64,
+    reader: &mut R,
+    writer: &mut W,
+    blank: Blank,
+) -> Result<(), Failure>
+    requires from { from ≡ P.from }
+    requires step { step ≡ P.step }
+    requires blank { (blank.name ≡ E.name) × (blank.parts ≡ E.parts) × (0 < E.parts) }
+    ensures leads { Feeds P.from P.step (R.left reader.old) (R.left reader.new) (W.taken writer.old) (W.taken writer.new) result }
+    ensures counted { CountedFed result (W.failures writer.old) (W.failures writer.new) (R.failures reader.old) (R.failures reader.new)
+        (R.calls reader.old) (R.calls reader.new) }
+    ensures calls { R.calls reader.new ≤ R.calls reader.old + 1000000 }
+{
+    let mut ticks = FeedTicks::<P, E> {
+        from,
+        step,
+        told: 0,
+        failures: Steps::<E>::new(blank),
+        pace: PhantomData,
+    };
+    serve_house(alloc, reader, &mut ticks, writer)
+}
+
+/// Reads requests to the end of the input, and writes their answers. The first request comes at that moment, and each
+/// other one that many seconds after the one before it, but none after the last moment that there is. It reads at most
+/// 1,000,000 times. Faults: 82 (the reader failed, its limit is met, or there was no memory for what is read), 83 (the
+/// writer failed), 85 (2^64 - 1 ticks were told).
+pub fn feed<R: Source, W: Drain>(
+    alloc: Global,
+    from: Moment,
+    step: u64,
+    reader: &mut R,
+    writer: &mut W,
+) -> Result<(), Failure>
+    ensures leads { Feeds from step (R.left reader.old) (R.left reader.new) (W.taken writer.old) (W.taken writer.new) result }
+    ensures counted { CountedFed result (W.failures writer.old) (W.failures writer.new) (R.failures reader.old) (R.failures reader.new)
+        (R.calls reader.old) (R.calls reader.new) }
+    ensures calls { R.calls reader.new ≤ R.calls reader.old + 1000000 }
+{
+    feed_with::<Brand, Brand, R, W>(alloc, from, step, reader, writer, Blank::new(1))
+}
+
+// The same over streams of std, with a ledger for each count of the devices that are made of them.
+fn streams_with<A: Ledger, B: Ledger, C: Ledger, D: Ledger, R: Read, W: Write>(
     alloc: Global,
     from: Moment,
     step: u64,
@@ -35,16 +84,12 @@ fn feed_with<P: Pace, A: Ledger, B: Ledger, C: Ledger, D: Ledger, E: Ledger, R: 
     read_failures: Blank,
     writes: Blank,
     write_failures: Blank,
-    tick_failures: Blank,
 ) -> Done<R, W, Result<(), Failure>>
-    requires from { from ≡ P.from }
-    requires step { step ≡ P.step }
     requires reads { (reads.name ≡ A.name) × (reads.parts ≡ A.parts) × (0 < A.parts) }
     requires read_failures { (read_failures.name ≡ B.name) × (read_failures.parts ≡ B.parts) × (0 < B.parts) }
     requires writes { (writes.name ≡ C.name) × (writes.parts ≡ C.parts) × (0 < C.parts) }
     requires write_failures { (write_failures.name ≡ D.name) × (write_failures.parts ≡ D.parts) × (0 < D.parts) }
-    requires tick_failures { (tick_failures.name ≡ E.name) × (tick_failures.parts ≡ E.parts) × (0 < E.parts) }
-    ensures { Feeds P.from P.step (R.remaining input) (R.remaining result.input) (W.contents output) (W.contents result.output) result.ended }
+    ensures { Feeds from step (R.remaining input) (R.remaining result.input) (W.contents output) (W.contents result.output) result.ended }
 {
     let mut reader = Device {
         inner: input,
@@ -56,14 +101,7 @@ fn feed_with<P: Pace, A: Ledger, B: Ledger, C: Ledger, D: Ledger, E: Ledger, R: 
         calls: Steps::<C>::new(writes),
         failures: Steps::<D>::new(write_failures),
     };
-    let mut ticks = FeedTicks::<P, E> {
-        from,
-        step,
-        told: 0,
-        failures: Steps::<E>::new(tick_failures),
-        pace: PhantomData,
-    };
-    let ended = serve_house(alloc, &mut reader, &mut ticks, &mut writer);
+    let ended = feed(alloc, from, step, &mut reader, &mut writer);
     Done {
         input: reader.inner,
         output: writer.inner,
@@ -71,9 +109,8 @@ fn feed_with<P: Pace, A: Ledger, B: Ledger, C: Ledger, D: Ledger, E: Ledger, R: 
     }
 }
 
-/// Reads requests to the end of the input, and writes their answers. The first request comes at that moment, and each
-/// other one that many seconds after the one before it.
-pub fn feed<R: Read, W: Write>(
+/// `feed` over a reader and a writer of std, each call of which is a call of a device.
+pub fn feed_streams<R: Read, W: Write>(
     alloc: Global,
     from: Moment,
     step: u64,
@@ -82,13 +119,12 @@ pub fn feed<R: Read, W: Write>(
 ) -> Done<R, W, Result<(), Failure>>
     ensures { Feeds from step (R.remaining input) (R.remaining result.input) (W.contents output) (W.contents result.output) result.ended }
 {
-    feed_with::<Brand, Brand, Brand, Brand, Brand, Brand, R, W>(
+    streams_with::<Brand, Brand, Brand, Brand, R, W>(
         alloc,
         from,
         step,
         input,
         output,
-        Blank::new(1),
         Blank::new(1),
         Blank::new(1),
         Blank::new(1),
@@ -136,7 +172,7 @@ pub fn feed_texts<R: Read, W: Write>(
             ended: Err(Fault::Argument),
         };
     };
-    let done = feed(alloc, from, step, input, output);
+    let done = feed_streams(alloc, from, step, input, output);
     Done {
         input: done.input,
         output: done.output,

@@ -8,7 +8,7 @@ pub mod line;
 pub mod ticks;
 
 pub use fault::Fault;
-pub use feeding::{Done, feed, feed_texts, feed_values};
+pub use feeding::{Done, feed, feed_streams, feed_texts, feed_values};
 pub use house::{open_house, serve_house};
 pub use line::{report_words, run};
 pub use ticks::{FeedTicks, Pace};

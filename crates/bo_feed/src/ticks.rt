@@ -1,6 +1,6 @@
 //! The ticks of `feed`, which take no clock and no chance.
 
-ghost use Rattle.std.specs.Prelude.{◌≡◌, ℕ, Some};
+ghost use Rattle.std.specs.Prelude.{◌≡◌, ◌<◌, ℕ, Some};
 ghost use Rattle.bo_feed.specs.FeedTicks.{feed_ticks};
 
 use bo_base::device::{Refused, Tick, Ticks};
@@ -36,9 +36,11 @@ pub struct FeedTicks<P: Pace, M: Ledger> {
     pub told: u64,
     /// How many calls failed: those after the last number of a `u64`.
     pub failures: Steps<M>,
+    /// When requests come.
     pub pace: PhantomData<P>,
     ghost begins: { from ≡ P.from },
     ghost goes_on: { step ≡ P.step },
+    ghost at_end: { 0 < failures → told ≡ 18446744073709551615 },
 }
 
 impl<P: Pace, M: Ledger> Ticks for FeedTicks<P, M> {

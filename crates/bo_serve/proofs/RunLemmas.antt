@@ -4,15 +4,15 @@ use Rattle.std.proofs.lemmas.List.{map-append}
 use Rattle.std.specs.Io.KnownBytes.{IsAtEnd}
 use Rattle.bo_base.specs.declared.answer.Answer.{Answer}
 use Rattle.bo_base.specs.declared.device.Tick.{Tick}
-use Rattle.bo_base.specs.Told.{Adds}
-use Rattle.bo_base.proofs.ToldLemmas.{Adds-nil, Adds-append}
+use Rattle.bo_base.specs.Told.{Adds, Gives}
+use Rattle.bo_base.proofs.ToldLemmas.{Adds-nil, Adds-append, Gives-append}
 use Rattle.bo_http.specs.declared.fault.Fault.{Fault}
 use Rattle.bo_http.specs.Text.{text, fault_text}
 use Rattle.bo_http.specs.Messages.{Message, Takes, Faults, HasNone, closes, Messages}
 use Rattle.bo_http.specs.Framed.{TakesFirst}
 use Rattle.bo_serve.specs.declared.failure.Failure.{Failure}
 use Rattle.bo_serve.specs.declared.failure.Failure.TheVariants as failures
-use Rattle.bo_serve.specs.Run.{Item, Runs, Acted, Chain, whole, AreAlways, AreAll, Place, place, Progress, Finished, IsCut, Broken}
+use Rattle.bo_serve.specs.Run.{Item, Runs, IsNext, Chain, whole, AreAlways, AreAll, Place, place, Progress, Finished, CutOff, Stopped, BreaksOff, Broken, TakesIn, CountedIn}
 
 -- ---- chains
 
@@ -34,11 +34,6 @@ pub Chain-messages : (a b more : List ℕ) (ms : List Message) (items : List Ite
 Chain-messages a b more [] items x y = subst (λ (t : List ℕ). Messages (t ++ more) items) (sym x) y
 Chain-messages a b more (m ∷ ms) items (mid, takes, goes, x) y =
     (mid ++ more, takes more, λ is. absurd (let both : true ≡ false = sym is ∙ goes in cc), λ is. Chain-messages mid b more ms items x y)
-
-pub Chain-acted : (a b : List ℕ) (ms : List Message) (items : List Item) → Chain a ms b → Acted b items → Acted a (map whole ms ++ items)
-Chain-acted a b [] items x y = subst (λ (t : List ℕ). Acted t items) (sym x) y
-Chain-acted a b (m ∷ ms) items (mid, takes, goes, x) y =
-    (mid, takes_now a mid m takes, λ is. absurd (let both : true ≡ false = sym is ∙ goes in cc), λ is. Chain-acted mid b ms items x y)
 
 -- ---- runs
 
@@ -82,34 +77,6 @@ fault_done Serves l l' t d w w' f faults wrote = record {
   runs = (refl, refl, refl);
 }
 
-pub fault_broken : {D : Type 0} (Serves : D → Tick → Message → Answer → D → Type 0) (l l' : List ℕ) (t : Option (List Tick)) (d : D) (w w' : Option (List ℕ)) (f : Fault) (part rest : List ℕ)
-    → ((more : List ℕ) → Faults (l ++ more) f) → fault_text f ≡ part ++ rest → Adds w part w' → Broken Serves failures.Output (place l t d w) (place l' t d w')
-fault_broken Serves l l' t d w w' f part rest faults split wrote = record {
-  items = Err f ∷ [];
-  ticks = [];
-  part = part;
-  rest = rest;
-  acted = (subst (λ (s : List ℕ). Faults s f) (append-nil l) (faults []), refl);
-  told = Adds-nil t;
-  taken = wrote;
-  cut = tt;
-  runs = (sym split, refl, refl);
-}
-
-pub clock_broken : {D : Type 0} (Serves : D → Tick → Message → Answer → D → Type 0) (l l' : List ℕ) (t t' : Option (List Tick)) (d : D) (w : Option (List ℕ))
-    → Adds t [] t' → Broken Serves failures.Clock (place l t d w) (place l' t' d w)
-clock_broken Serves l l' t t' d w told = record {
-  items = [];
-  ticks = [];
-  part = [];
-  rest = [];
-  acted = tt;
-  told = told;
-  taken = Adds-nil w;
-  cut = refl;
-  runs = (refl, refl);
-}
-
 pub message_ends : {D : Type 0} (Serves : D → Tick → Message → Answer → D → Type 0) (l l' : List ℕ) (t t' : Option (List Tick)) (d d' : D) (w w' : Option (List ℕ)) (m : Message) (tick : Tick) (answer : Answer) (b : Bool)
     → TakesFirst l m l' → Adds t (tick ∷ []) t' → Serves d tick m answer d' → Adds w (text answer b) w' → b ≡ closes m → b ≡ true
     → Finished Serves (AreAlways l) (place l t d w) (place l' t' d' w')
@@ -135,29 +102,6 @@ message_goes Serves l l' t t' d d' w w' m tick answer b takes told serves wrote 
   taken = wrote;
   runs = (d', answer, [], serves, ap (text answer) test ∙ sym (append-nil (text answer (closes m))), (refl, refl));
 }
-
-pub message_broken : {D : Type 0} (Serves : D → Tick → Message → Answer → D → Type 0) (l l' : List ℕ) (t t' : Option (List Tick)) (d d' : D) (w w' : Option (List ℕ)) (m : Message) (tick : Tick) (answer : Answer) (b : Bool) (part rest : List ℕ)
-    → TakesFirst l m l' → Adds t (tick ∷ []) t' → Serves d tick m answer d' → text answer b ≡ part ++ rest → Adds w part w' → b ≡ closes m
-    → Broken Serves failures.Output (place l t d w) (place l' t' d' w')
-message_broken Serves l l' t t' d d' w w' m tick answer b part rest takes told serves split wrote test = record {
-  items = Ok m ∷ [];
-  ticks = tick ∷ [];
-  part = part;
-  rest = rest;
-  acted = (l', takes_now l l' m takes, λ e. refl, λ e. tt);
-  told = told;
-  taken = wrote;
-  cut = tt;
-  runs = (d', answer, [], serves, sym split ∙ (ap (text answer) test ∙ sym (append-nil (text answer (closes m)))), (refl, refl));
-}
-
--- where nothing is left unwritten
-cut_none : (e : Failure) → IsCut e []
-cut_none failures.Output = tt
-cut_none failures.Input = refl
-cut_none failures.Clock = refl
-cut_none failures.Limit = refl
-cut_none failures.Memory = refl
 
 -- ---- several steps
 
@@ -201,19 +145,7 @@ module _ {D : Type 0} (Serves : D → Tick → Message → Answer → D → Type
   }
 
   pub broken_more : (e : Failure) (p q r : Place D) → Progress Serves p q → Broken Serves e q r → Broken Serves e p r
-  broken_more e p q r x y = record {
-    items = map whole x.messages ++ y.items;
-    ticks = x.ticks ++ y.ticks;
-    part = x.written ++ y.part;
-    rest = y.rest;
-    acted = Chain-acted p.left q.left x.messages y.items x.chain y.acted;
-    told = Adds-append p.told q.told r.told x.ticks y.ticks x.told y.told;
-    taken = Adds-append p.taken q.taken r.taken x.written y.part x.taken y.taken;
-    cut = y.cut;
-    runs = subst (λ (t : List ℕ). Runs Serves p.desk (x.ticks ++ y.ticks) (map whole x.messages ++ y.items) t r.desk)
-        (sym (append_assoc x.written y.part y.rest))
-        (Runs-append Serves p.desk q.desk r.desk x.ticks y.ticks x.messages y.items x.written (y.part ++ y.rest) x.runs y.runs);
-  }
+  broken_more e p q r x y = record { mid = y.mid; before = progress_more p q y.mid x y.before; last = y.last }
 
   -- a piece that comes after the bytes
   pub progress_feed : (b l : List ℕ) (piece : List ℕ) (t t' : Option (List Tick)) (d d' : D) (w w' : Option (List ℕ))
@@ -256,33 +188,91 @@ module _ {D : Type 0} (Serves : D → Tick → Message → Answer → D → Type
     runs = x.runs;
   }
 
-  -- what was answered so far, where the run breaks off between two messages
-  pub broken_off : (e : Failure) (p q : Place D) → Progress Serves p q → Broken Serves e p q
-  broken_off e p q x = record {
-    items = map whole x.messages;
-    ticks = x.ticks;
-    part = x.written;
-    rest = [];
-    acted = subst (Acted p.left) (append-nil (map whole x.messages)) (Chain-acted p.left q.left x.messages [] x.chain tt);
-    told = x.told;
-    taken = x.taken;
-    cut = cut_none e;
-    runs = subst (λ (t : List ℕ). Runs Serves p.desk x.ticks (map whole x.messages) t q.desk) (sym (append-nil x.written)) x.runs;
+  -- ---- where a run breaks off
+
+  stopped : (l l' : List ℕ) (t t' : Option (List Tick)) (d : D) (w : Option (List ℕ)) → Adds t [] t' → Stopped (place l t d w) (place l' t' d w)
+  stopped l l' t t' d w told = record { told = told; taken = Adds-nil w; desk = refl }
+
+  pub fault_broken : (l l' : List ℕ) (t : Option (List Tick)) (d : D) (w w' : Option (List ℕ)) (f : Fault) (part rest : List ℕ)
+      → ((more : List ℕ) → Faults (l ++ more) f) → fault_text f ≡ part ++ rest → Adds w part w' → Broken Serves failures.Output (place l t d w) (place l' t d w')
+  fault_broken l l' t d w w' f part rest faults split wrote = record {
+    mid = place l t d w;
+    before = progress_none _ _ refl;
+    last = record {
+      item = Err f;
+      ticks = [];
+      part = part;
+      rest = rest;
+      next = subst (λ (s : List ℕ). Faults s f) (append-nil l) (faults []);
+      told = Adds-nil t;
+      taken = wrote;
+      runs = (sym split, refl, refl);
+    };
   }
+
+  pub clock_broken : (l l' : List ℕ) (t t' : Option (List Tick)) (d : D) (w : Option (List ℕ)) (m : Message)
+      → TakesFirst l m l' → Adds t [] t' → Broken Serves failures.Clock (place l t d w) (place l' t' d w)
+  clock_broken l l' t t' d w m takes told = record {
+    mid = place l t d w;
+    before = progress_none _ _ refl;
+    last = (stopped l l' t t' d w told, (m, (l', takes_now l l' m takes)));
+  }
+
+  pub message_broken : (l l' : List ℕ) (t t' : Option (List Tick)) (d d' : D) (w w' : Option (List ℕ)) (m : Message) (tick : Tick) (answer : Answer) (b : Bool) (part rest : List ℕ)
+      → TakesFirst l m l' → Adds t (tick ∷ []) t' → Serves d tick m answer d' → text answer b ≡ part ++ rest → Adds w part w' → b ≡ closes m
+      → Broken Serves failures.Output (place l t d w) (place l' t' d' w')
+  message_broken l l' t t' d d' w w' m tick answer b part rest takes told serves split wrote test = record {
+    mid = place l t d w;
+    before = progress_none _ _ refl;
+    last = record {
+      item = Ok m;
+      ticks = tick ∷ [];
+      part = part;
+      rest = rest;
+      next = (l', takes_now l l' m takes);
+      told = told;
+      taken = wrote;
+      runs = (d', answer, [], serves, sym split ∙ (ap (text answer) test ∙ sym (append-nil (text answer (closes m)))), (refl, refl));
+    };
+  }
+
+  pub memory_broken : (p : Place D) (l l' : List ℕ) (t : Option (List Tick)) (d : D) (w : Option (List ℕ)) → Progress Serves p (place l t d w) → Broken Serves failures.Memory p (place l' t d w)
+  memory_broken p l l' t d w x = record { mid = place l t d w; before = x; last = stopped l l' t t d w (Adds-nil t) }
+
+  pub limit_broken : (p : Place D) (l l' : List ℕ) (t : Option (List Tick)) (d : D) (w : Option (List ℕ)) → Progress Serves p (place l t d w) → HasNone l → Broken Serves failures.Limit p (place l' t d w)
+  limit_broken p l l' t d w x none = record { mid = place l t d w; before = x; last = (stopped l l' t t d w (Adds-nil t), none) }
+
+  -- a reader that fails, or memory for what it gave that is refused
+  pub read_broken : (e : Failure) (g g' g'' : Option (List ℕ)) (b l l' : List ℕ) (t t' : Option (List Tick)) (d d' : D) (w w' : Option (List ℕ)) (input input' : ℕ)
+      → Gives g b g' → Progress Serves (place b t d w) (place l t' d' w') → HasNone l → TakesIn (Err e) l l' g' g'' → CountedIn (Err e) input input'
+      → (bytes : List ℕ) × Gives g bytes g'' × Broken Serves e (place bytes t d w) (place [] t' d' w')
+  read_broken failures.Input g g' g'' b l l' t t' d d' w w' input input' gives x none read counted = (
+    b,
+    subst (λ (s : List ℕ). Gives g s g'') (append-nil b) (Gives-append g g' g'' b [] gives read),
+    record { mid = place l t' d' w'; before = x; last = (stopped l [] t' t' d' w' (Adds-nil t'), none) },
+  )
+  read_broken failures.Memory g g' g'' b l l' t t' d d' w w' input input' gives x none (piece, read) counted = (
+    b ++ piece,
+    Gives-append g g' g'' b piece gives read,
+    memory_broken _ (l ++ piece) [] t' d' w' (progress_feed b l piece t t' d d' w w' x),
+  )
+  read_broken failures.Output g g' g'' b l l' t t' d d' w w' input input' gives x none read counted = absurd counted
+  read_broken failures.Clock g g' g'' b l l' t t' d d' w w' input input' gives x none read counted = absurd counted
+  read_broken failures.Limit g g' g'' b l l' t t' d d' w w' input input' gives x none read counted = absurd counted
 
   -- what is left afterwards does not matter
   pub broken_at : (e : Failure) (p : Place D) (l l' : List ℕ) (t : Option (List Tick)) (d : D) (w : Option (List ℕ)) → Broken Serves e p (place l t d w) → Broken Serves e p (place l' t d w)
-  broken_at e p l l' t d w x = record {
-    items = x.items;
-    ticks = x.ticks;
-    part = x.part;
-    rest = x.rest;
-    acted = x.acted;
-    told = x.told;
-    taken = x.taken;
-    cut = x.cut;
-    runs = x.runs;
-  }
+  broken_at e p l l' t d w x = record { mid = x.mid; before = x.before; last = last_at e x.mid x.last }
+    where
+      stays : (q : Place D) → Stopped q (place l t d w) → Stopped q (place l' t d w)
+      stays q y = record { told = y.told; taken = y.taken; desk = y.desk }
+
+      last_at : (f : Failure) (q : Place D) → BreaksOff Serves f q (place l t d w) → BreaksOff Serves f q (place l' t d w)
+      last_at failures.Output q y = record { item = y.item; ticks = y.ticks; part = y.part; rest = y.rest; next = y.next; told = y.told; taken = y.taken; runs = y.runs }
+      last_at failures.Clock q y = (stays q y.0, y.1)
+      last_at failures.Input q y = (stays q y.0, y.1)
+      last_at failures.Limit q y = (stays q y.0, y.1)
+      last_at failures.Memory q y = stays q y
 
   pub finished_at : (p : Place D) (IsOf : List Item → Type 0) (l l' : List ℕ) (t : Option (List Tick)) (d : D) (w : Option (List ℕ)) → Finished Serves IsOf p (place l t d w) → Finished Serves IsOf p (place l' t d w)
   finished_at p IsOf l l' t d w x = record {

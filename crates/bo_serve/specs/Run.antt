@@ -28,12 +28,10 @@ Runs Serves d (t ∷ ts) (Err f ∷ items) written e = ⊥
 Runs {D} Serves d (t ∷ ts) (Ok m ∷ items) written e =
     (mid : D) × (answer : Answer) × (rest : List ℕ) × Serves d t m answer mid × (written ≡ text answer (closes m) ++ rest) × Runs Serves mid ts items rest e
 
--- the items are the first of the messages of the bytes, perhaps not all
-abbrev pub Acted : List ℕ → List Item → Type 0
-Acted bytes [] = ⊤
-Acted bytes (Ok m ∷ items) =
-    (rest : List ℕ) × Takes bytes m rest × (closes m ≡ true → items ≡ []) × (closes m ≡ false → Acted rest items)
-Acted bytes (Err f ∷ items) = Faults bytes f × (items ≡ [])
+-- the item is the next one of the bytes
+abbrev pub IsNext : List ℕ → Item → Type 0
+IsNext bytes (Ok m) = (rest : List ℕ) × Takes bytes m rest
+IsNext bytes (Err f) = Faults bytes f
 
 -- the messages are at the front of the bytes, none of them ends the connection, and rest follows
 abbrev pub Chain : List ℕ → List Message → List ℕ → Type 0
@@ -83,25 +81,38 @@ pub record Finished {D : Type 0} (Serves : D → Tick → Message → Answer →
   pub taken : Adds old.taken written new.taken
   pub runs : Runs Serves old.desk ticks items written new.desk
 
--- only a failure of the writer leaves something unwritten
-abbrev pub IsCut : Failure → List ℕ → Type 0
-IsCut failures.Output rest = ⊤
-IsCut failures.Input rest = rest ≡ []
-IsCut failures.Clock rest = rest ≡ []
-IsCut failures.Limit rest = rest ≡ []
-IsCut failures.Memory rest = rest ≡ []
-
--- the first messages were acted on, and the front of their text was written
-pub record Broken {D : Type 0} (Serves : D → Tick → Message → Answer → D → Type 0) (e : Failure) (old new : Place D) : Type 0 where
-  pub items : List Item
+-- one more item was acted on, and the front of its text was written
+pub record CutOff {D : Type 0} (Serves : D → Tick → Message → Answer → D → Type 0) (old new : Place D) : Type 0 where
+  pub item : Item
   pub ticks : List Tick
   pub part : List ℕ
   pub rest : List ℕ
-  pub acted : Acted old.left items
+  pub next : IsNext old.left item
   pub told : Adds old.told ticks new.told
   pub taken : Adds old.taken part new.taken
-  pub cut : IsCut e rest
-  pub runs : Runs Serves old.desk ticks items (part ++ rest) new.desk
+  pub runs : Runs Serves old.desk ticks (item ∷ []) (part ++ rest) new.desk
+
+-- nothing more was told or written, and the desk is as it was
+pub record Stopped {D : Type 0} (old new : Place D) : Type 0 where
+  pub told : Adds old.told [] new.told
+  pub taken : Adds old.taken [] new.taken
+  pub desk : new.desk ≡ old.desk
+
+-- Where a run breaks off, behind the messages that were answered whole: where the writer fails, within the text of the next
+-- one; where the clock fails, before the next one, which is there; where the reader fails or its limit is met, once no message
+-- is left; and where the room for what was read can't grow, before what was read last.
+abbrev pub BreaksOff : {D : Type 0} → (D → Tick → Message → Answer → D → Type 0) → Failure → Place D → Place D → Type 0
+BreaksOff Serves failures.Output old new = CutOff Serves old new
+BreaksOff Serves failures.Clock old new = Stopped old new × ((m : Message) × IsNext old.left (Ok m))
+BreaksOff Serves failures.Input old new = Stopped old new × HasNone old.left
+BreaksOff Serves failures.Limit old new = Stopped old new × HasNone old.left
+BreaksOff Serves failures.Memory old new = Stopped old new
+
+-- messages at the front were answered whole, and there the run breaks off
+pub record Broken {D : Type 0} (Serves : D → Tick → Message → Answer → D → Type 0) (e : Failure) (old new : Place D) : Type 0 where
+  pub mid : Place D
+  pub before : Progress Serves old mid
+  pub last : BreaksOff Serves e mid new
 
 -- what one step leads to
 abbrev pub Steps : {D : Type 0} → (D → Tick → Message → Answer → D → Type 0) → Place D → Place D → Result Step Failure → Type 0
@@ -117,34 +128,36 @@ ServesReady Serves old new (Ok false) = Finished Serves (AreAlways old.left) old
 ServesReady Serves old new (Err e) = Broken Serves e old new
 
 -- What a whole run over these bytes leads to, where `after` is what the reader still has. At its end all messages of the
--- stream are answered; where it fails, the first ones are.
+-- stream are answered; where it fails, the first ones are, and what was written is the front of their text.
 abbrev pub Streams : {D : Type 0} → (D → Tick → Message → Answer → D → Type 0) → Option (List ℕ) → Place D → Place D → Result (Unit {0}) Failure → Type 0
 Streams Serves after old new (Ok u) = Finished Serves (AreAll old.left after) old new
 Streams Serves after old new (Err e) = Broken Serves e old new
 
--- a refusal was counted where the failure is the clock's or the writer's, and none where there is no failure
+-- a failure was counted where it is the clock's or the writer's, and no other one
 abbrev pub Counted : {A : Type 0} → Result A Failure → ℕ → ℕ → ℕ → ℕ → Type 0
 Counted (Ok a) clock clock' output output' = (clock' ≡ clock) × (output' ≡ output)
-Counted (Err failures.Clock) clock clock' output output' = clock < clock'
-Counted (Err failures.Output) clock clock' output output' = output < output'
+Counted (Err failures.Clock) clock clock' output output' = (clock < clock') × (output' ≡ output)
+Counted (Err failures.Output) clock clock' output output' = (clock' ≡ clock) × (output < output')
 Counted (Err failures.Input) clock clock' output output' = ⊥
 Counted (Err failures.Memory) clock clock' output output' = ⊥
 Counted (Err failures.Limit) clock clock' output output' = ⊥
 
--- The same of a whole run. A run without failure is one in which no device failed; where it ends with the failure of a
--- device, that device failed; and the limit is met only by 1,000,000 reads.
+-- The same of a whole run. It ends with the failure of a device where that device failed, and no other one did; else no
+-- device failed, and the limit is met only by 1,000,000 reads.
 abbrev pub CountedAll : Result (Unit {0}) Failure → ℕ → ℕ → ℕ → ℕ → ℕ → ℕ → ℕ → ℕ → Type 0
 CountedAll (Ok a) clock clock' output output' input input' calls calls' = (clock' ≡ clock) × (output' ≡ output) × (input' ≡ input)
-CountedAll (Err failures.Clock) clock clock' output output' input input' calls calls' = clock < clock'
-CountedAll (Err failures.Output) clock clock' output output' input input' calls calls' = output < output'
-CountedAll (Err failures.Input) clock clock' output output' input input' calls calls' = input < input'
-CountedAll (Err failures.Memory) clock clock' output output' input input' calls calls' = ⊤
-CountedAll (Err failures.Limit) clock clock' output output' input input' calls calls' = calls' ≡ calls + 1000000
+CountedAll (Err failures.Clock) clock clock' output output' input input' calls calls' = (clock < clock') × (output' ≡ output) × (input' ≡ input)
+CountedAll (Err failures.Output) clock clock' output output' input input' calls calls' = (clock' ≡ clock) × (output < output') × (input' ≡ input)
+CountedAll (Err failures.Input) clock clock' output output' input input' calls calls' = (clock' ≡ clock) × (output' ≡ output) × (input < input')
+CountedAll (Err failures.Memory) clock clock' output output' input input' calls calls' = (clock' ≡ clock) × (output' ≡ output) × (input' ≡ input)
+CountedAll (Err failures.Limit) clock clock' output output' input input' calls calls' = (clock' ≡ clock) × (output' ≡ output) × (input' ≡ input) × (calls' ≡ calls + 1000000)
 
--- the bytes that one call of the reader gives stand behind those that were there; no bytes come only at the end
+-- The bytes that one call of the reader gives stand behind those that were there; no bytes come only at the end. A call that
+-- fails gives none.
 abbrev pub TakesIn : Result Bool Failure → List ℕ → List ℕ → Option (List ℕ) → Option (List ℕ) → Type 0
 TakesIn (Ok true) old new given given' = (piece : List ℕ) × Gives given piece given' × (new ≡ old ++ piece)
 TakesIn (Ok false) old new given given' = Gives given [] given' × (new ≡ old) × IsAtEnd given'
+TakesIn (Err failures.Input) old new given given' = Gives given [] given'
 TakesIn (Err e) old new given given' = (piece : List ℕ) × Gives given piece given'
 
 -- the reader's failure was counted

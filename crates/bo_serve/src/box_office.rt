@@ -47,9 +47,9 @@ impl<B: Book> Model for BoxOffice<B> {
 impl<B: Book + Drop> BoxOffice<B> {
     /// The box office of an office. The requests to it show the token with that digest.
     pub fn over(alloc: Global, office: Office<B>, digest: [u8; 32]) -> Result<Self, AllocError>
-        requires { IsSound office.state }
         ensures { IfOk result (λ b. b ≡ record { organizer = office.organizer; event = office.event; digest = digest; state = office.state }) }
     {
+        let _ = office.book();
         let words = Words::new(alloc, office.organizer(), office.event())?;
         Ok(BoxOffice {
             office,

@@ -14,7 +14,7 @@ pub enum Failure {
     Clock,
     /// The reader was called 1,000,000 times, and did not come to its end.
     Limit,
-    /// The room for what was read could not grow.
+    /// There was no memory to open the connection, or the room for what was read could not grow.
     Memory,
 }
 

@@ -6,7 +6,7 @@ pub mod desk;
 pub mod failure;
 pub mod laws;
 pub mod run;
-pub mod step;
+mod step;
 
 pub use box_office::BoxOffice;
 pub use desk::Desk;

@@ -75,12 +75,17 @@ fn serve_all<R: Source, T: Ticks, D: Desk, W: Drain>(
             Err(failure) => return Err(failure),
         }
     }
-    Err(Failure::Limit)
+    match serve_ready(alloc, frames, ticks, desk, writer) {
+        Ok(true) => Err(Failure::Limit),
+        Ok(false) => Ok(()),
+        Err(failure) => Err(failure),
+    }
 }
 
-/// Reads to the end of the stream, or of the connection, and writes the answer of each message
-/// as soon as its bytes are there, in order and nothing else. It reads at most 1,000,000 times,
-/// at most 65,536 bytes a time. Where it fails, what was written is the front of that text.
+/// Reads to the end of the stream, or of the connection, and writes the answer of each message in order and nothing
+/// else. It reads at most 1,000,000 times, at most 65,536 bytes a time. Where it fails, what was written is the front of
+/// that text: faults 82 (the reader failed, its limit is met, or the room for what was read could not grow), 83 (the
+/// writer failed), 85 (the clock failed).
 pub fn run_stream<R: Source, T: Ticks, D: Desk, W: Drain>(
     alloc: Global,
     reader: &mut R,

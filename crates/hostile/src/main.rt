@@ -7,7 +7,7 @@ mod failing;
 use crate::endless::{REQUEST, Repeated};
 use crate::failing::{FailingReader, FailingWriter};
 use bo_base::Moment;
-use bo_feed::feed;
+use bo_feed::feed_streams;
 use bo_serve::Failure;
 use std::alloc::{AllocError, Global};
 use std::io::Read;
@@ -22,7 +22,7 @@ fn answered(
 ) -> (Result<(), Failure>, Vec<u8>) {
     let reader = FailingReader::new(requests, reads);
     let writer = FailingWriter::new(alloc, writes);
-    let done = feed(alloc, Moment::new(1_777_629_600), 60, reader, writer);
+    let done = feed_streams(alloc, Moment::new(1_777_629_600), 60, reader, writer);
     (done.ended, done.output.into_taken())
 }
 
@@ -60,7 +60,7 @@ fn failing_writes(alloc: Global, requests: &[u8], full: &[u8]) -> (usize, bool) 
 // How many answers are written to requests without end, a byte a read, where all of them are this one.
 fn without_end(alloc: Global, answer: &[u8]) -> Option<usize> {
     let writer = FailingWriter::new(alloc, usize::MAX);
-    let done = feed(alloc, Moment::new(0), 0, Repeated::new(), writer);
+    let done = feed_streams(alloc, Moment::new(0), 0, Repeated::new(), writer);
     let ended = done.ended;
     let written = done.output.into_taken();
     let all = written

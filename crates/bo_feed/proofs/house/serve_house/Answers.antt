@@ -3,13 +3,13 @@ use Rattle.bo_base.proofs.ToldLemmas.{Gives-nil}
 use Rattle.bo_serve.specs.BoxOfficeView.{BoxOfficeView}
 use Rattle.bo_serve.specs.Run.{Streams, place}
 use Rattle.bo_serve.specs.Served.{Serves}
-use Rattle.bo_serve.proofs.RunLemmas.{progress_none, broken_off}
+use Rattle.bo_serve.proofs.RunLemmas.{progress_none, memory_broken}
 use Rattle.bo_feed.specs.House.{fresh_house}
 use Rattle.bo_feed.proofs.house.serve_house.Goals as goal
 
 pub returns-in_default-clause-leads : goal.returns-in_default-clause-leads
 returns-in_default-clause-leads g c =
-    ([], fresh_house, Gives-nil _, broken_off Serves _ _ _ (progress_none Serves _ _ refl))
+    ([], fresh_house, Gives-nil _, memory_broken Serves _ _ _ _ _ _ (progress_none Serves _ _ refl))
 
 pub returns-clause-leads : goal.returns-clause-leads
 returns-clause-leads g c =

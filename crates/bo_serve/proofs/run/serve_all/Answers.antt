@@ -2,7 +2,7 @@ use Rattle.std.proofs.Common.{◌++◌, [], ℕ, List, refl, sym, ap, ◌∙◌,
 use Rattle.bo_base.specs.Told.{Gives}
 use Rattle.bo_serve.specs.Run.{Progress, place}
 use Rattle.bo_base.proofs.ToldLemmas.{Gives-nil, Gives-append}
-use Rattle.bo_serve.proofs.RunLemmas.{progress_none, progress_more, progress_feed, finished_more, finished_none, finished_all, finished_at, broken_more, broken_off, broken_at}
+use Rattle.bo_serve.proofs.RunLemmas.{progress_none, progress_more, progress_feed, finished_more, finished_none, finished_all, finished_at, broken_more, broken_at, limit_broken, read_broken}
 use Rattle.bo_serve.proofs.run.serve_all.Goals as goal
 
 pub loop-turn-init : goal.loop-turn-init
@@ -47,11 +47,8 @@ returns-in-Err-take_in-clause-leads g c =
     let S = g.D.Desk.serves in
     let done = c.loop-turn.invariant.done in
     let e = rw c.in-Ok-true.field-0-test at c.in-Ok-true.ensures in
-    let read = c.in-Err-take_in.ensures.leads in (
-      done.0 ++ read.0,
-      Gives-append _ _ _ _ _ done.1 read.1,
-      broken_at S _ _ _ _ _ _ _ (broken_off S _ _ _ (progress_feed S done.0 _ read.0 _ _ _ _ _ _ (progress_more S _ _ _ done.2 e.leads.0))),
-    )
+    let read = c.in-Err-take_in.ensures in
+    read_broken S _ _ _ _ _ _ _ _ _ _ _ _ _ _ _ done.1 (progress_more S _ _ _ done.2 e.leads.0) e.leads.1 read.leads read.counted
 
 pub loop-turn-preserved : goal.loop-turn-preserved
 loop-turn-preserved g c =
@@ -73,8 +70,22 @@ loop-turn-preserved g c =
       calls = omega (arith, read.calls, inv.calls);
     }
 
-pub returns-clause-leads : goal.returns-clause-leads
-returns-clause-leads g c =
+pub returns-in-Ok-true-serve_ready-clause-leads : goal.returns-in-Ok-true-serve_ready-clause-leads
+returns-in-Ok-true-serve_ready-clause-leads g c =
     let S = g.D.Desk.serves in
     let done = c.loop-turn.invariant.done in
-    (done.0, done.1, broken_at S _ _ _ _ _ _ _ (broken_off S _ _ _ done.2))
+    let e = rw c.in-Ok-true-serve_ready.field-0-test at c.in-Ok-true-serve_ready.ensures in
+    (done.0, done.1, limit_broken S _ _ _ _ _ _ (progress_more S _ _ _ done.2 e.leads.0) e.leads.1)
+
+pub returns-in-Ok-false-serve_ready-clause-leads : goal.returns-in-Ok-false-serve_ready-clause-leads
+returns-in-Ok-false-serve_ready-clause-leads g c =
+    let S = g.D.Desk.serves in
+    let done = c.loop-turn.invariant.done in
+    let e = rw c.in-Ok-false-serve_ready.field-0-test at c.in-Ok-false-serve_ready.ensures in
+    (done.0, done.1, finished_at S _ _ _ _ _ _ _ (finished_all S _ _ _ (finished_more S _ _ _ done.2 e.leads)))
+
+pub returns-in-Err-serve_ready-clause-leads : goal.returns-in-Err-serve_ready-clause-leads
+returns-in-Err-serve_ready-clause-leads g c =
+    let S = g.D.Desk.serves in
+    let done = c.loop-turn.invariant.done in
+    (done.0, done.1, broken_at S _ _ _ _ _ _ _ (broken_more S _ _ _ _ done.2 c.in-Err-serve_ready.ensures.leads))

@@ -14,7 +14,10 @@ returns-in-Some-Err-clause-leads g c =
     fault_broken g.D.Desk.serves _ _ _ _ _ _ c.in-Some-Err.fault part.0 part.1 next.0 part.2 part.3
 
 pub returns-in_default-tick-clause-leads : goal.returns-in_default-tick-clause-leads
-returns-in_default-tick-clause-leads g c = clock_broken g.D.Desk.serves _ _ _ _ _ _ c.in_default-tick.ensures.kept
+returns-in_default-tick-clause-leads g c =
+    let next = rw c.in-Some-Ok.field-0-is at c.in-Some-Ok.ensures in
+    let takes = takes_frame c.args.frames.now.left c.next.new.self.left c.in-Some.frame _ c.in-Some.ensures (next.0, next.1, next.2) in
+    clock_broken g.D.Desk.serves _ _ _ _ _ _ c.in-Some.frame takes c.in_default-tick.ensures.kept
 
 pub returns-in-Ok-write_answer-clause-leads : goal.returns-in-Ok-write_answer-clause-leads
 returns-in-Ok-write_answer-clause-leads g c =
