@@ -41,7 +41,7 @@ usage_with_waiting lists at id come quota =
 abbrev pub voucher_share : Lists → ℕ → Quota → Option Voucher → ℕ
 voucher_share lists at quota voucher = sum_at (blocked_by lists at quota) voucher
 
--- the cart positions that name the id count where no voucher covers them
+-- the live cart positions for the quota's products that name the id count where no voucher covers them
 abbrev pub uncovered : Lists → ℕ → Quota → ℕ → Option Voucher → ℕ
 uncovered lists at quota id voucher = if blocks_if at quota voucher then 0 else held_in at quota id lists
 

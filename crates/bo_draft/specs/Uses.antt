@@ -68,7 +68,7 @@ pub record CountsMore (come gone : Option ℕ) (old new : List UseCount) : Type 
   pub comes : (voucher : ℕ) → came voucher new ≡ came voucher old + one_use voucher come
   pub goes : (voucher : ℕ) → went voucher new ≡ went voucher old + one_use voucher gone
 
--- the new rows count the shift; none counts the uses of a whole order
+-- the new rows count the shift; one that isn't known is counted by no rows
 abbrev pub CountsShift : Option UseShift → List UseCount → List UseCount → Type 0
 CountsShift None old new = ⊥
 CountsShift (Some shift) old new = CountsMore shift.come shift.gone old new

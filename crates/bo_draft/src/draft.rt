@@ -11,7 +11,7 @@ ghost use Rattle.bo_base.specs.Tables.{AreInOrder};
 ghost use Rattle.bo_lists.specs.Named.{voucher_of, is_used};
 ghost use Rattle.bo_lists.specs.Over.{first_over};
 ghost use Rattle.bo_lists.specs.Change.{changed};
-ghost use Rattle.bo_draft.specs.DraftState.{DraftState, MarkState, IsMarkOf, Extends, now, back, usages_of};
+ghost use Rattle.bo_draft.specs.DraftState.{DraftState, MarkState, IsMarkOf, Extends, now, back, with_change, usages_of};
 ghost use Rattle.bo_overlay.specs.Logs.{rows_of};
 ghost use Rattle.bo_draft.specs.Shift.{CanCome};
 ghost use Rattle.bo_lists.specs.Usage.{redeemed};
@@ -236,6 +236,7 @@ impl<'a, B: Book> Draft<'a, B> {
         requires { (now self.old).next.cart < 9007199254740992 }
         ensures now { now self.new ≡ record (now self.old) { next = record (now self.old).next { cart = (now self.old).next.cart + 1 } } }
         ensures extends { Extends self.old self.new }
+        ensures log { self.new.log ≡ self.old.log }
     {
         self.next.cart += 1;
     }
@@ -262,6 +263,7 @@ impl<'a, B: Book> Draft<'a, B> {
         requires { (now self.old).next.order < 9007199254740992 }
         ensures now { now self.new ≡ record (now self.old) { next = record (now self.old).next { order = (now self.old).next.order + 1 } } }
         ensures extends { Extends self.old self.new }
+        ensures log { self.new.log ≡ self.old.log }
     {
         self.next.order += 1;
     }
@@ -287,6 +289,7 @@ impl<'a, B: Book> Draft<'a, B> {
         requires { (now self.old).next.position + count ≤ 9007199254740992 }
         ensures now { now self.new ≡ record (now self.old) { next = record (now self.old).next { position = (now self.old).next.position + count } } }
         ensures extends { Extends self.old self.new }
+        ensures log { self.new.log ≡ self.old.log }
     {
         self.next.position += count as u64;
     }
@@ -312,6 +315,7 @@ impl<'a, B: Book> Draft<'a, B> {
         requires { (now self.old).next.voucher < 9007199254740992 }
         ensures now { now self.new ≡ record (now self.old) { next = record (now self.old).next { voucher = (now self.old).next.voucher + 1 } } }
         ensures extends { Extends self.old self.new }
+        ensures log { self.new.log ≡ self.old.log }
     {
         self.next.voucher += 1;
     }
@@ -322,6 +326,7 @@ impl<'a, B: Book> Draft<'a, B> {
         ensures ok { OnOk result (now self.new ≡ changed (Change.PutVoucher row) (now self.old)) }
         ensures extends { Extends self.old self.new }
         ensures err { OnErr result (self.new ≡ self.old) }
+        ensures log { OnOk result (self.new ≡ with_change (Change.PutVoucher row) self.old) }
     {
         self.known();
         self.change(alloc, Change::PutVoucher(row))
@@ -332,6 +337,7 @@ impl<'a, B: Book> Draft<'a, B> {
         ensures ok { OnOk result (now self.new ≡ changed (Change.DropVoucher id) (now self.old)) }
         ensures extends { Extends self.old self.new }
         ensures err { OnErr result (self.new ≡ self.old) }
+        ensures log { OnOk result (self.new ≡ with_change (Change.DropVoucher id) self.old) }
     {
         self.known();
         self.change(alloc, Change::DropVoucher(id))
@@ -344,6 +350,7 @@ impl<'a, B: Book> Draft<'a, B> {
         ensures ok { OnOk result (now self.new ≡ changed (Change.PutCart row) (now self.old)) }
         ensures extends { Extends self.old self.new }
         ensures err { OnErr result (self.new ≡ self.old) }
+        ensures log { OnOk result (self.new ≡ with_change (Change.PutCart row) self.old) }
     {
         self.known();
         self.change(alloc, Change::PutCart(row))
@@ -354,6 +361,7 @@ impl<'a, B: Book> Draft<'a, B> {
         ensures ok { OnOk result (now self.new ≡ changed (Change.DropCart id) (now self.old)) }
         ensures extends { Extends self.old self.new }
         ensures err { OnErr result (self.new ≡ self.old) }
+        ensures log { OnOk result (self.new ≡ with_change (Change.DropCart id) self.old) }
     {
         self.known();
         self.change(alloc, Change::DropCart(id))
@@ -365,6 +373,7 @@ impl<'a, B: Book> Draft<'a, B> {
         ensures ok { OnOk result (now self.new ≡ changed (Change.PutWaiting row) (now self.old)) }
         ensures extends { Extends self.old self.new }
         ensures err { OnErr result (self.new ≡ self.old) }
+        ensures log { OnOk result (self.new ≡ with_change (Change.PutWaiting row) self.old) }
     {
         self.known();
         self.change(alloc, Change::PutWaiting(row))
@@ -376,6 +385,7 @@ impl<'a, B: Book> Draft<'a, B> {
         ensures ok { OnOk result (now self.new ≡ changed (Change.DropWaiting id) (now self.old)) }
         ensures extends { Extends self.old self.new }
         ensures err { OnErr result (self.new ≡ self.old) }
+        ensures log { OnOk result (self.new ≡ with_change (Change.DropWaiting id) self.old) }
     {
         self.known();
         self.change(alloc, Change::DropWaiting(id))
@@ -389,6 +399,7 @@ impl<'a, B: Book> Draft<'a, B> {
         ensures ok { OnOk result (now self.new ≡ changed (Change.PutOrder row) (now self.old)) }
         ensures extends { Extends self.old self.new }
         ensures err { OnErr result (self.new ≡ self.old) }
+        ensures log { OnOk result (self.new ≡ with_change (Change.PutOrder row) self.old) }
     {
         self.known();
         self.change(alloc, Change::PutOrder(row))
@@ -403,6 +414,7 @@ impl<'a, B: Book> Draft<'a, B> {
         ensures ok { OnOk result (now self.new ≡ changed (Change.PutPosition row) (now self.old)) }
         ensures extends { Extends self.old self.new }
         ensures err { OnErr result (self.new ≡ self.old) }
+        ensures log { OnOk result (self.new ≡ with_change (Change.PutPosition row) self.old) }
     {
         self.known();
         self.change(alloc, Change::PutPosition(row))
@@ -415,6 +427,7 @@ impl<'a, B: Book> Draft<'a, B> {
         ensures ok { OnOk result (now self.new ≡ changed change (now self.old)) }
         ensures extends { Extends self.old self.new }
         ensures err { OnErr result (self.new ≡ self.old) }
+        ensures log { OnOk result (self.new ≡ with_change change self.old) }
     {
         let usages = usages_after(&self.overlay, alloc, self.moment, &self.usages, &change)?;
         let carts = carts_after(&self.overlay, self.carts, &change);

@@ -416,9 +416,12 @@ impl<'a, B: Book> Overlay<'a, B> {
         let Some(size) = quota.size else {
             return false;
         };
-        let weight = after
-            .total()
-            .saturating_sub(self.free_count(at, quota, own) as u128);
+        // Where all that is used isn't too much, the own rows needn't be looked up.
+        let used = after.total();
+        if used <= u128::from(size) || used <= before.total() {
+            return false;
+        }
+        let weight = used.saturating_sub(self.free_count(at, quota, own) as u128);
         u128::from(size) < weight && before.total() < weight
     }
 

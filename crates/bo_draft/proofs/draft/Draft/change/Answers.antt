@@ -5,7 +5,7 @@ use Rattle.bo_lists.specs.Headroom.{AllHaveHeadroom}
 use Rattle.bo_draft.specs.Uses.{AreKept}
 use Rattle.bo_draft.proofs.CanCome.{headroom_after}
 use Rattle.bo_draft.proofs.UseCounts.{kept_more}
-use Rattle.bo_draft.specs.DraftState.{DraftState, Extends, usages_of, now}
+use Rattle.bo_draft.specs.DraftState.{DraftState, Extends, usages_of, now, with_change}
 use Rattle.bo_overlay.specs.Logs.{Log, rows_of}
 use Rattle.bo_draft.proofs.Extensions.{extends_with_change, now-with_change}
 use Rattle.bo_overlay.proofs.Steps.{after_all-push}
@@ -47,3 +47,9 @@ returns-clause-extends g c =
     let draft : DraftState = record { log = inside.overlay; next = inside.next; moment = inside.moment } in
     subst (λ (d : DraftState). Extends d (record { log = c.push.new.self; next = inside.next; moment = inside.moment })) c.self.view_is
     (subst (λ (log : Log). Extends draft (record { log = log; next = inside.next; moment = inside.moment })) (sym c.in_ok-push.ensures.ok) (extends_with_change draft c.args.change))
+
+pub returns-clause-log : goal.returns-clause-log
+returns-clause-log g c =
+    let inside = c.self.inside in
+    ap (λ (log : Log). record { log = log; next = inside.next; moment = inside.moment }) c.in_ok-push.ensures.ok
+    ∙ ap (λ (d : DraftState). with_change c.args.change d) c.self.view_is
