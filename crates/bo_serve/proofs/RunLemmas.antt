@@ -12,7 +12,7 @@ use Rattle.bo_http.specs.Messages.{Message, Takes, Faults, HasNone, closes, Mess
 use Rattle.bo_http.specs.Framed.{TakesFirst}
 use Rattle.bo_serve.specs.declared.failure.Failure.{Failure}
 use Rattle.bo_serve.specs.declared.failure.Failure.TheVariants as failures
-use Rattle.bo_serve.specs.Run.{Item, Runs, IsNext, Chain, whole, AreAlways, AreAll, Place, place, Progress, Finished, CutOff, Stopped, BreaksOff, Broken, TakesIn, CountedIn}
+use Rattle.bo_serve.specs.Run.{Item, Runs, Chain, whole, AreAlways, AreAll, Place, place, Progress, Finished, Stopped, BreaksOff, Broken, TakesIn, CountedIn}
 
 -- ---- chains
 
