@@ -1,3 +1,4 @@
 pub mod RunLemmas
 pub mod PassLemmas
 pub mod LawLemmas
+pub mod KeptLemmas

@@ -2,3 +2,4 @@ pub mod Failures
 pub mod Run
 pub mod BoxOfficeView
 pub mod Served
+pub mod Kept
