@@ -1,5 +1,7 @@
 //! An input without end.
 
+ghost use Rattle.std.specs.Prelude.{◌≡◌};
+
 use std::io;
 use std::io::Read;
 
@@ -14,7 +16,9 @@ pub struct Repeated {
 
 impl Repeated {
     /// From the first byte on.
-    pub fn new() -> Self {
+    pub fn new() -> Self
+        ensures { result.at ≡ 0 }
+    {
         Repeated { at: 0 }
     }
 }
@@ -24,8 +28,8 @@ impl Read for Repeated {
         if buf.is_empty() {
             return Ok(0);
         }
-        let at = self.at % 19;
-        buf[0] = b"GET /x HTTP/1.1\r\n\r\n"[at];
+        let at = self.at % REQUEST.len();
+        buf[0] = REQUEST[at];
         self.at = at + 1;
         Ok(1)
     }

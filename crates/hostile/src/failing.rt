@@ -1,5 +1,7 @@
 //! A reader and a writer that fail at a call of theirs.
 
+ghost use Rattle.std.specs.Prelude.{◌≡◌, []};
+
 use std::alloc::Global;
 use std::io;
 use std::io::{Read, Write};
@@ -13,7 +15,10 @@ pub struct FailingReader<'a> {
 
 impl<'a> FailingReader<'a> {
     /// These bytes, where so many calls are well and the next one fails.
-    pub fn new(rest: &'a [u8], calls: usize) -> Self {
+    pub fn new(rest: &'a [u8], calls: usize) -> Self
+        ensures rest { result.rest ≡ rest }
+        ensures calls { result.calls ≡ calls }
+    {
         FailingReader { rest, calls }
     }
 }
@@ -40,7 +45,10 @@ pub struct FailingWriter {
 
 impl FailingWriter {
     /// Nothing taken yet, where so many calls are well and the next one fails.
-    pub fn new(alloc: Global, calls: usize) -> Self {
+    pub fn new(alloc: Global, calls: usize) -> Self
+        ensures taken { result.taken.items ≡ [] }
+        ensures calls { result.calls ≡ calls }
+    {
         FailingWriter {
             taken: Vec::new(alloc),
             calls,
@@ -48,7 +56,9 @@ impl FailingWriter {
     }
 
     /// What was taken.
-    pub fn into_taken(self) -> Vec<u8> {
+    pub fn into_taken(self) -> Vec<u8>
+        ensures { result ≡ self.taken }
+    {
         let FailingWriter { taken, calls: _ } = self;
         taken
     }

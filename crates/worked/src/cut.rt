@@ -1,5 +1,7 @@
 //! A reader that gives its bytes in pieces.
 
+ghost use Rattle.std.specs.Prelude.{◌≡◌};
+
 use std::io;
 use std::io::Read;
 
@@ -12,7 +14,10 @@ pub struct Cut<'a> {
 
 impl<'a> Cut<'a> {
     /// These bytes, at most so many at a time.
-    pub fn new(rest: &'a [u8], most: usize) -> Self {
+    pub fn new(rest: &'a [u8], most: usize) -> Self
+        ensures rest { result.rest ≡ rest }
+        ensures most { result.most ≡ most }
+    {
         Cut { rest, most }
     }
 }
