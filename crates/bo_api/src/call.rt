@@ -20,14 +20,17 @@ use bo_words::{
 };
 use std::alloc::{AllocError, Global};
 
-/// What a message asks for. A message without a known token has no key; a refused write takes one.
+/// What a message asks for. A write stores its moment, refused or not; a read stores nothing, and neither does a
+/// message without a known token.
 #[derive(Drop)]
 pub enum Call {
     /// 401: there is no token, or an unknown one.
     Unauthorized(Told),
+    /// A request that only reads.
     Read(Query),
     /// 404 or 405 of a method that doesn't write, or 404 for the page of a list or for an order's code.
     ReadRefused(Told),
+    /// A request that may change the box office.
     Write(Command),
     /// 404 or 405 of a POST, PATCH or DELETE, or 400 for its body, or after that 404 for an order's code.
     WriteRefused(Told),

@@ -31,7 +31,7 @@ impl Model for Cents {
 }
 
 impl Cents {
-    /// That many cents.
+    /// That many cents, which have to be at most 9,999,999,999.
     pub fn new(count: u64) -> Self
         requires { count ≤ last_cents }
         ensures { result ≡ count }

@@ -35,7 +35,7 @@ impl Model for Moment {
 }
 
 impl Moment {
-    /// That many seconds since 1970.
+    /// That many seconds since 1970, which have to be at most 253,370,764,799.
     pub fn new(seconds: u64) -> Self
         requires { seconds ≤ last_moment }
         ensures { result ≡ seconds }

@@ -76,7 +76,8 @@ impl<T: Row> Rows<T> {
         }
     }
 
-    /// Takes memory, so that this many rows can be put.
+    /// Takes memory, so that this many rows can be put. It is refused where there would be more than 2^32 rows with
+    /// them, or where there is no memory.
     pub fn reserve(&mut self, count: usize) -> Result<(), AllocError>
         ensures ok { OnOk result (count ≤ self.new.room) }
         ensures rows { self.new.rows ≡ self.old.rows }
@@ -98,6 +99,7 @@ impl<T: Row> Rows<T> {
 
 impl<T: Row + Drop> Rows<T> {
     /// Puts a row in the place of its id, instead of the row that stood there.
+    /// There has to be room for one row, also where it replaces one.
     pub fn put(&mut self, row: T)
         requires { 1 ≤ self.old.room }
         ensures rows { self.new.rows ≡ with_row T.key row self.old.rows }

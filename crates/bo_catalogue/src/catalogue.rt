@@ -421,7 +421,8 @@ impl Catalogue {
 }
 
 impl Catalogue {
-    /// Takes memory, so that this many rows can be put into each table.
+    /// Takes memory, so that this many rows can be put into each table. It is refused where a table would have more
+    /// than 2^32 rows with them, or where there is no memory.
     pub fn reserve(&mut self, count: usize) -> Result<(), AllocError>
         ensures ok { OnOk result (count ≤ self.new.room) }
         ensures same { self.new.lists ≡ self.old.lists }
@@ -442,6 +443,7 @@ impl Catalogue {
     }
 
     /// Puts an item in the place of its id.
+    /// There has to be room for a row in each table, also where it replaces one.
     pub fn put_item(&mut self, row: Item)
         requires { 1 ≤ self.old.room }
         ensures lists { self.new.lists ≡ record self.old.lists { items = with_row (λ r. r.id) row self.old.lists.items } }
@@ -451,6 +453,7 @@ impl Catalogue {
     }
 
     /// Puts a variation in the place of its id.
+    /// There has to be room for a row in each table, also where it replaces one.
     pub fn put_variation(&mut self, row: Variation)
         requires { 1 ≤ self.old.room }
         ensures lists { self.new.lists ≡ record self.old.lists { variations = with_row (λ r. r.id) row self.old.lists.variations } }
@@ -460,6 +463,7 @@ impl Catalogue {
     }
 
     /// Puts a quota in the place of its id.
+    /// There has to be room for a row in each table, also where it replaces one.
     pub fn put_quota(&mut self, row: Quota)
         requires { 1 ≤ self.old.room }
         ensures lists { self.new.lists ≡ record self.old.lists { quotas = with_row (λ r. r.id) row self.old.lists.quotas } }

@@ -37,13 +37,13 @@ pub struct ItemPatch {
     pub active: Option<bool>,
 }
 
-/// What is to change of a quota: its size, where one is given; a size that is none is unlimited.
+/// What is to change of a quota: its size, where one is given, 0 to 1,000,000; a size that is none is unlimited.
 #[derive(Clone, Copy, Debug, PartialEq, Eq)]
 pub struct QuotaPatch {
     pub size: Option<Option<u32>>,
 }
 
-/// A new quota, with the ids as they are given. Without a size it is unlimited.
+/// A new quota, with the ids as they are given. Its size is 0 to 1,000,000; without a size it is unlimited.
 #[derive(Debug, Drop)]
 pub struct NewQuota {
     pub name: Text,

@@ -6,7 +6,7 @@ ghost use Rattle.bo_catalogue.specs.Member.{is_in};
 use bo_base::{Cents, Ids, List, Row, Text};
 use std::alloc::{AllocError, Global};
 
-/// What is sold: by itself, or, where it is varied, by its variations alone.
+/// What is sold: by itself, or, where it is varied, by its variations alone. Its name has at most 254 bytes.
 #[derive(Debug, Drop)]
 pub struct Item {
     pub id: u64,
@@ -39,7 +39,7 @@ impl Item {
     }
 }
 
-/// One kind of an item. Where it has no price, the item's price holds.
+/// One kind of an item. Where it has no price, the item's price holds. Its name has at most 254 bytes.
 #[derive(Debug, Drop)]
 pub struct Variation {
     pub id: u64,
@@ -86,7 +86,8 @@ pub struct PricedVariation {
     pub price: Cents,
 }
 
-/// So many places, shared by some products. Where it has no size, it is unlimited.
+/// So many places, 0 to 1,000,000, shared by some products. Where it has no size, it is unlimited.
+/// Its name has at most 254 bytes.
 #[derive(Debug, Drop)]
 pub struct Quota {
     pub id: u64,

@@ -76,6 +76,7 @@ impl<'a, B: Book> Model for Draft<'a, B> {
 
 impl<'a, B: Book> Draft<'a, B> {
     /// The book as it stands, at a moment that isn't before its own and at which it has headroom.
+    /// `Err` where there is no memory for the draft.
     pub fn new(alloc: Global, book: &'a B, moment: Moment) -> Result<Self, AllocError>
         requires moment { (B.state book.now).moment ≤ moment }
         requires headroom { AllHaveHeadroom moment (B.state book.now).lists }
@@ -187,6 +188,7 @@ impl<'a, B: Book> Draft<'a, B> {
     }
 
     /// Copies of the positions of an order, by id, in a draft that has changed no order position.
+    /// `Err` where there is no memory for them.
     pub fn positions_of(&self, alloc: Global, order: u64) -> Result<List<OrderPos>, AllocError>
         requires { (now self.now).lists.positions ≡ self.now.log.base.positions }
         ensures { IfOk result (λ rows. rows ≡ positions_of order (now self.now).lists) }
@@ -195,7 +197,7 @@ impl<'a, B: Book> Draft<'a, B> {
     }
 
     /// The ids of the cart positions of these carts, dead ones too, in order,
-    /// in a draft that has changed no cart position.
+    /// in a draft that has changed no cart position. `Err` where there is no memory for them.
     pub fn carts_in(&self, alloc: Global, carts: &[Text]) -> Result<Vec<u64>, AllocError>
         requires { (now self.now).lists.carts ≡ self.now.log.base.carts }
         ensures { IfOk result (λ ids. ids.items ≡ consumed carts.now (now self.now).lists) }
@@ -321,6 +323,7 @@ impl<'a, B: Book> Draft<'a, B> {
     }
 
     /// Puts a voucher in the place of its id. It isn't used more often than it may be.
+    /// `Err` where there is no memory or 2^32 changes stand; the draft is then as it was.
     pub fn put_voucher(&mut self, alloc: Global, row: Voucher) -> Result<(), AllocError>
         requires { HasHeadroom (now self.old).moment (now self.old).lists row }
         ensures ok { OnOk result (now self.new ≡ changed (Change.PutVoucher row) (now self.old)) }
@@ -333,6 +336,7 @@ impl<'a, B: Book> Draft<'a, B> {
     }
 
     /// Removes the voucher of an id.
+    /// `Err` where there is no memory or 2^32 changes stand; the draft is then as it was.
     pub fn drop_voucher(&mut self, alloc: Global, id: u64) -> Result<(), AllocError>
         ensures ok { OnOk result (now self.new ≡ changed (Change.DropVoucher id) (now self.old)) }
         ensures extends { Extends self.old self.new }
@@ -344,6 +348,7 @@ impl<'a, B: Book> Draft<'a, B> {
     }
 
     /// Puts a cart position in the place of its id. It is dead, or its voucher, if it names one, has a use left.
+    /// `Err` where there is no memory or 2^32 changes stand; the draft is then as it was.
     #[tactic(auto, using(crate::proofs::CanCome::can_put_cart))]
     pub fn put_cart(&mut self, alloc: Global, row: CartPos) -> Result<(), AllocError>
         requires { (not (is_live_cart (now self.old).moment row) || has_use (now self.old).moment (now self.old).lists row.voucher) ≡ true }
@@ -357,6 +362,7 @@ impl<'a, B: Book> Draft<'a, B> {
     }
 
     /// Removes the cart position of an id.
+    /// `Err` where there is no memory or 2^32 changes stand; the draft is then as it was.
     pub fn drop_cart(&mut self, alloc: Global, id: u64) -> Result<(), AllocError>
         ensures ok { OnOk result (now self.new ≡ changed (Change.DropCart id) (now self.old)) }
         ensures extends { Extends self.old self.new }
@@ -368,6 +374,7 @@ impl<'a, B: Book> Draft<'a, B> {
     }
 
     /// Puts a waiting entry in the place of its id.
+    /// `Err` where there is no memory or 2^32 changes stand; the draft is then as it was.
     #[tactic(auto, using(crate::proofs::CanCome::can_put_waiting))]
     pub fn put_waiting(&mut self, alloc: Global, row: Waiting) -> Result<(), AllocError>
         ensures ok { OnOk result (now self.new ≡ changed (Change.PutWaiting row) (now self.old)) }
@@ -380,6 +387,7 @@ impl<'a, B: Book> Draft<'a, B> {
     }
 
     /// Removes the waiting entry of an id.
+    /// `Err` where there is no memory or 2^32 changes stand; the draft is then as it was.
     #[tactic(auto, using(crate::proofs::CanCome::can_drop_waiting))]
     pub fn drop_waiting(&mut self, alloc: Global, id: u64) -> Result<(), AllocError>
         ensures ok { OnOk result (now self.new ≡ changed (Change.DropWaiting id) (now self.old)) }
@@ -393,6 +401,7 @@ impl<'a, B: Book> Draft<'a, B> {
 
     /// Puts an order in the place of its id: a new one, or one whose status changed.
     /// No voucher may be used too often after it.
+    /// `Err` where there is no memory or 2^32 changes stand; the draft is then as it was.
     #[tactic(auto, using(crate::proofs::CanCome::can_put_order))]
     pub fn put_order(&mut self, alloc: Global, row: Order) -> Result<(), AllocError>
         requires { AllHaveHeadroom (now self.old).moment (changed (Change.PutOrder row) (now self.old)).lists }
@@ -407,6 +416,7 @@ impl<'a, B: Book> Draft<'a, B> {
 
     /// Puts a new order position.
     /// No voucher may be used too often after it.
+    /// `Err` where there is no memory or 2^32 changes stand; the draft is then as it was.
     #[tactic(auto, using(crate::proofs::CanCome::can_put_position))]
     pub fn put_position(&mut self, alloc: Global, row: OrderPos) -> Result<(), AllocError>
         requires new { position_at row.id (now self.old).lists ≡ None }
@@ -439,7 +449,7 @@ impl<'a, B: Book> Draft<'a, B> {
         Ok(())
     }
 
-    /// The place where the draft is now.
+    /// The place where the draft is now. `Err` where there is no memory for it.
     pub fn mark(&self, alloc: Global) -> Result<Mark, AllocError>
         ensures place { IfOk result (IsMarkOf self.now) }
         ensures here { IfOk result (λ m. back m self.now ≡ self.now) }

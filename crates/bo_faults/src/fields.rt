@@ -43,7 +43,8 @@ pub enum Problem {
     Null,
     /// It is an empty text, and may not be.
     Blank,
-    /// It is of another kind, or another word of a choice.
+    /// It is of another kind, or another word of a choice, or a text or a number that is no amount, or a text that is
+    /// no moment.
     Invalid,
     /// It is a number, an amount or a moment out of its limits.
     OutOfRange,

@@ -10,9 +10,9 @@ use std::alloc::AllocError;
 /// What is wrong with a body.
 #[derive(Clone, Copy, Debug, PartialEq, Eq)]
 pub enum BodyFault {
-    /// It is no JSON, or nests deeper than 127.
+    /// It is no JSON or no UTF-8, or nests deeper than 127.
     NotJson,
-    /// It is no object.
+    /// It is no object, or for a bulk call no list.
     InvalidData,
     /// A field is wrong.
     Field(Fault),

@@ -41,7 +41,7 @@ pub fn whole_or(
     }
 }
 
-/// A text that may be empty, and may be absent: then it is empty.
+/// A text of at most 254 bytes and with no control byte that may be empty, and may be absent: then it is empty.
 pub fn text_or_empty<'v>(field: Field, body: &'v Value) -> Result<&'v str, BodyFault>
     ensures { Shows text_of result (text_or_empty field (view body.now)) }
 {
@@ -71,7 +71,7 @@ pub fn optional_id(field: Field, body: &Value) -> Result<Option<u64>, BodyFault>
     }
 }
 
-/// A text that may be absent or null.
+/// A text that is not blank, of at most 254 bytes and with no control byte, that may be absent or null.
 pub fn optional_text<'v>(field: Field, body: &'v Value) -> Result<Option<&'v str>, BodyFault>
     ensures { Shows (option_map text_of) result (optional_text field (view body.now)) }
 {
@@ -81,7 +81,7 @@ pub fn optional_text<'v>(field: Field, body: &'v Value) -> Result<Option<&'v str
     }
 }
 
-/// A text that may be absent or null, and may be empty.
+/// A text of at most 254 bytes and with no control byte that may be absent or null, and may be empty.
 pub fn optional_loose_text<'v>(field: Field, body: &'v Value) -> Result<Option<&'v str>, BodyFault>
     ensures { Shows (option_map text_of) result (optional_loose_text field (view body.now)) }
 {

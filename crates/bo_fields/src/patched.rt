@@ -39,7 +39,7 @@ pub fn patched_whole(
     }
 }
 
-/// A text that is not blank.
+/// A text that is not blank, of at most 254 bytes and with no control byte.
 pub fn patched_text<'v>(field: Field, body: &'v Value) -> Result<Option<&'v str>, BodyFault>
     ensures { Shows (option_map text_of) result (patched_text field (view body.now)) }
 {
@@ -49,7 +49,7 @@ pub fn patched_text<'v>(field: Field, body: &'v Value) -> Result<Option<&'v str>
     }
 }
 
-/// A text that may be empty.
+/// A text of at most 254 bytes and with no control byte, which may be empty.
 pub fn patched_loose_text<'v>(field: Field, body: &'v Value) -> Result<Option<&'v str>, BodyFault>
     ensures { Shows (option_map text_of) result (patched_loose_text field (view body.now)) }
 {

@@ -51,7 +51,7 @@ is_over before after at own quota = is_over_size quota.size (total (usage_of bef
 abbrev pub first_over : Lists → Lists → ℕ → List Own → Option ℕ
 first_over before after at own = option_map (λ quota. quota.id) (find (is_over before after at own) after.catalogue.quotas)
 
--- the same, by the usage before
+-- the first such quota of these, where `before` is the usage before of these very quotas, in their order
 abbrev pub first_over_among : Lists → ℕ → List Own → List Usage → List Quota → Option ℕ
 first_over_among lists at own before [] = None
 first_over_among lists at own [] (quota ∷ quotas) = None

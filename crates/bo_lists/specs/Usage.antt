@@ -32,7 +32,7 @@ redeemed id lists = count_by (uses id lists) lists.positions
 unfoldable pub blocked_by : Lists → ℕ → Quota → Voucher → ℕ
 blocked_by lists at quota voucher = if blocks at quota voucher then voucher.max_usages - redeemed voucher.id lists else 0
 
--- a place that a voucher blocks is no second time used by its cart position
+-- the voucher, if there is one, blocks places of the quota
 abbrev pub blocks_if : ℕ → Quota → Option Voucher → Bool
 blocks_if at quota None = false
 blocks_if at quota (Some voucher) = blocks at quota voucher
@@ -41,6 +41,7 @@ abbrev pub is_covered_by : Lists → ℕ → Quota → Option ℕ → Bool
 is_covered_by lists at quota None = false
 is_covered_by lists at quota (Some id) = blocks_if at quota (voucher_at id lists)
 
+-- a place that a voucher blocks is no second time used by its cart position
 abbrev pub is_covered : Lists → ℕ → Quota → CartPos → Bool
 is_covered lists at quota cart = is_covered_by lists at quota cart.voucher
 

@@ -9,16 +9,27 @@ use std::marker::Model;
 /// Puts or deletes one row.
 #[derive(Debug, Drop)]
 pub enum Change {
+    /// Puts an item in the place of its id.
     PutItem(Item),
+    /// Puts a variation in the place of its id.
     PutVariation(Variation),
+    /// Puts a quota in the place of its id.
     PutQuota(Quota),
+    /// Puts a voucher in the place of its id.
     PutVoucher(Voucher),
+    /// Puts a cart position in the place of its id.
     PutCart(CartPos),
+    /// Puts an order in the place of its id.
     PutOrder(Order),
+    /// Puts an order position in the place of its id.
     PutPosition(OrderPos),
+    /// Puts a waiting entry in the place of its id.
     PutWaiting(Waiting),
+    /// Deletes the voucher with this id, if there is one.
     DropVoucher(u64),
+    /// Deletes the cart position with this id, if there is one.
     DropCart(u64),
+    /// Deletes the waiting entry with this id, if there is one.
     DropWaiting(u64),
 }
 
@@ -38,6 +49,7 @@ impl Model for Changes {
 }
 
 impl Changes {
+    /// These changes, with these next ids.
     pub fn new(list: Vec<Change>, next: NextIds) -> Self
         ensures list { result.list ≡ list.items }
         ensures next { result.next ≡ next }
@@ -45,18 +57,21 @@ impl Changes {
         Changes { list, next }
     }
 
+    /// The changes in order.
     pub fn as_slice(&self) -> &[Change]
         ensures { result.now ≡ self.now.list }
     {
         self.list.as_slice()
     }
 
+    /// The next ids that stand afterwards.
     pub fn next(&self) -> NextIds
         ensures { result ≡ self.now.next }
     {
         self.next
     }
 
+    /// The changes in order, and the next ids that stand afterwards.
     pub fn into_parts(self) -> (Vec<Change>, NextIds)
         ensures list { result.0.items ≡ self.list }
         ensures next { result.1 ≡ self.next }

@@ -13,7 +13,8 @@ use bo_catalogue::{Catalogue, Product, Quota};
 use std::alloc::{AllocError, Global};
 
 /// A voucher. Its `value` is in cents, or in hundredths of a percent where the mode is percent.
-/// It is live up to and at `valid_until`.
+/// It may be used `max_usages` times, 1 to 1,000,000. It is live up to and at `valid_until`.
+/// Its texts have at most 254 bytes each; tag and comment may be empty.
 #[derive(Debug, Drop)]
 pub struct Voucher {
     pub id: u64,
@@ -31,7 +32,7 @@ pub struct Voucher {
     pub comment: Text,
 }
 
-/// A place that is held in a cart, up to and at the moment `expires`.
+/// A place that is held in a cart, up to and at the moment `expires`. The cart's id has at most 254 bytes.
 #[derive(Debug, Drop)]
 pub struct CartPos {
     pub id: u64,
@@ -52,7 +53,8 @@ pub enum Status {
     Cancelled,
 }
 
-/// An order; its positions are rows of their own.
+/// An order; its positions are rows of their own. Its `id` is its number, 1 to 17,210,367.
+/// Its email has at most 254 bytes.
 #[derive(Debug, Drop)]
 pub struct Order {
     pub id: u64,
@@ -82,6 +84,7 @@ pub struct OrderRows {
 }
 
 /// An entry of the waiting list. It waits as long as it has no voucher.
+/// Its `priority` is -1,000,000 to 1,000,000, higher first.
 #[derive(Debug, Drop)]
 pub struct Waiting {
     pub id: u64,
@@ -125,7 +128,7 @@ pub struct NextIds {
     pub checkin: u64,
 }
 
-/// Whether places of a quota are left. No number of places is left where the quota is unlimited.
+/// Whether places of a quota are left, and how many: `available_number` is none where the quota is unlimited.
 #[derive(Clone, Copy, Debug, PartialEq, Eq)]
 pub struct Availability {
     pub size: Option<u32>,

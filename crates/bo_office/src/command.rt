@@ -39,10 +39,15 @@ pub enum Command {
 /// Rows of one kind, which are listed by id, 50 a page. The id of an order is its number.
 #[derive(Clone, Copy, Debug, PartialEq, Eq)]
 pub enum Resource {
+    /// Items, with their variations.
     Items,
+    /// Quotas.
     Quotas,
+    /// Vouchers, with how many positions of pending and paid orders name them.
     Vouchers,
+    /// Cart positions, dead ones too.
     Carts,
+    /// Orders, with their positions.
     Orders,
 }
 
@@ -60,20 +65,36 @@ pub enum Query {
 /// Which kind of request it is.
 #[derive(Clone, Copy, Debug, PartialEq, Eq)]
 pub enum Kind {
+    /// A command that adds an item.
     AddItem,
+    /// A command that changes an item.
     ChangeItem,
+    /// A command that adds a variation.
     AddVariation,
+    /// A command that adds a quota.
     AddQuota,
+    /// A command that gives a quota another size.
     ResizeQuota,
+    /// A command that makes a voucher.
     AddVoucher,
+    /// A command that changes a voucher.
     ChangeVoucher,
+    /// A command that deletes a voucher.
     DropVoucher,
+    /// A command that adds a cart position.
     AddCart,
+    /// A command that adds a cart position for each entry.
     AddCarts,
+    /// A command that deletes a cart position.
     DropCart,
+    /// A command that makes an order.
     AddOrder,
+    /// A command that moves an order.
     MoveOrder,
+    /// A query for a page of a list.
     List,
+    /// A query for a row.
     One,
+    /// A query for what is left of a quota.
     Availability,
 }

@@ -13,8 +13,11 @@ use bo_vouchers::VoucherRefusal;
 /// Why a request is refused.
 #[derive(Clone, Copy, Debug, PartialEq, Eq)]
 pub enum Refusal {
+    /// The catalogue's refusal, with its number.
     Catalogue(CatalogueRefusal),
+    /// The refusal of a call on vouchers, with its number.
     Voucher(VoucherRefusal),
+    /// The refusal of a call on carts and orders, with its number.
     Order(OrderRefusal),
     /// 59: the list has no such page.
     NoPage,

@@ -40,7 +40,8 @@ abbrev pub price_with : Option Voucher → ℕ → ℕ
 price_with None base = base
 price_with (Some voucher) base = price voucher.price_mode voucher.value base
 
--- the price that is given, else the product's with the voucher
+-- the price that is given, else the product's with the voucher; a product without a base price would be refused as
+-- `NoItem`, which can't occur for one that is for sale
 abbrev pub price_by : Option ℕ → Option Voucher → Option ℕ → Result ℕ VoucherRefusal
 price_by (Some given) voucher base = Ok given
 price_by None voucher (Some base) = Ok (price_with voucher base)

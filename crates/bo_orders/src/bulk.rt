@@ -20,7 +20,9 @@ const MOST_ENTRIES: usize = 500;
 /// An entry of a bulk call: a cart position that is asked for, or what is wrong with what stands in its place.
 #[derive(Debug, Drop)]
 pub enum Entry {
+    /// A cart position that is asked for.
     New(NewCart),
+    /// What is wrong with what stands in its place.
     Faulty(EntryFault),
 }
 
@@ -37,7 +39,7 @@ pub enum Outcome {
 
 /// Adds a cart position for each entry, in a draft that has changed no voucher. Each entry is answered by itself, as a
 /// request of its own after those before it, and a refused one changes nothing.
-/// Refusal of the whole call: 44 `TooMany` of more than 500 entries.
+/// Refusals of the whole call, which leave the draft as it was: 44 `TooMany` of more than 500 entries, 6 `Memory`.
 #[tactic(auto, unfolding(crate::specs::Bulk::many_added))]
 pub fn add_many<B: Book>(
     draft: &mut Draft<'_, B>,

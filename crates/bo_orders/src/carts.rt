@@ -18,9 +18,10 @@ use bo_vouchers::VoucherRefusal;
 use std::alloc::Global;
 
 /// Adds a cart position, in a draft that has changed no voucher, and answers a copy of it.
+/// A refusal leaves the draft as it was.
 /// Refusals, in this order: 45 `BadCart`; 10 `NoItem`, 11 `NoVariation`, 12 `NeedsVariation`, 15 `Inactive`,
 /// 18 `NotSold`; 23 `NoVoucher`, 24 `VoucherExpired`, 26 `WrongProduct`; 25 `NoHeadroom`; 28 `SoldOut` with the
-/// least quota of which it takes too much; 16 `Full`.
+/// least quota of which it takes too much; 16 `Full`. 6 `Memory` may come anywhere after the first.
 #[tactic(auto, unfolding(crate::specs::Carts::position_added))]
 pub fn add_position<B: Book>(
     draft: &mut Draft<'_, B>,
@@ -103,7 +104,8 @@ fn place<B: Book>(
     Ok(copy)
 }
 
-/// Deletes the cart position of an id, dead or live. Refusal: 40 `NoPosition`.
+/// Deletes the cart position of an id, dead or live. A refusal leaves the draft as it was.
+/// Refusals, in this order: 40 `NoPosition`, 6 `Memory`.
 #[tactic(auto, unfolding(crate::specs::Dropped::position_dropped))]
 pub fn drop_position<B: Book>(
     draft: &mut Draft<'_, B>,

@@ -24,10 +24,11 @@ const MOST_POSITIONS: usize = 500;
 
 /// Makes an order, in a draft without changes, and answers a copy of it with its positions. The carts that it names are
 /// consumed: all their positions go, exactly if the order is made, and uses and places are tested without them.
+/// A refusal leaves the draft as it was.
 /// Refusals, in this order: 43 `Empty`; 44 `TooMany` of more than 500 positions or cart ids; position by position
 /// 10 `NoItem`, 11 `NoVariation`, 12 `NeedsVariation`, 15 `Inactive`, 18 `NotSold`, 23 `NoVoucher`,
 /// 24 `VoucherExpired`, 26 `WrongProduct`; then for the whole order 25 `NoHeadroom`, 28 `SoldOut` with the least
-/// quota of which it takes too much, 16 `Full`.
+/// quota of which it takes too much, 16 `Full`. 6 `Memory` may come anywhere after the first.
 #[tactic(auto, unfolding(crate::specs::Created::order_created), using(crate::proofs::Rows::counted))]
 pub fn create<B: Book>(
     draft: &mut Draft<'_, B>,

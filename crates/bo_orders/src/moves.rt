@@ -23,11 +23,15 @@ use std::alloc::{AllocError, Global};
 /// What is to become of an order.
 #[derive(Clone, Copy, Debug, PartialEq, Eq)]
 pub enum Move {
+    /// A pending or an expired order becomes paid.
     MarkPaid,
+    /// A paid order becomes pending again.
     MarkPending,
+    /// A pending order becomes expired.
     MarkExpired,
+    /// An order that isn't cancelled becomes cancelled.
     MarkCanceled,
-    /// Its new end.
+    /// A pending or an expired order gets this end, and is pending then.
     Extend(Moment),
 }
 
@@ -74,8 +78,9 @@ pub fn turned(status: Status, change: Move) -> Option<Turn>
 }
 
 /// Moves the order of a number, in a draft without changes, and answers it with its positions, as copies.
-/// Refusals, in this order: 41 `NoOrder`; 42 `WrongStatus`; where it comes back to life 25 `NoHeadroom` and 28 `SoldOut`
-/// with the least quota of which it takes too much.
+/// A refusal leaves the draft as it was.
+/// Refusals, in this order: 41 `NoOrder`; 42 `WrongStatus`; where it comes back to life 25 `NoHeadroom` and
+/// 28 `SoldOut` with the least quota of which it takes too much. 6 `Memory` may come anywhere after the first.
 #[tactic(auto, unfolding(crate::specs::Moves::order_moved))]
 pub fn move_order<B: Book>(
     draft: &mut Draft<'_, B>,

@@ -10,7 +10,9 @@ use bo_lists::Status;
 /// What an order starts as.
 #[derive(Clone, Copy, Debug, PartialEq, Eq)]
 pub enum Start {
+    /// It waits for its payment.
     Pending,
+    /// It is paid at once.
     Paid,
 }
 

@@ -119,7 +119,7 @@ impl<'a, B: Book> Overlay<'a, B> {
         self.book.carts_in(alloc, carts)
     }
 
-    /// One more change, or a refusal where 2^32 stand.
+    /// One more change, or a refusal where 2^32 stand or there is no memory: then the changes are as they were.
     pub fn push(&mut self, change: Change) -> Result<(), AllocError>
         requires { IsSale change (rows_of self.old) }
         ensures ok { OnOk result (self.new ≡ record self.old { changes = self.old.changes ++ change ∷ [] }) }
@@ -203,7 +203,7 @@ impl<'a, B: Book> Overlay<'a, B> {
         }
     }
 
-    /// How many positions of the order, as they were before a change, pass the test.
+    /// How many positions of the order pass the test, as they are after the first `i` changes.
     pub fn count_ordered<T: PositionTest>(&self, i: usize, order: u64, test: &T) -> u64
         requires { i ≤ length self.now.changes }
         ensures value { result ≡ count_ordered order (T.passes test.now) (rows_at i self.now) }
@@ -214,7 +214,7 @@ impl<'a, B: Book> Overlay<'a, B> {
         kept + self.count_put(i, order, test)
     }
 
-    // How many of them the changes before that one put.
+    // How many positions of the order that pass the test the first `i` changes put.
     fn count_put<T: PositionTest>(&self, i: usize, order: u64, test: &T) -> u64
         requires { i ≤ length self.now.changes }
         ensures value { result ≡ count_by (puts (λ p. order == p.order && T.passes test.now p)) (take i self.now.changes) }
@@ -236,7 +236,7 @@ impl<'a, B: Book> Overlay<'a, B> {
         self.count_carts(count, &Holds { at, voucher })
     }
 
-    /// How many of them are for a product of the quota.
+    /// How many cart positions that are live at a moment name the voucher and are for a product of the quota.
     pub fn held_in(&self, voucher: u64, quota: &Quota, at: Moment) -> u64
         ensures { result ≡ held_in at quota.now voucher (rows_of self.now) }
     {

@@ -43,7 +43,7 @@ pub trait Book {
     fn catalogue(&self) -> &Catalogue
         ensures { result.now.lists ≡ (state self.now).lists.catalogue };
 
-    /// The moment of the last change.
+    /// The moment of the last `apply`.
     fn moment(&self) -> Moment
         ensures { result ≡ (state self.now).moment };
 
@@ -127,7 +127,7 @@ pub trait Book {
         ensures value { result ≡ held at voucher (state self.now).lists }
         ensures few { result ≤ 4294967296 };
 
-    /// How many of them are for a product of the quota.
+    /// How many cart positions that are live at a moment name the voucher and are for a product of the quota.
     fn held_in(&self, voucher: u64, quota: &Quota, at: Moment) -> u64
         ensures value { result ≡ held_in at quota.now voucher (state self.now).lists }
         ensures few { result ≤ 4294967296 };

@@ -75,7 +75,7 @@ quota_named (refusals.Voucher refusal) = quota_of refusal
 quota_named (refusals.Order (order.Voucher refusal)) = quota_of refusal
 quota_named refusal = None
 
--- whether the path of a request of that kind names the item, the quota, the voucher or the cart position
+-- whether the path of a request of that kind names the item, the quota or the voucher
 abbrev pub names_item : Kind → Bool
 names_item kinds.ChangeItem = true
 names_item kinds.AddVariation = true
@@ -142,8 +142,8 @@ abbrev pub refusal_status : Kind → Refusal → ℕ
 refusal_status kind refusals.NoPage = 404
 refusal_status kind refusal = if is_of_path kind refusal then 404 else status_by refusal (detail refusal)
 
--- more than 100 percent is told as a fault of the field, a page that isn't there as a path that isn't there, and an
--- order's status that doesn't allow a move with that status
+-- more than 100 percent is told as a fault of the field, a page that isn't there by `Invalid page.`, an order's status
+-- that doesn't allow a move with that status, and what the path names and isn't there by `Not found.`
 unfoldable pub refusal_data : Kind → Refusal → Data
 refusal_data kind (refusals.Voucher voucher.TooLarge) = fault_body (record { field = fields.Value; problem = problems.OutOfRange })
 refusal_data kind refusals.NoPage = invalid_page_body

@@ -59,7 +59,7 @@ fn voucher_detail(refusal: VoucherRefusal) -> Option<&'static str>
     }
 }
 
-/// The sentence that tells a refusal of a cart position.
+/// The sentence that tells a refusal of a call on carts and orders.
 fn order_detail(refusal: OrderRefusal) -> Option<&'static str>
     ensures { option_copied result ≡ order_detail refusal }
 {
