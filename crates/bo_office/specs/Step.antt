@@ -1,5 +1,5 @@
 -- What each command does.
-use Rattle.std.specs.Prelude.{ℕ, List, [], Result, Ok, Err}
+use Rattle.std.specs.Prelude.{◌≡◌, ℕ, List, [], Result, Ok, Err}
 use Rattle.bo_base.specs.declared.draw.Draw.{Draw}
 use Rattle.bo_catalogue.specs.declared.rows.Item.{Item}
 use Rattle.bo_catalogue.specs.declared.rows.ItemRows.{ItemRows}
@@ -31,7 +31,9 @@ use Rattle.bo_orders.specs.Dropped.{position_dropped}
 use Rattle.bo_orders.specs.Moves.{order_moved}
 use Rattle.bo_office.specs.declared.command.Command.{Command}
 use Rattle.bo_office.specs.declared.command.Command.TheVariants as commands
+use Rattle.bo_office.specs.declared.command.Kind.{Kind}
 use Rattle.bo_office.specs.declared.command.Kind.TheVariants as kinds
+use Rattle.bo_office.specs.declared.reply.Refusal.{Refusal}
 use Rattle.bo_office.specs.declared.reply.Refusal.TheVariants as refusals
 use Rattle.bo_office.specs.declared.reply.Reply.{Reply}
 use Rattle.bo_office.specs.declared.reply.Reply.TheVariants.{Made, Found, Results, Gone, Refused}
@@ -41,6 +43,10 @@ use Rattle.bo_office.specs.ShownRows.{show_item, show_voucher}
 -- no row is put, and the next ids stay
 abbrev pub no_change : State → Changed
 no_change state = record { list = []; next = state.next }
+
+-- where the reply is a refusal, no row is put, and the next ids stay
+abbrev pub RefusesWithoutChange : State → Changed × Reply → Type 0
+RefusesWithoutChange state answer = (kind : Kind) (refusal : Refusal) → answer.1 ≡ Refused kind refusal → answer.0 ≡ no_change state
 
 abbrev pub item_step : State → Result ItemRows CatalogueRefusal → State × Reply
 item_step state (Ok made) = (with_item made state, Made (rows.Item made))

@@ -4,7 +4,7 @@ ghost use Rattle.std.specs.Prelude.{◌≡◌, ℕ, IfOk};
 ghost use Rattle.bo_base.specs.declared.draw.Draw.{Draw};
 ghost use Rattle.bo_lists.specs.Change.{applied};
 ghost use Rattle.bo_lists.specs.Numbered.{puts_of};
-ghost use Rattle.bo_office.specs.Step.{step};
+ghost use Rattle.bo_office.specs.Step.{RefusesWithoutChange, step};
 ghost use Rattle.bo_office.specs.declared.command.Command.{Command};
 
 use crate::command::Kind;
@@ -24,7 +24,8 @@ impl<B: Book> Office<B> {
         alloc: Global,
         new: &NewItem,
     ) -> Result<(Changes, Reply), AllocError>
-        ensures { IfOk result (λ r. (at : ℕ) (draw : Draw) → (applied r.0 at self.now.state, r.1) ≡ step (Command.AddItem new.now) at draw self.now.state) }
+        ensures step { IfOk result (λ r. (at : ℕ) (draw : Draw) → (applied r.0 at self.now.state, r.1) ≡ step (Command.AddItem new.now) at draw self.now.state) }
+        ensures refused { IfOk result (RefusesWithoutChange self.now.state) }
     {
         let next = self.book().next_ids();
         match self
@@ -53,7 +54,8 @@ impl<B: Book> Office<B> {
         id: u64,
         patch: &ItemPatch,
     ) -> Result<(Changes, Reply), AllocError>
-        ensures { IfOk result (λ r. (at : ℕ) (draw : Draw) → (applied r.0 at self.now.state, r.1) ≡ step (Command.ChangeItem id patch.now) at draw self.now.state) }
+        ensures step { IfOk result (λ r. (at : ℕ) (draw : Draw) → (applied r.0 at self.now.state, r.1) ≡ step (Command.ChangeItem id patch.now) at draw self.now.state) }
+        ensures refused { IfOk result (RefusesWithoutChange self.now.state) }
     {
         let catalogue = self.book().catalogue();
         match catalogue.change_item(alloc, id, patch) {
@@ -75,7 +77,8 @@ impl<B: Book> Office<B> {
         item: u64,
         new: &NewVariation,
     ) -> Result<(Changes, Reply), AllocError>
-        ensures { IfOk result (λ r. (at : ℕ) (draw : Draw) → (applied r.0 at self.now.state, r.1) ≡ step (Command.AddVariation item new.now) at draw self.now.state) }
+        ensures step { IfOk result (λ r. (at : ℕ) (draw : Draw) → (applied r.0 at self.now.state, r.1) ≡ step (Command.AddVariation item new.now) at draw self.now.state) }
+        ensures refused { IfOk result (RefusesWithoutChange self.now.state) }
     {
         let next = self.book().next_ids();
         match self
@@ -106,7 +109,8 @@ impl<B: Book> Office<B> {
         alloc: Global,
         new: &NewQuota,
     ) -> Result<(Changes, Reply), AllocError>
-        ensures { IfOk result (λ r. (at : ℕ) (draw : Draw) → (applied r.0 at self.now.state, r.1) ≡ step (Command.AddQuota new.now) at draw self.now.state) }
+        ensures step { IfOk result (λ r. (at : ℕ) (draw : Draw) → (applied r.0 at self.now.state, r.1) ≡ step (Command.AddQuota new.now) at draw self.now.state) }
+        ensures refused { IfOk result (RefusesWithoutChange self.now.state) }
     {
         let next = self.book().next_ids();
         match self.book().catalogue().add_quota(alloc, new, next.quota) {
@@ -131,7 +135,8 @@ impl<B: Book> Office<B> {
         id: u64,
         patch: QuotaPatch,
     ) -> Result<(Changes, Reply), AllocError>
-        ensures { IfOk result (λ r. (at : ℕ) (draw : Draw) → (applied r.0 at self.now.state, r.1) ≡ step (Command.ResizeQuota id patch) at draw self.now.state) }
+        ensures step { IfOk result (λ r. (at : ℕ) (draw : Draw) → (applied r.0 at self.now.state, r.1) ≡ step (Command.ResizeQuota id patch) at draw self.now.state) }
+        ensures refused { IfOk result (RefusesWithoutChange self.now.state) }
     {
         match self.book().catalogue().resize(alloc, id, patch) {
             Ok(row) => {

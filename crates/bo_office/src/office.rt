@@ -4,7 +4,7 @@ ghost use Rattle.std.specs.Prelude.{◌≡◌, ◌≤◌, ℕ, IfOk, OnOk, lengt
 ghost use Rattle.bo_base.specs.declared.draw.Draw.{Draw};
 ghost use Rattle.bo_lists.specs.Change.{applied};
 ghost use Rattle.bo_lists.specs.Sound.{IsSound};
-ghost use Rattle.bo_office.specs.Step.{step, no_change};
+ghost use Rattle.bo_office.specs.Step.{RefusesWithoutChange, step, no_change};
 ghost use Rattle.bo_office.specs.Answer.{answer};
 
 use crate::command::{Command, Kind, Query};
@@ -98,6 +98,7 @@ impl<B: Book> Office<B> {
         requires { self.now.state.moment ≤ at }
         ensures step { IfOk result (λ r. (applied r.0 at self.now.state, r.1) ≡ step command.now at draw self.now.state) }
         ensures sound { IfOk result (λ r. IsSound (applied r.0 at self.now.state)) }
+        ensures refused { IfOk result (RefusesWithoutChange self.now.state) }
     {
         let _ = &self.book;
         self.decided(alloc, at, draw, command)
@@ -111,7 +112,8 @@ impl<B: Book> Office<B> {
         command: &Command,
     ) -> Result<(Changes, Reply), AllocError>
         requires { self.now.state.moment ≤ at }
-        ensures { IfOk result (λ r. (applied r.0 at self.now.state, r.1) ≡ step command.now at draw self.now.state) }
+        ensures step { IfOk result (λ r. (applied r.0 at self.now.state, r.1) ≡ step command.now at draw self.now.state) }
+        ensures refused { IfOk result (RefusesWithoutChange self.now.state) }
     {
         match command {
             Command::AddItem(new) => self.add_item(alloc, new),

@@ -5,7 +5,7 @@ ghost use Rattle.bo_base.specs.declared.draw.Draw.{Draw};
 ghost use Rattle.bo_draft.specs.DraftState.{now};
 ghost use Rattle.bo_lists.specs.Change.{applied};
 ghost use Rattle.bo_lists.specs.Sound.{IsSound};
-ghost use Rattle.bo_office.specs.Step.{step};
+ghost use Rattle.bo_office.specs.Step.{RefusesWithoutChange, step};
 ghost use Rattle.bo_office.specs.declared.command.Command.{Command};
 
 use crate::command::Kind;
@@ -45,7 +45,8 @@ impl<B: Book> Office<B> {
         new: &NewVoucher,
     ) -> Result<(Changes, Reply), AllocError>
         requires { self.now.state.moment ≤ at }
-        ensures { IfOk result (λ r. (applied r.0 at self.now.state, r.1) ≡ step (Command.AddVoucher new.now) at draw self.now.state) }
+        ensures step { IfOk result (λ r. (applied r.0 at self.now.state, r.1) ≡ step (Command.AddVoucher new.now) at draw self.now.state) }
+        ensures refused { IfOk result (RefusesWithoutChange self.now.state) }
     {
         let mut draft = self.open(alloc, at)?;
         let reply = match decide_voucher::make(&mut draft, alloc, draw, new) {
@@ -65,7 +66,8 @@ impl<B: Book> Office<B> {
         patch: &VoucherPatch,
     ) -> Result<(Changes, Reply), AllocError>
         requires { self.now.state.moment ≤ at }
-        ensures { IfOk result (λ r. (draw : Draw) → (applied r.0 at self.now.state, r.1) ≡ step (Command.ChangeVoucher id patch.now) at draw self.now.state) }
+        ensures step { IfOk result (λ r. (draw : Draw) → (applied r.0 at self.now.state, r.1) ≡ step (Command.ChangeVoucher id patch.now) at draw self.now.state) }
+        ensures refused { IfOk result (RefusesWithoutChange self.now.state) }
     {
         let mut draft = self.open(alloc, at)?;
         let reply = match decide_voucher::patch(&mut draft, alloc, id, patch) {
@@ -84,7 +86,8 @@ impl<B: Book> Office<B> {
         id: u64,
     ) -> Result<(Changes, Reply), AllocError>
         requires { self.now.state.moment ≤ at }
-        ensures { IfOk result (λ r. (draw : Draw) → (applied r.0 at self.now.state, r.1) ≡ step (Command.DropVoucher id) at draw self.now.state) }
+        ensures step { IfOk result (λ r. (draw : Draw) → (applied r.0 at self.now.state, r.1) ≡ step (Command.DropVoucher id) at draw self.now.state) }
+        ensures refused { IfOk result (RefusesWithoutChange self.now.state) }
     {
         let mut draft = self.open(alloc, at)?;
         let reply = match decide_voucher::delete(&mut draft, alloc, id) {
@@ -104,7 +107,8 @@ impl<B: Book> Office<B> {
         new: &NewCart,
     ) -> Result<(Changes, Reply), AllocError>
         requires { self.now.state.moment ≤ at }
-        ensures { IfOk result (λ r. (applied r.0 at self.now.state, r.1) ≡ step (Command.AddCart new.now) at draw self.now.state) }
+        ensures step { IfOk result (λ r. (applied r.0 at self.now.state, r.1) ≡ step (Command.AddCart new.now) at draw self.now.state) }
+        ensures refused { IfOk result (RefusesWithoutChange self.now.state) }
     {
         let mut draft = self.open(alloc, at)?;
         let reply = match add_position(&mut draft, alloc, draw, new) {
@@ -124,7 +128,8 @@ impl<B: Book> Office<B> {
         entries: &[Entry],
     ) -> Result<(Changes, Reply), AllocError>
         requires { self.now.state.moment ≤ at }
-        ensures { IfOk result (λ r. (applied r.0 at self.now.state, r.1) ≡ step (Command.AddCarts entries.now) at draw self.now.state) }
+        ensures step { IfOk result (λ r. (applied r.0 at self.now.state, r.1) ≡ step (Command.AddCarts entries.now) at draw self.now.state) }
+        ensures refused { IfOk result (RefusesWithoutChange self.now.state) }
     {
         let mut draft = self.open(alloc, at)?;
         let reply = match add_many(&mut draft, alloc, draw, entries) {
@@ -144,7 +149,8 @@ impl<B: Book> Office<B> {
         new: &NewOrder,
     ) -> Result<(Changes, Reply), AllocError>
         requires { self.now.state.moment ≤ at }
-        ensures { IfOk result (λ r. (applied r.0 at self.now.state, r.1) ≡ step (Command.AddOrder new.now) at draw self.now.state) }
+        ensures step { IfOk result (λ r. (applied r.0 at self.now.state, r.1) ≡ step (Command.AddOrder new.now) at draw self.now.state) }
+        ensures refused { IfOk result (RefusesWithoutChange self.now.state) }
     {
         let mut draft = self.open(alloc, at)?;
         let reply = match create(&mut draft, alloc, draw, new) {
@@ -164,7 +170,8 @@ impl<B: Book> Office<B> {
         change: Move,
     ) -> Result<(Changes, Reply), AllocError>
         requires { self.now.state.moment ≤ at }
-        ensures { IfOk result (λ r. (draw : Draw) → (applied r.0 at self.now.state, r.1) ≡ step (Command.MoveOrder number change) at draw self.now.state) }
+        ensures step { IfOk result (λ r. (draw : Draw) → (applied r.0 at self.now.state, r.1) ≡ step (Command.MoveOrder number change) at draw self.now.state) }
+        ensures refused { IfOk result (RefusesWithoutChange self.now.state) }
     {
         let mut draft = self.open(alloc, at)?;
         let reply = match move_order(&mut draft, alloc, number, change) {
@@ -183,7 +190,8 @@ impl<B: Book> Office<B> {
         id: u64,
     ) -> Result<(Changes, Reply), AllocError>
         requires { self.now.state.moment ≤ at }
-        ensures { IfOk result (λ r. (draw : Draw) → (applied r.0 at self.now.state, r.1) ≡ step (Command.DropCart id) at draw self.now.state) }
+        ensures step { IfOk result (λ r. (draw : Draw) → (applied r.0 at self.now.state, r.1) ≡ step (Command.DropCart id) at draw self.now.state) }
+        ensures refused { IfOk result (RefusesWithoutChange self.now.state) }
     {
         let mut draft = self.open(alloc, at)?;
         let reply = match drop_position(&mut draft, alloc, id) {

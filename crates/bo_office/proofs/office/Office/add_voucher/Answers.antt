@@ -8,8 +8,8 @@ use Rattle.bo_office.proofs.Vouchers.{made_shown}
 use Rattle.bo_office.proofs.office.Office.add_voucher.Goals.{in-Ok, in-Err}
 use Rattle.bo_office.proofs.office.Office.add_voucher.Goals as goal
 
-pub returns : goal.returns
-returns g c =
+pub returns-clause-step : goal.returns-clause-step
+returns-clause-step g c =
     let before : (now c.in_ok-draft.draft).lists ≡ c.args.self.now.state.lists = ap (λ (d : DraftState). (now d).lists) c.in_ok-draft.ensures.draft in
     elim c.match-make.branch [
       | in-Ok w ↦ (let known : c.match-make.reply ≡ Made (show_voucher (now c.make.new.draft).lists w.in-Ok.row) = w.reply-is ∙ ap (λ (s : Shown). Made s) (w.show_voucher.ensures ∙ (ap (λ (l : Lists). show_voucher l w.in-Ok.row) (sym before) ∙ made_shown _ _ _ _ _ w.in-Ok.ensures.done)) in search rules)

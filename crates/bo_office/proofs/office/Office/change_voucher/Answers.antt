@@ -8,8 +8,8 @@ use Rattle.bo_office.proofs.Vouchers.{changed_shown}
 use Rattle.bo_office.proofs.office.Office.change_voucher.Goals.{in-Ok, in-Err}
 use Rattle.bo_office.proofs.office.Office.change_voucher.Goals as goal
 
-pub returns : goal.returns
-returns g c draw =
+pub returns-clause-step : goal.returns-clause-step
+returns-clause-step g c draw =
     let before : (now c.in_ok-draft.draft).lists ≡ c.args.self.now.state.lists = ap (λ (d : DraftState). (now d).lists) c.in_ok-draft.ensures.draft in
     elim c.match-patch.branch [
       | in-Ok w ↦ (let known : c.match-patch.reply ≡ Found (show_voucher (now c.patch.new.draft).lists w.in-Ok.row) = w.reply-is ∙ ap (λ (s : Shown). Found s) (w.show_voucher.ensures ∙ (ap (λ (l : Lists). show_voucher l w.in-Ok.row) (sym before) ∙ changed_shown _ _ _ _ _ w.in-Ok.ensures.done)) in search rules)

@@ -10,4 +10,4 @@ use Rattle.bo_office.proofs.office.Office.decide.Goals as goal
 pub returns-clause-sound : goal.returns-clause-sound
 returns-clause-sound g c =
     let sound = subst (λ (view : OfficeView). IsSound view.state) c.self.view_is c.self.invariant in
-    IfOk-weaker c.decided.result _ _ (λ r h. subst IsSound (sym (ap (λ (x : State × Reply). x.0) h)) (step_sound c.args.command.now c.args.at c.args.draw c.args.self.now.state c.requires sound)) c.decided.ensures
+    IfOk-weaker c.decided.result _ _ (λ r h. subst IsSound (sym (ap (λ (x : State × Reply). x.0) h)) (step_sound c.args.command.now c.args.at c.args.draw c.args.self.now.state c.requires sound)) c.decided.ensures.step
