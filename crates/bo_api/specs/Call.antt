@@ -1,6 +1,6 @@
 -- What a message asks for: the token, the path, the method, the page or the body as JSON and its fields, in that order.
 use Rattle.std.specs.Prelude.{ℕ, Bool, true, false, List, Option, Some, None, Result, Ok, Err}
-use Rattle.bo_base.specs.declared.answer.Told.{Told}
+use Rattle.bo_base.specs.declared.answer.Response.{Response}
 use Rattle.bo_http.specs.Messages.{Message}
 use Rattle.bo_office.specs.declared.command.Command.{Command}
 use Rattle.bo_orders.specs.declared.moves.Move.{Move}
@@ -13,28 +13,28 @@ use Rattle.bo_api.specs.declared.call.Call.{Call}
 use Rattle.bo_api.specs.declared.call.Call.TheVariants as calls
 use Rattle.bo_api.specs.declared.endpoint.Endpoint.{Endpoint}
 use Rattle.bo_api.specs.declared.endpoint.Endpoint.TheVariants as endpoints
-use Rattle.bo_api.specs.declared.path.Place.{Place}
+use Rattle.bo_api.specs.declared.path.Target.{Target}
 use Rattle.bo_api.specs.Token.{token_of}
-use Rattle.bo_api.specs.Path.{place_of}
+use Rattle.bo_api.specs.Path.{target_of}
 use Rattle.bo_api.specs.Page.{page_of}
 use Rattle.bo_api.specs.Verbs.{verb_of, is_write}
 use Rattle.bo_api.specs.Endpoints.{endpoint_of, methods_of}
 use Rattle.bo_bodies.specs.Body.{read_command, read_move}
 
 -- the words for a body that isn't read: 400
-abbrev pub told_fault : BodyFault → Told
-told_fault faults.NotJson = parse_error
-told_fault faults.InvalidData = invalid_data
-told_fault (faults.Field fault) = field_fault fault
+abbrev pub fault_response : BodyFault → Response
+fault_response faults.NotJson = parse_error
+fault_response faults.InvalidData = invalid_data
+fault_response (faults.Field fault) = field_fault fault
 
 -- a refused request counts as a write or a read by its method
-abbrev pub refused_by : Bool → Told → Call
-refused_by true told = calls.WriteRefused told
-refused_by false told = calls.ReadRefused told
+abbrev pub refused_by : Bool → Response → Call
+refused_by true response = calls.WriteRefused response
+refused_by false response = calls.ReadRefused response
 
 -- a write whose body isn't read
 abbrev pub refused_body : BodyFault → Call
-refused_body fault = calls.WriteRefused (told_fault fault)
+refused_body fault = calls.WriteRefused (fault_response fault)
 
 abbrev pub written : Result Command BodyFault → Call
 written (Ok command) = calls.Write command
@@ -50,22 +50,22 @@ abbrev pub listed : Resource → Option ℕ → Call
 listed resource None = calls.ReadRefused invalid_page
 listed resource (Some page) = calls.Read (queries.List resource page)
 
--- at a place: 405 where the place hasn't that method; the body of a read isn't looked at
-abbrev pub call_by : Message → Place → Option Endpoint → Call
-call_by m place None = refused_by (is_write (verb_of m.method)) (method_not_allowed m.method (methods_of place))
-call_by m place (Some (endpoints.Page resource)) = listed resource (page_of m.target)
-call_by m place (Some (endpoints.Read query)) = calls.Read query
-call_by m place (Some (endpoints.Write form)) = written (read_command form m.body)
-call_by m place (Some endpoints.ReadMissing) = calls.ReadRefused not_found
-call_by m place (Some (endpoints.MoveMissing name)) = missing (read_move name m.body)
+-- at a target: 405 where the target hasn't that method; the body of a read isn't looked at
+abbrev pub call_by : Message → Target → Option Endpoint → Call
+call_by m target None = refused_by (is_write (verb_of m.method)) (method_not_allowed m.method (methods_of target))
+call_by m target (Some (endpoints.Page resource)) = listed resource (page_of m.target)
+call_by m target (Some (endpoints.Read query)) = calls.Read query
+call_by m target (Some (endpoints.Write form)) = written (read_command form m.body)
+call_by m target (Some endpoints.ReadMissing) = calls.ReadRefused not_found
+call_by m target (Some (endpoints.MoveMissing name)) = missing (read_move name m.body)
 
-abbrev pub call_at : Message → Place → Call
-call_at m place = call_by m place (endpoint_of place (verb_of m.method))
+abbrev pub call_at : Message → Target → Call
+call_at m target = call_by m target (endpoint_of target (verb_of m.method))
 
 -- with a known token: 404 where the target names nothing
-abbrev pub call_of : Message → Option Place → Call
+abbrev pub call_of : Message → Option Target → Call
 call_of m None = refused_by (is_write (verb_of m.method)) not_found
-call_of m (Some place) = call_at m place
+call_of m (Some target) = call_at m target
 
 -- 401 where the message has no token, or one that isn't known
 abbrev pub authorized : Option (List ℕ) → Option ℕ → Call → Call
@@ -75,4 +75,4 @@ authorized (Some token) (Some known) call = call
 
 -- what a message asks for in the shop of those slugs, where known is the row of its token
 unfoldable pub call : List ℕ → List ℕ → Message → Option ℕ → Call
-call organizer event m known = authorized (token_of m) known (call_of m (place_of organizer event m.target))
+call organizer event m known = authorized (token_of m) known (call_of m (target_of organizer event m.target))

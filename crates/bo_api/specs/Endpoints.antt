@@ -1,12 +1,12 @@
--- What each method asks for at each place.
+-- What each method asks for at each target.
 use Rattle.std.specs.Prelude.{ℕ, Option, Some, None, is_some}
 use Rattle.bo_base.specs.declared.answer.Methods.{Methods}
 use Rattle.bo_office.specs.declared.command.Query.TheVariants as queries
 use Rattle.bo_office.specs.declared.command.Resource.{Resource}
 use Rattle.bo_office.specs.declared.command.Resource.TheVariants as resources
 use Rattle.bo_bodies.specs.declared.form.MoveName.{MoveName}
-use Rattle.bo_api.specs.declared.path.Place.{Place}
-use Rattle.bo_api.specs.declared.path.Place.TheVariants as places
+use Rattle.bo_api.specs.declared.path.Target.{Target}
+use Rattle.bo_api.specs.declared.path.Target.TheVariants as targets
 use Rattle.bo_api.specs.declared.verb.Verb.{Verb}
 use Rattle.bo_api.specs.declared.verb.Verb.TheVariants as verbs
 use Rattle.bo_bodies.specs.declared.form.Form.{Form}
@@ -50,24 +50,24 @@ abbrev pub move_order : Option ℕ → MoveName → Endpoint
 move_order None name = endpoints.MoveMissing name
 move_order (Some number) name = endpoints.Write (forms.Move number name)
 
-abbrev pub endpoint_of : Place → Verb → Option Endpoint
-endpoint_of (places.All resource) verbs.Get = Some (endpoints.Page resource)
-endpoint_of (places.All resource) verbs.Post = Some (endpoints.Write (new_form resource))
-endpoint_of (places.One resource id) verbs.Get = Some (endpoints.Read (queries.One resource id))
-endpoint_of (places.One resource id) verbs.Patch = write_of (change_form resource id)
-endpoint_of (places.One resource id) verbs.Delete = write_of (drop_form resource id)
-endpoint_of (places.Variations item) verbs.Post = Some (endpoints.Write (forms.Variation item))
-endpoint_of (places.Availability quota) verbs.Get = Some (endpoints.Read (queries.Availability quota))
-endpoint_of places.Bulk verbs.Post = Some (endpoints.Write forms.Carts)
-endpoint_of (places.Order number) verbs.Get = Some (read_order number)
-endpoint_of (places.Moved number name) verbs.Post = Some (move_order number name)
+abbrev pub endpoint_of : Target → Verb → Option Endpoint
+endpoint_of (targets.All resource) verbs.Get = Some (endpoints.Page resource)
+endpoint_of (targets.All resource) verbs.Post = Some (endpoints.Write (new_form resource))
+endpoint_of (targets.One resource id) verbs.Get = Some (endpoints.Read (queries.One resource id))
+endpoint_of (targets.One resource id) verbs.Patch = write_of (change_form resource id)
+endpoint_of (targets.One resource id) verbs.Delete = write_of (drop_form resource id)
+endpoint_of (targets.Variations item) verbs.Post = Some (endpoints.Write (forms.Variation item))
+endpoint_of (targets.Availability quota) verbs.Get = Some (endpoints.Read (queries.Availability quota))
+endpoint_of targets.Bulk verbs.Post = Some (endpoints.Write forms.Carts)
+endpoint_of (targets.Order number) verbs.Get = Some (read_order number)
+endpoint_of (targets.Moved number name) verbs.Post = Some (move_order number name)
 endpoint_of _ _ = None
 
--- the methods that a place has: those that ask for something there
-abbrev pub methods_of : Place → Methods
-methods_of place = record {
-  get = is_some (endpoint_of place verbs.Get);
-  post = is_some (endpoint_of place verbs.Post);
-  patch = is_some (endpoint_of place verbs.Patch);
-  delete = is_some (endpoint_of place verbs.Delete);
+-- the methods that a target has: those that ask for something there
+abbrev pub methods_of : Target → Methods
+methods_of target = record {
+  get = is_some (endpoint_of target verbs.Get);
+  post = is_some (endpoint_of target verbs.Post);
+  patch = is_some (endpoint_of target verbs.Patch);
+  delete = is_some (endpoint_of target verbs.Delete);
 }

@@ -9,8 +9,8 @@ use Rattle.bo_office.specs.declared.command.Resource.{Resource}
 use Rattle.bo_office.specs.declared.command.Resource.TheVariants as resources
 use Rattle.bo_api.specs.declared.routes.Route.{Route}
 use Rattle.bo_api.specs.declared.routes.Route.TheVariants as routes
-use Rattle.bo_api.specs.declared.path.Place.{Place}
-use Rattle.bo_api.specs.declared.path.Place.TheVariants as places
+use Rattle.bo_api.specs.declared.path.Target.{Target}
+use Rattle.bo_api.specs.declared.path.Target.TheVariants as targets
 use Rattle.bo_api.specs.Routes.{route_of}
 
 -- the bytes of a lent text
@@ -66,8 +66,8 @@ abbrev pub id_in : List ℕ → Option ℕ
 id_in path = segment 2 path >>= number_of
 
 -- a row by its id; an id that isn't one makes the path unknown
-abbrev pub one_in : List ℕ → Resource → Option Place
-one_in path resource = id_in path >>= λ id. Some (places.One resource id)
+abbrev pub one_in : List ℕ → Resource → Option Target
+one_in path resource = id_in path >>= λ id. Some (targets.One resource id)
 
 -- the number of the order with this code, where it is an order's code
 abbrev pub order_named : List ℕ → Option ℕ
@@ -78,25 +78,25 @@ abbrev pub order_in : List ℕ → Option ℕ
 order_in path = segment 2 path >>= order_named
 
 -- what a path of that route names; with another text in the place of a code it names an order that there isn't
-abbrev pub place_by : List ℕ → Route → Option Place
-place_by path routes.Items = Some (places.All resources.Items)
-place_by path routes.Item = one_in path resources.Items
-place_by path routes.Variations = id_in path >>= λ id. Some (places.Variations id)
-place_by path routes.Quotas = Some (places.All resources.Quotas)
-place_by path routes.Quota = one_in path resources.Quotas
-place_by path routes.Availability = id_in path >>= λ id. Some (places.Availability id)
-place_by path routes.Vouchers = Some (places.All resources.Vouchers)
-place_by path routes.Voucher = one_in path resources.Vouchers
-place_by path routes.CartPositions = Some (places.All resources.Carts)
-place_by path routes.CartPosition = one_in path resources.Carts
-place_by path routes.BulkCreate = Some places.Bulk
-place_by path routes.Orders = Some (places.All resources.Orders)
-place_by path routes.Order = Some (places.Order (order_in path))
-place_by path (routes.Move name) = Some (places.Moved (order_in path) name)
+abbrev pub target_by : List ℕ → Route → Option Target
+target_by path routes.Items = Some (targets.All resources.Items)
+target_by path routes.Item = one_in path resources.Items
+target_by path routes.Variations = id_in path >>= λ id. Some (targets.Variations id)
+target_by path routes.Quotas = Some (targets.All resources.Quotas)
+target_by path routes.Quota = one_in path resources.Quotas
+target_by path routes.Availability = id_in path >>= λ id. Some (targets.Availability id)
+target_by path routes.Vouchers = Some (targets.All resources.Vouchers)
+target_by path routes.Voucher = one_in path resources.Vouchers
+target_by path routes.CartPositions = Some (targets.All resources.Carts)
+target_by path routes.CartPosition = one_in path resources.Carts
+target_by path routes.BulkCreate = Some targets.Bulk
+target_by path routes.Orders = Some (targets.All resources.Orders)
+target_by path routes.Order = Some (targets.Order (order_in path))
+target_by path (routes.Move name) = Some (targets.Moved (order_in path) name)
 
 -- what a target names, in the shop of those slugs
-unfoldable pub place_of : List ℕ → List ℕ → List ℕ → Option Place
-place_of organizer event target = do
+unfoldable pub target_of : List ℕ → List ℕ → List ℕ → Option Target
+target_of organizer event target = do
   path ← within organizer event (path_of target)
   route ← route_of path
-  place_by path route
+  target_by path route

@@ -2,15 +2,15 @@
 
 ghost use Rattle.std.specs.Prelude.{◌≡◌, IfOk};
 ghost use Rattle.bo_bodies.specs.Body.{read_command, read_move};
-ghost use Rattle.bo_api.specs.Call.{told_fault, refused_by, refused_body, written, missing, listed, call_at, call_of};
+ghost use Rattle.bo_api.specs.Call.{fault_response, refused_by, refused_body, written, missing, listed, call_at, call_of};
 ghost use Rattle.bo_api.specs.Page.{page_of};
 ghost use Rattle.bo_api.specs.Verbs.{is_write, verb_of};
 
 use crate::endpoint::{Endpoint, endpoint_of, methods_of};
 use crate::page::page_of;
-use crate::path::Place;
+use crate::path::Target;
 use crate::verb::{Verb, verb_of};
-use bo_base::Told;
+use bo_base::Response;
 use bo_bodies::{Form, MoveName, read_command, read_move};
 use bo_fields::{BodyFault, ReadError};
 use bo_http::Frame;
@@ -25,20 +25,20 @@ use std::alloc::{AllocError, Global};
 #[derive(Drop)]
 pub enum Call {
     /// 401: there is no token, or an unknown one.
-    Unauthorized(Told),
+    Unauthorized(Response),
     /// A request that only reads.
     Read(Query),
     /// 404 or 405 of a method that doesn't write, or 404 for the page of a list or for an order's code.
-    ReadRefused(Told),
+    ReadRefused(Response),
     /// A request that may change the box office.
     Write(Command),
     /// 404 or 405 of a POST, PATCH or DELETE, or 400 for its body, or after that 404 for an order's code.
-    WriteRefused(Told),
+    WriteRefused(Response),
 }
 
 /// The words for a body that isn't read.
-fn told_fault(alloc: Global, fault: BodyFault) -> Result<Told, AllocError>
-    ensures { IfOk result (λ told. told ≡ told_fault fault) }
+fn fault_response(alloc: Global, fault: BodyFault) -> Result<Response, AllocError>
+    ensures { IfOk result (λ response. response ≡ fault_response fault) }
 {
     match fault {
         BodyFault::NotJson => parse_error(alloc),
@@ -48,13 +48,13 @@ fn told_fault(alloc: Global, fault: BodyFault) -> Result<Told, AllocError>
 }
 
 /// A refusal of a request with that method.
-fn refused(verb: Verb, told: Told) -> Call
-    ensures { result ≡ refused_by (is_write verb) told }
+fn refused(verb: Verb, response: Response) -> Call
+    ensures { result ≡ refused_by (is_write verb) response }
 {
     if verb.is_write() {
-        Call::WriteRefused(told)
+        Call::WriteRefused(response)
     } else {
-        Call::ReadRefused(told)
+        Call::ReadRefused(response)
     }
 }
 
@@ -62,7 +62,7 @@ fn refused(verb: Verb, told: Told) -> Call
 fn refused_body(alloc: Global, fault: BodyFault) -> Result<Call, AllocError>
     ensures { IfOk result (λ call. call ≡ refused_body fault) }
 {
-    Ok(Call::WriteRefused(told_fault(alloc, fault)?))
+    Ok(Call::WriteRefused(fault_response(alloc, fault)?))
 }
 
 /// The command of a body of that form, or the refusal of the body.
@@ -97,16 +97,16 @@ fn listed(alloc: Global, resource: Resource, target: &[u8]) -> Result<Call, Allo
     }
 }
 
-/// What a message asks for at a place.
-fn call_at(alloc: Global, frame: &Frame<'_>, place: Place) -> Result<Call, AllocError>
-    ensures { IfOk result (λ call. call ≡ call_at frame.now place) }
+/// What a message asks for at a target.
+fn call_at(alloc: Global, frame: &Frame<'_>, target: Target) -> Result<Call, AllocError>
+    ensures { IfOk result (λ call. call ≡ call_at frame.now target) }
 {
     let method = frame.method();
     let verb = verb_of(method);
-    match endpoint_of(place, verb) {
+    match endpoint_of(target, verb) {
         None => {
-            let told = method_not_allowed(alloc, method, methods_of(place))?;
-            Ok(refused(verb, told))
+            let response = method_not_allowed(alloc, method, methods_of(target))?;
+            Ok(refused(verb, response))
         }
         Some(Endpoint::Page(resource)) => listed(alloc, resource, frame.target()),
         Some(Endpoint::Read(query)) => Ok(Call::Read(query)),
@@ -120,12 +120,12 @@ fn call_at(alloc: Global, frame: &Frame<'_>, place: Place) -> Result<Call, Alloc
 pub(crate) fn call_of(
     alloc: Global,
     frame: &Frame<'_>,
-    place: Option<Place>,
+    target: Option<Target>,
 ) -> Result<Call, AllocError>
-    ensures { IfOk result (λ call. call ≡ call_of frame.now place) }
+    ensures { IfOk result (λ call. call ≡ call_of frame.now target) }
 {
-    match place {
+    match target {
         None => Ok(refused(verb_of(frame.method()), not_found(alloc)?)),
-        Some(place) => call_at(alloc, frame, place),
+        Some(target) => call_at(alloc, frame, target),
     }
 }

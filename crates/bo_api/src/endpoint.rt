@@ -1,15 +1,15 @@
-//! What a method asks for at a place.
+//! What a method asks for at a target.
 
 ghost use Rattle.std.specs.Prelude.{◌≡◌};
 ghost use Rattle.bo_api.specs.Endpoints.{new_form, change_form, drop_form, write_of, read_order, move_order, endpoint_of, methods_of};
 
-use crate::path::Place;
+use crate::path::Target;
 use crate::verb::Verb;
 use bo_base::Methods;
 use bo_bodies::{Form, MoveName};
 use bo_office::{Query, Resource};
 
-/// What a method asks for at a place.
+/// What a method asks for at a target.
 #[derive(Clone, Copy, Debug, PartialEq, Eq)]
 pub enum Endpoint {
     /// A page of a list, whose number stands in the target's query; the body isn't looked at.
@@ -87,35 +87,35 @@ fn move_order(number: Option<u64>, name: MoveName) -> Endpoint
     }
 }
 
-/// What a method asks for at a place, if the place has it.
-pub fn endpoint_of(place: Place, verb: Verb) -> Option<Endpoint>
-    ensures { result ≡ endpoint_of place verb }
+/// What a method asks for at a target, if the target has it.
+pub fn endpoint_of(target: Target, verb: Verb) -> Option<Endpoint>
+    ensures { result ≡ endpoint_of target verb }
 {
-    match (place, verb) {
-        (Place::All(resource), Verb::Get) => Some(Endpoint::Page(resource)),
-        (Place::All(resource), Verb::Post) => Some(Endpoint::Write(new_form(resource))),
-        (Place::One(resource, id), Verb::Get) => Some(Endpoint::Read(Query::One(resource, id))),
-        (Place::One(resource, id), Verb::Patch) => write_of(change_form(resource, id)),
-        (Place::One(resource, id), Verb::Delete) => write_of(drop_form(resource, id)),
-        (Place::Variations(item), Verb::Post) => Some(Endpoint::Write(Form::Variation(item))),
-        (Place::Availability(quota), Verb::Get) => {
+    match (target, verb) {
+        (Target::All(resource), Verb::Get) => Some(Endpoint::Page(resource)),
+        (Target::All(resource), Verb::Post) => Some(Endpoint::Write(new_form(resource))),
+        (Target::One(resource, id), Verb::Get) => Some(Endpoint::Read(Query::One(resource, id))),
+        (Target::One(resource, id), Verb::Patch) => write_of(change_form(resource, id)),
+        (Target::One(resource, id), Verb::Delete) => write_of(drop_form(resource, id)),
+        (Target::Variations(item), Verb::Post) => Some(Endpoint::Write(Form::Variation(item))),
+        (Target::Availability(quota), Verb::Get) => {
             Some(Endpoint::Read(Query::Availability(quota)))
         }
-        (Place::Bulk, Verb::Post) => Some(Endpoint::Write(Form::Carts)),
-        (Place::Order(number), Verb::Get) => Some(read_order(number)),
-        (Place::Moved(number, name), Verb::Post) => Some(move_order(number, name)),
+        (Target::Bulk, Verb::Post) => Some(Endpoint::Write(Form::Carts)),
+        (Target::Order(number), Verb::Get) => Some(read_order(number)),
+        (Target::Moved(number, name), Verb::Post) => Some(move_order(number, name)),
         _ => None,
     }
 }
 
-/// The methods that a place has.
-pub fn methods_of(place: Place) -> Methods
-    ensures { result ≡ methods_of place }
+/// The methods that a target has.
+pub fn methods_of(target: Target) -> Methods
+    ensures { result ≡ methods_of target }
 {
     Methods {
-        get: endpoint_of(place, Verb::Get).is_some(),
-        post: endpoint_of(place, Verb::Post).is_some(),
-        patch: endpoint_of(place, Verb::Patch).is_some(),
-        delete: endpoint_of(place, Verb::Delete).is_some(),
+        get: endpoint_of(target, Verb::Get).is_some(),
+        post: endpoint_of(target, Verb::Post).is_some(),
+        patch: endpoint_of(target, Verb::Patch).is_some(),
+        delete: endpoint_of(target, Verb::Delete).is_some(),
     }
 }

@@ -1,7 +1,7 @@
 //! What a target's path names, and its query.
 
 ghost use Rattle.std.specs.Prelude.{◌≡◌, ◌<◌, length, option_map, IfSome};
-ghost use Rattle.bo_api.specs.Path.{bytes_of, mark_of, path_of, query_of, after, within, segment, id_in, one_in, order_named, order_in, place_by, place_of};
+ghost use Rattle.bo_api.specs.Path.{bytes_of, mark_of, path_of, query_of, after, within, segment, id_in, one_in, order_named, order_in, target_by, target_of};
 ghost use Rattle.bo_api.specs.Routes.{all_routes, route_of};
 
 use crate::routes::{Route, route_of};
@@ -12,7 +12,7 @@ use matchit::Router;
 
 /// What a path names, with the ids that stand in it.
 #[derive(Clone, Copy, Debug, PartialEq, Eq)]
-pub enum Place {
+pub enum Target {
     /// The list of all rows of a kind.
     All(Resource),
     /// The row of a kind with this id.
@@ -31,7 +31,7 @@ pub enum Place {
 
 /// Where the first question mark stands.
 fn mark_of(target: &[u8]) -> Option<usize>
-    ensures place { result ≡ mark_of target.now }
+    ensures target { result ≡ mark_of target.now }
     ensures within { IfSome result (λ at. at < length target.now) }
 {
     target.iter().position(|b| *b == b'?')
@@ -90,10 +90,10 @@ fn id_in(path: &[u8]) -> Option<u64>
 }
 
 /// A row by the id in the path.
-fn one_in(path: &[u8], resource: Resource) -> Option<Place>
+fn one_in(path: &[u8], resource: Resource) -> Option<Target>
     ensures { result ≡ one_in path.now resource }
 {
-    Some(Place::One(resource, id_in(path)?))
+    Some(Target::One(resource, id_in(path)?))
 }
 
 /// The number of the order with this code, 1 to 17,210,367; none where it is no order's code.
@@ -114,39 +114,39 @@ fn order_in(path: &[u8]) -> Option<u64>
 }
 
 /// What a path of that route names.
-fn place_by(path: &[u8], route: Route) -> Option<Place>
-    ensures { result ≡ place_by path.now route }
+fn target_by(path: &[u8], route: Route) -> Option<Target>
+    ensures { result ≡ target_by path.now route }
 {
     match route {
-        Route::Items => Some(Place::All(Resource::Items)),
+        Route::Items => Some(Target::All(Resource::Items)),
         Route::Item => one_in(path, Resource::Items),
-        Route::Variations => Some(Place::Variations(id_in(path)?)),
-        Route::Quotas => Some(Place::All(Resource::Quotas)),
+        Route::Variations => Some(Target::Variations(id_in(path)?)),
+        Route::Quotas => Some(Target::All(Resource::Quotas)),
         Route::Quota => one_in(path, Resource::Quotas),
-        Route::Availability => Some(Place::Availability(id_in(path)?)),
-        Route::Vouchers => Some(Place::All(Resource::Vouchers)),
+        Route::Availability => Some(Target::Availability(id_in(path)?)),
+        Route::Vouchers => Some(Target::All(Resource::Vouchers)),
         Route::Voucher => one_in(path, Resource::Vouchers),
-        Route::CartPositions => Some(Place::All(Resource::Carts)),
+        Route::CartPositions => Some(Target::All(Resource::Carts)),
         Route::CartPosition => one_in(path, Resource::Carts),
-        Route::BulkCreate => Some(Place::Bulk),
-        Route::Orders => Some(Place::All(Resource::Orders)),
-        Route::Order => Some(Place::Order(order_in(path))),
-        Route::Move(name) => Some(Place::Moved(order_in(path), name)),
+        Route::BulkCreate => Some(Target::Bulk),
+        Route::Orders => Some(Target::All(Resource::Orders)),
+        Route::Order => Some(Target::Order(order_in(path))),
+        Route::Move(name) => Some(Target::Moved(order_in(path), name)),
     }
 }
 
 /// What a target names, in the shop of these slugs.
-#[tactic(auto, unfolding(crate::specs::Path::place_of))]
-pub fn place_of(
+#[tactic(auto, unfolding(crate::specs::Path::target_of))]
+pub fn target_of(
     router: &Router<Route>,
     organizer: &str,
     event: &str,
     target: &[u8],
-) -> Option<Place>
+) -> Option<Target>
     requires { router.now ≡ all_routes }
-    ensures { result ≡ place_of organizer.now event.now target.now }
+    ensures { result ≡ target_of organizer.now event.now target.now }
 {
     let path = within(organizer, event, path_of(target))?;
     let route = route_of(router, path)?;
-    place_by(path, route)
+    target_by(path, route)
 }

@@ -7,10 +7,10 @@ ghost use Rattle.bo_api.specs.Call.{call};
 ghost use Rattle.bo_words.specs.Replies.{words};
 
 use crate::call::{Call, call_of};
-use crate::path::place_of;
+use crate::path::target_of;
 use crate::routes::{Route, routes};
 use crate::token;
-use bo_base::{Text, Told};
+use bo_base::{Response, Text};
 use bo_http::Frame;
 use bo_office::Reply;
 use bo_words::{invalid_token, no_credentials};
@@ -83,18 +83,18 @@ impl Words {
         if known.is_none() {
             return Ok(Call::Unauthorized(invalid_token(alloc)?));
         }
-        let place = place_of(
+        let target = target_of(
             &self.router,
             self.organizer.as_str(),
             self.event.as_str(),
             frame.target(),
         );
-        call_of(alloc, frame, place)
+        call_of(alloc, frame, target)
     }
 
     /// The words of a reply.
-    pub fn words(&self, alloc: Global, reply: &Reply) -> Result<Told, AllocError>
-        ensures { IfOk result (λ told. told ≡ words self.now.organizer self.now.event reply.now) }
+    pub fn words(&self, alloc: Global, reply: &Reply) -> Result<Response, AllocError>
+        ensures { IfOk result (λ response. response ≡ words self.now.organizer self.now.event reply.now) }
     {
         bo_words::words(alloc, self.organizer.as_str(), self.event.as_str(), reply)
     }

@@ -46,7 +46,7 @@ impl Body {
 
 /// What a request is told: the part of an answer that a repeat gets again.
 #[derive(Drop)]
-pub struct Told {
+pub struct Response {
     pub status: StatusCode,
     /// Only with 405.
     pub allow: Option<Methods>,
@@ -57,7 +57,7 @@ pub struct Told {
 #[derive(Drop)]
 pub enum Answer {
     /// The request was decided.
-    Told(Told),
+    Decided(Response),
     /// 503: a growth or a call of the store was refused, and nothing has changed. It takes no memory.
     Unavailable,
 }

@@ -21,7 +21,7 @@ pub mod steps;
 mod tests;
 pub mod text;
 
-pub use answer::{Answer, Body, Methods, Told};
+pub use answer::{Answer, Body, Methods, Response};
 pub use cents::{Cents, cents_text, read_cents};
 pub use codes::{order_code, read_code};
 pub use device::{Drain, Refused, Source, Tick, Ticks};

@@ -7,7 +7,7 @@ use Rattle.bo_lists.specs.declared.rows.Order.{Order}
 use Rattle.bo_lists.specs.declared.rows.OrderPos.{OrderPos}
 use Rattle.bo_lists.specs.declared.rows.Status.{Status}
 use Rattle.bo_lists.specs.declared.changes.Change.TheVariants.{PutOrder, PutPosition}
-use Rattle.bo_lists.specs.Tests.{is_paid, is_pending, is_in_force}
+use Rattle.bo_lists.specs.Conditions.{is_paid, is_pending, is_in_force}
 use Rattle.bo_lists.specs.Lists.{Lists, order_at, position_at}
 use Rattle.bo_lists.specs.Change.{after_change}
 use Rattle.bo_lists.specs.Kept.{IsKept}

@@ -11,7 +11,7 @@ use Rattle.bo_lists.specs.declared.rows.OrderPos.{OrderPos}
 use Rattle.bo_lists.specs.declared.changes.Change.TheVariants.{PutCart, PutOrder, PutPosition, DropCart}
 use Rattle.bo_lists.specs.Change.{after_change}
 use Rattle.bo_lists.specs.Lists.{Lists, cart_at, order_at, position_at}
-use Rattle.bo_lists.specs.Tests.{is_in_force, is_live_cart, names, holds}
+use Rattle.bo_lists.specs.Conditions.{is_in_force, is_live_cart, names, holds}
 use Rattle.bo_lists.specs.Usage.{redeemed, stands_as, uses}
 use Rattle.bo_lists.proofs.Time.{one}
 use Rattle.bo_overlay.specs.Ordered.{count_ordered, if_stands}

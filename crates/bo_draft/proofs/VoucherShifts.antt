@@ -9,7 +9,7 @@ use Rattle.bo_catalogue.specs.Member.{is_in}
 use Rattle.bo_lists.specs.declared.rows.Voucher.{Voucher}
 use Rattle.bo_lists.specs.declared.rows.CartPos.{CartPos}
 use Rattle.bo_lists.specs.declared.changes.Change.TheVariants.{PutVoucher, DropVoucher}
-use Rattle.bo_lists.specs.Tests.{is_live_cart, names, holds}
+use Rattle.bo_lists.specs.Conditions.{is_live_cart, names, holds}
 use Rattle.bo_lists.specs.Lists.{Lists, voucher_at}
 use Rattle.bo_lists.specs.Change.{after_change}
 use Rattle.bo_lists.specs.Usage.{usage_of, cart_counts, blocked_by, blocks_if, is_covered_by}

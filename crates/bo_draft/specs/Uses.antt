@@ -9,7 +9,7 @@ use Rattle.bo_lists.specs.declared.rows.OrderPos.{OrderPos}
 use Rattle.bo_lists.specs.Change.{after_change}
 use Rattle.bo_lists.specs.Headroom.{held}
 use Rattle.bo_lists.specs.Lists.{Lists, order_at}
-use Rattle.bo_lists.specs.Tests.{is_in_force, is_live_cart, names}
+use Rattle.bo_lists.specs.Conditions.{is_in_force, is_live_cart, names}
 use Rattle.bo_lists.specs.Usage.{redeemed, stands_as}
 use Rattle.bo_overlay.specs.Ordered.{count_ordered}
 use Rattle.bo_draft.specs.declared.use_shift.UseShift.{UseShift}

@@ -6,7 +6,7 @@ ghost use Rattle.bo_lists.specs.Full.{takes_cart, takes_voucher, takes_order, ta
 ghost use Rattle.bo_lists.specs.Lists.{voucher_at, cart_at, order_at, position_at, positions_of, waiting_at};
 ghost use Rattle.bo_lists.specs.Consumed.{consumed};
 ghost use Rattle.bo_lists.specs.Headroom.{has_use, held, HasHeadroom, AllHaveHeadroom};
-ghost use Rattle.bo_lists.specs.Tests.{is_live_cart};
+ghost use Rattle.bo_lists.specs.Conditions.{is_live_cart};
 ghost use Rattle.bo_base.specs.Tables.{AreInOrder};
 ghost use Rattle.bo_lists.specs.Named.{voucher_of, is_used};
 ghost use Rattle.bo_lists.specs.Over.{first_over};

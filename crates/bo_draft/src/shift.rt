@@ -5,7 +5,7 @@ ghost use Rattle.std.specs.Option.{option_copied};
 ghost use Rattle.bo_base.specs.Tables.{sum_at};
 ghost use Rattle.bo_lists.specs.Change.{after_change};
 ghost use Rattle.bo_lists.specs.Usage.{usage_of, stands_as, is_covered_by};
-ghost use Rattle.bo_lists.specs.Tests.{is_paid, is_pending, is_in_force};
+ghost use Rattle.bo_lists.specs.Conditions.{is_paid, is_pending, is_in_force};
 ghost use Rattle.bo_catalogue.specs.Member.{is_in};
 ghost use Rattle.bo_overlay.specs.Logs.{rows_of};
 ghost use Rattle.bo_draft.specs.DraftState.{usages_of};

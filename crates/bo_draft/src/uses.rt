@@ -2,7 +2,7 @@
 
 ghost use Rattle.std.specs.Prelude.{◌≡◌, ℕ, ◌+◌, ◌&&◌, true, [], IfOk, OnOk, is_some, if◌then◌else◌};
 ghost use Rattle.bo_base.specs.Tables.{AreInOrder, with_row};
-ghost use Rattle.bo_lists.specs.Tests.{names};
+ghost use Rattle.bo_lists.specs.Conditions.{names};
 ghost use Rattle.bo_draft.specs.Uses.{came, went, CountsMore, CountsShift};
 
 use crate::shift::moved;

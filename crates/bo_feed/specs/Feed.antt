@@ -7,7 +7,7 @@ use Rattle.bo_base.specs.Told.{Gives}
 use Rattle.bo_serve.specs.declared.failure.Failure.{Failure}
 use Rattle.bo_serve.specs.BoxOfficeView.{BoxOfficeView}
 use Rattle.bo_serve.specs.declared.failure.Failure.TheVariants as failures
-use Rattle.bo_serve.specs.Run.{Streams, CountedAll, place}
+use Rattle.bo_serve.specs.Run.{Streams, CountedAll, cursor}
 use Rattle.bo_serve.specs.Served.{Serves}
 use Rattle.bo_feed.specs.declared.fault.Fault.{Fault}
 use Rattle.bo_feed.specs.declared.fault.Fault.TheVariants as faults
@@ -24,8 +24,8 @@ EndsTicks count _ = ⊤
 abbrev pub Feeds : ℕ → ℕ → Option (List ℕ) → Option (List ℕ) → Option (List ℕ) → Option (List ℕ) → Result (Unit {0}) Failure → Type 0
 Feeds from step left left' taken taken' result =
     (bytes : List ℕ) × (count : ℕ) × (house : BoxOfficeView) × Gives left bytes left' × Streams Serves left'
-    (place bytes (Some []) fresh_house taken)
-    (place [] (Some (feed_ticks from step count)) house taken') result × EndsTicks count result
+    (cursor bytes (Some []) fresh_house taken)
+    (cursor [] (Some (feed_ticks from step count)) house taken') result × EndsTicks count result
 
 -- A run ends with the failure of its reader or its writer where that failed, and the other one did not; else none failed, and
 -- the limit is met only by 1,000,000 reads.

@@ -3,7 +3,7 @@
 ghost use Rattle.std.specs.Prelude.{◌≡◌, ◌+◌, ◌≤◌, ℕ, List, [], IfOk};
 ghost use Rattle.bo_base.specs.Told.{Gives};
 ghost use Rattle.bo_serve.specs.BoxOfficeView.{BoxOfficeView};
-ghost use Rattle.bo_serve.specs.Run.{Streams, CountedAll, place};
+ghost use Rattle.bo_serve.specs.Run.{Streams, CountedAll, cursor};
 ghost use Rattle.bo_serve.specs.Served.{Serves};
 ghost use Rattle.bo_feed.specs.House.{fresh_house};
 
@@ -33,8 +33,8 @@ pub fn serve_house<R: Source, T: Ticks, W: Drain>(
     writer: &mut W,
 ) -> Result<(), Failure>
     ensures leads { (bytes : List ℕ) × (house : BoxOfficeView) × Gives (R.left reader.old) bytes (R.left reader.new) × Streams Serves (R.left reader.new)
-        (place bytes (T.told ticks.old) fresh_house (W.taken writer.old))
-        (place [] (T.told ticks.new) house (W.taken writer.new)) result }
+        (cursor bytes (T.told ticks.old) fresh_house (W.taken writer.old))
+        (cursor [] (T.told ticks.new) house (W.taken writer.new)) result }
     ensures counted { CountedAll result (T.failures ticks.old) (T.failures ticks.new) (W.failures writer.old) (W.failures writer.new)
         (R.failures reader.old) (R.failures reader.new) (R.calls reader.old) (R.calls reader.new) }
     ensures calls { R.calls reader.new ≤ R.calls reader.old + 1000000 }

@@ -4,7 +4,7 @@ use Rattle.std.specs.List.{concat}
 use Rattle.http.specs.StatusCode.{code_digits, reason_phrase}
 use Rattle.bo_base.specs.declared.answer.Methods.{Methods}
 use Rattle.bo_base.specs.declared.answer.Answer.{Answer}
-use Rattle.bo_base.specs.declared.answer.Answer.TheVariants.{Told, Unavailable}
+use Rattle.bo_base.specs.declared.answer.Answer.TheVariants.{Decided, Unavailable}
 use Rattle.bo_http.specs.declared.fault.Fault.{Fault}
 use Rattle.bo_http.specs.declared.fault.Fault.TheVariants.{BadHead, BodyTooLarge, HeadTooLarge, UnknownCoding}
 
@@ -77,7 +77,7 @@ unavailable_body = codes "{\"detail\":\"Service unavailable.\"}"
 
 -- the text of an answer, and whether the connection ends after it
 abbrev pub text : Answer → Bool → List ℕ
-text (Told t) closes = answer_text t.status t.allow t.body closes
+text (Decided t) closes = answer_text t.status t.allow t.body closes
 text Unavailable closes = answer_text 503 None unavailable_body closes
 
 abbrev pub fault_status : Fault → ℕ

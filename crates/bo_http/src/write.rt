@@ -189,11 +189,11 @@ pub fn write_answer<W: Drain>(writer: &mut W, answer: &Answer, closes: bool) -> 
     ensures failed { OnErr result (W.failures writer.new ≡ W.failures writer.old + 1) }
 {
     match answer {
-        Answer::Told(told) => write_text(
+        Answer::Decided(response) => write_text(
             writer,
-            told.status,
-            told.allow,
-            told.body.as_slice(),
+            response.status,
+            response.allow,
+            response.body.as_slice(),
             closes,
         ),
         Answer::Unavailable => write_text(

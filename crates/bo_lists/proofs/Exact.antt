@@ -10,7 +10,7 @@ use Rattle.bo_catalogue.specs.declared.rows.Quota.{Quota}
 use Rattle.bo_catalogue.specs.CatalogueLists.{CatalogueLists, item_at, quota_at}
 use Rattle.bo_catalogue.specs.Member.{lists, is_in}
 use Rattle.bo_lists.specs.declared.rows.Voucher.{Voucher}
-use Rattle.bo_lists.specs.Tests.{is_live_voucher, hits_by_product, hits_by, hits, names}
+use Rattle.bo_lists.specs.Conditions.{is_live_voucher, hits_by_product, hits_by, hits, names}
 use Rattle.bo_lists.specs.Lists.{Lists, State, voucher_at}
 use Rattle.bo_lists.specs.Usage.{blocks_if, is_covered_by}
 use Rattle.bo_lists.specs.Fits.{has_variation, fits_item, fits_quota, fits_by, fits_if, is_fit, is_exact_if, is_exact, AllExact}

@@ -12,7 +12,7 @@ use Rattle.bo_lists.specs.declared.rows.CartPos.{CartPos}
 use Rattle.bo_lists.specs.declared.rows.OrderPos.{OrderPos}
 use Rattle.bo_lists.specs.declared.rows.Voucher.{Voucher}
 use Rattle.bo_lists.specs.declared.changes.Change.TheVariants.{PutQuota, PutVoucher, PutCart, DropVoucher, DropCart}
-use Rattle.bo_lists.specs.Tests.{names}
+use Rattle.bo_lists.specs.Conditions.{names}
 use Rattle.bo_lists.specs.Lists.{Lists, voucher_at}
 use Rattle.bo_lists.specs.Change.{after_change}
 use Rattle.bo_lists.specs.Fits.{fits_quota, fits_by, fits, fits_if, is_fit, AllFit}

@@ -8,7 +8,7 @@ use Rattle.bo_catalogue.specs.declared.rows.Product.{Product}
 use Rattle.bo_lists.specs.declared.rows.CartPos.{CartPos}
 use Rattle.bo_lists.specs.declared.rows.OrderPos.{OrderPos}
 use Rattle.bo_lists.specs.declared.rows.Voucher.{Voucher}
-use Rattle.bo_lists.specs.Tests.{is_live_cart, names, holds, is_in_force}
+use Rattle.bo_lists.specs.Conditions.{is_live_cart, names, holds, is_in_force}
 use Rattle.bo_lists.specs.Lists.{Lists, order_at, voucher_at}
 use Rattle.bo_lists.specs.Usage.{redeemed, uses, stands_as}
 use Rattle.bo_lists.specs.Headroom.{held}

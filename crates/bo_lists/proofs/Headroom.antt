@@ -9,7 +9,7 @@ use Rattle.bo_base.proofs.Edits.{sum_by-with_row, sum_by-without_row}
 use Rattle.bo_lists.specs.declared.rows.Voucher.{Voucher}
 use Rattle.bo_lists.specs.declared.rows.CartPos.{CartPos}
 use Rattle.bo_lists.specs.declared.changes.Change.TheVariants.{PutCart, DropCart}
-use Rattle.bo_lists.specs.Tests.{is_live_cart, names, holds}
+use Rattle.bo_lists.specs.Conditions.{is_live_cart, names, holds}
 use Rattle.bo_lists.specs.Lists.{Lists}
 use Rattle.bo_lists.specs.Change.{after_change}
 use Rattle.bo_lists.specs.Usage.{redeemed}

@@ -12,7 +12,7 @@ use Rattle.bo_catalogue.specs.CatalogueLists.{CatalogueLists}
 use Rattle.bo_catalogue.specs.Member.{is_in}
 use Rattle.bo_lists.specs.declared.rows.CartPos.{CartPos}
 use Rattle.bo_lists.specs.declared.changes.Change.TheVariants.{PutVariation, DropVoucher, DropCart}
-use Rattle.bo_lists.specs.Tests.{is_live_cart, names}
+use Rattle.bo_lists.specs.Conditions.{is_live_cart, names}
 use Rattle.bo_lists.specs.Lists.{Lists, voucher_at}
 use Rattle.bo_lists.specs.Named.{is_ordered, is_in_cart, is_sent, is_used}
 use Rattle.bo_lists.specs.Change.{after_change, after_all}

@@ -10,7 +10,7 @@ use Rattle.bo_lists.specs.declared.rows.Voucher.{Voucher}
 use Rattle.bo_lists.specs.declared.rows.Order.{Order}
 use Rattle.bo_lists.specs.declared.rows.OrderPos.{OrderPos}
 use Rattle.bo_lists.specs.declared.changes.Change.TheVariants.{PutOrder, PutPosition}
-use Rattle.bo_lists.specs.Tests.{is_in_force, names}
+use Rattle.bo_lists.specs.Conditions.{is_in_force, names}
 use Rattle.bo_lists.specs.Lists.{Lists, voucher_at, order_at, positions_of}
 use Rattle.bo_lists.specs.Change.{after_change}
 use Rattle.bo_lists.specs.Usage.{stands_as, uses, redeemed}

@@ -14,7 +14,7 @@ use Rattle.bo_lists.specs.declared.rows.OrderPos.{OrderPos}
 use Rattle.bo_lists.specs.declared.rows.Status.{Status}
 use Rattle.bo_lists.specs.declared.rows.Status.TheVariants.{Pending, Paid, Expired, Cancelled}
 use Rattle.bo_lists.specs.declared.changes.Change.TheVariants.{PutOrder}
-use Rattle.bo_lists.specs.Tests.{is_paid, is_pending, is_in_force}
+use Rattle.bo_lists.specs.Conditions.{is_paid, is_pending, is_in_force}
 use Rattle.bo_lists.specs.Lists.{Lists, State, order_at}
 use Rattle.bo_lists.specs.Change.{after_change}
 use Rattle.bo_lists.specs.Usage.{stands_as, is_covered_by, blocked_by, usage_of}

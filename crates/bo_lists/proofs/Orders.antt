@@ -12,7 +12,7 @@ use Rattle.bo_lists.specs.declared.rows.Order.{Order}
 use Rattle.bo_lists.specs.declared.rows.OrderPos.{OrderPos}
 use Rattle.bo_lists.specs.declared.rows.Status.{Status}
 use Rattle.bo_lists.specs.declared.changes.Change.TheVariants.{PutOrder, PutPosition}
-use Rattle.bo_lists.specs.Tests.{is_in_force, blocks, names}
+use Rattle.bo_lists.specs.Conditions.{is_in_force, blocks, names}
 use Rattle.bo_lists.specs.Lists.{Lists, order_at}
 use Rattle.bo_lists.specs.Change.{after_change}
 use Rattle.bo_lists.specs.Usage.{stands_as, uses, redeemed, blocked_by, blocks_if, is_covered_by}

@@ -14,7 +14,7 @@ use Rattle.bo_catalogue.specs.Member.{is_in}
 use Rattle.bo_lists.specs.declared.rows.CartPos.{CartPos}
 use Rattle.bo_lists.specs.declared.rows.Voucher.{Voucher}
 use Rattle.bo_lists.specs.declared.changes.Change.TheVariants.{PutItem, PutVariation, PutQuota, PutVoucher, DropVoucher, DropCart}
-use Rattle.bo_lists.specs.Tests.{is_live_cart}
+use Rattle.bo_lists.specs.Conditions.{is_live_cart}
 use Rattle.bo_lists.specs.Lists.{Lists, State, empty, voucher_at}
 use Rattle.bo_lists.specs.Change.{after_change, after_all, changed}
 use Rattle.bo_lists.specs.Usage.{redeemed}

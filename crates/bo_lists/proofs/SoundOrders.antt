@@ -5,7 +5,7 @@ use Rattle.bo_base.proofs.Edits.{row_at-with_row}
 use Rattle.bo_lists.specs.declared.rows.Order.{Order}
 use Rattle.bo_lists.specs.declared.rows.OrderPos.{OrderPos}
 use Rattle.bo_lists.specs.declared.changes.Change.TheVariants.{PutOrder, PutPosition, DropCart}
-use Rattle.bo_lists.specs.Tests.{is_in_force}
+use Rattle.bo_lists.specs.Conditions.{is_in_force}
 use Rattle.bo_lists.specs.Lists.{Lists, State, order_at, positions_of}
 use Rattle.bo_lists.specs.Change.{after_change, changed, without_carts}
 use Rattle.bo_lists.specs.Usage.{stands_as}

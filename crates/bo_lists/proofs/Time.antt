@@ -10,7 +10,7 @@ use Rattle.bo_catalogue.specs.declared.rows.Quota.{Quota}
 use Rattle.bo_catalogue.specs.Member.{is_in}
 use Rattle.bo_lists.specs.declared.rows.Voucher.{Voucher}
 use Rattle.bo_lists.specs.declared.rows.CartPos.{CartPos}
-use Rattle.bo_lists.specs.Tests.{is_live_voucher, is_live_cart, has_not_ended, hits, blocks, names, holds}
+use Rattle.bo_lists.specs.Conditions.{is_live_voucher, is_live_cart, has_not_ended, hits, blocks, names, holds}
 use Rattle.bo_lists.specs.Lists.{Lists}
 use Rattle.bo_lists.specs.Usage.{redeemed, blocked_by, blocks_if, is_covered_by, cart_counts, usage_of}
 use Rattle.bo_lists.specs.Total.{total}

@@ -6,7 +6,7 @@ use Rattle.bo_catalogue.specs.declared.rows.Quota.{Quota}
 use Rattle.bo_catalogue.specs.Member.{is_in}
 use Rattle.bo_catalogue.specs.CatalogueLists.{CatalogueLists, quota_at}
 use Rattle.bo_lists.specs.declared.rows.Voucher.{Voucher}
-use Rattle.bo_lists.specs.Tests.{names}
+use Rattle.bo_lists.specs.Conditions.{names}
 use Rattle.bo_lists.specs.Lists.{Lists, voucher_at}
 
 -- any variation, or the one that is named

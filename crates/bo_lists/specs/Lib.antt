@@ -1,4 +1,4 @@
-pub mod Tests
+pub mod Conditions
 pub mod Lists
 pub mod Usage
 pub mod Total

@@ -3,7 +3,7 @@ use Rattle.std.specs.Prelude.{◌≡◌, ℕ, Bool, false, ◌&&◌, ◌||◌, n
 use Rattle.std.specs.List.{list_any, AllByRecursion}
 use Rattle.bo_base.specs.Texts.{same_text}
 use Rattle.bo_lists.specs.declared.rows.Voucher.{Voucher}
-use Rattle.bo_lists.specs.Tests.{names}
+use Rattle.bo_lists.specs.Conditions.{names}
 use Rattle.bo_lists.specs.Lists.{Lists}
 
 -- the first voucher with that code

@@ -7,7 +7,7 @@ use Rattle.bo_lists.specs.declared.rows.OrderPos.{OrderPos}
 use Rattle.bo_lists.specs.declared.rows.Own.{Own}
 use Rattle.bo_lists.specs.declared.rows.Own.TheVariants.{Cart, Position}
 use Rattle.bo_lists.specs.declared.rows.Usage.{Usage}
-use Rattle.bo_lists.specs.Tests.{is_in_force}
+use Rattle.bo_lists.specs.Conditions.{is_in_force}
 use Rattle.bo_lists.specs.Lists.{Lists, voucher_at, cart_at, position_at}
 use Rattle.bo_lists.specs.Usage.{usage_of, cart_counts, position_counts}
 use Rattle.bo_lists.specs.Total.{total}

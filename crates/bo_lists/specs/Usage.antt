@@ -9,7 +9,7 @@ use Rattle.bo_lists.specs.declared.rows.OrderPos.{OrderPos}
 use Rattle.bo_lists.specs.declared.rows.Waiting.{Waiting}
 use Rattle.bo_lists.specs.declared.rows.Status.{Status}
 use Rattle.bo_lists.specs.declared.rows.Usage.{Usage}
-use Rattle.bo_lists.specs.Tests.{is_paid, is_pending, is_in_force, is_live_cart, blocks, names}
+use Rattle.bo_lists.specs.Conditions.{is_paid, is_pending, is_in_force, is_live_cart, blocks, names}
 use Rattle.bo_lists.specs.Lists.{Lists, voucher_at, order_at}
 
 -- an order that stands, and has such a status

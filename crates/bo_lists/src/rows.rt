@@ -3,7 +3,7 @@
 ghost use Rattle.std.specs.Prelude.{◌≡◌, ◌↔◌, IsTrue, IfOk};
 ghost use Rattle.bo_lists.specs.Lists.{first_ids};
 ghost use Rattle.bo_lists.specs.Total.{total};
-ghost use Rattle.bo_lists.specs.Tests.{is_paid, is_pending, is_in_force, is_live_voucher, hits, blocks, is_live_cart, holds};
+ghost use Rattle.bo_lists.specs.Conditions.{is_paid, is_pending, is_in_force, is_live_voucher, hits, blocks, is_live_cart, holds};
 ghost use Rattle.bo_lists.specs.Consumed.{is_consumed};
 ghost use Rattle.bo_lists.specs.Usage.{waits_for};
 ghost use Rattle.bo_lists.specs.Fits.{has_variation, fits_item, fits_by, fits};

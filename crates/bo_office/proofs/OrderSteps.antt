@@ -12,7 +12,7 @@ use Rattle.bo_lists.specs.Lists.{State, order_at}
 use Rattle.bo_lists.specs.Over.{first_over, ignores}
 use Rattle.bo_lists.specs.Sound.{IsSound}
 use Rattle.bo_lists.specs.Takes.{used, TakesNoMore}
-use Rattle.bo_lists.specs.Tests.{is_in_force}
+use Rattle.bo_lists.specs.Conditions.{is_in_force}
 use Rattle.bo_lists.specs.Usage.{stands_as}
 use Rattle.bo_lists.proofs.EachRow.{next_absent}
 use Rattle.bo_orders.specs.declared.moves.Move.{Move}

@@ -8,7 +8,7 @@ use Rattle.bo_lists.specs.declared.rows.Order.{Order}
 use Rattle.bo_lists.specs.declared.rows.Own.{Own}
 use Rattle.bo_lists.specs.declared.rows.Own.TheVariants.{Cart as OwnCart, Position as OwnPosition}
 use Rattle.bo_lists.specs.Lists.{Lists, State, order_at}
-use Rattle.bo_lists.specs.Tests.{is_in_force}
+use Rattle.bo_lists.specs.Conditions.{is_in_force}
 use Rattle.bo_lists.specs.Usage.{stands_as}
 use Rattle.bo_lists.specs.Over.{first_over, ignores}
 use Rattle.bo_lists.specs.Sound.{IsSound}

@@ -14,7 +14,7 @@ use Rattle.bo_lists.specs.declared.rows.OrderPos.{OrderPos}
 use Rattle.bo_lists.specs.declared.rows.OrderRows.{OrderRows}
 use Rattle.bo_lists.specs.declared.rows.Own.TheVariants.{Position}
 use Rattle.bo_lists.specs.declared.changes.Change.TheVariants.{PutOrder, PutPosition, DropCart}
-use Rattle.bo_lists.specs.Tests.{is_in_force}
+use Rattle.bo_lists.specs.Conditions.{is_in_force}
 use Rattle.bo_lists.specs.Usage.{stands_as}
 use Rattle.bo_lists.specs.Lists.{Lists, State, order_at}
 use Rattle.bo_lists.specs.Change.{after_change, after_all, changed, without_carts}

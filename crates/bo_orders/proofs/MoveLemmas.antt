@@ -6,7 +6,7 @@ use Rattle.bo_lists.specs.declared.rows.Order.{Order}
 use Rattle.bo_lists.specs.declared.rows.Status.{Status}
 use Rattle.bo_lists.specs.declared.rows.Status.TheVariants.{Pending, Paid, Expired, Cancelled}
 use Rattle.bo_lists.specs.declared.changes.Change.TheVariants.{PutOrder}
-use Rattle.bo_lists.specs.Tests.{is_in_force, names}
+use Rattle.bo_lists.specs.Conditions.{is_in_force, names}
 use Rattle.bo_lists.specs.Lists.{Lists, order_at, positions_of}
 use Rattle.bo_lists.specs.Change.{after_change}
 use Rattle.bo_lists.specs.Usage.{stands_as, redeemed}

@@ -13,7 +13,7 @@ use Rattle.std.specs.List.{AllByRecursion}
 use Rattle.bo_lists.specs.Over.{first_over, ignores}
 use Rattle.bo_lists.specs.Sound.{IsSound}
 use Rattle.bo_lists.specs.Takes.{used, TakesNoMore}
-use Rattle.bo_lists.specs.Tests.{is_in_force}
+use Rattle.bo_lists.specs.Conditions.{is_in_force}
 use Rattle.bo_lists.proofs.OrderLowers.{moved_order_lowers}
 use Rattle.bo_lists.proofs.SoundOrders.{sound_changed_order}
 use Rattle.bo_orders.specs.declared.moves.Move.{Move}

@@ -12,7 +12,7 @@ use Rattle.bo_lists.specs.Lists.{Lists, State, position_at, positions_of}
 use Rattle.bo_lists.specs.Change.{after_change, changed}
 use Rattle.bo_lists.specs.Over.{first_over, is_over, is_over_size, is_free, is_free_position, ignores, weighed}
 use Rattle.bo_lists.specs.Takes.{used, IsWithin, TakesNoMore}
-use Rattle.bo_lists.specs.Tests.{is_in_force}
+use Rattle.bo_lists.specs.Conditions.{is_in_force}
 use Rattle.bo_lists.specs.Total.{total}
 use Rattle.bo_lists.specs.Usage.{usage_of, position_counts}
 use Rattle.bo_lists.proofs.Found.{each_found}

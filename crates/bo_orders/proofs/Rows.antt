@@ -6,7 +6,7 @@ use Rattle.bo_lists.specs.declared.rows.Order.{Order}
 use Rattle.bo_lists.specs.declared.rows.OrderPos.{OrderPos}
 use Rattle.bo_lists.specs.declared.changes.Change.TheVariants.{PutOrder, PutPosition}
 use Rattle.std.proofs.lemmas.Bool.Decides.{nat_tests}
-use Rattle.bo_lists.specs.Tests.{is_in_force}
+use Rattle.bo_lists.specs.Conditions.{is_in_force}
 use Rattle.bo_lists.specs.Usage.{stands_as}
 use Rattle.bo_lists.specs.Lists.{State, order_at, position_at}
 use Rattle.bo_lists.specs.Change.{changed, without_carts, after_change}

@@ -13,7 +13,7 @@ use Rattle.bo_catalogue.specs.declared.refusal.CatalogueRefusal.TheVariants.{NoV
 use Rattle.bo_catalogue.specs.CatalogueLists.{CatalogueLists, item_at, variation_at, plain_product, varied_product, product_by, product_of, base_price, is_active, is_sold}
 use Rattle.bo_lists.specs.declared.rows.Voucher.{Voucher}
 use Rattle.bo_lists.specs.Lists.{State}
-use Rattle.bo_lists.specs.Tests.{is_live_voucher}
+use Rattle.bo_lists.specs.Conditions.{is_live_voucher}
 use Rattle.bo_lists.specs.Fits.{fits, fits_if, is_fit}
 use Rattle.bo_lists.specs.Named.{voucher_of}
 use Rattle.bo_lists.specs.Varied.{sold_as, is_sold_as, is_of_varied, AllVaried, names_as_sold, is_product}

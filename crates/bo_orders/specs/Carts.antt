@@ -7,7 +7,7 @@ use Rattle.bo_lists.specs.declared.rows.CartPos.{CartPos}
 use Rattle.bo_lists.specs.declared.rows.Own.TheVariants.{Cart}
 use Rattle.bo_lists.specs.declared.changes.Change.TheVariants.{PutCart}
 use Rattle.bo_lists.specs.Lists.{State}
-use Rattle.bo_lists.specs.Tests.{is_live_cart}
+use Rattle.bo_lists.specs.Conditions.{is_live_cart}
 use Rattle.bo_lists.specs.Change.{after_change}
 use Rattle.bo_lists.specs.Full.{takes_cart}
 use Rattle.bo_lists.specs.Headroom.{has_use}

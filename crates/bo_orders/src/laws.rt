@@ -12,7 +12,7 @@ ghost use Rattle.bo_lists.specs.declared.rows.Order.{Order};
 ghost use Rattle.bo_lists.specs.declared.rows.OrderRows.{OrderRows};
 ghost use Rattle.bo_lists.specs.declared.rows.Own.{Own};
 ghost use Rattle.bo_lists.specs.Sound.{IsSound};
-ghost use Rattle.bo_lists.specs.Tests.{is_in_force};
+ghost use Rattle.bo_lists.specs.Conditions.{is_in_force};
 ghost use Rattle.bo_orders.specs.declared.bulk.Entry.{Entry};
 ghost use Rattle.bo_orders.specs.declared.new_cart.NewCart.{NewCart};
 ghost use Rattle.bo_orders.specs.declared.new_order.NewOrder.{NewOrder};

@@ -9,14 +9,14 @@ ghost use Rattle.bo_lists.specs.Kept.{IsKept};
 ghost use Rattle.bo_base.specs.Tables.{sum_at};
 ghost use Rattle.bo_lists.specs.Headroom.{held, held_in};
 ghost use Rattle.bo_overlay.specs.Logs.{Log, rows_of, rows_at, IsSale, AreSales};
-ghost use Rattle.bo_lists.specs.Tests.{is_in_force, names};
+ghost use Rattle.bo_lists.specs.Conditions.{is_in_force, names};
 ghost use Rattle.bo_overlay.specs.Ordered.{count_ordered};
 ghost use Rattle.bo_lists.specs.Over.{is_free, is_free_cart, is_free_position, ignores, weighed, is_over_size, first_over_among};
 ghost use Rattle.bo_lists.specs.Total.{total};
 ghost use Rattle.bo_lists.specs.Usage.{usage_of, stands_as, uses, redeemed, is_covered_by, is_covered, cart_counts, position_counts};
 ghost use Rattle.bo_overlay.specs.Steps.{voucher_put, cart_put, order_put, position_put, waiting_put, puts};
 
-use crate::cart_tests::{CartTest, Holds, HoldsIn};
+use crate::cart_conditions::{CartCondition, Holds, HoldsIn};
 use crate::change_log::{ChangeLog, Table};
 use bo_base::{List, Moment, Text};
 use bo_catalogue::{Catalogue, Quota};
@@ -245,7 +245,7 @@ impl<'a, B: Book> Overlay<'a, B> {
     }
 
     // How many cart positions pass the test, by the number in the book.
-    fn count_carts<T: CartTest>(&self, book: u64, test: &T) -> u64
+    fn count_carts<T: CartCondition>(&self, book: u64, test: &T) -> u64
         requires before { book ≡ count_by (T.passes test.now) self.now.base.carts }
         requires few { book ≤ 4294967296 }
         ensures value { result ≡ count_by (T.passes test.now) (rows_of self.now).carts }
@@ -259,7 +259,7 @@ impl<'a, B: Book> Overlay<'a, B> {
     }
 
     // The count after one more change.
-    fn count_after<T: CartTest>(&self, i: usize, test: &T, count: u64) -> u64
+    fn count_after<T: CartCondition>(&self, i: usize, test: &T, count: u64) -> u64
         requires place { i < length self.now.changes }
         requires before { count ≡ count_by (T.passes test.now) (rows_at i self.now).carts }
         requires few { count ≤ 4294967296 + i }
@@ -279,7 +279,7 @@ impl<'a, B: Book> Overlay<'a, B> {
     }
 
     // Whether the row that a cart position had before a change passes the test.
-    fn count_at<T: CartTest>(&self, i: usize, id: u64, test: &T) -> u64
+    fn count_at<T: CartCondition>(&self, i: usize, id: u64, test: &T) -> u64
         requires { i ≤ length self.now.changes }
         ensures { result ≡ sum_at (λ c. if T.passes test.now c then 1 else 0) (cart_at id (rows_at i self.now)) }
     {

@@ -14,16 +14,16 @@ use Rattle.bo_api.specs.declared.call.Call.{Call}
 use Rattle.bo_api.specs.declared.call.Call.TheVariants as calls
 use Rattle.bo_serve.specs.BoxOfficeView.{BoxOfficeView}
 use Rattle.bo_serve.specs.Run.{Item, Runs}
-use Rattle.bo_serve.specs.Served.{Serves, told_of}
+use Rattle.bo_serve.specs.Served.{Serves, response_of}
 use Rattle.bo_serve.specs.Kept.{KeepsRows, Keeps, ServesAndKeeps}
 
 -- what a call leaves
 kept_call : (organizer event : List ℕ) (call : Call) (clock : ℕ) (draw : Draw) (state : State) → IsSound state
-    → KeepsRows call clock draw state (told_of organizer event call (max state.moment clock) draw state).0 × IsSound (told_of organizer event call (max state.moment clock) draw state).0
-kept_call organizer event (calls.Unauthorized told) clock draw state sound = (refl, sound)
+    → KeepsRows call clock draw state (response_of organizer event call (max state.moment clock) draw state).0 × IsSound (response_of organizer event call (max state.moment clock) draw state).0
+kept_call organizer event (calls.Unauthorized response) clock draw state sound = (refl, sound)
 kept_call organizer event (calls.Read query) clock draw state sound = (refl, sound)
-kept_call organizer event (calls.ReadRefused told) clock draw state sound = (refl, sound)
-kept_call organizer event (calls.WriteRefused told) clock draw state sound = (refl, sound_later state (max state.moment clock) (omega arith) sound)
+kept_call organizer event (calls.ReadRefused response) clock draw state sound = (refl, sound)
+kept_call organizer event (calls.WriteRefused response) clock draw state sound = (refl, sound_later state (max state.moment clock) (omega arith) sound)
 kept_call organizer event (calls.Write command) clock draw state sound =
     let arrivals : List Arrival = record { clock = clock; draw = draw; command = command } ∷ [] in
     let after = (sound_all arrivals state sound).0 in
@@ -31,8 +31,8 @@ kept_call organizer event (calls.Write command) clock draw state sound =
 
 kept_once : (old : BoxOfficeView) (tick : Tick) (m : Message) (answer : Answer) (new : BoxOfficeView) → IsSound old.state → Serves old tick m answer new
     → Keeps old tick m answer new × IsSound new.state
-kept_once old tick m (answers.Told told) new sound leads =
-    subst (λ (v : BoxOfficeView). Keeps old tick m (answers.Told told) v × IsSound v.state) (sym leads.0) (kept_call old.organizer old.event _ tick.clock tick.draw old.state sound)
+kept_once old tick m (answers.Decided response) new sound leads =
+    subst (λ (v : BoxOfficeView). Keeps old tick m (answers.Decided response) v × IsSound v.state) (sym leads.0) (kept_call old.organizer old.event _ tick.clock tick.draw old.state sound)
 kept_once old tick m answers.Unavailable new sound same = (same, subst (λ (v : BoxOfficeView). IsSound v.state) (sym same) sound)
 
 pub kept_all : (old : BoxOfficeView) (ticks : List Tick) (items : List Item) (a : List ℕ) (new : BoxOfficeView) → IsSound old.state → Runs Serves old ticks items a new

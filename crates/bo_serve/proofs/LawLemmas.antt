@@ -13,7 +13,7 @@ use Rattle.bo_api.specs.declared.call.Call.{Call}
 use Rattle.bo_api.specs.declared.call.Call.TheVariants as calls
 use Rattle.bo_serve.specs.BoxOfficeView.{BoxOfficeView}
 use Rattle.bo_serve.specs.Run.{Item, AreAll, Runs}
-use Rattle.bo_serve.specs.Served.{Serves, Tells, told_of}
+use Rattle.bo_serve.specs.Served.{Serves, Tells, response_of}
 
 -- ---- the whole stream
 
@@ -43,17 +43,17 @@ alike old (t ∷ ts) (Ok m ∷ items) a b new other (mid, answer, rest, tells, i
 
 -- ---- time
 
-later_after : (organizer event : List ℕ) (call : Call) (clock : ℕ) (draw : Draw) (state : State) → state.moment ≤ (told_of organizer event call (max state.moment clock) draw state).0.moment
-later_after organizer event (calls.Unauthorized told) clock draw state = omega arith
+later_after : (organizer event : List ℕ) (call : Call) (clock : ℕ) (draw : Draw) (state : State) → state.moment ≤ (response_of organizer event call (max state.moment clock) draw state).0.moment
+later_after organizer event (calls.Unauthorized response) clock draw state = omega arith
 later_after organizer event (calls.Read query) clock draw state = omega arith
-later_after organizer event (calls.ReadRefused told) clock draw state = omega arith
-later_after organizer event (calls.WriteRefused told) clock draw state = omega arith
+later_after organizer event (calls.ReadRefused response) clock draw state = omega arith
+later_after organizer event (calls.WriteRefused response) clock draw state = omega arith
 later_after organizer event (calls.Write command) clock draw state =
     let stores = (stores_all (record { clock = clock; draw = draw; command = command } ∷ []) state).0 in
     subst (λ (n : ℕ). state.moment ≤ n) (sym stores) (omega arith)
 
 never_falls_once : (old : BoxOfficeView) (tick : Tick) (m : Message) (answer : Answer) (new : BoxOfficeView) → Serves old tick m answer new → old.state.moment ≤ new.state.moment
-never_falls_once old tick m (answers.Told told) new leads = subst (λ (v : BoxOfficeView). old.state.moment ≤ v.state.moment) (sym leads.0) (later_after old.organizer old.event _ tick.clock tick.draw old.state)
+never_falls_once old tick m (answers.Decided response) new leads = subst (λ (v : BoxOfficeView). old.state.moment ≤ v.state.moment) (sym leads.0) (later_after old.organizer old.event _ tick.clock tick.draw old.state)
 never_falls_once old tick m answers.Unavailable new same = subst (λ (v : BoxOfficeView). old.state.moment ≤ v.state.moment) (sym same) (omega arith)
 
 pub never_falls : (old : BoxOfficeView) (ticks : List Tick) (items : List Item) (a : List ℕ) (new : BoxOfficeView) → Runs Serves old ticks items a new → old.state.moment ≤ new.state.moment

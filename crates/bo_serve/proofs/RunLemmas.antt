@@ -12,7 +12,7 @@ use Rattle.bo_http.specs.Messages.{Message, Takes, Faults, HasNone, closes, Mess
 use Rattle.bo_http.specs.Framed.{TakesFirst}
 use Rattle.bo_serve.specs.declared.failure.Failure.{Failure}
 use Rattle.bo_serve.specs.declared.failure.Failure.TheVariants as failures
-use Rattle.bo_serve.specs.Run.{Item, Runs, Chain, whole, AreAlways, AreAll, Place, place, Progress, Finished, Stopped, BreaksOff, Broken, TakesIn, CountedIn}
+use Rattle.bo_serve.specs.Run.{Item, Runs, Chain, whole, AreAlways, AreAll, Cursor, cursor, Progress, Finished, Stopped, BreaksOff, Broken, TakesIn, CountedIn}
 
 -- ---- chains
 
@@ -66,7 +66,7 @@ takes_frame l l' frame taken is (m, same, takes) =
     subst (λ (x : Message). TakesFirst l x l') (sym e) takes
 
 pub fault_done : {D : Type 0} (Serves : D → Tick → Message → Answer → D → Type 0) (l l' : List ℕ) (t : Option (List Tick)) (d : D) (w w' : Option (List ℕ)) (f : Fault)
-    → ((more : List ℕ) → Faults (l ++ more) f) → Adds w (fault_text f) w' → Finished Serves (AreAlways l) (place l t d w) (place l' t d w')
+    → ((more : List ℕ) → Faults (l ++ more) f) → Adds w (fault_text f) w' → Finished Serves (AreAlways l) (cursor l t d w) (cursor l' t d w')
 fault_done Serves l l' t d w w' f faults wrote = record {
   items = Err f ∷ [];
   ticks = [];
@@ -79,7 +79,7 @@ fault_done Serves l l' t d w w' f faults wrote = record {
 
 pub message_ends : {D : Type 0} (Serves : D → Tick → Message → Answer → D → Type 0) (l l' : List ℕ) (t t' : Option (List Tick)) (d d' : D) (w w' : Option (List ℕ)) (m : Message) (tick : Tick) (answer : Answer) (b : Bool)
     → TakesFirst l m l' → Adds t (tick ∷ []) t' → Serves d tick m answer d' → Adds w (text answer b) w' → b ≡ closes m → b ≡ true
-    → Finished Serves (AreAlways l) (place l t d w) (place l' t' d' w')
+    → Finished Serves (AreAlways l) (cursor l t d w) (cursor l' t' d' w')
 message_ends Serves l l' t t' d d' w w' m tick answer b takes told serves wrote test hit = let ends : closes m ≡ true = sym test ∙ hit in record {
   items = Ok m ∷ [];
   ticks = tick ∷ [];
@@ -92,7 +92,7 @@ message_ends Serves l l' t t' d d' w w' m tick answer b takes told serves wrote 
 
 pub message_goes : {D : Type 0} (Serves : D → Tick → Message → Answer → D → Type 0) (l l' : List ℕ) (t t' : Option (List Tick)) (d d' : D) (w w' : Option (List ℕ)) (m : Message) (tick : Tick) (answer : Answer) (b : Bool)
     → TakesFirst l m l' → Adds t (tick ∷ []) t' → Serves d tick m answer d' → Adds w (text answer b) w' → b ≡ closes m → b ≡ false
-    → Progress Serves (place l t d w) (place l' t' d' w')
+    → Progress Serves (cursor l t d w) (cursor l' t' d' w')
 message_goes Serves l l' t t' d d' w w' m tick answer b takes told serves wrote test hit = let goes : closes m ≡ false = sym test ∙ hit in record {
   messages = m ∷ [];
   ticks = tick ∷ [];
@@ -106,7 +106,7 @@ message_goes Serves l l' t t' d d' w w' m tick answer b takes told serves wrote 
 -- ---- several steps
 
 module _ {D : Type 0} (Serves : D → Tick → Message → Answer → D → Type 0) where
-  pub progress_none : (p q : Place D) → q ≡ p → Progress Serves p q
+  pub progress_none : (p q : Cursor D) → q ≡ p → Progress Serves p q
   progress_none p q same = subst (Progress Serves p) (sym same) (record {
     messages = [];
     ticks = [];
@@ -120,7 +120,7 @@ module _ {D : Type 0} (Serves : D → Tick → Message → Answer → D → Type
   map_whole : (ms ns : List Message) → map whole (ms ++ ns) ≡ map whole ms ++ map whole ns
   map_whole ms ns = map-append whole ms ns
 
-  pub progress_more : (p q r : Place D) → Progress Serves p q → Progress Serves q r → Progress Serves p r
+  pub progress_more : (p q r : Cursor D) → Progress Serves p q → Progress Serves q r → Progress Serves p r
   progress_more p q r x y = record {
     messages = x.messages ++ y.messages;
     ticks = x.ticks ++ y.ticks;
@@ -133,7 +133,7 @@ module _ {D : Type 0} (Serves : D → Tick → Message → Answer → D → Type
         (Runs-append Serves p.desk q.desk r.desk x.ticks y.ticks x.messages (map whole y.messages) x.written y.written x.runs y.runs);
   }
 
-  pub finished_more : (p q r : Place D) → Progress Serves p q → Finished Serves (AreAlways q.left) q r → Finished Serves (AreAlways p.left) p r
+  pub finished_more : (p q r : Cursor D) → Progress Serves p q → Finished Serves (AreAlways q.left) q r → Finished Serves (AreAlways p.left) p r
   finished_more p q r x y = record {
     items = map whole x.messages ++ y.items;
     ticks = x.ticks ++ y.ticks;
@@ -144,12 +144,12 @@ module _ {D : Type 0} (Serves : D → Tick → Message → Answer → D → Type
     runs = Runs-append Serves p.desk q.desk r.desk x.ticks y.ticks x.messages y.items x.written y.written x.runs y.runs;
   }
 
-  pub broken_more : (e : Failure) (p q r : Place D) → Progress Serves p q → Broken Serves e q r → Broken Serves e p r
+  pub broken_more : (e : Failure) (p q r : Cursor D) → Progress Serves p q → Broken Serves e q r → Broken Serves e p r
   broken_more e p q r x y = record { mid = y.mid; before = progress_more p q y.mid x y.before; last = y.last }
 
   -- a piece that comes after the bytes
   pub progress_feed : (b l : List ℕ) (piece : List ℕ) (t t' : Option (List Tick)) (d d' : D) (w w' : Option (List ℕ))
-      → Progress Serves (place b t d w) (place l t' d' w') → Progress Serves (place (b ++ piece) t d w) (place (l ++ piece) t' d' w')
+      → Progress Serves (cursor b t d w) (cursor l t' d' w') → Progress Serves (cursor (b ++ piece) t d w) (cursor (l ++ piece) t' d' w')
   progress_feed b l piece t t' d d' w w' x = record {
     messages = x.messages;
     ticks = x.ticks;
@@ -161,7 +161,7 @@ module _ {D : Type 0} (Serves : D → Tick → Message → Answer → D → Type
   }
 
   -- where no message is left and nothing follows, all were answered
-  pub finished_none : (after : Option (List ℕ)) (p q : Place D) → Progress Serves p q → HasNone q.left → IsAtEnd after → Finished Serves (AreAll p.left after) p q
+  pub finished_none : (after : Option (List ℕ)) (p q : Cursor D) → Progress Serves p q → HasNone q.left → IsAtEnd after → Finished Serves (AreAll p.left after) p q
   finished_none after p q x none ended = record {
     items = map whole x.messages;
     ticks = x.ticks;
@@ -177,7 +177,7 @@ module _ {D : Type 0} (Serves : D → Tick → Message → Answer → D → Type
   }
 
   -- where the last message ends the connection, all were answered
-  pub finished_all : (after : Option (List ℕ)) (p q : Place D) → Finished Serves (AreAlways p.left) p q → Finished Serves (AreAll p.left after) p q
+  pub finished_all : (after : Option (List ℕ)) (p q : Cursor D) → Finished Serves (AreAlways p.left) p q → Finished Serves (AreAll p.left after) p q
   finished_all after p q x = record {
     items = x.items;
     ticks = x.ticks;
@@ -190,13 +190,13 @@ module _ {D : Type 0} (Serves : D → Tick → Message → Answer → D → Type
 
   -- ---- where a run breaks off
 
-  stopped : (l l' : List ℕ) (t t' : Option (List Tick)) (d : D) (w : Option (List ℕ)) → Adds t [] t' → Stopped (place l t d w) (place l' t' d w)
+  stopped : (l l' : List ℕ) (t t' : Option (List Tick)) (d : D) (w : Option (List ℕ)) → Adds t [] t' → Stopped (cursor l t d w) (cursor l' t' d w)
   stopped l l' t t' d w told = record { told = told; taken = Adds-nil w; desk = refl }
 
   pub fault_broken : (l l' : List ℕ) (t : Option (List Tick)) (d : D) (w w' : Option (List ℕ)) (f : Fault) (part rest : List ℕ)
-      → ((more : List ℕ) → Faults (l ++ more) f) → fault_text f ≡ part ++ rest → Adds w part w' → Broken Serves failures.Output (place l t d w) (place l' t d w')
+      → ((more : List ℕ) → Faults (l ++ more) f) → fault_text f ≡ part ++ rest → Adds w part w' → Broken Serves failures.Output (cursor l t d w) (cursor l' t d w')
   fault_broken l l' t d w w' f part rest faults split wrote = record {
-    mid = place l t d w;
+    mid = cursor l t d w;
     before = progress_none _ _ refl;
     last = record {
       item = Err f;
@@ -211,18 +211,18 @@ module _ {D : Type 0} (Serves : D → Tick → Message → Answer → D → Type
   }
 
   pub clock_broken : (l l' : List ℕ) (t t' : Option (List Tick)) (d : D) (w : Option (List ℕ)) (m : Message)
-      → TakesFirst l m l' → Adds t [] t' → Broken Serves failures.Clock (place l t d w) (place l' t' d w)
+      → TakesFirst l m l' → Adds t [] t' → Broken Serves failures.Clock (cursor l t d w) (cursor l' t' d w)
   clock_broken l l' t t' d w m takes told = record {
-    mid = place l t d w;
+    mid = cursor l t d w;
     before = progress_none _ _ refl;
     last = (stopped l l' t t' d w told, (m, (l', takes_now l l' m takes)));
   }
 
   pub message_broken : (l l' : List ℕ) (t t' : Option (List Tick)) (d d' : D) (w w' : Option (List ℕ)) (m : Message) (tick : Tick) (answer : Answer) (b : Bool) (part rest : List ℕ)
       → TakesFirst l m l' → Adds t (tick ∷ []) t' → Serves d tick m answer d' → text answer b ≡ part ++ rest → Adds w part w' → b ≡ closes m
-      → Broken Serves failures.Output (place l t d w) (place l' t' d' w')
+      → Broken Serves failures.Output (cursor l t d w) (cursor l' t' d' w')
   message_broken l l' t t' d d' w w' m tick answer b part rest takes told serves split wrote test = record {
-    mid = place l t d w;
+    mid = cursor l t d w;
     before = progress_none _ _ refl;
     last = record {
       item = Ok m;
@@ -236,20 +236,20 @@ module _ {D : Type 0} (Serves : D → Tick → Message → Answer → D → Type
     };
   }
 
-  pub memory_broken : (p : Place D) (l l' : List ℕ) (t : Option (List Tick)) (d : D) (w : Option (List ℕ)) → Progress Serves p (place l t d w) → Broken Serves failures.Memory p (place l' t d w)
-  memory_broken p l l' t d w x = record { mid = place l t d w; before = x; last = stopped l l' t t d w (Adds-nil t) }
+  pub memory_broken : (p : Cursor D) (l l' : List ℕ) (t : Option (List Tick)) (d : D) (w : Option (List ℕ)) → Progress Serves p (cursor l t d w) → Broken Serves failures.Memory p (cursor l' t d w)
+  memory_broken p l l' t d w x = record { mid = cursor l t d w; before = x; last = stopped l l' t t d w (Adds-nil t) }
 
-  pub limit_broken : (p : Place D) (l l' : List ℕ) (t : Option (List Tick)) (d : D) (w : Option (List ℕ)) → Progress Serves p (place l t d w) → HasNone l → Broken Serves failures.Limit p (place l' t d w)
-  limit_broken p l l' t d w x none = record { mid = place l t d w; before = x; last = (stopped l l' t t d w (Adds-nil t), none) }
+  pub limit_broken : (p : Cursor D) (l l' : List ℕ) (t : Option (List Tick)) (d : D) (w : Option (List ℕ)) → Progress Serves p (cursor l t d w) → HasNone l → Broken Serves failures.Limit p (cursor l' t d w)
+  limit_broken p l l' t d w x none = record { mid = cursor l t d w; before = x; last = (stopped l l' t t d w (Adds-nil t), none) }
 
   -- a reader that fails, or memory for what it gave that is refused
   pub read_broken : (e : Failure) (g g' g'' : Option (List ℕ)) (b l l' : List ℕ) (t t' : Option (List Tick)) (d d' : D) (w w' : Option (List ℕ)) (input input' : ℕ)
-      → Gives g b g' → Progress Serves (place b t d w) (place l t' d' w') → HasNone l → TakesIn (Err e) l l' g' g'' → CountedIn (Err e) input input'
-      → (bytes : List ℕ) × Gives g bytes g'' × Broken Serves e (place bytes t d w) (place [] t' d' w')
+      → Gives g b g' → Progress Serves (cursor b t d w) (cursor l t' d' w') → HasNone l → TakesIn (Err e) l l' g' g'' → CountedIn (Err e) input input'
+      → (bytes : List ℕ) × Gives g bytes g'' × Broken Serves e (cursor bytes t d w) (cursor [] t' d' w')
   read_broken failures.Input g g' g'' b l l' t t' d d' w w' input input' gives x none read counted = (
     b,
     subst (λ (s : List ℕ). Gives g s g'') (append-nil b) (Gives-append g g' g'' b [] gives read),
-    record { mid = place l t' d' w'; before = x; last = (stopped l [] t' t' d' w' (Adds-nil t'), none) },
+    record { mid = cursor l t' d' w'; before = x; last = (stopped l [] t' t' d' w' (Adds-nil t'), none) },
   )
   read_broken failures.Memory g g' g'' b l l' t t' d d' w w' input input' gives x none (piece, read) counted = (
     b ++ piece,
@@ -261,20 +261,20 @@ module _ {D : Type 0} (Serves : D → Tick → Message → Answer → D → Type
   read_broken failures.Limit g g' g'' b l l' t t' d d' w w' input input' gives x none read counted = absurd counted
 
   -- what is left afterwards does not matter
-  pub broken_at : (e : Failure) (p : Place D) (l l' : List ℕ) (t : Option (List Tick)) (d : D) (w : Option (List ℕ)) → Broken Serves e p (place l t d w) → Broken Serves e p (place l' t d w)
+  pub broken_at : (e : Failure) (p : Cursor D) (l l' : List ℕ) (t : Option (List Tick)) (d : D) (w : Option (List ℕ)) → Broken Serves e p (cursor l t d w) → Broken Serves e p (cursor l' t d w)
   broken_at e p l l' t d w x = record { mid = x.mid; before = x.before; last = last_at e x.mid x.last }
     where
-      stays : (q : Place D) → Stopped q (place l t d w) → Stopped q (place l' t d w)
+      stays : (q : Cursor D) → Stopped q (cursor l t d w) → Stopped q (cursor l' t d w)
       stays q y = record { told = y.told; taken = y.taken; desk = y.desk }
 
-      last_at : (f : Failure) (q : Place D) → BreaksOff Serves f q (place l t d w) → BreaksOff Serves f q (place l' t d w)
+      last_at : (f : Failure) (q : Cursor D) → BreaksOff Serves f q (cursor l t d w) → BreaksOff Serves f q (cursor l' t d w)
       last_at failures.Output q y = record { item = y.item; ticks = y.ticks; part = y.part; rest = y.rest; next = y.next; told = y.told; taken = y.taken; runs = y.runs }
       last_at failures.Clock q y = (stays q y.0, y.1)
       last_at failures.Input q y = (stays q y.0, y.1)
       last_at failures.Limit q y = (stays q y.0, y.1)
       last_at failures.Memory q y = stays q y
 
-  pub finished_at : (p : Place D) (IsOf : List Item → Type 0) (l l' : List ℕ) (t : Option (List Tick)) (d : D) (w : Option (List ℕ)) → Finished Serves IsOf p (place l t d w) → Finished Serves IsOf p (place l' t d w)
+  pub finished_at : (p : Cursor D) (IsOf : List Item → Type 0) (l l' : List ℕ) (t : Option (List Tick)) (d : D) (w : Option (List ℕ)) → Finished Serves IsOf p (cursor l t d w) → Finished Serves IsOf p (cursor l' t d w)
   finished_at p IsOf l l' t d w x = record {
     items = x.items;
     ticks = x.ticks;

@@ -29,7 +29,7 @@ KeepsRows other clock draw before after = after.lists ≡ before.lists
 
 -- where a message is told what is done with it, its call keeps the rows so; where it is answered 503, nothing changes
 abbrev pub Keeps : BoxOfficeView → Tick → Message → Answer → BoxOfficeView → Type 0
-Keeps old tick m (answers.Told told) new = KeepsRows (call old.organizer old.event m (token_row old.digest m)) tick.clock tick.draw old.state new.state
+Keeps old tick m (answers.Decided response) new = KeepsRows (call old.organizer old.event m (token_row old.digest m)) tick.clock tick.draw old.state new.state
 Keeps old tick m answers.Unavailable new = new ≡ old
 
 -- a message is served, and kept so

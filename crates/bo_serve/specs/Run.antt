@@ -52,17 +52,17 @@ abbrev pub AreAll : List ℕ → Option (List ℕ) → List Item → Type 0
 AreAll bytes after items = AreAlways bytes items ⊎ (Messages bytes items × IsAtEnd after)
 
 -- where a run stands: the bytes not yet taken, the ticks that were told, the desk, and what was written
-pub record Place (D : Type 0) : Type 0 where
+pub record Cursor (D : Type 0) : Type 0 where
   pub left : List ℕ
   pub told : Option (List Tick)
   pub desk : D
   pub taken : Option (List ℕ)
 
-abbrev pub place : {D : Type 0} → List ℕ → Option (List Tick) → D → Option (List ℕ) → Place D
-place left told desk taken = record { left = left; told = told; desk = desk; taken = taken }
+abbrev pub cursor : {D : Type 0} → List ℕ → Option (List Tick) → D → Option (List ℕ) → Cursor D
+cursor left told desk taken = record { left = left; told = told; desk = desk; taken = taken }
 
 -- the messages at the front were answered, and none of them ends the connection
-pub record Progress {D : Type 0} (Serves : D → Tick → Message → Answer → D → Type 0) (old new : Place D) : Type 0 where
+pub record Progress {D : Type 0} (Serves : D → Tick → Message → Answer → D → Type 0) (old new : Cursor D) : Type 0 where
   pub messages : List Message
   pub ticks : List Tick
   pub written : List ℕ
@@ -72,7 +72,7 @@ pub record Progress {D : Type 0} (Serves : D → Tick → Message → Answer →
   pub runs : Runs Serves old.desk ticks (map whole messages) written new.desk
 
 -- the messages were answered, in order, and nothing else was written
-pub record Finished {D : Type 0} (Serves : D → Tick → Message → Answer → D → Type 0) (IsOf : List Item → Type 0) (old new : Place D) : Type 0 where
+pub record Finished {D : Type 0} (Serves : D → Tick → Message → Answer → D → Type 0) (IsOf : List Item → Type 0) (old new : Cursor D) : Type 0 where
   pub items : List Item
   pub ticks : List Tick
   pub written : List ℕ
@@ -82,7 +82,7 @@ pub record Finished {D : Type 0} (Serves : D → Tick → Message → Answer →
   pub runs : Runs Serves old.desk ticks items written new.desk
 
 -- one more item was acted on, and the front of its text was written
-pub record CutOff {D : Type 0} (Serves : D → Tick → Message → Answer → D → Type 0) (old new : Place D) : Type 0 where
+pub record CutOff {D : Type 0} (Serves : D → Tick → Message → Answer → D → Type 0) (old new : Cursor D) : Type 0 where
   pub item : Item
   pub ticks : List Tick
   pub part : List ℕ
@@ -93,7 +93,7 @@ pub record CutOff {D : Type 0} (Serves : D → Tick → Message → Answer → D
   pub runs : Runs Serves old.desk ticks (item ∷ []) (part ++ rest) new.desk
 
 -- nothing more was told or written, and the desk is as it was
-pub record Stopped {D : Type 0} (old new : Place D) : Type 0 where
+pub record Stopped {D : Type 0} (old new : Cursor D) : Type 0 where
   pub told : Adds old.told [] new.told
   pub taken : Adds old.taken [] new.taken
   pub desk : new.desk ≡ old.desk
@@ -101,7 +101,7 @@ pub record Stopped {D : Type 0} (old new : Place D) : Type 0 where
 -- Where a run breaks off, behind the messages that were answered whole: where the writer fails, within the text of the next
 -- one; where the clock fails, before the next one, which is there; where the reader fails or its limit is met, once no message
 -- is left; and where the room for what was read can't grow, before what was read last.
-abbrev pub BreaksOff : {D : Type 0} → (D → Tick → Message → Answer → D → Type 0) → Failure → Place D → Place D → Type 0
+abbrev pub BreaksOff : {D : Type 0} → (D → Tick → Message → Answer → D → Type 0) → Failure → Cursor D → Cursor D → Type 0
 BreaksOff Serves failures.Output old new = CutOff Serves old new
 BreaksOff Serves failures.Clock old new = Stopped old new × ((m : Message) × IsNext old.left (Ok m))
 BreaksOff Serves failures.Input old new = Stopped old new × HasNone old.left
@@ -109,27 +109,27 @@ BreaksOff Serves failures.Limit old new = Stopped old new × HasNone old.left
 BreaksOff Serves failures.Memory old new = Stopped old new
 
 -- messages at the front were answered whole, and there the run breaks off
-pub record Broken {D : Type 0} (Serves : D → Tick → Message → Answer → D → Type 0) (e : Failure) (old new : Place D) : Type 0 where
-  pub mid : Place D
+pub record Broken {D : Type 0} (Serves : D → Tick → Message → Answer → D → Type 0) (e : Failure) (old new : Cursor D) : Type 0 where
+  pub mid : Cursor D
   pub before : Progress Serves old mid
   pub last : BreaksOff Serves e mid new
 
 -- what one step leads to
-abbrev pub Steps : {D : Type 0} → (D → Tick → Message → Answer → D → Type 0) → Place D → Place D → Result Step Failure → Type 0
+abbrev pub Steps : {D : Type 0} → (D → Tick → Message → Answer → D → Type 0) → Cursor D → Cursor D → Result Step Failure → Type 0
 Steps Serves old new (Ok steps.Waits) = HasNone old.left × (new ≡ old)
 Steps Serves old new (Ok steps.Goes) = Progress Serves old new × (length new.left < length old.left)
 Steps Serves old new (Ok steps.Ends) = Finished Serves (AreAlways old.left) old new
 Steps Serves old new (Err e) = Broken Serves e old new
 
 -- what all steps that can be made lead to: the bytes wait for more, or the connection ends
-abbrev pub ServesReady : {D : Type 0} → (D → Tick → Message → Answer → D → Type 0) → Place D → Place D → Result Bool Failure → Type 0
+abbrev pub ServesReady : {D : Type 0} → (D → Tick → Message → Answer → D → Type 0) → Cursor D → Cursor D → Result Bool Failure → Type 0
 ServesReady Serves old new (Ok true) = Progress Serves old new × HasNone new.left
 ServesReady Serves old new (Ok false) = Finished Serves (AreAlways old.left) old new
 ServesReady Serves old new (Err e) = Broken Serves e old new
 
 -- What a whole run over these bytes leads to, where `after` is what the reader still has. At its end all messages of the
 -- stream are answered; where it fails, the first ones are, and what was written is the front of their text.
-abbrev pub Streams : {D : Type 0} → (D → Tick → Message → Answer → D → Type 0) → Option (List ℕ) → Place D → Place D → Result (Unit {0}) Failure → Type 0
+abbrev pub Streams : {D : Type 0} → (D → Tick → Message → Answer → D → Type 0) → Option (List ℕ) → Cursor D → Cursor D → Result (Unit {0}) Failure → Type 0
 Streams Serves after old new (Ok u) = Finished Serves (AreAll old.left after) old new
 Streams Serves after old new (Err e) = Broken Serves e old new
 

@@ -3,7 +3,7 @@ use Rattle.std.specs.Prelude.{◌≡◌, ℕ, List, Option, Some, None, if◌the
 use Rattle.sha2.specs.Sha256.{sha256}
 use Rattle.bo_base.specs.declared.answer.Answer.{Answer}
 use Rattle.bo_base.specs.declared.answer.Answer.TheVariants as answers
-use Rattle.bo_base.specs.declared.answer.Told.{Told}
+use Rattle.bo_base.specs.declared.answer.Response.{Response}
 use Rattle.bo_base.specs.declared.device.Tick.{Tick}
 use Rattle.bo_base.specs.declared.draw.Draw.{Draw}
 use Rattle.bo_http.specs.Messages.{Message}
@@ -29,27 +29,27 @@ token_row known m = row_of known (option_map sha256 (token_of m))
 
 -- What is done with a call at a moment, and what is told in the shop of those slugs. A write stores its moment,
 -- refused or not; a read stores nothing, and neither does a request without a known token.
-abbrev pub told_of : List ℕ → List ℕ → Call → ℕ → Draw → State → State × Told
-told_of organizer event (calls.Unauthorized told) at draw state = (state, told)
-told_of organizer event (calls.Read query) at draw state = (state, words organizer event (answer query at state))
-told_of organizer event (calls.ReadRefused told) at draw state = (state, told)
-told_of organizer event (calls.Write command) at draw state = let made = step command at draw state in (made.0, words organizer event made.1)
-told_of organizer event (calls.WriteRefused told) at draw state = (record state { moment = at }, told)
+abbrev pub response_of : List ℕ → List ℕ → Call → ℕ → Draw → State → State × Response
+response_of organizer event (calls.Unauthorized response) at draw state = (state, response)
+response_of organizer event (calls.Read query) at draw state = (state, words organizer event (answer query at state))
+response_of organizer event (calls.ReadRefused response) at draw state = (state, response)
+response_of organizer event (calls.Write command) at draw state = let made = step command at draw state in (made.0, words organizer event made.1)
+response_of organizer event (calls.WriteRefused response) at draw state = (record state { moment = at }, response)
 
 -- what is done with a message at a tick, and what is told: its moment is the clock's, but never before the office's
-abbrev pub served : BoxOfficeView → Tick → Message → State × Told
+abbrev pub served : BoxOfficeView → Tick → Message → State × Response
 served office tick m =
-    told_of office.organizer office.event (call office.organizer office.event m (token_row office.digest m)) (moment_at tick.clock office.state) tick.draw office.state
+    response_of office.organizer office.event (call office.organizer office.event m (token_row office.digest m)) (moment_at tick.clock office.state) tick.draw office.state
 
 -- the state is as it was done, and this is what was told
-abbrev pub Leads : BoxOfficeView → State × Told → BoxOfficeView → Told → Type 0
-Leads old made new told = (new ≡ record old { state = made.0 }) × (told ≡ made.1)
+abbrev pub Leads : BoxOfficeView → State × Response → BoxOfficeView → Response → Type 0
+Leads old made new response = (new ≡ record old { state = made.0 }) × (response ≡ made.1)
 
 -- the message is told what is done with it, or it is answered 503 and nothing has changed
 abbrev pub Serves : BoxOfficeView → Tick → Message → Answer → BoxOfficeView → Type 0
-Serves old tick m (answers.Told told) new = Leads old (served old tick m) new told
+Serves old tick m (answers.Decided response) new = Leads old (served old tick m) new response
 Serves old tick m answers.Unavailable new = new ≡ old
 
 -- the message is told what is done with it
 abbrev pub Tells : BoxOfficeView → Tick → Message → Answer → BoxOfficeView → Type 0
-Tells old tick m answer new = (answer ≡ answers.Told (served old tick m).1) × (new ≡ record old { state = (served old tick m).0 })
+Tells old tick m answer new = (answer ≡ answers.Decided (served old tick m).1) × (new ≡ record old { state = (served old tick m).0 })

@@ -7,11 +7,11 @@ ghost use Rattle.bo_lists.specs.Sound.{IsSound};
 ghost use Rattle.bo_office.specs.Answer.{answer};
 ghost use Rattle.bo_office.specs.Step.{step};
 ghost use Rattle.bo_serve.specs.BoxOfficeView.{BoxOfficeView};
-ghost use Rattle.bo_serve.specs.Served.{Serves, Leads, token_row, told_of, served};
+ghost use Rattle.bo_serve.specs.Served.{Serves, Leads, token_row, response_of, served};
 
 use crate::desk::Desk;
 use bo_api::{Call, Words};
-use bo_base::{Answer, Draw, Moment, Tick, Told};
+use bo_base::{Answer, Draw, Moment, Response, Tick};
 use bo_http::frame::Frame;
 use bo_lists::Changes;
 use bo_office::{Command, Office, Query};
@@ -84,9 +84,9 @@ impl<B: Book> BoxOffice<B> {
     }
 
     // What a query is told.
-    fn ask(&self, alloc: Global, at: Moment, query: &Query) -> Result<Told, AllocError>
+    fn ask(&self, alloc: Global, at: Moment, query: &Query) -> Result<Response, AllocError>
         requires { self.now.state.moment ≤ at }
-        ensures { IfOk result (λ told. told ≡ words self.now.organizer self.now.event (answer query.now at self.now.state)) }
+        ensures { IfOk result (λ response. response ≡ words self.now.organizer self.now.event (answer query.now at self.now.state)) }
     {
         let reply = self.office.ask(alloc, at, query)?;
         self.words.words(alloc, &reply)
@@ -99,16 +99,16 @@ impl<B: Book> BoxOffice<B> {
         at: Moment,
         draw: Draw,
         command: &Command,
-    ) -> Result<Told, AllocError>
+    ) -> Result<Response, AllocError>
         requires { self.old.state.moment ≤ at }
-        ensures ok { IfOk result (Leads self.old (told_of self.old.organizer self.old.event (Call.Write command.now) at draw self.old.state) self.new) }
+        ensures ok { IfOk result (Leads self.old (response_of self.old.organizer self.old.event (Call.Write command.now) at draw self.old.state) self.new) }
         ensures err { OnErr result (self.new ≡ self.old) }
     {
         let (changes, reply) = self.office.decide(alloc, at, draw, command)?;
-        let told = self.words.words(alloc, &reply)?;
+        let response = self.words.words(alloc, &reply)?;
         self.office.reserve(&changes)?;
         self.office.adopt(changes, at);
-        Ok(told)
+        Ok(response)
     }
 
     // Stores the moment of a write that was refused before it was a command.
@@ -121,20 +121,20 @@ impl<B: Book> BoxOffice<B> {
     }
 
     // Does what a message asks for, and words it. Where there is no memory, nothing changes.
-    fn tell(&mut self, alloc: Global, tick: Tick, frame: &Frame<'_>) -> Result<Told, AllocError>
+    fn tell(&mut self, alloc: Global, tick: Tick, frame: &Frame<'_>) -> Result<Response, AllocError>
         ensures ok { IfOk result (Leads self.old (served self.old tick frame.now) self.new) }
         ensures err { OnErr result (self.new ≡ self.old) }
     {
         let token = self.token(frame);
         let at = self.moment_at(tick.clock);
         match self.words.read_request(alloc, frame, token)? {
-            Call::Unauthorized(told) => Ok(told),
-            Call::ReadRefused(told) => Ok(told),
+            Call::Unauthorized(response) => Ok(response),
+            Call::ReadRefused(response) => Ok(response),
             Call::Read(query) => self.ask(alloc, at, &query),
             Call::Write(command) => self.act(alloc, at, tick.draw, &command),
-            Call::WriteRefused(told) => {
+            Call::WriteRefused(response) => {
                 self.pass(alloc, at);
-                Ok(told)
+                Ok(response)
             }
         }
     }
@@ -145,7 +145,7 @@ impl<B: Book> Desk for BoxOffice<B> {
 
     fn serve(&mut self, alloc: Global, tick: Tick, frame: &Frame<'_>) -> Answer {
         match self.tell(alloc, tick, frame) {
-            Ok(told) => Answer::Told(told),
+            Ok(response) => Answer::Decided(response),
             Err(_) => Answer::Unavailable,
         }
     }

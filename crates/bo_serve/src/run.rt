@@ -2,7 +2,7 @@
 
 ghost use Rattle.std.specs.Prelude.{◌≡◌, ◌+◌, ◌≤◌, ◌<◌, ◌++◌, ℕ, List, [], IfOk, length};
 ghost use Rattle.bo_base.specs.Told.{Gives};
-ghost use Rattle.bo_serve.specs.Run.{Streams, CountedAll, TakesIn, CountedIn, place};
+ghost use Rattle.bo_serve.specs.Run.{Streams, CountedAll, TakesIn, CountedIn, cursor};
 
 use crate::desk::Desk;
 use crate::failure::Failure;
@@ -57,8 +57,8 @@ fn serve_all<R: Source, T: Ticks, D: Desk, W: Drain>(
     requires empty { frames.old.left ≡ [] }
     requires room { 0 < length piece.old }
     ensures leads { (bytes : List ℕ) × Gives (R.left reader.old) bytes (R.left reader.new) × Streams D.serves (R.left reader.new)
-        (place bytes (T.told ticks.old) desk.old (W.taken writer.old))
-        (place [] (T.told ticks.new) desk.new (W.taken writer.new)) result }
+        (cursor bytes (T.told ticks.old) desk.old (W.taken writer.old))
+        (cursor [] (T.told ticks.new) desk.new (W.taken writer.new)) result }
     ensures counted { CountedAll result (T.failures ticks.old) (T.failures ticks.new) (W.failures writer.old) (W.failures writer.new)
         (R.failures reader.old) (R.failures reader.new) (R.calls reader.old) (R.calls reader.new) }
     ensures calls { R.calls reader.new ≤ R.calls reader.old + 1000000 }
@@ -94,8 +94,8 @@ pub fn run_stream<R: Source, T: Ticks, D: Desk, W: Drain>(
     writer: &mut W,
 ) -> Result<(), Failure>
     ensures leads { (bytes : List ℕ) × Gives (R.left reader.old) bytes (R.left reader.new) × Streams D.serves (R.left reader.new)
-        (place bytes (T.told ticks.old) desk.old (W.taken writer.old))
-        (place [] (T.told ticks.new) desk.new (W.taken writer.new)) result }
+        (cursor bytes (T.told ticks.old) desk.old (W.taken writer.old))
+        (cursor [] (T.told ticks.new) desk.new (W.taken writer.new)) result }
     ensures counted { CountedAll result (T.failures ticks.old) (T.failures ticks.new) (W.failures writer.old) (W.failures writer.new)
         (R.failures reader.old) (R.failures reader.new) (R.calls reader.old) (R.calls reader.new) }
     ensures calls { R.calls reader.new ≤ R.calls reader.old + 1000000 }

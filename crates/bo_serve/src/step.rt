@@ -1,6 +1,6 @@
 //! One message of a connection, and all that are whole.
 
-ghost use Rattle.bo_serve.specs.Run.{Steps, ServesReady, Counted, place};
+ghost use Rattle.bo_serve.specs.Run.{Steps, ServesReady, Counted, cursor};
 
 use crate::desk::Desk;
 use crate::failure::{Failure, Step};
@@ -18,8 +18,8 @@ pub fn step<T: Ticks, D: Desk, W: Drain>(
     writer: &mut W,
 ) -> Result<Step, Failure>
     ensures leads { Steps D.serves
-        (place frames.old.left (T.told ticks.old) desk.old (W.taken writer.old))
-        (place frames.new.left (T.told ticks.new) desk.new (W.taken writer.new)) result }
+        (cursor frames.old.left (T.told ticks.old) desk.old (W.taken writer.old))
+        (cursor frames.new.left (T.told ticks.new) desk.new (W.taken writer.new)) result }
     ensures counted { Counted result (T.failures ticks.old) (T.failures ticks.new) (W.failures writer.old) (W.failures writer.new) }
 {
     match frames.next() {
@@ -54,8 +54,8 @@ pub fn serve_ready<T: Ticks, D: Desk, W: Drain>(
     writer: &mut W,
 ) -> Result<bool, Failure>
     ensures leads { ServesReady D.serves
-        (place frames.old.left (T.told ticks.old) desk.old (W.taken writer.old))
-        (place frames.new.left (T.told ticks.new) desk.new (W.taken writer.new)) result }
+        (cursor frames.old.left (T.told ticks.old) desk.old (W.taken writer.old))
+        (cursor frames.new.left (T.told ticks.new) desk.new (W.taken writer.new)) result }
     ensures counted { Counted result (T.failures ticks.old) (T.failures ticks.new) (W.failures writer.old) (W.failures writer.new) }
 {
     loop {

@@ -3,7 +3,7 @@
 ghost use Rattle.std.specs.Prelude.{◌≡◌, ◌≤◌, ◌+◌, ◌↔◌, ℕ, length, OnOk, IsTrue, [], min, count_by, sum_by};
 ghost use Rattle.std.specs.Option.{option_copied};
 ghost use Rattle.bo_lists.specs.Lists.{empty, order_at};
-ghost use Rattle.bo_lists.specs.Tests.{is_paid, is_pending, is_in_force};
+ghost use Rattle.bo_lists.specs.Conditions.{is_paid, is_pending, is_in_force};
 ghost use Rattle.bo_lists.specs.Usage.{stands_as, uses, redeemed, usage_of, position_counts, blocked_by, is_covered, cart_counts, waits_for};
 ghost use Rattle.bo_lists.specs.Named.{is_ordered, is_in_cart, is_sent};
 ghost use Rattle.bo_lists.specs.Change.{applied, after_change, after_all};

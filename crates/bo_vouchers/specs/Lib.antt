@@ -1,7 +1,7 @@
 pub mod Refusals
 pub mod Codes
 pub mod Rows
-pub mod Tests
+pub mod Checks
 pub mod Placed
 pub mod Made
 pub mod Changed

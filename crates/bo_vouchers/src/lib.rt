@@ -7,7 +7,7 @@ pub mod laws;
 mod place;
 pub mod refusal;
 pub mod requests;
-mod row_tests;
+mod row_checks;
 pub mod usability;
 
 pub use refusal::VoucherRefusal;

@@ -3,51 +3,51 @@ use Rattle.std.specs.Prelude.{ℕ, List, ◌++◌, Some, None, codes}
 use Rattle.std.specs.Str.Lossy.{utf8_lossy}
 use Rattle.serde_json.specs.Data.{Data, string, array, item, no_items, object, member, no_members}
 use Rattle.bo_base.specs.declared.answer.Methods.{Methods}
-use Rattle.bo_base.specs.declared.answer.Told.{Told}
+use Rattle.bo_base.specs.declared.answer.Response.{Response}
 use Rattle.bo_faults.specs.declared.fields.Fault.{Fault}
 use Rattle.bo_faults.specs.Fields.{field_name, problem_text}
-use Rattle.bo_words.specs.Told.{told, detail_body}
+use Rattle.bo_words.specs.Responses.{response, detail_body}
 
 -- `{"field":["text"]}`
 abbrev pub fault_body : Fault → Data
 fault_body fault = object (member (field_name fault.field) (array (item (string (problem_text fault.problem)) no_items)) no_members)
 
-unfoldable pub field_fault : Fault → Told
-field_fault fault = told 400 None (fault_body fault)
+unfoldable pub field_fault : Fault → Response
+field_fault fault = response 400 None (fault_body fault)
 
-unfoldable pub parse_error : Told
-parse_error = told 400 None (detail_body (codes "JSON parse error."))
+unfoldable pub parse_error : Response
+parse_error = response 400 None (detail_body (codes "JSON parse error."))
 
 -- `{"detail":"Invalid data."}`
 abbrev pub invalid_data_body : Data
 invalid_data_body = detail_body (codes "Invalid data.")
 
-unfoldable pub invalid_data : Told
-invalid_data = told 400 None invalid_data_body
+unfoldable pub invalid_data : Response
+invalid_data = response 400 None invalid_data_body
 
-unfoldable pub no_credentials : Told
-no_credentials = told 401 None (detail_body (codes "Authentication credentials were not provided."))
+unfoldable pub no_credentials : Response
+no_credentials = response 401 None (detail_body (codes "Authentication credentials were not provided."))
 
-unfoldable pub invalid_token : Told
-invalid_token = told 401 None (detail_body (codes "Invalid token."))
+unfoldable pub invalid_token : Response
+invalid_token = response 401 None (detail_body (codes "Invalid token."))
 
 -- `{"detail":"Not found."}`
 abbrev pub not_found_body : Data
 not_found_body = detail_body (codes "Not found.")
 
-unfoldable pub not_found : Told
-not_found = told 404 None not_found_body
+unfoldable pub not_found : Response
+not_found = response 404 None not_found_body
 
 -- `{"detail":"Invalid page."}`
 abbrev pub invalid_page_body : Data
 invalid_page_body = detail_body (codes "Invalid page.")
 
-unfoldable pub invalid_page : Told
-invalid_page = told 404 None invalid_page_body
+unfoldable pub invalid_page : Response
+invalid_page = response 404 None invalid_page_body
 
 -- the method stands in the text as it stands in the head
 abbrev pub method_text : List ℕ → List ℕ
 method_text method = codes "Method \"" ++ utf8_lossy method ++ codes "\" not allowed."
 
-unfoldable pub method_not_allowed : List ℕ → Methods → Told
-method_not_allowed method methods = told 405 (Some methods) (detail_body (method_text method))
+unfoldable pub method_not_allowed : List ℕ → Methods → Response
+method_not_allowed method methods = response 405 (Some methods) (detail_body (method_text method))

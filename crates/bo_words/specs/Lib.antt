@@ -2,7 +2,7 @@ pub mod Values
 pub mod OrderRows
 pub mod Rows
 pub mod VoucherParts
-pub mod Told
+pub mod Responses
 pub mod Faults
 pub mod Refusals
 pub mod Results

@@ -1,7 +1,7 @@
 -- The words for a refusal.
 use Rattle.std.specs.Prelude.{ℕ, List, Bool, true, false, Option, Some, None, if◌then◌else◌, codes}
 use Rattle.serde_json.specs.Data.{Data, string, object, member, no_members}
-use Rattle.bo_base.specs.declared.answer.Told.{Told}
+use Rattle.bo_base.specs.declared.answer.Response.{Response}
 use Rattle.bo_catalogue.specs.declared.refusal.CatalogueRefusal.{CatalogueRefusal}
 use Rattle.bo_catalogue.specs.declared.refusal.CatalogueRefusal.TheVariants as catalogue
 use Rattle.bo_vouchers.specs.declared.refusal.VoucherRefusal.{VoucherRefusal}
@@ -16,7 +16,7 @@ use Rattle.bo_office.specs.declared.reply.Refusal.TheVariants as refusals
 use Rattle.bo_lists.specs.declared.rows.Status.{Status}
 use Rattle.bo_words.specs.Values.{count}
 use Rattle.bo_words.specs.OrderRows.{status_letter}
-use Rattle.bo_words.specs.Told.{told, empty_body}
+use Rattle.bo_words.specs.Responses.{response, empty_body}
 use Rattle.bo_faults.specs.declared.fields.Field.TheVariants as fields
 use Rattle.bo_faults.specs.declared.fields.Problem.TheVariants as problems
 use Rattle.bo_words.specs.Faults.{not_found_body, invalid_page_body, fault_body}
@@ -151,5 +151,5 @@ refusal_data kind (refusals.Order (order.WrongStatus status)) = wrong_status_bod
 refusal_data kind refusal = if is_of_path kind refusal then not_found_body else data_by refusal (detail refusal)
 
 -- a refusal is told by its status and its body
-unfoldable pub refused : Kind → Refusal → Told
-refused kind refusal = told (refusal_status kind refusal) None (refusal_data kind refusal)
+unfoldable pub refused : Kind → Refusal → Response
+refused kind refusal = response (refusal_status kind refusal) None (refusal_data kind refusal)

@@ -4,8 +4,8 @@ ghost use Rattle.std.specs.Prelude.{◌≡◌, IfOk, string_bytes};
 ghost use Rattle.serde_json.specs.View.{view};
 ghost use Rattle.bo_words.specs.Faults.{fault_body, field_fault, parse_error, invalid_data, no_credentials, invalid_token, not_found, invalid_page, method_text, method_not_allowed};
 
-use crate::told::{detailed, told};
-use bo_base::{Methods, Told};
+use crate::responses::{detailed, response};
+use bo_base::{Methods, Response};
 use bo_faults::Fault;
 use http::StatusCode;
 use serde_json::{Value, json};
@@ -22,33 +22,33 @@ pub(crate) fn fault_value(alloc: Global, fault: Fault) -> Result<Value, AllocErr
 
 /// 400 `{"field":["text"]}`.
 #[tactic(auto, unfolding(crate::specs::Faults::field_fault))]
-pub fn field_fault(alloc: Global, fault: Fault) -> Result<Told, AllocError>
-    ensures { IfOk result (λ told. told ≡ field_fault fault) }
+pub fn field_fault(alloc: Global, fault: Fault) -> Result<Response, AllocError>
+    ensures { IfOk result (λ response. response ≡ field_fault fault) }
 {
     let value = fault_value(alloc, fault)?;
-    told(alloc, StatusCode::BAD_REQUEST, None, &value)
+    response(alloc, StatusCode::BAD_REQUEST, None, &value)
 }
 
 /// 400 `JSON parse error.`: the body is no JSON.
 #[tactic(auto, unfolding(crate::specs::Faults::parse_error))]
-pub fn parse_error(alloc: Global) -> Result<Told, AllocError>
-    ensures { IfOk result (λ told. told ≡ parse_error) }
+pub fn parse_error(alloc: Global) -> Result<Response, AllocError>
+    ensures { IfOk result (λ response. response ≡ parse_error) }
 {
     detailed(alloc, StatusCode::BAD_REQUEST, None, "JSON parse error.")
 }
 
 /// 400 `Invalid data.`: the body is JSON of another kind than the request has.
 #[tactic(auto, unfolding(crate::specs::Faults::invalid_data))]
-pub fn invalid_data(alloc: Global) -> Result<Told, AllocError>
-    ensures { IfOk result (λ told. told ≡ invalid_data) }
+pub fn invalid_data(alloc: Global) -> Result<Response, AllocError>
+    ensures { IfOk result (λ response. response ≡ invalid_data) }
 {
     detailed(alloc, StatusCode::BAD_REQUEST, None, "Invalid data.")
 }
 
 /// 401 `Authentication credentials were not provided.`
 #[tactic(auto, unfolding(crate::specs::Faults::no_credentials))]
-pub fn no_credentials(alloc: Global) -> Result<Told, AllocError>
-    ensures { IfOk result (λ told. told ≡ no_credentials) }
+pub fn no_credentials(alloc: Global) -> Result<Response, AllocError>
+    ensures { IfOk result (λ response. response ≡ no_credentials) }
 {
     detailed(
         alloc,
@@ -60,24 +60,24 @@ pub fn no_credentials(alloc: Global) -> Result<Told, AllocError>
 
 /// 401 `Invalid token.`
 #[tactic(auto, unfolding(crate::specs::Faults::invalid_token))]
-pub fn invalid_token(alloc: Global) -> Result<Told, AllocError>
-    ensures { IfOk result (λ told. told ≡ invalid_token) }
+pub fn invalid_token(alloc: Global) -> Result<Response, AllocError>
+    ensures { IfOk result (λ response. response ≡ invalid_token) }
 {
     detailed(alloc, StatusCode::UNAUTHORIZED, None, "Invalid token.")
 }
 
 /// 404 `Not found.`
 #[tactic(auto, unfolding(crate::specs::Faults::not_found))]
-pub fn not_found(alloc: Global) -> Result<Told, AllocError>
-    ensures { IfOk result (λ told. told ≡ not_found) }
+pub fn not_found(alloc: Global) -> Result<Response, AllocError>
+    ensures { IfOk result (λ response. response ≡ not_found) }
 {
     detailed(alloc, StatusCode::NOT_FOUND, None, "Not found.")
 }
 
 /// 404 `Invalid page.`
 #[tactic(auto, unfolding(crate::specs::Faults::invalid_page))]
-pub fn invalid_page(alloc: Global) -> Result<Told, AllocError>
-    ensures { IfOk result (λ told. told ≡ invalid_page) }
+pub fn invalid_page(alloc: Global) -> Result<Response, AllocError>
+    ensures { IfOk result (λ response. response ≡ invalid_page) }
 {
     detailed(alloc, StatusCode::NOT_FOUND, None, "Invalid page.")
 }
@@ -97,8 +97,8 @@ pub fn method_not_allowed(
     alloc: Global,
     method: &[u8],
     methods: Methods,
-) -> Result<Told, AllocError>
-    ensures { IfOk result (λ told. told ≡ method_not_allowed method.now methods) }
+) -> Result<Response, AllocError>
+    ensures { IfOk result (λ response. response ≡ method_not_allowed method.now methods) }
 {
     let text = method_text(alloc, method)?;
     detailed(

@@ -7,9 +7,9 @@ mod orders;
 mod pages;
 mod refusals;
 pub mod replies;
+mod responses;
 mod results;
 mod rows;
-mod told;
 mod values;
 mod vouchers;
 

@@ -8,8 +8,8 @@ ghost use Rattle.bo_words.specs.Refusals.{catalogue_detail, voucher_detail, orde
 
 use crate::faults::fault_value;
 use crate::orders::status_letter;
-use crate::told::{detail_value, told_value};
-use bo_base::Told;
+use crate::responses::{detail_value, value_response};
+use bo_base::Response;
 use bo_catalogue::CatalogueRefusal;
 use bo_faults::{Fault, Field, Problem};
 use bo_lists::Status;
@@ -244,9 +244,9 @@ pub(crate) fn refusal_data(alloc: Global, kind: Kind, refusal: Refusal) -> Resul
 
 /// The words for a refusal of a request of that kind.
 #[tactic(auto, unfolding(crate::specs::Refusals::refused))]
-pub(crate) fn refused(alloc: Global, kind: Kind, refusal: Refusal) -> Result<Told, AllocError>
+pub(crate) fn refused(alloc: Global, kind: Kind, refusal: Refusal) -> Result<Response, AllocError>
     ensures { IfOk result (λ t. t ≡ refused kind refusal) }
 {
     let value = refusal_data(alloc, kind, refusal)?;
-    told_value(alloc, refusal_status(kind, refusal), &value)
+    value_response(alloc, refusal_status(kind, refusal), &value)
 }

@@ -1,7 +1,7 @@
 //! The words of each reply.
 
 ghost use Rattle.std.specs.Prelude.{◌≡◌, None, IfOk};
-ghost use Rattle.bo_words.specs.Told.{told};
+ghost use Rattle.bo_words.specs.Responses.{response};
 ghost use Rattle.bo_words.specs.Pages.{page_body};
 ghost use Rattle.bo_words.specs.Results.{results_body};
 ghost use Rattle.bo_words.specs.Rows.{shown_body, availability_body};
@@ -9,10 +9,10 @@ ghost use Rattle.bo_words.specs.Replies.{gone, words};
 
 use crate::pages::page_value;
 use crate::refusals::refused;
+use crate::responses::value_response;
 use crate::results::results_value;
 use crate::rows::{availability_value, shown_value};
-use crate::told::told_value;
-use bo_base::{Body, Told};
+use bo_base::{Body, Response};
 use bo_lists::Availability;
 use bo_office::{Page, Reply, Shown};
 use bo_orders::Outcome;
@@ -20,34 +20,39 @@ use http::StatusCode;
 use std::alloc::{AllocError, Global};
 
 /// That status, and a row as it is shown.
-fn row_told(alloc: Global, status: StatusCode, shown: &Shown) -> Result<Told, AllocError>
-    ensures { IfOk result (λ t. t ≡ told status None (shown_body shown.now)) }
+fn row_response(alloc: Global, status: StatusCode, shown: &Shown) -> Result<Response, AllocError>
+    ensures { IfOk result (λ t. t ≡ response status None (shown_body shown.now)) }
 {
     let value = shown_value(alloc, shown)?;
-    told_value(alloc, status, &value)
+    value_response(alloc, status, &value)
 }
 
 /// 200 and a page of a list.
-fn page_told(alloc: Global, organizer: &str, event: &str, page: &Page) -> Result<Told, AllocError>
-    ensures { IfOk result (λ t. t ≡ told 200 None (page_body organizer.now event.now page.now)) }
+fn page_response(
+    alloc: Global,
+    organizer: &str,
+    event: &str,
+    page: &Page,
+) -> Result<Response, AllocError>
+    ensures { IfOk result (λ t. t ≡ response 200 None (page_body organizer.now event.now page.now)) }
 {
     let value = page_value(alloc, organizer, event, page)?;
-    told_value(alloc, StatusCode::OK, &value)
+    value_response(alloc, StatusCode::OK, &value)
 }
 
 /// 200 and what became of each entry of a bulk call.
-fn results_told(alloc: Global, outcomes: &[Outcome]) -> Result<Told, AllocError>
-    ensures { IfOk result (λ t. t ≡ told 200 None (results_body outcomes.now)) }
+fn results_response(alloc: Global, outcomes: &[Outcome]) -> Result<Response, AllocError>
+    ensures { IfOk result (λ t. t ≡ response 200 None (results_body outcomes.now)) }
 {
     let value = results_value(alloc, outcomes)?;
-    told_value(alloc, StatusCode::OK, &value)
+    value_response(alloc, StatusCode::OK, &value)
 }
 
 /// 204 with no body.
-fn gone(alloc: Global) -> Told
+fn gone(alloc: Global) -> Response
     ensures { result ≡ gone }
 {
-    Told {
+    Response {
         status: StatusCode::NO_CONTENT,
         allow: None,
         body: Body::new(Vec::new(alloc)),
@@ -55,27 +60,32 @@ fn gone(alloc: Global) -> Told
 }
 
 /// 200 and what is left of a quota.
-fn availability_told(alloc: Global, left: &Availability) -> Result<Told, AllocError>
-    ensures { IfOk result (λ t. t ≡ told 200 None (availability_body left.now)) }
+fn availability_response(alloc: Global, left: &Availability) -> Result<Response, AllocError>
+    ensures { IfOk result (λ t. t ≡ response 200 None (availability_body left.now)) }
 {
     let value = availability_value(alloc, left)?;
-    told_value(alloc, StatusCode::OK, &value)
+    value_response(alloc, StatusCode::OK, &value)
 }
 
 /// The words of a reply, in the shop of these slugs: 201 for what was made, 200 for what was asked for and for a bulk
 /// call, 204 for what was deleted, and for a refusal its status, its number and its sentence. A refusal for want of
 /// memory, which no request is told, has 200 and `{}`.
 #[tactic(auto, unfolding(crate::specs::Replies::words))]
-pub fn words(alloc: Global, organizer: &str, event: &str, reply: &Reply) -> Result<Told, AllocError>
-    ensures { IfOk result (λ told. told ≡ words organizer.now event.now reply.now) }
+pub fn words(
+    alloc: Global,
+    organizer: &str,
+    event: &str,
+    reply: &Reply,
+) -> Result<Response, AllocError>
+    ensures { IfOk result (λ response. response ≡ words organizer.now event.now reply.now) }
 {
     match reply {
-        Reply::Made(shown) => row_told(alloc, StatusCode::CREATED, shown),
-        Reply::Found(shown) => row_told(alloc, StatusCode::OK, shown),
-        Reply::Results(outcomes) => results_told(alloc, outcomes.as_slice()),
-        Reply::Listed(page) => page_told(alloc, organizer, event, page),
+        Reply::Made(shown) => row_response(alloc, StatusCode::CREATED, shown),
+        Reply::Found(shown) => row_response(alloc, StatusCode::OK, shown),
+        Reply::Results(outcomes) => results_response(alloc, outcomes.as_slice()),
+        Reply::Listed(page) => page_response(alloc, organizer, event, page),
         Reply::Gone => Ok(gone(alloc)),
-        Reply::Availability(left) => availability_told(alloc, left),
+        Reply::Availability(left) => availability_response(alloc, left),
         Reply::Refused(kind, refusal) => refused(alloc, *kind, *refusal),
     }
 }

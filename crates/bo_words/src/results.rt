@@ -7,8 +7,8 @@ ghost use Rattle.bo_words.specs.Results.{entry_fault_body, result_body, outcome_
 
 use crate::faults::fault_value;
 use crate::refusals::refusal_data;
+use crate::responses::detail_value;
 use crate::rows::cart_value;
-use crate::told::detail_value;
 use bo_faults::EntryFault;
 use bo_office::{Kind, Refusal};
 use bo_orders::Outcome;

@@ -3,7 +3,7 @@ use Rattle.std.proofs.Math.Seq.{take-length}
 use Rattle.std.proofs.lemmas.Bool.Decides.{nat_tests}
 use Rattle.bo_lists.specs.declared.changes.Change.{Change}
 use Rattle.bo_lists.specs.Change.{after_all}
-use Rattle.bo_lists.specs.Tests.{is_in_force}
+use Rattle.bo_lists.specs.Conditions.{is_in_force}
 use Rattle.bo_lists.specs.Usage.{stands_as}
 use Rattle.bo_overlay.specs.Logs.{rows_at, rows_of}
 use Rattle.bo_overlay.specs.Ordered.{count_ordered}

@@ -1,6 +1,6 @@
 use Rattle.std.proofs.Common.{◌≡◌, ℕ, ◌+◌, Option, sym, ap, ◌∙◌, arith}
 use Rattle.std.specs.Prelude.{if◌then◌else◌}
-use Rattle.bo_lists.specs.Tests.{names}
+use Rattle.bo_lists.specs.Conditions.{names}
 use Rattle.bo_draft.specs.declared.uses.UseCount.{UseCount}
 use Rattle.bo_draft.specs.Uses.{came, went}
 use Rattle.bo_draft.proofs.UseCounts.{counted_more}

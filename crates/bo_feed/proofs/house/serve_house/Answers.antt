@@ -1,7 +1,7 @@
 use Rattle.std.proofs.Common.{[], refl, subst}
 use Rattle.bo_base.proofs.ToldLemmas.{Gives-nil}
 use Rattle.bo_serve.specs.BoxOfficeView.{BoxOfficeView}
-use Rattle.bo_serve.specs.Run.{Streams, place}
+use Rattle.bo_serve.specs.Run.{Streams, cursor}
 use Rattle.bo_serve.specs.Served.{Serves}
 use Rattle.bo_serve.proofs.RunLemmas.{progress_none, memory_broken}
 use Rattle.bo_feed.specs.House.{fresh_house}
@@ -18,7 +18,7 @@ returns-clause-leads g c =
       c.run_stream.new.desk,
       run.1,
       subst (λ (house : BoxOfficeView). Streams Serves (g.R.Source.left c.run_stream.new.reader)
-          (place run.0 (g.T.Ticks.told c.args.ticks.now) house (g.W.Drain.taken c.args.writer.now))
-          (place [] (g.T.Ticks.told c.run_stream.new.ticks) c.run_stream.new.desk (g.W.Drain.taken c.run_stream.new.writer)) c.run_stream.result)
+          (cursor run.0 (g.T.Ticks.told c.args.ticks.now) house (g.W.Drain.taken c.args.writer.now))
+          (cursor [] (g.T.Ticks.told c.run_stream.new.ticks) c.run_stream.new.desk (g.W.Drain.taken c.run_stream.new.writer)) c.run_stream.result)
           c.in-Ok.ensures run.2,
     )

@@ -1,5 +1,5 @@
 use Rattle.std.proofs.Common.{ap, ◌∙◌, count_by, arith}
-use Rattle.bo_lists.specs.Tests.{names}
+use Rattle.bo_lists.specs.Conditions.{names}
 use Rattle.bo_orders.proofs.MoveLemmas.{uses_more}
 use Rattle.bo_draft.specs.DraftState.{now}
 use Rattle.bo_orders.proofs.moves.uses_again.Goals as goal

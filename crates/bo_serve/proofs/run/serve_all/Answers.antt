@@ -1,6 +1,6 @@
 use Rattle.std.proofs.Common.{◌++◌, [], ℕ, List, refl, sym, ap, ◌∙◌, subst, arith, append-nil}
 use Rattle.bo_base.specs.Told.{Gives}
-use Rattle.bo_serve.specs.Run.{Progress, place}
+use Rattle.bo_serve.specs.Run.{Progress, cursor}
 use Rattle.bo_base.proofs.ToldLemmas.{Gives-nil, Gives-append}
 use Rattle.bo_serve.proofs.RunLemmas.{progress_none, progress_more, progress_feed, finished_more, finished_none, finished_all, finished_at, broken_more, broken_at, limit_broken, read_broken}
 use Rattle.bo_serve.proofs.run.serve_all.Goals as goal
@@ -10,7 +10,7 @@ loop-turn-init g c = record {
   done = (
     [],
     Gives-nil _,
-    progress_none g.D.Desk.serves _ _ (ap (λ (l : List ℕ). place l (g.T.Ticks.told c.args.ticks.now) c.args.desk.now (g.W.Drain.taken c.args.writer.now)) c.requires.empty),
+    progress_none g.D.Desk.serves _ _ (ap (λ (l : List ℕ). cursor l (g.T.Ticks.told c.args.ticks.now) c.args.desk.now (g.W.Drain.taken c.args.writer.now)) c.requires.empty),
   );
   clock = refl;
   output = refl;
@@ -62,7 +62,7 @@ loop-turn-preserved g c =
       done = (
         done.0 ++ read.leads.0,
         Gives-append _ _ _ _ _ done.1 read.leads.1,
-        subst (λ (l : List ℕ). Progress S (place (done.0 ++ read.leads.0) (g.T.Ticks.told c.args.ticks.now) c.args.desk.now (g.W.Drain.taken c.args.writer.now)) (place l (g.T.Ticks.told c.serve_ready.new.ticks) c.serve_ready.new.desk (g.W.Drain.taken c.serve_ready.new.writer))) (sym read.leads.2) fed,
+        subst (λ (l : List ℕ). Progress S (cursor (done.0 ++ read.leads.0) (g.T.Ticks.told c.args.ticks.now) c.args.desk.now (g.W.Drain.taken c.args.writer.now)) (cursor l (g.T.Ticks.told c.serve_ready.new.ticks) c.serve_ready.new.desk (g.W.Drain.taken c.serve_ready.new.writer))) (sym read.leads.2) fed,
       );
       clock = e.counted.0 ∙ inv.clock;
       output = e.counted.1 ∙ inv.output;

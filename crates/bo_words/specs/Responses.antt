@@ -3,10 +3,10 @@ use Rattle.std.specs.Prelude.{ℕ, List, Option, codes}
 use Rattle.serde_json.specs.Data.{Data, string, object, member, no_members}
 use Rattle.serde_json.specs.Written.{compact_text}
 use Rattle.bo_base.specs.declared.answer.Methods.{Methods}
-use Rattle.bo_base.specs.declared.answer.Told.{Told}
+use Rattle.bo_base.specs.declared.answer.Response.{Response}
 
-abbrev pub told : ℕ → Option Methods → Data → Told
-told status allow value = record { status = status; allow = allow; body = compact_text value }
+abbrev pub response : ℕ → Option Methods → Data → Response
+response status allow value = record { status = status; allow = allow; body = compact_text value }
 
 -- `{"detail":"text"}`
 abbrev pub detail_body : List ℕ → Data

@@ -3,25 +3,25 @@
 ghost use Rattle.std.specs.Prelude.{◌≡◌, false, None, IfOk};
 ghost use Rattle.serde_json.specs.View.{view};
 ghost use Rattle.serde_json.specs.Written.{has_float};
-ghost use Rattle.bo_words.specs.Told.{told, detail_body};
+ghost use Rattle.bo_words.specs.Responses.{response, detail_body};
 
-use bo_base::{Body, Methods, Told};
+use bo_base::{Body, Methods, Response};
 use http::StatusCode;
 use serde_json::{Value, json};
 use std::alloc::{AllocError, Global};
 
 /// That status, those methods, and the value as JSON without spaces.
-pub(crate) fn told(
+pub(crate) fn response(
     alloc: Global,
     status: StatusCode,
     allow: Option<Methods>,
     value: &Value,
-) -> Result<Told, AllocError>
+) -> Result<Response, AllocError>
     requires { has_float (view value.now) ≡ false }
-    ensures { IfOk result (λ t. t ≡ told status allow (view value.now)) }
+    ensures { IfOk result (λ t. t ≡ response status allow (view value.now)) }
 {
     let body = Body::new(value.to_vec(alloc)?);
-    Ok(Told {
+    Ok(Response {
         status,
         allow,
         body,
@@ -29,15 +29,15 @@ pub(crate) fn told(
 }
 
 /// The same with no methods.
-pub(crate) fn told_value(
+pub(crate) fn value_response(
     alloc: Global,
     status: StatusCode,
     value: &Value,
-) -> Result<Told, AllocError>
+) -> Result<Response, AllocError>
     requires { has_float (view value.now) ≡ false }
-    ensures { IfOk result (λ t. t ≡ told status None (view value.now)) }
+    ensures { IfOk result (λ t. t ≡ response status None (view value.now)) }
 {
-    told(alloc, status, None, value)
+    response(alloc, status, None, value)
 }
 
 /// `{"detail":"text"}`.
@@ -53,9 +53,9 @@ pub(crate) fn detailed(
     status: StatusCode,
     allow: Option<Methods>,
     text: &str,
-) -> Result<Told, AllocError>
-    ensures { IfOk result (λ t. t ≡ told status allow (detail_body text.now)) }
+) -> Result<Response, AllocError>
+    ensures { IfOk result (λ t. t ≡ response status allow (detail_body text.now)) }
 {
     let value = detail_value(alloc, text)?;
-    told(alloc, status, allow, &value)
+    response(alloc, status, allow, &value)
 }

@@ -1,0 +1,215 @@
+"""The crates of this repository, and rooms in which rt works on one of them.
+
+rt keeps all others out of a crate's folder and of the folders below it while it works there. A room is a folder of its
+own with copies of the sources and links to the libraries, so that checks run side by side.
+"""
+import os
+import re
+import shutil
+import subprocess
+import tempfile
+import threading
+import time
+from concurrent.futures import FIRST_COMPLETED, ThreadPoolExecutor, wait
+
+TOP = os.path.dirname(os.path.dirname(os.path.abspath(__file__)))
+PARTS = ("src", "specs", "proofs")
+# What a check of one crate was seen to take, in bytes, at most.
+CHECK = 3_500_000_000
+
+
+def folder(name, top=TOP):
+    return f"{top}/crates/{name}"
+
+
+def listed(top=TOP):
+    """The crates that stand in crates.txt, each with what it stands on, lowest first."""
+    found = {}
+    for line in open(f"{top}/crates.txt", encoding="utf-8"):
+        name, colon, uses = line.partition("#")[0].partition(":")
+        if colon:
+            found[name.split()[0]] = uses.split()
+    return found
+
+
+def own(crates, name):
+    """The crates of this repository that the crate names."""
+    return [it for it in crates[name] if it in crates]
+
+
+def below(crates, name):
+    """All crates of this repository below the crate, lowest first."""
+    found = set()
+    todo = own(crates, name)
+    while todo:
+        it = todo.pop()
+        if it not in found:
+            found.add(it)
+            todo += own(crates, it)
+    return [it for it in crates if it in found]
+
+
+def above(crates, names):
+    """The crates above any of these, lowest first."""
+    return [it for it in crates if it not in names and set(below(crates, it)) & set(names)]
+
+
+def is_program(name, top=TOP):
+    return os.path.isfile(f"{folder(name, top)}/src/main.rt")
+
+
+def lines(name, top=TOP):
+    """How many lines its sources, definitions and proofs have."""
+    found = 0
+    for part in PARTS:
+        for at, _, files in os.walk(f"{folder(name, top)}/{part}"):
+            for it in files:
+                with open(f"{at}/{it}", "rb") as text:
+                    found += text.read().count(b"\n")
+    return found
+
+
+def link_or_copy(source, target):
+    try:
+        os.link(source, target)
+    except OSError:
+        shutil.copy2(source, target)
+
+
+class Room:
+    """A folder with one crate and the libraries below it. Where it takes the crate's own out/ it gives it back at its end."""
+
+    def __init__(self, name, top=TOP, takes_out=True, texts=None):
+        self.name, self.top, self.takes_out, self.texts = name, top, takes_out, texts or {}
+        self.room = tempfile.mkdtemp(prefix=f"boxoffice-{name}-")
+        self.crate = f"{self.room}/crates/{name}"
+
+    def __enter__(self):
+        crates = listed(self.top)
+        names = [*below(crates, self.name), self.name]
+        with open(f"{self.room}/crates.txt", "w", encoding="utf-8") as it:
+            for name in names:
+                it.write(f"{name}: {' '.join(crates[name])}\n")
+        for name in names:
+            for part in PARTS:
+                if os.path.isdir(f"{folder(name, self.top)}/{part}"):
+                    shutil.copytree(f"{folder(name, self.top)}/{part}", f"{self.room}/crates/{name}/{part}")
+        for name in names[:-1]:
+            rlib = f"{folder(name, self.top)}/out/rlib"
+            if os.path.isdir(rlib):
+                shutil.copytree(rlib, f"{self.room}/crates/{name}/out/rlib", copy_function=link_or_copy)
+        kept = f"{folder(self.name, self.top)}/out"
+        if os.path.isdir(kept):
+            if self.takes_out:
+                os.rename(kept, f"{kept}.taken")
+                shutil.move(f"{kept}.taken", f"{self.crate}/out")
+            elif os.path.isdir(f"{kept}/incremental"):
+                shutil.copytree(f"{kept}/incremental", f"{self.crate}/out/incremental")
+        for path, text in self.texts.items():
+            with open(f"{self.crate}/{path}", "w", encoding="utf-8") as it:
+                it.write(text)
+        return self
+
+    def rt(self, *words, **how):
+        """Runs rt in the crate's folder of the room. Its status, and what it said."""
+        ran = Running([*words], self.crate, **how)
+        return ran.status, ran.said
+
+    def __exit__(self, *_):
+        kept = f"{folder(self.name, self.top)}/out"
+        if self.takes_out and os.path.isdir(f"{self.crate}/out") and not os.path.exists(kept):
+            shutil.move(f"{self.crate}/out", kept)
+        shutil.rmtree(self.room, ignore_errors=True)
+
+
+class Running:
+    """One run of rt, in a group of processes of its own, so that an interrupt ends it and nothing else."""
+
+    alive = set()
+    stopped = False
+
+    def __init__(self, words, at, seconds=None):
+        how = {"stdin": subprocess.DEVNULL, "stdout": subprocess.PIPE, "stderr": subprocess.STDOUT}
+        ran = subprocess.Popen(["rt", *words], cwd=at, start_new_session=True, text=True, errors="replace", **how)
+        Running.alive.add(ran)
+        try:
+            self.said = ran.communicate(timeout=seconds)[0]
+        except subprocess.TimeoutExpired:
+            end(ran)
+            self.said = ran.communicate()[0]
+        finally:
+            Running.alive.discard(ran)
+        self.status = ran.returncode
+
+
+def end(ran):
+    try:
+        os.killpg(ran.pid, 15)
+    except OSError:
+        pass
+
+
+def end_all():
+    """Ends each run of rt that this process has begun."""
+    Running.stopped = True
+    for ran in list(Running.alive):
+        end(ran)
+
+
+def processors():
+    return len(os.sched_getaffinity(0))
+
+
+def free():
+    """The free memory in bytes."""
+    with open("/proc/meminfo", encoding="ascii") as it:
+        return 1024 * int(re.search(r"MemAvailable:\s+(\d+)", it.read())[1])
+
+
+def lanes():
+    return max(1, min(processors(), int(0.9 * free() / CHECK)))
+
+
+def side_by_side(tasks, work, most=None):
+    """Runs work(task, jobs) for each task once those that it waits for are done and gave true, those with the longest chain
+    behind them first. `tasks` gives for each task what it waits for and how heavy it is. What each gave."""
+    behind = {it: weight for it, (_, weight) in tasks.items()}
+    for it in reversed(list(tasks)):
+        for other in tasks[it][0]:
+            behind[other] = max(behind[other], tasks[other][1] + behind[it])
+    most = most or lanes()
+    left, running, given = sorted(tasks, key=lambda it: -behind[it]), {}, {}
+    with ThreadPoolExecutor(most) as pool:
+        try:
+            while left or running:
+                for it in [it for it in left if any(given.get(other) is False for other in tasks[it][0])]:
+                    left.remove(it)
+                    given[it] = False
+                ready = [it for it in left if all(other in given for other in tasks[it][0])]
+                idle = most - len(running)
+                for it in ready[:idle]:
+                    left.remove(it)
+                    jobs = max(1, idle // len(ready)) if len(ready) < idle else 1
+                    running[pool.submit(work, it, jobs)] = it
+                if running:
+                    for done in wait(running, timeout=1, return_when=FIRST_COMPLETED).done:
+                        given[running.pop(done)] = done.result()
+        except BaseException:
+            end_all()
+            raise
+    return given
+
+
+class Clock:
+    """Lines with the time so far, from several threads."""
+
+    def __init__(self, out):
+        self.begun, self.out, self.turn = time.time(), out, threading.Lock()
+
+    def since(self):
+        took = int(time.time() - self.begun)
+        return f"{took // 60}:{took % 60:02}"
+
+    def say(self, text):
+        with self.turn:
+            print(f"{self.since():>6}  {text}", file=self.out, flush=True)
