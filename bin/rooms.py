@@ -105,6 +105,8 @@ class Room:
                 shutil.move(f"{kept}.taken", f"{self.crate}/out")
             elif os.path.isdir(f"{kept}/incremental"):
                 shutil.copytree(f"{kept}/incremental", f"{self.crate}/out/incremental")
+        if os.path.isdir(f"{folder(self.name, self.top)}/data"):
+            shutil.copytree(f"{folder(self.name, self.top)}/data", f"{self.crate}/data", copy_function=link_or_copy)
         for path, text in self.texts.items():
             with open(f"{self.crate}/{path}", "w", encoding="utf-8") as it:
                 it.write(text)
