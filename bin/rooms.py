@@ -2,11 +2,17 @@
 
 rt keeps all others out of a crate's folder and of the folders below it while it works there. A room is a folder of its
 own with copies of the sources and links to the libraries, so that checks run side by side.
+
+Called by itself (`bin/rooms.py WORDS`) this is rt with those words, but for one thing: rt sums up a crate's sources once for
+each path through crates.txt that leads to it, and the paths double with each crate of a chain. Here each is read once a sum.
 """
+import importlib.machinery
+import importlib.util
 import os
 import re
 import shutil
 import subprocess
+import sys
 import tempfile
 import threading
 import time
@@ -132,7 +138,7 @@ class Running:
 
     def __init__(self, words, at, seconds=None):
         how = {"stdin": subprocess.DEVNULL, "stdout": subprocess.PIPE, "stderr": subprocess.STDOUT}
-        ran = subprocess.Popen(["rt", *words], cwd=at, start_new_session=True, text=True, errors="replace", **how)
+        ran = subprocess.Popen([sys.executable, os.path.abspath(__file__), *words], cwd=at, start_new_session=True, text=True, errors="replace", **how)
         Running.alive.add(ran)
         try:
             self.said = ran.communicate(timeout=seconds)[0]
@@ -215,3 +221,31 @@ class Clock:
     def say(self, text):
         with self.turn:
             print(f"{self.since():>6}  {text}", file=self.out, flush=True)
+
+
+def rt(words):
+    """rt with these words, which reads each crate once for a sum of its sources. Its exit status."""
+    loader = importlib.machinery.SourceFileLoader("rt", os.path.realpath(shutil.which("rt")))
+    made = importlib.util.module_from_spec(importlib.util.spec_from_loader("rt", loader))
+    sys.modules["rt"] = made
+    loader.exec_module(made)
+    whole, turn = made.rtlib.Crate.stamp, threading.local()
+
+    def stamp(crate):
+        if getattr(turn, "sums", None) is None:
+            turn.sums = {}
+            try:
+                return stamp(crate)
+            finally:
+                turn.sums = None
+        if crate.folder not in turn.sums:
+            turn.sums[crate.folder] = whole(crate)
+        return turn.sums[crate.folder]
+
+    made.rtlib.Crate.stamp = stamp
+    return made.main(words)
+
+
+if __name__ == "__main__":
+    sys.dont_write_bytecode = True
+    sys.exit(rt(sys.argv[1:]))
