@@ -1,7 +1,9 @@
 pub mod Places
+pub mod RisingLemmas
 pub mod Edits
 pub mod ToldLemmas
 mod CivilLemmas
 mod TextLemmas
 mod DigitLemmas
+mod MoneyLemmas
 pub mod CodeLemmas

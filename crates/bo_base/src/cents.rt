@@ -105,7 +105,13 @@ fn decimals_of(text: &[u8]) -> Option<u64>
 pub fn cents_text(alloc: Global, amount: Cents) -> Result<String, AllocError>
     ensures { IfOk result (λ s. string_bytes s ≡ cents_text amount) }
 {
-    let cents = amount.get();
+    total_text(alloc, amount.get() as u128)
+}
+
+/// The text of so many cents, as that of an amount; they may be more than an amount has.
+pub fn total_text(alloc: Global, cents: u128) -> Result<String, AllocError>
+    ensures { IfOk result (λ s. string_bytes s ≡ cents_text cents) }
+{
     let units = cents / 100;
     let tens = cents / 10 % 10;
     let ones = cents % 10;

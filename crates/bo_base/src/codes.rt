@@ -1,6 +1,6 @@
 //! The codes of orders.
 
-ghost use Rattle.std.specs.Prelude.{◌≡◌, ◌≤◌, ◌<◌, ◌==◌, ℕ, length, position, List, Ok, IfOk, IfSome};
+ghost use Rattle.std.specs.Prelude.{◌≡◌, ◌≤◌, ◌<◌, ◌==◌, length, position, IfOk, IfSome};
 ghost use Rattle.bo_base.specs.Codes.{last_order, letter, order_code, worth, five_letters, five_places, number_of_code};
 
 use crate::refusal::ValueRefusal;
@@ -91,13 +91,3 @@ fn place_of(letter: u8, letters: &[u8]) -> Option<usize>
 {
     letters.iter().position(|l| *l == letter)
 }
-
-/// The code of an order's number reads as that number.
-pub fn codes_read_back()
-    ensures { (n : ℕ) → 1 ≤ n → n ≤ last_order → number_of_code (order_code n) ≡ Ok n }
-{}
-
-/// What reads is the code of the number that it gives, and that is an order's number: so nothing else reads.
-pub fn only_codes_read()
-    ensures { (text : List ℕ) (n : ℕ) → number_of_code text ≡ Ok n → (order_code n ≡ text) × (1 ≤ n) × (n ≤ last_order) }
-{}

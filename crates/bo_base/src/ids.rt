@@ -4,11 +4,11 @@ ghost use Rattle.std.specs.Prelude.{◌≡◌, IfOk};
 ghost use Rattle.bo_base.specs.Rising.{rising};
 ghost use Rattle.bo_base.specs.Tables.{has};
 
-use crate::rows::{Row, Rows};
+use crate::rows::{Row, place_of};
 use std::alloc::{AllocError, Global};
 use std::marker::Model;
 
-/// Ids, which contracts see as a list.
+/// Ids in rising order, each once, which contracts see as a list.
 #[derive(Debug, Drop)]
 pub struct Ids {
     ids: Vec<u64>,
@@ -16,17 +16,23 @@ pub struct Ids {
 
 impl Model for Ids {
     ghost use Rattle.std.specs.Prelude.{List, ℕ};
+    ghost use Rattle.bo_base.specs.Tables.{AreInOrder};
 
     ghost Value = { List ℕ };
 
     ghost view = { λ t. t.ids.items };
+
+    ghost invariant = { λ t. AreInOrder (λ n. n) t.ids.items };
 }
 
 impl Ids {
-    /// These ids.
-    pub fn new(ids: Vec<u64>) -> Self
-        ensures { result ≡ ids.items }
+    /// These ids in rising order, each once.
+    pub fn sorted(ids: Vec<u64>) -> Self
+        ensures { result ≡ rising ids.items }
     {
+        let mut ids = ids;
+        ids.sort_unstable();
+        ids.dedup();
         Ids { ids }
     }
 
@@ -34,14 +40,7 @@ impl Ids {
     pub fn rising(alloc: Global, given: &[u64]) -> Result<Self, AllocError>
         ensures { IfOk result (λ ids. ids ≡ rising given.now) }
     {
-        let mut rows = Rows::new(alloc);
-        for id in given {
-            rows.reserve(1)?;
-            rows.put(*id);
-        }
-        Ok(Ids {
-            ids: rows.into_vec(),
-        })
+        Ok(Ids::sorted(given.to_vec(alloc)?))
     }
 
     /// A copy.
@@ -64,7 +63,7 @@ impl Ids {
     pub fn has(&self, id: u64) -> bool
         ensures { result ≡ has id self.now }
     {
-        self.ids.iter().any(|x| *x == id)
+        place_of(&self.ids, id).is_ok()
     }
 }
 

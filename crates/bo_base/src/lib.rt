@@ -8,6 +8,7 @@ pub mod device;
 pub mod digits;
 pub mod draw;
 pub mod ids;
+pub mod laws;
 pub mod list;
 pub mod moment;
 pub mod percent;
@@ -22,7 +23,7 @@ mod tests;
 pub mod text;
 
 pub use answer::{Answer, Body, Methods, Response};
-pub use cents::{Cents, cents_text, read_cents};
+pub use cents::{Cents, cents_text, read_cents, total_text};
 pub use codes::{order_code, read_code};
 pub use device::{Drain, Refused, Source, Tick, Ticks};
 pub use digits::number_of;

@@ -1,6 +1,6 @@
 -- A new quota: its row, and the tests in the order of their refusals.
-use Rattle.std.specs.Prelude.{ℕ, Bool, false, ◌&&◌, ◌||◌, not, ◌==◌, List, Option, Some, None, Result, Ok, Err, if◌then◌else◌}
-use Rattle.std.specs.List.{list_all, list_any}
+use Rattle.std.specs.Prelude.{ℕ, Bool, false, ◌&&◌, ◌||◌, not, List, Option, Some, None, Result, Ok, Err, if◌then◌else◌}
+use Rattle.std.specs.List.{filter_map, list_all}
 use Rattle.std.specs.Option.{is_some}
 use Rattle.bo_base.specs.Tables.{has}
 use Rattle.bo_base.specs.Rising.{rising}
@@ -22,27 +22,27 @@ abbrev pub is_of_one : List ℕ → Option Variation → Bool
 is_of_one items None = false
 is_of_one items (Some variation) = has variation.item items
 
--- the variation is of this item
-abbrev pub is_of : ℕ → Option Variation → Bool
-is_of item None = false
-is_of item (Some variation) = variation.item == item
+-- the item that a variation is of
+abbrev pub item_of : Option Variation → Option ℕ
+item_of None = None
+item_of (Some variation) = Some variation.item
 
--- one of these variations is of the item
-abbrev pub has_one_of : ℕ → List ℕ → CatalogueLists → Bool
-has_one_of item variations lists = list_any (λ id. is_of item (variation_at id lists)) variations
+-- the items that these variations are of
+abbrev pub items_of : List ℕ → CatalogueLists → List ℕ
+items_of variations lists = filter_map (λ id. item_of (variation_at id lists)) variations
 
--- an item that is sold by variations is in a quota with one of them
-abbrev pub is_offered : List ℕ → CatalogueLists → Option Item → Bool
-is_offered variations lists None = false
-is_offered variations lists (Some item) = not item.varied || has_one_of item.id variations lists
+-- an item that is sold by variations is one of these
+abbrev pub is_offered : List ℕ → Option Item → Bool
+is_offered items None = false
+is_offered items (Some item) = not item.varied || has item.id items
 
 -- each variation's item is listed
 unfoldable pub variations_fit : Quota → CatalogueLists → Bool
 variations_fit quota lists = list_all (λ id. is_of_one quota.items (variation_at id lists)) quota.variations
 
--- each item is offered
+-- each item that is sold by variations is listed with one of them
 unfoldable pub items_fit : Quota → CatalogueLists → Bool
-items_fit quota lists = list_all (λ id. is_offered quota.variations lists (item_at id lists)) quota.items
+items_fit quota lists = list_all (λ id. is_offered (items_of quota.variations lists) (item_at id lists)) quota.items
 
 unfoldable pub items_stand : Quota → CatalogueLists → Bool
 items_stand quota lists = list_all (λ id. is_some (item_at id lists)) quota.items

@@ -1,6 +1,7 @@
 //! The tables of the catalogue.
 
 ghost use Rattle.std.specs.Prelude.{◌≡◌, ◌≢◌, ◌≤◌, ◌+◌, Ok, Err, IfOk, IfErr, OnOk, []};
+ghost use Rattle.std.specs.List.{list_all};
 ghost use Rattle.std.specs.Option.{option_copied};
 ghost use Rattle.bo_base.specs.Tables.{with_row};
 ghost use Rattle.bo_catalogue.specs.CatalogueLists.{item_at, variation_at, quota_at, product_of, quotas_of, base_price, is_active, is_sold, variations_of, with_variations};
@@ -8,13 +9,13 @@ ghost use Rattle.bo_catalogue.specs.ItemAdded.{item_added};
 ghost use Rattle.bo_catalogue.specs.ItemChanged.{item_changed};
 ghost use Rattle.bo_catalogue.specs.VariationAdded.{variation_added};
 ghost use Rattle.bo_catalogue.specs.Resized.{resized};
-ghost use Rattle.bo_catalogue.specs.QuotaAdded.{quota_added, quota_test, items_stand, variations_stand, variations_fit, items_fit, is_of, is_of_one, is_offered, has_one_of};
+ghost use Rattle.bo_catalogue.specs.QuotaAdded.{quota_added, quota_test, items_stand, variations_stand, variations_fit, items_fit, is_of_one, item_of, items_of, is_offered};
 
 use crate::limits::{takes_row, takes_rows};
 use crate::refusal::CatalogueRefusal;
 use crate::requests::{ItemPatch, NewItem, NewQuota, NewVariation, QuotaPatch, variation_rows};
 use crate::rows::{Item, ItemRows, PricedVariation, Product, Quota, Variation};
-use bo_base::{Cents, List, Rows};
+use bo_base::{Cents, Ids, List, Rows};
 use std::alloc::{AllocError, Global};
 use std::marker::Model;
 
@@ -306,14 +307,15 @@ impl Catalogue {
         ensures refused { IfErr result (λ e. e ≢ CatalogueRefusal.Memory → quota_added new.now id self.now.lists ≡ Err e) }
     {
         let quota = new.row(alloc, id)?;
-        self.test_quota(&quota)?;
+        self.test_quota(alloc, &quota)?;
         Ok(quota)
     }
 
     // Whether a quota may be added.
     #[tactic(auto, unfolding(crate::specs::QuotaAdded::quota_test))]
-    fn test_quota(&self, quota: &Quota) -> Result<(), CatalogueRefusal>
-        ensures { result ≡ quota_test quota.now self.now.lists }
+    fn test_quota(&self, alloc: Global, quota: &Quota) -> Result<(), CatalogueRefusal>
+        ensures done { IfOk result (λ u. quota_test quota.now self.now.lists ≡ Ok u) }
+        ensures refused { IfErr result (λ e. e ≢ CatalogueRefusal.Memory → quota_test quota.now self.now.lists ≡ Err e) }
     {
         if !self.items_stand(quota) {
             return Err(CatalogueRefusal::NoItem);
@@ -321,7 +323,10 @@ impl Catalogue {
         if !self.variations_stand(quota) {
             return Err(CatalogueRefusal::NoVariation);
         }
-        if !(self.variations_fit(quota) && self.items_fit(quota)) {
+        if !self.variations_fit(quota) {
+            return Err(CatalogueRefusal::BadMember);
+        }
+        if !self.items_fit(alloc, quota)? {
             return Err(CatalogueRefusal::BadMember);
         }
         if !takes_row(quota.id, self.quotas()) {
@@ -368,14 +373,29 @@ impl Catalogue {
 
     // Whether each listed item is sold by itself, or one of its variations is listed.
     #[tactic(auto, unfolding(crate::specs::QuotaAdded::items_fit))]
-    fn items_fit(&self, quota: &Quota) -> bool
-        ensures { result ≡ items_fit quota.now self.now.lists }
+    fn items_fit(&self, alloc: Global, quota: &Quota) -> Result<bool, AllocError>
+        ensures { IfOk result (λ fit. fit ≡ items_fit quota.now self.now.lists) }
     {
-        quota
-            .items
-            .as_slice()
+        let items = self.items_of(alloc, quota.variations.as_slice())?;
+        let offered = Ids::sorted(items);
+        Ok(self.are_offered(quota.items.as_slice(), &offered))
+    }
+
+    // The items that these variations are of.
+    fn items_of(&self, alloc: Global, variations: &[u64]) -> Result<Vec<u64>, AllocError>
+        ensures { IfOk result (λ items. items.items ≡ items_of variations.now self.now.lists) }
+    {
+        variations
             .iter()
-            .all(|id| self.is_offered(*id, quota))
+            .filter_map(|id| self.item_of(*id))
+            .collect(alloc)
+    }
+
+    // The item that a variation is of.
+    fn item_of(&self, variation: u64) -> Option<u64>
+        ensures { result ≡ item_of (variation_at variation self.now.lists) }
+    {
+        self.variation(variation).map(|row| row.item)
     }
 
     // Whether a variation's item is in the quota.
@@ -388,34 +408,20 @@ impl Catalogue {
         }
     }
 
-    // Whether an item is sold by itself, or one of its variations is in the quota.
-    fn is_offered(&self, item: u64, quota: &Quota) -> bool
-        ensures { result ≡ is_offered quota.now.variations self.now.lists (item_at item self.now.lists) }
+    // Whether each of these items is sold by itself, or is among those of which a variation is listed.
+    fn are_offered(&self, items: &[u64], offered: &Ids) -> bool
+        ensures { result ≡ list_all (λ id. is_offered offered.now (item_at id self.now.lists)) items.now }
+    {
+        items.iter().all(|id| self.is_offered(*id, offered))
+    }
+
+    // Whether an item is sold by itself, or is among those of which a variation is listed.
+    fn is_offered(&self, item: u64, offered: &Ids) -> bool
+        ensures { result ≡ is_offered offered.now (item_at item self.now.lists) }
     {
         match self.item(item) {
             None => false,
-            Some(row) => !row.varied || self.has_one_of(row.id, quota),
-        }
-    }
-
-    // Whether one of an item's variations is in the quota.
-    fn has_one_of(&self, item: u64, quota: &Quota) -> bool
-        ensures { result ≡ has_one_of item quota.now.variations self.now.lists }
-    {
-        quota
-            .variations
-            .as_slice()
-            .iter()
-            .any(|id| self.is_of(*id, item))
-    }
-
-    // Whether a variation is of this item.
-    fn is_of(&self, variation: u64, item: u64) -> bool
-        ensures { result ≡ is_of item (variation_at variation self.now.lists) }
-    {
-        match self.variation(variation) {
-            None => false,
-            Some(row) => row.item == item,
+            Some(row) => !row.varied || offered.has(row.id),
         }
     }
 }

@@ -48,8 +48,8 @@ pub struct QuotaPatch {
 pub struct NewQuota {
     pub name: Text,
     pub size: Option<u32>,
-    pub items: Ids,
-    pub variations: Ids,
+    pub items: List<u64>,
+    pub variations: List<u64>,
 }
 
 impl NewItem {
