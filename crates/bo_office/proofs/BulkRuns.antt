@@ -12,10 +12,10 @@ use Rattle.bo_orders.specs.declared.refusal.OrderRefusal.{OrderRefusal}
 use Rattle.bo_orders.specs.Bulk.{outcome_of, entry_added, all_added, many_added}
 use Rattle.bo_orders.specs.Carts.{position_added}
 use Rattle.bo_orders.proofs.BulkSound.{many_is, entry_moment}
-use Rattle.bo_office.specs.declared.command.Command.TheVariants.{AddCart}
-use Rattle.bo_office.specs.declared.reply.Reply.TheVariants.{Results}
+use Rattle.bo_commands.specs.declared.requests.Command.TheVariants.{AddCart}
+use Rattle.bo_commands.specs.declared.replies.Reply.TheVariants.{Results}
 use Rattle.bo_office.specs.Step.{cart_step, bulk_step}
-use Rattle.bo_office.specs.Runs.{Arrival, moment_at, stepped, alone, after_run, RunsItsEntries}
+use Rattle.bo_office.specs.Runs.{moment_at, stepped, alone, after_run, RunsItsEntries}
 
 -- an entry of its own leads where it leads in the call
 same_office : (state : State) (r : Result (State × CartPos) OrderRefusal) → (outcome_of state r).0 ≡ (cart_step state r).0

@@ -45,12 +45,12 @@ use Rattle.bo_orders.specs.Dropped.{position_dropped}
 use Rattle.bo_orders.proofs.BulkSound.{many_is, all_sound, all_moment}
 use Rattle.bo_orders.proofs.Added.{added_none_over, added_takes_no_more, added_sound, added_moment}
 use Rattle.bo_orders.proofs.Dropped.{dropped_sound, dropped_moment, dropped_lowers}
-use Rattle.bo_office.specs.declared.command.Command.{Command}
-use Rattle.bo_office.specs.declared.command.Command.TheVariants.{AddItem, ChangeItem, AddVariation, AddQuota, ResizeQuota, AddVoucher, ChangeVoucher, DropVoucher, AddCart, AddCarts, DropCart, AddOrder, MoveOrder}
-use Rattle.bo_office.specs.declared.command.Kind.{Kind}
-use Rattle.bo_office.specs.declared.reply.Refusal.{Refusal}
-use Rattle.bo_office.specs.declared.reply.Reply.{Reply}
-use Rattle.bo_office.specs.declared.reply.Reply.TheVariants.{Refused}
+use Rattle.bo_commands.specs.declared.requests.Command.{Command}
+use Rattle.bo_commands.specs.declared.requests.Command.TheVariants.{AddItem, ChangeItem, AddVariation, AddQuota, ResizeQuota, AddVoucher, ChangeVoucher, DropVoucher, AddCart, AddCarts, DropCart, AddOrder, MoveOrder}
+use Rattle.bo_commands.specs.declared.requests.Kind.{Kind}
+use Rattle.bo_commands.specs.declared.replies.Refusal.{Refusal}
+use Rattle.bo_commands.specs.declared.replies.Reply.{Reply}
+use Rattle.bo_commands.specs.declared.replies.Reply.TheVariants.{Refused}
 use Rattle.bo_office.specs.ShownRows.{show_voucher}
 use Rattle.bo_office.specs.Step.{step, step_now, item_step, item_change_step, variation_step, quota_step, resize_step, voucher_step, voucher_change_step, voucher_drop_step, cart_step, bulk_step, order_step, move_step, cart_drop_step}
 use Rattle.bo_office.specs.Runs.{Arrival, moment_at, stepped, trace, row_told, comes_into_force, taken, heeds_if_told, may_take, NoneOver, StaysWithin, RaisesNothing, LeavesSound, NeverGoesBack, StoresItsMoment, ChangesNothingElse}

@@ -11,14 +11,14 @@ use Rattle.bo_lists.specs.Lists.{Lists, State, voucher_at, cart_at, order_at}
 use Rattle.bo_lists.specs.Available.{availability}
 use Rattle.bo_vouchers.specs.declared.refusal.VoucherRefusal.TheVariants.{NoVoucher}
 use Rattle.bo_orders.specs.declared.refusal.OrderRefusal.TheVariants.{NoPosition, NoOrder}
-use Rattle.bo_office.specs.declared.command.Query.{Query}
-use Rattle.bo_office.specs.declared.command.Query.TheVariants as queries
-use Rattle.bo_office.specs.declared.command.Resource.{Resource}
-use Rattle.bo_office.specs.declared.command.Resource.TheVariants.{Items, Quotas, Vouchers, Carts, Orders}
-use Rattle.bo_office.specs.declared.command.Kind.TheVariants as kinds
-use Rattle.bo_office.specs.declared.reply.Refusal.TheVariants as refusals
-use Rattle.bo_office.specs.declared.reply.Reply.{Reply}
-use Rattle.bo_office.specs.declared.reply.Reply.TheVariants.{Availability as TheAvailability, Found, Refused}
+use Rattle.bo_commands.specs.declared.requests.Query.{Query}
+use Rattle.bo_commands.specs.declared.requests.Query.TheVariants as queries
+use Rattle.bo_commands.specs.declared.requests.Resource.{Resource}
+use Rattle.bo_commands.specs.declared.requests.Resource.TheVariants.{Items, Quotas, Vouchers, Carts, Orders}
+use Rattle.bo_commands.specs.declared.requests.Kind.TheVariants as kinds
+use Rattle.bo_commands.specs.declared.replies.Refusal.TheVariants as refusals
+use Rattle.bo_commands.specs.declared.replies.Reply.{Reply}
+use Rattle.bo_commands.specs.declared.replies.Reply.TheVariants.{Availability as TheAvailability, Found, Refused}
 use Rattle.bo_office.specs.ShownRows.{show_item, show_quota, show_voucher, show_cart, show_order}
 use Rattle.bo_office.specs.Pages.{listed}
 

@@ -1,4 +1,3 @@
-pub mod Refusals
 pub mod OfficeView
 pub mod ShownRows
 pub mod Step

@@ -1,11 +1,11 @@
 -- Pages of lists.
 use Rattle.std.specs.Prelude.{ℕ, ◌+◌, ◌-◌, ◌*◌, ◌/◌, max, Bool, ◌&&◌, nat_le, List, take, drop, map, length, if◌then◌else◌}
-use Rattle.bo_office.specs.declared.command.Resource.{Resource}
-use Rattle.bo_office.specs.declared.command.Kind.TheVariants as kinds
-use Rattle.bo_office.specs.declared.reply.Refusal.TheVariants.{NoPage}
-use Rattle.bo_office.specs.declared.reply.Reply.{Reply}
-use Rattle.bo_office.specs.declared.reply.Reply.TheVariants.{Listed, Refused}
-use Rattle.bo_office.specs.declared.reply.Shown.{Shown}
+use Rattle.bo_commands.specs.declared.requests.Resource.{Resource}
+use Rattle.bo_commands.specs.declared.requests.Kind.TheVariants as kinds
+use Rattle.bo_commands.specs.declared.replies.Refusal.TheVariants.{NoPage}
+use Rattle.bo_commands.specs.declared.replies.Reply.{Reply}
+use Rattle.bo_commands.specs.declared.replies.Reply.TheVariants.{Listed, Refused}
+use Rattle.bo_commands.specs.declared.replies.Shown.{Shown}
 
 -- an empty list has one page, and any other as many as its rows fill, 50 each
 abbrev pub page_count : ℕ → ℕ

@@ -16,14 +16,14 @@ use Rattle.bo_lists.specs.Takes.{used, TakesNoMore}
 use Rattle.bo_orders.specs.declared.bulk.Entry.{Entry}
 use Rattle.bo_orders.specs.declared.bulk.Entry.TheVariants.{New, Faulty}
 use Rattle.bo_orders.specs.declared.bulk.Outcome.{Outcome}
-use Rattle.bo_office.specs.declared.command.Command.{Command}
-use Rattle.bo_office.specs.declared.command.Command.TheVariants.{AddCart, AddCarts}
-use Rattle.bo_office.specs.declared.command.Kind.{Kind}
-use Rattle.bo_office.specs.declared.reply.Refusal.{Refusal}
-use Rattle.bo_office.specs.declared.reply.Reply.{Reply}
-use Rattle.bo_office.specs.declared.reply.Reply.TheVariants.{Made, Found, Results, Refused}
-use Rattle.bo_office.specs.declared.reply.Shown.{Shown}
-use Rattle.bo_office.specs.declared.reply.Shown.TheVariants.{Cart, Voucher, Order as TheOrder}
+use Rattle.bo_commands.specs.declared.requests.Command.{Command}
+use Rattle.bo_commands.specs.declared.requests.Command.TheVariants.{AddCart, AddCarts}
+use Rattle.bo_commands.specs.declared.requests.Kind.{Kind}
+use Rattle.bo_commands.specs.declared.replies.Refusal.{Refusal}
+use Rattle.bo_commands.specs.declared.replies.Reply.{Reply}
+use Rattle.bo_commands.specs.declared.replies.Reply.TheVariants.{Made, Found, Results, Refused}
+use Rattle.bo_commands.specs.declared.replies.Shown.{Shown}
+use Rattle.bo_commands.specs.declared.replies.Shown.TheVariants.{Cart, Voucher, Order as TheOrder}
 use Rattle.bo_office.specs.Step.{step}
 
 -- a command as it comes: with the clock's moment and a draw

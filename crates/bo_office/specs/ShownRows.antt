@@ -7,8 +7,8 @@ use Rattle.bo_lists.specs.declared.rows.Voucher.{Voucher}
 use Rattle.bo_lists.specs.declared.rows.Order.{Order}
 use Rattle.bo_lists.specs.Lists.{Lists, positions_of}
 use Rattle.bo_lists.specs.Usage.{redeemed}
-use Rattle.bo_office.specs.declared.reply.Shown.{Shown}
-use Rattle.bo_office.specs.declared.reply.Shown.TheVariants as rows
+use Rattle.bo_commands.specs.declared.replies.Shown.{Shown}
+use Rattle.bo_commands.specs.declared.replies.Shown.TheVariants as rows
 
 -- an item with its variations
 abbrev pub show_item : Lists → Item → Shown

@@ -29,15 +29,15 @@ use Rattle.bo_orders.specs.Carts.{position_added}
 use Rattle.bo_orders.specs.Created.{order_created}
 use Rattle.bo_orders.specs.Dropped.{position_dropped}
 use Rattle.bo_orders.specs.Moves.{order_moved}
-use Rattle.bo_office.specs.declared.command.Command.{Command}
-use Rattle.bo_office.specs.declared.command.Command.TheVariants as commands
-use Rattle.bo_office.specs.declared.command.Kind.{Kind}
-use Rattle.bo_office.specs.declared.command.Kind.TheVariants as kinds
-use Rattle.bo_office.specs.declared.reply.Refusal.{Refusal}
-use Rattle.bo_office.specs.declared.reply.Refusal.TheVariants as refusals
-use Rattle.bo_office.specs.declared.reply.Reply.{Reply}
-use Rattle.bo_office.specs.declared.reply.Reply.TheVariants.{Made, Found, Results, Gone, Refused}
-use Rattle.bo_office.specs.declared.reply.Shown.TheVariants as rows
+use Rattle.bo_commands.specs.declared.requests.Command.{Command}
+use Rattle.bo_commands.specs.declared.requests.Command.TheVariants as commands
+use Rattle.bo_commands.specs.declared.requests.Kind.{Kind}
+use Rattle.bo_commands.specs.declared.requests.Kind.TheVariants as kinds
+use Rattle.bo_commands.specs.declared.replies.Refusal.{Refusal}
+use Rattle.bo_commands.specs.declared.replies.Refusal.TheVariants as refusals
+use Rattle.bo_commands.specs.declared.replies.Reply.{Reply}
+use Rattle.bo_commands.specs.declared.replies.Reply.TheVariants.{Made, Found, Results, Gone, Refused}
+use Rattle.bo_commands.specs.declared.replies.Shown.TheVariants as rows
 use Rattle.bo_office.specs.ShownRows.{show_item, show_voucher}
 
 -- no row is put, and the next ids stay

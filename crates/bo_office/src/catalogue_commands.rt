@@ -5,14 +5,13 @@ ghost use Rattle.bo_base.specs.declared.draw.Draw.{Draw};
 ghost use Rattle.bo_lists.specs.Change.{applied};
 ghost use Rattle.bo_lists.specs.Numbered.{puts_of};
 ghost use Rattle.bo_office.specs.Step.{RefusesWithoutChange, step};
-ghost use Rattle.bo_office.specs.declared.command.Command.{Command};
+ghost use Rattle.bo_commands.specs.declared.requests.Command.{Command};
 
-use crate::command::Kind;
 use crate::office::Office;
-use crate::reply::{Refusal, Reply, Shown};
 use bo_catalogue::{
     CatalogueRefusal, ItemPatch, ItemRows, NewItem, NewQuota, NewVariation, QuotaPatch,
 };
+use bo_commands::{Kind, Refusal, Reply, Shown};
 use bo_lists::{Change, Changes, NextIds};
 use bo_usage::Book;
 use std::alloc::{AllocError, Global};

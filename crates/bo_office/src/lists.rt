@@ -4,12 +4,11 @@ ghost use Rattle.std.specs.Prelude.{◌≡◌, IfOk, map};
 ghost use Rattle.bo_office.specs.Answer.{list_of};
 ghost use Rattle.bo_office.specs.ShownRows.{show_item, show_quota, show_voucher, show_cart, show_order};
 
-use crate::command::{Kind, Resource};
 use crate::office::Office;
 use crate::pages::{is_page, page_rows};
-use crate::reply::{Page, Refusal, Reply, Shown};
 use bo_base::List;
 use bo_catalogue::{Item, Quota};
+use bo_commands::{Kind, Page, Refusal, Reply, Resource, Shown};
 use bo_lists::{CartPos, Order, Voucher};
 use bo_usage::Book;
 use std::alloc::{AllocError, Global};

@@ -7,9 +7,8 @@ ghost use Rattle.bo_lists.specs.Sound.{IsSound};
 ghost use Rattle.bo_office.specs.Step.{RefusesWithoutChange, step, no_change};
 ghost use Rattle.bo_office.specs.Answer.{answer};
 
-use crate::command::{Command, Kind, Query};
-use crate::reply::{Refusal, Reply};
 use bo_base::{Draw, Moment, Text};
+use bo_commands::{Command, Kind, Query, Refusal, Reply};
 use bo_lists::Changes;
 use bo_usage::Book;
 use std::alloc::{AllocError, Global};

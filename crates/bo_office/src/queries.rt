@@ -1,15 +1,14 @@
 //! Queries of one row, and how each row is shown.
 
 ghost use Rattle.std.specs.Prelude.{◌≡◌, ◌≤◌, IfOk};
-ghost use Rattle.bo_office.specs.declared.command.Query.{Query};
+ghost use Rattle.bo_commands.specs.declared.requests.Query.{Query};
 ghost use Rattle.bo_office.specs.Answer.{answer, one_of};
 ghost use Rattle.bo_office.specs.ShownRows.{show_item, show_voucher, show_order};
 
-use crate::command::{Kind, Resource};
 use crate::office::Office;
-use crate::reply::{Refusal, Reply, Shown};
 use bo_base::Moment;
 use bo_catalogue::{CatalogueRefusal, Item};
+use bo_commands::{Kind, Refusal, Reply, Resource, Shown};
 use bo_lists::{Order, OrderRows, Voucher};
 use bo_orders::OrderRefusal;
 use bo_usage::{Book, availability};

@@ -6,12 +6,11 @@ ghost use Rattle.bo_draft.specs.DraftState.{now};
 ghost use Rattle.bo_lists.specs.Change.{applied};
 ghost use Rattle.bo_lists.specs.Sound.{IsSound};
 ghost use Rattle.bo_office.specs.Step.{RefusesWithoutChange, step};
-ghost use Rattle.bo_office.specs.declared.command.Command.{Command};
+ghost use Rattle.bo_commands.specs.declared.requests.Command.{Command};
 
-use crate::command::Kind;
 use crate::office::Office;
-use crate::reply::{Refusal, Reply, Shown};
 use bo_base::{Draw, Moment};
+use bo_commands::{Kind, Refusal, Reply, Shown};
 use bo_draft::Draft;
 use bo_lists::Changes;
 use bo_orders::{

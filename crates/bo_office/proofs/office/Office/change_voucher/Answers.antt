@@ -2,8 +2,8 @@ use Rattle.std.proofs.Common.{rules, ◌≡◌, sym, ap, ◌∙◌}
 use Rattle.bo_lists.specs.Lists.{Lists}
 use Rattle.bo_draft.specs.DraftState.{DraftState, now}
 use Rattle.bo_office.specs.ShownRows.{show_voucher}
-use Rattle.bo_office.specs.declared.reply.Shown.{Shown}
-use Rattle.bo_office.specs.declared.reply.Reply.TheVariants.{Found}
+use Rattle.bo_commands.specs.declared.replies.Shown.{Shown}
+use Rattle.bo_commands.specs.declared.replies.Reply.TheVariants.{Found}
 use Rattle.bo_office.proofs.Vouchers.{changed_shown}
 use Rattle.bo_office.proofs.office.Office.change_voucher.Goals.{in-Ok, in-Err}
 use Rattle.bo_office.proofs.office.Office.change_voucher.Goals as goal

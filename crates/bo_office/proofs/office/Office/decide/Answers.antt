@@ -3,7 +3,7 @@ use Rattle.std.proofs.lemmas.Result.{IfOk-weaker}
 use Rattle.bo_lists.specs.Lists.{State}
 use Rattle.bo_lists.specs.Sound.{IsSound}
 use Rattle.bo_office.specs.OfficeView.{OfficeView}
-use Rattle.bo_office.specs.declared.reply.Reply.{Reply}
+use Rattle.bo_commands.specs.declared.replies.Reply.{Reply}
 use Rattle.bo_office.proofs.Runs.{step_sound}
 use Rattle.bo_office.proofs.office.Office.decide.Goals as goal
 

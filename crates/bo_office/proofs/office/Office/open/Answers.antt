@@ -1,4 +1,4 @@
-use Rattle.std.proofs.Common.{◌≡◌, ◌≤◌, sym, subst}
+use Rattle.std.proofs.Common.{◌≤◌, sym, subst}
 use Rattle.bo_lists.specs.Lists.{State}
 use Rattle.bo_lists.proofs.Headroom.{headroom_later}
 use Rattle.bo_office.proofs.office.Office.open.Goals as goal

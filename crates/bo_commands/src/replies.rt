@@ -1,9 +1,9 @@
 //! What a request is answered.
 
 ghost use Rattle.std.specs.Prelude.{◌≡◌};
-ghost use Rattle.bo_office.specs.Refusals.{number_of_refusal};
+ghost use Rattle.bo_commands.specs.Refusals.{number_of_refusal};
 
-use crate::command::{Kind, Resource};
+use crate::requests::{Kind, Resource};
 use bo_base::List;
 use bo_catalogue::{CatalogueRefusal, ItemRows, PricedVariation, Quota};
 use bo_lists::{Availability, CartPos, OrderRows, Voucher};
