@@ -1,5 +1,5 @@
 -- A number and its last five places in base 28 have one code.
-use Rattle.std.proofs.Common.{◌≡◌, ℕ, ◌/◌, ◌%◌, ◌∷◌, [], refl, arith}
+use Rattle.std.proofs.Common.{◌≡◌, ℕ, ◌%◌, arith}
 use Rattle.bo_base.specs.Codes.{letter, order_code}
 
 last_place : (n : ℕ) → n % 17210368 % 28 ≡ n % 28

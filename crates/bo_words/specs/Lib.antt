@@ -1,9 +1,11 @@
 pub mod Values
+pub mod Pieces
 pub mod OrderRows
 pub mod Rows
 pub mod VoucherParts
 pub mod Responses
 pub mod Faults
+pub mod Table
 pub mod Refusals
 pub mod Results
 pub mod Pages

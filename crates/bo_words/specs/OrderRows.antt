@@ -1,6 +1,6 @@
 -- Orders and their positions as JSON, each with its members in byte order.
 use Rattle.std.specs.Prelude.{ℕ, List, map, sum_by, codes}
-use Rattle.serde_json.specs.Data.{Data, string, object, member, no_members}
+use Rattle.serde_json.specs.Data.{Data, string, object, Members, member, no_members}
 use Rattle.bo_base.specs.Codes.{order_code}
 use Rattle.bo_lists.specs.declared.rows.Order.{Order}
 use Rattle.bo_lists.specs.declared.rows.OrderPos.{OrderPos}
@@ -33,14 +33,22 @@ position_body position = object (
     (member (codes "voucher") (count_or_null position.voucher)
     no_members))))))))
 
--- an order with its positions and their total; it is dated at the moment that it was made
-abbrev pub order_body : Order → List OrderPos → Data
-order_body order positions = object (
+-- the members of an order before its positions, and the rest; it is dated at the moment that it was made
+abbrev pub order_members : Order → Members → Members
+order_members order rest =
     member (codes "code") (string (order_code order.id))
     (member (codes "datetime") (moment order.made_at)
     (member (codes "email") (text_or_null order.email)
     (member (codes "expires") (moment order.expires)
-    (member (codes "positions") (list (map position_body positions))
-    (member (codes "status") (string (status_letter order.status))
+    rest)))
+
+-- the members of an order behind its positions: its status, and what they cost together
+abbrev pub last_members : Order → List OrderPos → Members
+last_members order positions =
+    member (codes "status") (string (status_letter order.status))
     (member (codes "total") (money (order_total positions))
-    no_members)))))))
+    no_members)
+
+-- an order with its positions and their total
+abbrev pub order_body : Order → List OrderPos → Data
+order_body order positions = object (order_members order (member (codes "positions") (list (map position_body positions)) (last_members order positions)))

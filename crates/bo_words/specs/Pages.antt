@@ -1,10 +1,10 @@
 -- A page of a list, and the paths of the pages beside it.
 use Rattle.std.specs.Prelude.{ℕ, ◌+◌, ◌-◌, ◌*◌, List, ◌++◌, map, nat_lt, if◌then◌else◌, codes}
 use Rattle.std.specs.Fmt.{decimal}
-use Rattle.serde_json.specs.Data.{Data, string, null, object, member, no_members}
-use Rattle.bo_office.specs.declared.command.Resource.{Resource}
-use Rattle.bo_office.specs.declared.command.Resource.TheVariants.{Items, Quotas, Vouchers, Carts, Orders}
-use Rattle.bo_office.specs.declared.reply.Page.{Page}
+use Rattle.serde_json.specs.Data.{Data, string, null, object, Members, member, no_members}
+use Rattle.bo_commands.specs.declared.requests.Resource.{Resource}
+use Rattle.bo_commands.specs.declared.requests.Resource.TheVariants.{Items, Quotas, Vouchers, Carts, Orders}
+use Rattle.bo_commands.specs.declared.replies.Page.{Page}
 use Rattle.bo_words.specs.Values.{count, list}
 use Rattle.bo_words.specs.Rows.{shown_body}
 
@@ -29,10 +29,13 @@ next_path organizer event page = if nat_lt (page.number * 50) page.count then st
 abbrev pub previous_path : List ℕ → List ℕ → Page → Data
 previous_path organizer event page = if nat_lt 1 page.number then string (page_path organizer event page.resource (page.number - 1)) else null
 
-abbrev pub page_body : List ℕ → List ℕ → Page → Data
-page_body organizer event page = object (
+-- how many rows the list has, and the pages beside this one, before the rest
+abbrev pub page_members : List ℕ → List ℕ → Page → Members → Members
+page_members organizer event page rest =
     member (codes "count") (count page.count)
     (member (codes "next") (next_path organizer event page)
     (member (codes "previous") (previous_path organizer event page)
-    (member (codes "results") (list (map shown_body page.rows))
-    no_members))))
+    rest))
+
+abbrev pub page_body : List ℕ → List ℕ → Page → Data
+page_body organizer event page = object (page_members organizer event page (member (codes "results") (list (map shown_body page.rows)) no_members))

@@ -1,9 +1,15 @@
 -- The words of each reply.
-use Rattle.std.specs.Prelude.{ℕ, List, None, []}
+use Rattle.std.specs.Prelude.{ℕ, List, None, [], Bool, true, false, if◌then◌else◌}
+use Rattle.std.specs.List.{list_all}
 use Rattle.bo_base.specs.declared.answer.Response.{Response}
-use Rattle.bo_office.specs.declared.reply.Reply.{Reply}
-use Rattle.bo_office.specs.declared.reply.Reply.TheVariants as replies
-use Rattle.bo_words.specs.Responses.{response}
+use Rattle.bo_commands.specs.declared.requests.Resource.{Resource}
+use Rattle.bo_commands.specs.declared.requests.Resource.TheVariants as resources
+use Rattle.bo_commands.specs.declared.replies.Page.{Page}
+use Rattle.bo_commands.specs.declared.replies.Reply.{Reply}
+use Rattle.bo_commands.specs.declared.replies.Reply.TheVariants as replies
+use Rattle.bo_commands.specs.declared.replies.Shown.{Shown}
+use Rattle.bo_commands.specs.declared.replies.Shown.TheVariants as shown
+use Rattle.bo_words.specs.Responses.{response, empty_body}
 use Rattle.bo_words.specs.Rows.{shown_body, availability_body}
 use Rattle.bo_words.specs.Results.{results_body}
 use Rattle.bo_words.specs.Pages.{page_body}
@@ -13,12 +19,37 @@ use Rattle.bo_words.specs.Refusals.{refused}
 abbrev pub gone : Response
 gone = record { status = 204; allow = None; body = [] }
 
+-- what a reply is told that no request leads to: 200 `{}`
+abbrev pub untold : Response
+untold = response 200 None empty_body
+
+-- a variation is shown where it is made, and else with its item
+abbrev pub stands_alone : Shown → Bool
+stands_alone (shown.Variation priced) = false
+stands_alone row = true
+
+-- a row of the kind that the list has
+abbrev pub is_row_of : Resource → Shown → Bool
+is_row_of resources.Items (shown.Item rows) = true
+is_row_of resources.Quotas (shown.Quota quota) = true
+is_row_of resources.Vouchers (shown.Voucher voucher redeemed) = true
+is_row_of resources.Carts (shown.Cart cart) = true
+is_row_of resources.Orders (shown.Order rows) = true
+is_row_of resource row = false
+
+abbrev pub found : Shown → Response
+found row = if stands_alone row then response 200 None (shown_body row) else untold
+
+abbrev pub listed : List ℕ → List ℕ → Page → Response
+listed organizer event page =
+    if list_all (is_row_of page.resource) page.rows then response 200 None (page_body organizer event page) else untold
+
 -- 201 for what was made, 200 for what was asked for and for a bulk call, 204 for what was deleted, in the shop of these slugs
 unfoldable pub words : List ℕ → List ℕ → Reply → Response
 words organizer event (replies.Made row) = response 201 None (shown_body row)
-words organizer event (replies.Found row) = response 200 None (shown_body row)
+words organizer event (replies.Found row) = found row
 words organizer event (replies.Results outcomes) = response 200 None (results_body outcomes)
-words organizer event (replies.Listed page) = response 200 None (page_body organizer event page)
+words organizer event (replies.Listed page) = listed organizer event page
 words organizer event replies.Gone = gone
 words organizer event (replies.Availability left) = response 200 None (availability_body left)
 words organizer event (replies.Refused kind refusal) = refused kind refusal

@@ -3,8 +3,8 @@ use Rattle.std.specs.Prelude.{List, Bool, true, false, map, codes}
 use Rattle.serde_json.specs.Data.{Data, boolean, null, object, member, no_members}
 use Rattle.bo_faults.specs.declared.fields.EntryFault.{EntryFault}
 use Rattle.bo_faults.specs.declared.fields.EntryFault.TheVariants as entry_faults
-use Rattle.bo_office.specs.declared.command.Kind.TheVariants as kinds
-use Rattle.bo_office.specs.declared.reply.Refusal.TheVariants as refusals
+use Rattle.bo_commands.specs.declared.requests.Kind.TheVariants as kinds
+use Rattle.bo_commands.specs.declared.replies.Refusal.TheVariants as refusals
 use Rattle.bo_orders.specs.declared.bulk.Outcome.{Outcome}
 use Rattle.bo_orders.specs.declared.bulk.Outcome.TheVariants as outcomes
 use Rattle.bo_words.specs.Values.{list}

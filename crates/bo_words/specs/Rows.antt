@@ -1,6 +1,6 @@
 -- The rows of answers as JSON, each with its members in byte order.
 use Rattle.std.specs.Prelude.{ℕ, List, map, unwrap_or, codes}
-use Rattle.serde_json.specs.Data.{Data, boolean, string, object, member, no_members}
+use Rattle.serde_json.specs.Data.{Data, boolean, string, object, Members, member, no_members}
 use Rattle.bo_catalogue.specs.declared.rows.Item.{Item}
 use Rattle.bo_catalogue.specs.declared.rows.Variation.{Variation}
 use Rattle.bo_catalogue.specs.declared.rows.PricedVariation.{PricedVariation}
@@ -9,8 +9,8 @@ use Rattle.bo_base.specs.declared.price_mode.PriceMode.{PriceMode}
 use Rattle.bo_base.specs.declared.price_mode.PriceMode.TheVariants as modes
 use Rattle.bo_lists.specs.declared.rows.CartPos.{CartPos}
 use Rattle.bo_lists.specs.declared.rows.Voucher.{Voucher}
-use Rattle.bo_office.specs.declared.reply.Shown.{Shown}
-use Rattle.bo_office.specs.declared.reply.Shown.TheVariants as shown
+use Rattle.bo_commands.specs.declared.replies.Shown.{Shown}
+use Rattle.bo_commands.specs.declared.replies.Shown.TheVariants as shown
 use Rattle.bo_lists.specs.declared.rows.Availability.{Availability}
 use Rattle.bo_words.specs.OrderRows.{order_body}
 use Rattle.bo_words.specs.Values.{count, count_or_null, money, money_or_null, moment, moment_or_null, list, counts}
@@ -35,26 +35,35 @@ priced_body priced = object (
     (member (codes "value") (string priced.row.name)
     no_members)))))
 
--- an item with its variations
-abbrev pub item_body : Item → List Variation → Data
-item_body item variations = object (
+-- an item's own members, before the rest
+abbrev pub item_members : Item → Members → Members
+item_members item rest =
     member (codes "active") (boolean item.active)
     (member (codes "default_price") (money item.default_price)
     (member (codes "has_variations") (boolean item.varied)
     (member (codes "id") (count item.id)
     (member (codes "name") (string item.name)
-    (member (codes "variations") (list (map (variation_body item.default_price) variations))
-    no_members))))))
+    rest))))
 
--- a quota; its size is null where it is unlimited
+-- an item with its variations
+abbrev pub item_body : Item → List Variation → Data
+item_body item variations = object (item_members item (member (codes "variations") (list (map (variation_body item.default_price) variations)) no_members))
+
+-- a quota's name and its size, which is null where it is unlimited, before the rest
+abbrev pub quota_members : Quota → Members → Members
+quota_members quota rest =
+    member (codes "name") (string quota.name)
+    (member (codes "size") (count_or_null quota.size)
+    rest)
+
+-- a quota
 abbrev pub quota_body : Quota → Data
 quota_body quota = object (
     member (codes "id") (count quota.id)
     (member (codes "items") (counts quota.items)
-    (member (codes "name") (string quota.name)
-    (member (codes "size") (count_or_null quota.size)
+    (quota_members quota
     (member (codes "variations") (counts quota.variations)
-    no_members)))))
+    no_members))))
 
 -- a cart position, with the ids of its item and of its variation, and of its voucher
 abbrev pub cart_body : CartPos → Data

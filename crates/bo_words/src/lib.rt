@@ -5,11 +5,13 @@ pub mod faults;
 pub mod laws;
 mod orders;
 mod pages;
+mod pieces;
 mod refusals;
 pub mod replies;
 mod responses;
 mod results;
 mod rows;
+mod table;
 mod values;
 mod vouchers;
 

@@ -1,14 +1,19 @@
 //! Orders and their positions as JSON.
 
-ghost use Rattle.std.specs.Prelude.{◌≡◌, IfOk, map};
+ghost use Rattle.std.specs.Prelude.{◌≡◌, ◌++◌, IfOk, OnOk};
+ghost use Rattle.serde_json.specs.Data.{object, no_members};
 ghost use Rattle.serde_json.specs.View.{view};
+ghost use Rattle.serde_json.specs.Written.{compact_text};
 ghost use Rattle.bo_base.specs.Codes.{order_code};
-ghost use Rattle.bo_words.specs.Values.{list, text_or_null, money};
-ghost use Rattle.bo_words.specs.OrderRows.{status_letter, order_total, position_body, order_body};
+ghost use Rattle.bo_words.specs.Values.{text_or_null};
+ghost use Rattle.bo_words.specs.OrderRows.{status_letter, order_total, position_body, order_members, last_members, order_body};
 
-use crate::values::{count_or_null, moment, money, total_text};
+use crate::pieces::{
+    WriteRow, append_list_member, append_members, append_opened, append_text, append_value,
+};
+use crate::values::{count_or_null, moment, money};
 use bo_base::codes::LAST_ORDER;
-use bo_base::{Text, order_code};
+use bo_base::{Text, order_code, total_text};
 use bo_lists::{Order, OrderPos, Status};
 use serde_json::{Value, json};
 use std::alloc::{AllocError, Global};
@@ -55,15 +60,16 @@ fn position_value(alloc: Global, position: &OrderPos) -> Result<Value, AllocErro
     })
 }
 
-/// The positions of an order.
-fn positions_value(alloc: Global, positions: &[OrderPos]) -> Result<Value, AllocError>
-    ensures { IfOk result (λ v. view v ≡ list (map position_body positions.now)) }
-{
-    let mut values = Vec::with_capacity(alloc, positions.len())?;
-    for position in positions {
-        values.push(position_value(alloc, position)?)?;
+/// Writes the positions of an order.
+struct PositionWriter;
+
+impl WriteRow<OrderPos> for PositionWriter {
+    ghost body = { λ _ position. position_body position };
+
+    fn append(&self, alloc: Global, out: &mut Vec<u8>, row: &OrderPos) -> Result<(), AllocError> {
+        let value = position_value(alloc, row)?;
+        append_value(alloc, out, &value)
     }
-    Ok(Value::Array(values))
 }
 
 /// What the positions cost together, in cents.
@@ -77,13 +83,6 @@ fn total(positions: &[OrderPos]) -> u128
     cents
 }
 
-/// What the positions cost together, as a text.
-fn total_value(alloc: Global, positions: &[OrderPos]) -> Result<Value, AllocError>
-    ensures { IfOk result (λ v. view v ≡ money (order_total positions.now)) }
-{
-    Ok(Value::String(total_text(alloc, total(positions))?))
-}
-
 /// The address of an order, or null.
 fn email_value(alloc: Global, order: &Order) -> Result<Value, AllocError>
     ensures { IfOk result (λ v. view v ≡ text_or_null order.now.email) }
@@ -94,27 +93,43 @@ fn email_value(alloc: Global, order: &Order) -> Result<Value, AllocError>
     }
 }
 
-/// An order with its positions.
-pub(crate) fn order_value(
-    alloc: Global,
-    order: &Order,
-    positions: &[OrderPos],
-) -> Result<Value, AllocError>
-    ensures { IfOk result (λ v. view v ≡ order_body order.now positions.now) }
+/// What stands of an order before its positions.
+fn order_value(alloc: Global, order: &Order) -> Result<Value, AllocError>
+    ensures { IfOk result (λ v. view v ≡ object (order_members order.now no_members)) }
 {
     let code = code(alloc, order.id)?;
     let made_at = moment(alloc, order.made_at)?;
     let email = email_value(alloc, order)?;
     let expires = moment(alloc, order.expires)?;
-    let total = total_value(alloc, positions)?;
-    let positions = positions_value(alloc, positions)?;
     json!(in alloc; {
         "code": code.as_str(),
         "datetime": made_at,
         "email": email,
         "expires": expires,
-        "positions": positions,
-        "status": status_letter(order.status),
-        "total": total,
     })
+}
+
+/// What stands of an order behind its positions.
+fn last_value(alloc: Global, order: &Order, positions: &[OrderPos]) -> Result<Value, AllocError>
+    ensures { IfOk result (λ v. view v ≡ object (last_members order.now positions.now)) }
+{
+    let total = total_text(alloc, total(positions))?;
+    json!(in alloc; {"status": status_letter(order.status), "total": total.as_str()})
+}
+
+/// Appends an order with its positions.
+pub(crate) fn append_order(
+    alloc: Global,
+    out: &mut Vec<u8>,
+    order: &Order,
+    positions: &[OrderPos],
+) -> Result<(), AllocError>
+    ensures { OnOk result (out.new.items ≡ out.old.items ++ compact_text (order_body order.now positions.now)) }
+{
+    let value = order_value(alloc, order)?;
+    let last = last_value(alloc, order, positions)?;
+    append_opened(alloc, out, &value)?;
+    append_list_member(alloc, out, "positions", &PositionWriter, positions)?;
+    append_members(alloc, out, &last)?;
+    append_text(out, "}")
 }

@@ -1,13 +1,15 @@
 //! A page of a list, and the paths of the pages beside it.
 
-ghost use Rattle.std.specs.Prelude.{◌≡◌, ◌+◌, ◌*◌, nat_lt, Some, None, IfOk, if◌then◌else◌, map, string_bytes};
+ghost use Rattle.std.specs.Prelude.{◌≡◌, ◌+◌, ◌*◌, ◌++◌, nat_lt, Some, None, IfOk, OnOk, if◌then◌else◌, string_bytes};
+ghost use Rattle.serde_json.specs.Data.{object, no_members};
 ghost use Rattle.serde_json.specs.View.{view};
-ghost use Rattle.bo_words.specs.Pages.{resource_path, page_path, next_path, previous_path, page_body};
+ghost use Rattle.serde_json.specs.Written.{compact_text};
+ghost use Rattle.bo_words.specs.Pages.{resource_path, page_path, next_path, previous_path, page_members, page_body};
 ghost use Rattle.bo_words.specs.Rows.{shown_body};
-ghost use Rattle.bo_words.specs.Values.{list};
 
-use crate::rows::shown_value;
-use bo_office::{Page, Resource, Shown};
+use crate::pieces::{WriteRow, append_list_member, append_opened, append_text};
+use crate::rows::append_shown;
+use bo_commands::{Page, Resource, Shown};
 use serde_json::{Value, json};
 use std::alloc::{AllocError, Global};
 
@@ -80,33 +82,39 @@ fn previous_value(
     }
 }
 
-/// The rows of a page.
-fn rows_value(alloc: Global, rows: &[Shown]) -> Result<Value, AllocError>
-    ensures { IfOk result (λ v. view v ≡ list (map shown_body rows.now)) }
-{
-    let mut values = Vec::with_capacity(alloc, rows.len())?;
-    for row in rows {
-        values.push(shown_value(alloc, row)?)?;
+/// Writes the rows of a page.
+struct ShownWriter;
+
+impl WriteRow<Shown> for ShownWriter {
+    ghost body = { λ _ shown. shown_body shown };
+
+    fn append(&self, alloc: Global, out: &mut Vec<u8>, row: &Shown) -> Result<(), AllocError> {
+        append_shown(alloc, out, row)
     }
-    Ok(Value::Array(values))
 }
 
-/// A page of a list, in the shop of these slugs.
-pub(crate) fn page_value(
-    alloc: Global,
-    organizer: &str,
-    event: &str,
-    page: &Page,
-) -> Result<Value, AllocError>
-    ensures { IfOk result (λ v. view v ≡ page_body organizer.now event.now page.now) }
+/// A page without its rows, in the shop of these slugs.
+fn page_value(alloc: Global, organizer: &str, event: &str, page: &Page) -> Result<Value, AllocError>
+    ensures { IfOk result (λ v. view v ≡ object (page_members organizer.now event.now page.now no_members)) }
 {
     let next = next_value(alloc, organizer, event, page)?;
     let previous = previous_value(alloc, organizer, event, page)?;
-    let results = rows_value(alloc, page.rows.as_slice())?;
-    json!(in alloc; {
-        "count": page.count,
-        "next": next,
-        "previous": previous,
-        "results": results,
-    })
+    json!(in alloc; {"count": page.count, "next": next, "previous": previous})
+}
+
+/// Appends a page of a list, in the shop of these slugs.
+pub(crate) fn append_page(
+    alloc: Global,
+    out: &mut Vec<u8>,
+    organizer: &str,
+    event: &str,
+    page: &Page,
+) -> Result<(), AllocError>
+    ensures { OnOk result (out.new.items ≡ out.old.items ++ compact_text (page_body organizer.now event.now page.now)) }
+{
+    let value = page_value(alloc, organizer, event, page)?;
+    let rows = page.rows.as_slice();
+    append_opened(alloc, out, &value)?;
+    append_list_member(alloc, out, "results", &ShownWriter, rows)?;
+    append_text(out, "}")
 }

@@ -1,19 +1,20 @@
 //! The words for a refusal.
 
-ghost use Rattle.std.specs.Prelude.{◌≡◌, IfOk, if◌then◌else◌};
+ghost use Rattle.std.specs.Prelude.{◌≡◌, IfOk};
 ghost use Rattle.std.specs.Option.{option_copied};
 ghost use Rattle.serde_json.specs.View.{view};
-ghost use Rattle.bo_words.specs.Faults.{not_found_body, fault_body};
-ghost use Rattle.bo_words.specs.Refusals.{catalogue_detail, voucher_detail, order_detail, detail, quota_of, quota_named, names_item, names_quota, names_voucher, is_of_path, refusal_body, status_of, wrong_status_body, status_by, data_by, refusal_status, refusal_data, refused};
+ghost use Rattle.bo_words.specs.Faults.{fault_body};
+ghost use Rattle.bo_words.specs.Refusals.{catalogue_detail, voucher_detail, order_detail, detail, quota_of, quota_named, refusal_body, numbered_body, wrong_status_body, told_status, told_body, manner_of, status_in, refusal_data, refused};
 
 use crate::faults::fault_value;
 use crate::orders::status_letter;
 use crate::responses::{detail_value, value_response};
+use crate::table::row_of;
 use bo_base::Response;
 use bo_catalogue::CatalogueRefusal;
+use bo_commands::{Kind, Refusal};
 use bo_faults::{Fault, Field, Problem};
 use bo_lists::Status;
-use bo_office::{Kind, Refusal};
 use bo_orders::OrderRefusal;
 use bo_vouchers::VoucherRefusal;
 use http::StatusCode;
@@ -45,7 +46,7 @@ fn voucher_detail(refusal: VoucherRefusal) -> Option<&'static str>
     match refusal {
         VoucherRefusal::Memory => None,
         VoucherRefusal::Catalogue(refusal) => catalogue_detail(refusal),
-        VoucherRefusal::TooLarge => Some("Value out of range."),
+        VoucherRefusal::TooLarge => None,
         VoucherRefusal::CodeTaken => Some("Code is taken."),
         VoucherRefusal::BadTarget => Some("Wrong target."),
         VoucherRefusal::CannotBlock => Some("Cannot block."),
@@ -66,9 +67,9 @@ fn order_detail(refusal: OrderRefusal) -> Option<&'static str>
     match refusal {
         OrderRefusal::Memory => None,
         OrderRefusal::Voucher(refusal) => voucher_detail(refusal),
-        OrderRefusal::NoPosition => Some("Position not found."),
-        OrderRefusal::NoOrder => Some("Order not found."),
-        OrderRefusal::WrongStatus(_) => Some("Not possible in this status."),
+        OrderRefusal::NoPosition => None,
+        OrderRefusal::NoOrder => None,
+        OrderRefusal::WrongStatus(_) => None,
         OrderRefusal::Empty => Some("No positions."),
         OrderRefusal::TooMany => Some("Too many."),
         OrderRefusal::BadCart => Some("Wrong cart."),
@@ -83,7 +84,7 @@ fn detail(refusal: Refusal) -> Option<&'static str>
         Refusal::Catalogue(refusal) => catalogue_detail(refusal),
         Refusal::Voucher(refusal) => voucher_detail(refusal),
         Refusal::Order(refusal) => order_detail(refusal),
-        Refusal::NoPage => Some("Invalid page."),
+        Refusal::NoPage => None,
     }
 }
 
@@ -108,40 +109,6 @@ fn quota_named(refusal: Refusal) -> Option<u64>
     }
 }
 
-/// Whether the path of a request of that kind names an item.
-fn names_item(kind: Kind) -> bool
-    ensures { result ≡ names_item kind }
-{
-    matches!(kind, Kind::ChangeItem | Kind::AddVariation | Kind::One)
-}
-
-/// Whether the path of a request of that kind names a quota.
-fn names_quota(kind: Kind) -> bool
-    ensures { result ≡ names_quota kind }
-{
-    matches!(kind, Kind::ResizeQuota | Kind::Availability | Kind::One)
-}
-
-/// Whether the path of a request of that kind names a voucher.
-fn names_voucher(kind: Kind) -> bool
-    ensures { result ≡ names_voucher kind }
-{
-    matches!(kind, Kind::ChangeVoucher | Kind::DropVoucher | Kind::One)
-}
-
-/// Whether the path of a request of that kind names what wasn't found.
-fn is_of_path(kind: Kind, refusal: Refusal) -> bool
-    ensures { result ≡ is_of_path kind refusal }
-{
-    match refusal {
-        Refusal::Catalogue(CatalogueRefusal::NoItem) => names_item(kind),
-        Refusal::Catalogue(CatalogueRefusal::NoQuota) => names_quota(kind),
-        Refusal::Voucher(VoucherRefusal::NoVoucher) => names_voucher(kind),
-        Refusal::Order(OrderRefusal::NoPosition | OrderRefusal::NoOrder) => true,
-        _ => false,
-    }
-}
-
 /// Number, sentence, and the quota that is named.
 fn refusal_value(
     alloc: Global,
@@ -157,45 +124,14 @@ fn refusal_value(
     }
 }
 
-/// 403 for what is forbidden, else 400.
-fn status_of(refusal: Refusal) -> StatusCode
-    ensures { result ≡ status_of refusal }
-{
-    match refusal {
-        Refusal::Voucher(VoucherRefusal::InUse) => StatusCode::FORBIDDEN,
-        _ => StatusCode::BAD_REQUEST,
-    }
-}
-
-/// 200 for what no request is told, 403 for what is forbidden, else 400.
-fn status_by(refusal: Refusal) -> StatusCode
-    ensures { result ≡ status_by refusal (detail refusal) }
-{
-    match detail(refusal) {
-        None => StatusCode::OK,
-        Some(_) => status_of(refusal),
-    }
-}
-
-/// A refusal by its number and its sentence, or `{}`.
-fn data_by(alloc: Global, refusal: Refusal) -> Result<Value, AllocError>
-    ensures { IfOk result (λ v. view v ≡ data_by refusal (detail refusal)) }
+/// A refusal by its number and its sentence.
+fn numbered_value(alloc: Global, refusal: Refusal) -> Result<Value, AllocError>
+    ensures { IfOk result (λ v. view v ≡ numbered_body refusal (detail refusal)) }
 {
     let number = refusal.number();
     match detail(refusal) {
         None => json!(in alloc; {}),
         Some(text) => refusal_value(alloc, number, text, quota_named(refusal)),
-    }
-}
-
-/// `Not found.` where the path names what wasn't found, else the refusal.
-fn data_or_missing(alloc: Global, kind: Kind, refusal: Refusal) -> Result<Value, AllocError>
-    ensures { IfOk result (λ v. view v ≡ (if is_of_path kind refusal then not_found_body else data_by refusal (detail refusal))) }
-{
-    if is_of_path(kind, refusal) {
-        detail_value(alloc, "Not found.")
-    } else {
-        data_by(alloc, refusal)
     }
 }
 
@@ -218,14 +154,64 @@ fn wrong_status_value(alloc: Global, status: Status) -> Result<Value, AllocError
     json!(in alloc; {"code": 42, "detail": "Not possible in this status.", "status": letter})
 }
 
-/// The status of a refusal of a request of that kind.
-fn refusal_status(kind: Kind, refusal: Refusal) -> StatusCode
-    ensures { result ≡ refusal_status kind refusal }
+/// The status of a refusal that the kind of request can have: 404 for a page that isn't there, 403 for what is
+/// forbidden, else 400.
+fn told_status(refusal: Refusal) -> StatusCode
+    ensures { result ≡ told_status refusal }
 {
     match refusal {
         Refusal::NoPage => StatusCode::NOT_FOUND,
-        _ if is_of_path(kind, refusal) => StatusCode::NOT_FOUND,
-        _ => status_by(refusal),
+        Refusal::Voucher(VoucherRefusal::InUse) => StatusCode::FORBIDDEN,
+        _ => StatusCode::BAD_REQUEST,
+    }
+}
+
+/// The body for a refusal that the kind of request can have.
+fn told_value(alloc: Global, refusal: Refusal) -> Result<Value, AllocError>
+    ensures { IfOk result (λ v. view v ≡ told_body refusal) }
+{
+    match refusal {
+        Refusal::Voucher(VoucherRefusal::TooLarge) => too_large(alloc),
+        Refusal::NoPage => detail_value(alloc, "Invalid page."),
+        Refusal::Order(OrderRefusal::WrongStatus(status)) => wrong_status_value(alloc, status),
+        _ => numbered_value(alloc, refusal),
+    }
+}
+
+/// How a request is told a refusal.
+#[derive(Clone, Copy, Debug, PartialEq, Eq)]
+pub(crate) enum Manner {
+    /// What its path names isn't there.
+    Missing,
+    /// By the words of the refusal.
+    Told,
+    /// Not at all: no request of that kind is refused so.
+    Untold,
+}
+
+/// How a request of that kind is told that refusal.
+fn manner_of(kind: Kind, refusal: Refusal) -> Manner
+    ensures { result ≡ manner_of kind refusal }
+{
+    let row = row_of(kind);
+    let number = refusal.number();
+    if row.missing.contains(&number) {
+        Manner::Missing
+    } else if row.others.contains(&number) {
+        Manner::Told
+    } else {
+        Manner::Untold
+    }
+}
+
+/// The status of a refusal that is told in that manner.
+fn status_in(manner: Manner, refusal: Refusal) -> StatusCode
+    ensures { result ≡ status_in manner refusal }
+{
+    match manner {
+        Manner::Missing => StatusCode::NOT_FOUND,
+        Manner::Told => told_status(refusal),
+        Manner::Untold => StatusCode::OK,
     }
 }
 
@@ -234,11 +220,10 @@ fn refusal_status(kind: Kind, refusal: Refusal) -> StatusCode
 pub(crate) fn refusal_data(alloc: Global, kind: Kind, refusal: Refusal) -> Result<Value, AllocError>
     ensures { IfOk result (λ v. view v ≡ refusal_data kind refusal) }
 {
-    match refusal {
-        Refusal::Voucher(VoucherRefusal::TooLarge) => too_large(alloc),
-        Refusal::NoPage => detail_value(alloc, "Invalid page."),
-        Refusal::Order(OrderRefusal::WrongStatus(status)) => wrong_status_value(alloc, status),
-        _ => data_or_missing(alloc, kind, refusal),
+    match manner_of(kind, refusal) {
+        Manner::Missing => detail_value(alloc, "Not found."),
+        Manner::Told => told_value(alloc, refusal),
+        Manner::Untold => json!(in alloc; {}),
     }
 }
 
@@ -248,5 +233,5 @@ pub(crate) fn refused(alloc: Global, kind: Kind, refusal: Refusal) -> Result<Res
     ensures { IfOk result (λ t. t ≡ refused kind refusal) }
 {
     let value = refusal_data(alloc, kind, refusal)?;
-    value_response(alloc, refusal_status(kind, refusal), &value)
+    value_response(alloc, status_in(manner_of(kind, refusal), refusal), &value)
 }

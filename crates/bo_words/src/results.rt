@@ -1,16 +1,17 @@
 //! What became of the entries of a bulk call, as JSON.
 
-ghost use Rattle.std.specs.Prelude.{◌≡◌, IfOk, map};
+ghost use Rattle.std.specs.Prelude.{◌≡◌, ◌++◌, IfOk, OnOk};
 ghost use Rattle.serde_json.specs.View.{view};
-ghost use Rattle.bo_words.specs.Values.{list};
+ghost use Rattle.serde_json.specs.Written.{compact_text};
 ghost use Rattle.bo_words.specs.Results.{entry_fault_body, result_body, outcome_body, results_body};
 
 use crate::faults::fault_value;
+use crate::pieces::{WriteRow, append_key_and_list, append_text, append_value};
 use crate::refusals::refusal_data;
 use crate::responses::detail_value;
 use crate::rows::cart_value;
+use bo_commands::{Kind, Refusal};
 use bo_faults::EntryFault;
-use bo_office::{Kind, Refusal};
 use bo_orders::Outcome;
 use serde_json::{Value, json};
 use std::alloc::{AllocError, Global};
@@ -57,21 +58,27 @@ fn outcome_value(alloc: Global, outcome: &Outcome) -> Result<Value, AllocError>
     }
 }
 
-/// What became of each entry.
-fn outcomes_value(alloc: Global, outcomes: &[Outcome]) -> Result<Value, AllocError>
-    ensures { IfOk result (λ v. view v ≡ list (map outcome_body outcomes.now)) }
-{
-    let mut values = Vec::with_capacity(alloc, outcomes.len())?;
-    for outcome in outcomes {
-        values.push(outcome_value(alloc, outcome)?)?;
+/// Writes what became of each entry.
+struct OutcomeWriter;
+
+impl WriteRow<Outcome> for OutcomeWriter {
+    ghost body = { λ _ outcome. outcome_body outcome };
+
+    fn append(&self, alloc: Global, out: &mut Vec<u8>, row: &Outcome) -> Result<(), AllocError> {
+        let value = outcome_value(alloc, row)?;
+        append_value(alloc, out, &value)
     }
-    Ok(Value::Array(values))
 }
 
-/// The results of a bulk call.
-pub(crate) fn results_value(alloc: Global, outcomes: &[Outcome]) -> Result<Value, AllocError>
-    ensures { IfOk result (λ v. view v ≡ results_body outcomes.now) }
+/// Appends the results of a bulk call.
+pub(crate) fn append_results(
+    alloc: Global,
+    out: &mut Vec<u8>,
+    outcomes: &[Outcome],
+) -> Result<(), AllocError>
+    ensures { OnOk result (out.new.items ≡ out.old.items ++ compact_text (results_body outcomes.now)) }
 {
-    let results = outcomes_value(alloc, outcomes)?;
-    json!(in alloc; {"results": results})
+    append_text(out, "{")?;
+    append_key_and_list(alloc, out, "results", &OutcomeWriter, outcomes)?;
+    append_text(out, "}")
 }

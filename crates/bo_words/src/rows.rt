@@ -1,17 +1,22 @@
 //! The rows of answers as JSON.
 
-ghost use Rattle.std.specs.Prelude.{◌≡◌, IfOk, map};
+ghost use Rattle.std.specs.Prelude.{◌≡◌, ◌++◌, IfOk, OnOk, codes};
+ghost use Rattle.serde_json.specs.Data.{object, member, no_members};
 ghost use Rattle.serde_json.specs.View.{view};
-ghost use Rattle.bo_words.specs.Values.{list};
-ghost use Rattle.bo_words.specs.Rows.{variation_body, priced_body, item_body, quota_body, cart_body, shown_body, availability_body};
+ghost use Rattle.serde_json.specs.Written.{compact_text};
+ghost use Rattle.bo_words.specs.Values.{count};
+ghost use Rattle.bo_words.specs.Rows.{variation_body, priced_body, item_members, item_body, quota_members, quota_body, cart_body, voucher_body, shown_body, availability_body};
 
-use crate::orders::order_value;
-use crate::values::{count_or_null, counts, moment, money, money_or_null};
+use crate::orders::append_order;
+use crate::pieces::{
+    WriteRow, append_list_member, append_members, append_opened, append_text, append_value,
+};
+use crate::values::{CountWriter, count_or_null, moment, money, money_or_null};
 use crate::vouchers::voucher_value;
 use bo_base::Cents;
 use bo_catalogue::{Item, PricedVariation, Quota, Variation};
-use bo_lists::{Availability, CartPos};
-use bo_office::Shown;
+use bo_commands::Shown;
+use bo_lists::{Availability, CartPos, Voucher};
 use serde_json::{Value, json};
 use std::alloc::{AllocError, Global};
 
@@ -45,51 +50,81 @@ fn priced_value(alloc: Global, priced: &PricedVariation) -> Result<Value, AllocE
     })
 }
 
-/// Variations of an item that costs that price.
-fn variations_value(
-    alloc: Global,
+/// Writes the variations of an item that costs this price.
+#[derive(Drop)]
+struct VariationWriter {
     price: Cents,
-    variations: &[Variation],
-) -> Result<Value, AllocError>
-    ensures { IfOk result (λ v. view v ≡ list (map (variation_body price) variations.now)) }
-{
-    let mut values = Vec::with_capacity(alloc, variations.len())?;
-    for variation in variations {
-        values.push(variation_value(alloc, price, variation)?)?;
-    }
-    Ok(Value::Array(values))
 }
 
-/// An item with its variations.
-fn item_value(alloc: Global, item: &Item, variations: &[Variation]) -> Result<Value, AllocError>
-    ensures { IfOk result (λ v. view v ≡ item_body item.now variations.now) }
+impl WriteRow<Variation> for VariationWriter {
+    ghost body = { λ writer variation. variation_body writer.price variation };
+
+    fn append(&self, alloc: Global, out: &mut Vec<u8>, row: &Variation) -> Result<(), AllocError> {
+        let value = variation_value(alloc, self.price, row)?;
+        append_value(alloc, out, &value)
+    }
+}
+
+/// An item without its variations.
+fn item_value(alloc: Global, item: &Item) -> Result<Value, AllocError>
+    ensures { IfOk result (λ v. view v ≡ object (item_members item.now no_members)) }
 {
     let price = money(alloc, item.default_price)?;
-    let variations = variations_value(alloc, item.default_price, variations)?;
     json!(in alloc; {
         "active": item.active,
         "default_price": price,
         "has_variations": item.varied,
         "id": item.id,
         "name": item.name.as_str(),
-        "variations": variations,
     })
 }
 
-/// A quota.
-fn quota_value(alloc: Global, quota: &Quota) -> Result<Value, AllocError>
-    ensures { IfOk result (λ v. view v ≡ quota_body quota.now) }
+/// Appends an item with its variations.
+fn append_item(
+    alloc: Global,
+    out: &mut Vec<u8>,
+    item: &Item,
+    variations: &[Variation],
+) -> Result<(), AllocError>
+    ensures { OnOk result (out.new.items ≡ out.old.items ++ compact_text (item_body item.now variations.now)) }
 {
-    let items = counts(alloc, quota.items.as_slice())?;
+    let value = item_value(alloc, item)?;
+    let writer = VariationWriter {
+        price: item.default_price,
+    };
+    append_opened(alloc, out, &value)?;
+    append_list_member(alloc, out, "variations", &writer, variations)?;
+    append_text(out, "}")
+}
+
+/// A quota's id.
+fn quota_id_value(alloc: Global, quota: &Quota) -> Result<Value, AllocError>
+    ensures { IfOk result (λ v. view v ≡ object (member (codes "id") (count quota.now.id) no_members)) }
+{
+    json!(in alloc; {"id": quota.id})
+}
+
+/// A quota's name and its size.
+fn quota_value(alloc: Global, quota: &Quota) -> Result<Value, AllocError>
+    ensures { IfOk result (λ v. view v ≡ object (quota_members quota.now no_members)) }
+{
     let size = count_or_null(quota.size.map(u64::from));
-    let variations = counts(alloc, quota.variations.as_slice())?;
-    json!(in alloc; {
-        "id": quota.id,
-        "items": items,
-        "name": quota.name.as_str(),
-        "size": size,
-        "variations": variations,
-    })
+    json!(in alloc; {"name": quota.name.as_str(), "size": size})
+}
+
+/// Appends a quota.
+fn append_quota(alloc: Global, out: &mut Vec<u8>, quota: &Quota) -> Result<(), AllocError>
+    ensures { OnOk result (out.new.items ≡ out.old.items ++ compact_text (quota_body quota.now)) }
+{
+    let id = quota_id_value(alloc, quota)?;
+    let value = quota_value(alloc, quota)?;
+    let items = quota.items.as_slice();
+    let variations = quota.variations.as_slice();
+    append_opened(alloc, out, &id)?;
+    append_list_member(alloc, out, "items", &CountWriter, items)?;
+    append_members(alloc, out, &value)?;
+    append_list_member(alloc, out, "variations", &CountWriter, variations)?;
+    append_text(out, "}")
 }
 
 /// A cart position.
@@ -113,17 +148,54 @@ pub(crate) fn cart_value(alloc: Global, cart: &CartPos) -> Result<Value, AllocEr
     })
 }
 
-/// A row as it is shown.
-pub(crate) fn shown_value(alloc: Global, shown: &Shown) -> Result<Value, AllocError>
-    ensures { IfOk result (λ v. view v ≡ shown_body shown.now) }
+/// Appends a variation with its price.
+fn append_priced(
+    alloc: Global,
+    out: &mut Vec<u8>,
+    priced: &PricedVariation,
+) -> Result<(), AllocError>
+    ensures { OnOk result (out.new.items ≡ out.old.items ++ compact_text (priced_body priced.now)) }
+{
+    let value = priced_value(alloc, priced)?;
+    append_value(alloc, out, &value)
+}
+
+/// Appends a cart position.
+fn append_cart(alloc: Global, out: &mut Vec<u8>, cart: &CartPos) -> Result<(), AllocError>
+    ensures { OnOk result (out.new.items ≡ out.old.items ++ compact_text (cart_body cart.now)) }
+{
+    let value = cart_value(alloc, cart)?;
+    append_value(alloc, out, &value)
+}
+
+/// Appends a voucher, and the number of its uses in orders.
+fn append_voucher(
+    alloc: Global,
+    out: &mut Vec<u8>,
+    voucher: &Voucher,
+    redeemed: u64,
+) -> Result<(), AllocError>
+    ensures { OnOk result (out.new.items ≡ out.old.items ++ compact_text (voucher_body voucher.now redeemed)) }
+{
+    let value = voucher_value(alloc, voucher, redeemed)?;
+    append_value(alloc, out, &value)
+}
+
+/// Appends a row as it is shown.
+pub(crate) fn append_shown(
+    alloc: Global,
+    out: &mut Vec<u8>,
+    shown: &Shown,
+) -> Result<(), AllocError>
+    ensures { OnOk result (out.new.items ≡ out.old.items ++ compact_text (shown_body shown.now)) }
 {
     match shown {
-        Shown::Item(rows) => item_value(alloc, &rows.item, rows.variations.as_slice()),
-        Shown::Variation(priced) => priced_value(alloc, priced),
-        Shown::Quota(quota) => quota_value(alloc, quota),
-        Shown::Voucher(voucher, redeemed) => voucher_value(alloc, voucher, *redeemed),
-        Shown::Cart(cart) => cart_value(alloc, cart),
-        Shown::Order(rows) => order_value(alloc, &rows.order, rows.positions.as_slice()),
+        Shown::Item(rows) => append_item(alloc, out, &rows.item, rows.variations.as_slice()),
+        Shown::Variation(priced) => append_priced(alloc, out, priced),
+        Shown::Quota(quota) => append_quota(alloc, out, quota),
+        Shown::Voucher(voucher, redeemed) => append_voucher(alloc, out, voucher, *redeemed),
+        Shown::Cart(cart) => append_cart(alloc, out, cart),
+        Shown::Order(rows) => append_order(alloc, out, &rows.order, rows.positions.as_slice()),
     }
 }
 

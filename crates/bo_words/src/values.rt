@@ -1,10 +1,10 @@
 //! Numbers, amounts, moments and lists as JSON.
 
-ghost use Rattle.std.specs.Prelude.{◌≡◌, IfOk, string_bytes};
+ghost use Rattle.std.specs.Prelude.{◌≡◌, IfOk};
 ghost use Rattle.serde_json.specs.View.{view};
-ghost use Rattle.bo_base.specs.Money.{cents_text};
-ghost use Rattle.bo_words.specs.Values.{count_or_null, money, money_or_null, moment, moment_or_null, counts};
+ghost use Rattle.bo_words.specs.Values.{count, count_or_null, money, money_or_null, moment, moment_or_null};
 
+use crate::pieces::{WriteRow, append_value};
 use bo_base::{Cents, Moment, cents_text, moment_text};
 use serde_json::Value;
 use std::alloc::{AllocError, Global};
@@ -24,16 +24,6 @@ pub(crate) fn money(alloc: Global, amount: Cents) -> Result<Value, AllocError>
     ensures { IfOk result (λ v. view v ≡ money amount) }
 {
     Ok(Value::String(cents_text(alloc, amount)?))
-}
-
-/// The text of so many cents, which may be more than an amount has.
-pub(crate) fn total_text(alloc: Global, cents: u128) -> Result<String, AllocError>
-    ensures { IfOk result (λ s. string_bytes s ≡ cents_text cents) }
-{
-    let units = cents / 100;
-    let tens = cents / 10 % 10;
-    let ones = cents % 10;
-    format!(in alloc; "{units}.{tens}{ones}")
 }
 
 /// An amount, or null.
@@ -63,13 +53,13 @@ pub(crate) fn moment_or_null(alloc: Global, at: Option<Moment>) -> Result<Value,
     }
 }
 
-/// A list of numbers.
-pub(crate) fn counts(alloc: Global, numbers: &[u64]) -> Result<Value, AllocError>
-    ensures { IfOk result (λ v. view v ≡ counts numbers.now) }
-{
-    let mut values = Vec::with_capacity(alloc, numbers.len())?;
-    for number in numbers {
-        values.push(Value::from(*number))?;
+/// Writes a list of numbers.
+pub(crate) struct CountWriter;
+
+impl WriteRow<u64> for CountWriter {
+    ghost body = { λ _ number. count number };
+
+    fn append(&self, alloc: Global, out: &mut Vec<u8>, row: &u64) -> Result<(), AllocError> {
+        append_value(alloc, out, &Value::from(*row))
     }
-    Ok(Value::Array(values))
 }
