@@ -2,10 +2,10 @@
 use Rattle.std.specs.Prelude.{ℕ, Bool, true, false, List, Option, Some, None, Result, Ok, Err}
 use Rattle.bo_base.specs.declared.answer.Response.{Response}
 use Rattle.bo_http.specs.Messages.{Message}
-use Rattle.bo_office.specs.declared.command.Command.{Command}
+use Rattle.bo_commands.specs.declared.requests.Command.{Command}
 use Rattle.bo_orders.specs.declared.moves.Move.{Move}
-use Rattle.bo_office.specs.declared.command.Query.TheVariants as queries
-use Rattle.bo_office.specs.declared.command.Resource.{Resource}
+use Rattle.bo_commands.specs.declared.requests.Query.TheVariants as queries
+use Rattle.bo_commands.specs.declared.requests.Resource.{Resource}
 use Rattle.bo_words.specs.Faults.{no_credentials, invalid_token, not_found, invalid_page, method_not_allowed, parse_error, invalid_data, field_fault}
 use Rattle.bo_fields.specs.declared.error.BodyFault.{BodyFault}
 use Rattle.bo_fields.specs.declared.error.BodyFault.TheVariants as faults

@@ -1,9 +1,9 @@
 -- What each method asks for at each target.
 use Rattle.std.specs.Prelude.{ℕ, Option, Some, None, is_some}
 use Rattle.bo_base.specs.declared.answer.Methods.{Methods}
-use Rattle.bo_office.specs.declared.command.Query.TheVariants as queries
-use Rattle.bo_office.specs.declared.command.Resource.{Resource}
-use Rattle.bo_office.specs.declared.command.Resource.TheVariants as resources
+use Rattle.bo_commands.specs.declared.requests.Query.TheVariants as queries
+use Rattle.bo_commands.specs.declared.requests.Resource.{Resource}
+use Rattle.bo_commands.specs.declared.requests.Resource.TheVariants as resources
 use Rattle.bo_bodies.specs.declared.form.MoveName.{MoveName}
 use Rattle.bo_api.specs.declared.path.Target.{Target}
 use Rattle.bo_api.specs.declared.path.Target.TheVariants as targets

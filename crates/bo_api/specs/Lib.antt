@@ -1,5 +1,6 @@
 pub mod Slugs
 pub mod Routes
+pub mod Table
 pub mod Path
 pub mod Page
 pub mod Token

@@ -1,12 +1,12 @@
 -- What a path names.
-use Rattle.std.specs.Prelude.{ℕ, ◌+◌, ◌==◌, List, [], length, take, drop, position, Option, Some, None, if◌then◌else◌, codes, bytes_eq, slice_get}
+use Rattle.std.specs.Prelude.{ℕ, ◌+◌, ◌==◌, ◌++◌, List, [], length, take, drop, position, Option, Some, None, if◌then◌else◌, codes, bytes_eq, slice_get}
 use Rattle.std.specs.Borrow.{Bor}
 use Rattle.std.specs.List.{slice_split}
 use Rattle.std.specs.Result.{result_ok}
 use Rattle.bo_base.specs.Codes.{number_of_code}
 use Rattle.bo_base.specs.Digits.{number_of}
-use Rattle.bo_office.specs.declared.command.Resource.{Resource}
-use Rattle.bo_office.specs.declared.command.Resource.TheVariants as resources
+use Rattle.bo_commands.specs.declared.requests.Resource.{Resource}
+use Rattle.bo_commands.specs.declared.requests.Resource.TheVariants as resources
 use Rattle.bo_api.specs.declared.routes.Route.{Route}
 use Rattle.bo_api.specs.declared.routes.Route.TheVariants as routes
 use Rattle.bo_api.specs.declared.path.Target.{Target}
@@ -61,42 +61,47 @@ within organizer event path = do
 abbrev pub segment : ℕ → List ℕ → Option (List ℕ)
 segment n path = slice_get (slice_split (λ b. b == 47) path) n
 
--- the id behind the first name of a path: 1 to 18 digits
-abbrev pub id_in : List ℕ → Option ℕ
-id_in path = segment 2 path >>= number_of
+-- the id that a name of a path writes: 1 to 18 digits
+abbrev pub id_in : Option (List ℕ) → Option ℕ
+id_in name = name >>= number_of
 
 -- a row by its id; an id that isn't one makes the path unknown
-abbrev pub one_in : List ℕ → Resource → Option Target
-one_in path resource = id_in path >>= λ id. Some (targets.One resource id)
+abbrev pub one_in : Option (List ℕ) → Resource → Option Target
+one_in name resource = id_in name >>= λ id. Some (targets.One resource id)
 
 -- the number of the order with this code, where it is an order's code
 abbrev pub order_named : List ℕ → Option ℕ
 order_named code = result_ok (number_of_code code)
 
--- the number of the order whose code stands behind the first name of a path
-abbrev pub order_in : List ℕ → Option ℕ
-order_in path = segment 2 path >>= order_named
+-- the number of the order whose code is a name of a path
+abbrev pub order_in : Option (List ℕ) → Option ℕ
+order_in name = name >>= order_named
 
--- what a path of that route names; with another text in the place of a code it names an order that there isn't
-abbrev pub target_by : List ℕ → Route → Option Target
-target_by path routes.Items = Some (targets.All resources.Items)
-target_by path routes.Item = one_in path resources.Items
-target_by path routes.Variations = id_in path >>= λ id. Some (targets.Variations id)
-target_by path routes.Quotas = Some (targets.All resources.Quotas)
-target_by path routes.Quota = one_in path resources.Quotas
-target_by path routes.Availability = id_in path >>= λ id. Some (targets.Availability id)
-target_by path routes.Vouchers = Some (targets.All resources.Vouchers)
-target_by path routes.Voucher = one_in path resources.Vouchers
-target_by path routes.CartPositions = Some (targets.All resources.Carts)
-target_by path routes.CartPosition = one_in path resources.Carts
-target_by path routes.BulkCreate = Some targets.Bulk
-target_by path routes.Orders = Some (targets.All resources.Orders)
-target_by path routes.Order = Some (targets.Order (order_in path))
-target_by path (routes.Move name) = Some (targets.Moved (order_in path) name)
+-- what a path of that route names, by what stands behind its first name, the id or code; with another text in the place
+-- of a code it names an order that there isn't
+abbrev pub target_by : Option (List ℕ) → Route → Option Target
+target_by name routes.Items = Some (targets.All resources.Items)
+target_by name routes.Item = one_in name resources.Items
+target_by name routes.Variations = id_in name >>= λ id. Some (targets.Variations id)
+target_by name routes.Quotas = Some (targets.All resources.Quotas)
+target_by name routes.Quota = one_in name resources.Quotas
+target_by name routes.Availability = id_in name >>= λ id. Some (targets.Availability id)
+target_by name routes.Vouchers = Some (targets.All resources.Vouchers)
+target_by name routes.Voucher = one_in name resources.Vouchers
+target_by name routes.CartPositions = Some (targets.All resources.Carts)
+target_by name routes.CartPosition = one_in name resources.Carts
+target_by name routes.BulkCreate = Some targets.Bulk
+target_by name routes.Orders = Some (targets.All resources.Orders)
+target_by name routes.Order = Some (targets.Order (order_in name))
+target_by name (routes.Move move) = Some (targets.Moved (order_in name) move)
 
 -- what a target names, in the shop of those slugs
 unfoldable pub target_of : List ℕ → List ℕ → List ℕ → Option Target
 target_of organizer event target = do
   path ← within organizer event (path_of target)
   route ← route_of path
-  target_by path route
+  target_by (segment 2 path) route
+
+-- the target of a path in the shop of those slugs
+abbrev pub in_shop : List ℕ → List ℕ → List ℕ → List ℕ
+in_shop organizer event path = codes "/api/v1/organizers/" ++ organizer ++ codes "/events/" ++ event ++ path

@@ -12,9 +12,9 @@ use crate::path::Target;
 use crate::verb::{Verb, verb_of};
 use bo_base::Response;
 use bo_bodies::{Form, MoveName, read_command, read_move};
+use bo_commands::{Command, Query, Resource};
 use bo_fields::{BodyFault, ReadError};
 use bo_http::Frame;
-use bo_office::{Command, Query, Resource};
 use bo_words::{
     field_fault, invalid_data, invalid_page, method_not_allowed, not_found, parse_error,
 };

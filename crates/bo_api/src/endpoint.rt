@@ -7,7 +7,7 @@ use crate::path::Target;
 use crate::verb::Verb;
 use bo_base::Methods;
 use bo_bodies::{Form, MoveName};
-use bo_office::{Query, Resource};
+use bo_commands::{Query, Resource};
 
 /// What a method asks for at a target.
 #[derive(Clone, Copy, Debug, PartialEq, Eq)]

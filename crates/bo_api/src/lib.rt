@@ -3,6 +3,7 @@
 
 pub mod call;
 mod endpoint;
+pub mod laws;
 mod page;
 mod path;
 mod routes;

@@ -7,7 +7,7 @@ ghost use Rattle.bo_api.specs.Routes.{all_routes, route_of};
 use crate::routes::{Route, route_of};
 use bo_base::{number_of, read_code};
 use bo_bodies::MoveName;
-use bo_office::Resource;
+use bo_commands::Resource;
 use matchit::Router;
 
 /// What a path names, with the ids that stand in it.
@@ -84,14 +84,14 @@ fn segment<'p>(n: usize, path: &'p [u8]) -> Option<&'p [u8]>
 
 /// The id behind the first name of a path.
 fn id_in(path: &[u8]) -> Option<u64>
-    ensures { result ≡ id_in path.now }
+    ensures { result ≡ id_in (segment 2 path.now) }
 {
     number_of(segment(2, path)?)
 }
 
 /// A row by the id in the path.
 fn one_in(path: &[u8], resource: Resource) -> Option<Target>
-    ensures { result ≡ one_in path.now resource }
+    ensures { result ≡ one_in (segment 2 path.now) resource }
 {
     Some(Target::One(resource, id_in(path)?))
 }
@@ -108,14 +108,14 @@ fn order_named(code: &[u8]) -> Option<u64>
 
 /// The number of the order whose code stands behind the first name of a path.
 fn order_in(path: &[u8]) -> Option<u64>
-    ensures { result ≡ order_in path.now }
+    ensures { result ≡ order_in (segment 2 path.now) }
 {
     order_named(segment(2, path)?)
 }
 
 /// What a path of that route names.
 fn target_by(path: &[u8], route: Route) -> Option<Target>
-    ensures { result ≡ target_by path.now route }
+    ensures { result ≡ target_by (segment 2 path.now) route }
 {
     match route {
         Route::Items => Some(Target::All(Resource::Items)),

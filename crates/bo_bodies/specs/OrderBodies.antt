@@ -18,9 +18,14 @@ use Rattle.bo_fields.specs.declared.error.BodyFault.TheVariants as faults
 use Rattle.bo_fields.specs.Reading.{◌>>=◌, fault, renamed}
 use Rattle.bo_fields.specs.Modes.{present, required}
 use Rattle.bo_fields.specs.Kinds.{end, id}
-use Rattle.bo_fields.specs.Lists.{list, all_of, entry_object}
+use Rattle.bo_fields.specs.Lists.{list, all_of, at_most, entry_object}
 use Rattle.bo_fields.specs.Lacking.{or_else, optional_id, optional_text, optional_loose_text, optional_money, optional_moment, texts_or_none}
 use Rattle.bo_bodies.specs.CartBodies.{cart_of}
+
+-- how many positions of an order, and entries of a bulk call, are handed on: one more than there may be, which is enough
+-- to tell that there are too many
+abbrev pub enough : ℕ
+enough = 501
 
 -- what is asked for one position; its voucher is a code, and an empty one is a code that no voucher has
 unfoldable pub asked_of : Data → Result Asked BodyFault
@@ -36,12 +41,12 @@ asked_of d = do
 abbrev pub position_entry : Data → Result Asked BodyFault
 position_entry d = entry_object fields.Positions d >>= λ v. renamed fields.Positions (asked_of v)
 
--- the positions of a new order; the list has to be there, and may be empty
+-- the first positions of a new order; the list has to be there, and may be empty, and a fault of any entry is the list's
 abbrev pub positions_of : Data → Result (List Asked) BodyFault
 positions_of d = do
   v ← required fields.Positions d
   ds ← list fields.Positions v
-  all_of position_entry ds
+  at_most enough (all_of position_entry ds)
 
 -- what an order starts as: n is pending, p is paid
 abbrev pub start_named : List ℕ → Option Start
@@ -80,10 +85,14 @@ entry_from (Ok new) = entries.New new
 entry_from (Err (faults.Field f)) = entries.Faulty (entry_faults.Field f)
 entry_from (Err other) = entries.Faulty entry_faults.InvalidData
 
--- an entry of a bulk call, read as a request for one cart position; it may be anything, so its reading has no fault
-abbrev pub bulk_entry : Data → Result Entry BodyFault
-bulk_entry d = Ok (if is_some (as_object d) then entry_from (cart_of d) else entries.Faulty entry_faults.InvalidData)
+-- an entry of a bulk call, read as a request for one cart position
+abbrev pub entry_said : Data → Entry
+entry_said d = if is_some (as_object d) then entry_from (cart_of d) else entries.Faulty entry_faults.InvalidData
 
--- the entries of a bulk call: one for each value of the list, in its order
+-- it may be anything, so its reading has no fault
+abbrev pub bulk_entry : Data → Result Entry BodyFault
+bulk_entry d = Ok (entry_said d)
+
+-- the first entries of a bulk call: one for each value of the list, in its order
 abbrev pub entries_of : Items → Result (List Entry) BodyFault
-entries_of ds = all_of bulk_entry ds
+entries_of ds = at_most enough (all_of bulk_entry ds)

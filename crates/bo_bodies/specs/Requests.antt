@@ -5,8 +5,8 @@ use Rattle.serde_json.specs.Find.{as_array}
 use Rattle.bo_orders.specs.declared.bulk.Entry.{Entry}
 use Rattle.bo_orders.specs.declared.moves.Move.{Move}
 use Rattle.bo_orders.specs.declared.moves.Move.TheVariants as moves
-use Rattle.bo_office.specs.declared.command.Command.{Command}
-use Rattle.bo_office.specs.declared.command.Command.TheVariants as commands
+use Rattle.bo_commands.specs.declared.requests.Command.{Command}
+use Rattle.bo_commands.specs.declared.requests.Command.TheVariants as commands
 use Rattle.bo_fields.specs.declared.error.BodyFault.{BodyFault}
 use Rattle.bo_fields.specs.declared.error.BodyFault.TheVariants as faults
 use Rattle.bo_fields.specs.Reading.{◌>>=◌}

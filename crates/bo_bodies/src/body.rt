@@ -7,8 +7,8 @@ ghost use Rattle.bo_bodies.specs.Body.{body_text, json_of, object_of, shape_of, 
 
 use crate::form::{Form, MoveName};
 use crate::requests::{command_of, move_of};
+use bo_commands::Command;
 use bo_fields::{BodyFault, ReadError};
-use bo_office::Command;
 use bo_orders::Move;
 use serde_json::Value;
 use std::alloc::Global;

@@ -6,6 +6,7 @@ mod cart_bodies;
 mod catalogue_bodies;
 mod copies;
 pub mod form;
+pub mod laws;
 mod order_bodies;
 mod requests;
 mod voucher_bodies;

@@ -2,7 +2,7 @@
 
 ghost use Rattle.std.specs.Prelude.{◌≡◌, Ok};
 ghost use Rattle.bo_base.specs.Texts.{same_text};
-ghost use Rattle.bo_fields.specs.Reading.{Reads};
+ghost use Rattle.bo_fields.specs.Reading.{Gives, Reads};
 ghost use Rattle.bo_bodies.specs.CartBodies.{cart_of};
 ghost use Rattle.bo_bodies.specs.OrderBodies.{asked_of, position_entry, positions_of, start_named, start, start_of, order_of, end_of, entry_from, bulk_entry, entries_of};
 ghost use Rattle.serde_json.specs.View.{view, items_view};
@@ -12,13 +12,17 @@ use crate::copies::copied;
 use bo_base::{List, Moment};
 use bo_faults::{EntryFault, Fault, Field, Problem};
 use bo_fields::{
-    BodyFault, ReadError, Reading, end, entries, entry_object, id, list, optional_id,
-    optional_loose_text, optional_moment, optional_money, optional_text, present, required,
-    texts_or_none,
+    BodyFault, ReadError, Reading, end, entries, entry_object, first_entries, id, list,
+    optional_id, optional_loose_text, optional_moment, optional_money, optional_text, present,
+    required, texts_or_none,
 };
 use bo_orders::{Asked, Entry, NewOrder, Start};
 use serde_json::Value;
 use std::alloc::Global;
+
+// How many positions of an order, and entries of a bulk call, are handed on: one more than there may be, which is
+// enough to tell that there are too many.
+const ENOUGH: usize = 501;
 
 /// What is asked for one position.
 #[tactic(auto, unfolding(crate::specs::OrderBodies::asked_of))]
@@ -54,12 +58,13 @@ impl Reading<Asked> for ArePositions {
     }
 }
 
-/// The positions of a new order, which have to be there.
+/// The first positions of a new order, which have to be there. Those behind them are read for their faults, and not kept.
 fn positions_of(alloc: Global, body: &Value) -> Result<List<Asked>, ReadError>
     ensures { Reads result (positions_of (view body.now)) }
 {
     let value = required(Field::Positions, body)?;
-    let found = entries(alloc, &ArePositions, list(Field::Positions, value)?)?;
+    let asked = list(Field::Positions, value)?;
+    let found = first_entries(alloc, &ArePositions, ENOUGH, asked)?;
     Ok(List::new(found))
 }
 
@@ -162,9 +167,16 @@ impl Reading<Entry> for AreCarts {
     }
 }
 
-/// The entries of a bulk call. What is wrong with one is told of it alone: `Memory` is the only error.
+/// What the first entries of a bulk call say; those behind them aren't looked at.
+fn front_entries(alloc: Global, list: &[Value]) -> Result<Vec<Entry>, ReadError>
+    ensures { Gives (λ all. all.items) result (entries_of (items_view list.now)) }
+{
+    entries(alloc, &AreCarts, &list[..ENOUGH.min(list.len())])
+}
+
+/// The first entries of a bulk call. What is wrong with one is told of it alone: `Memory` is the only error.
 pub fn entries_of(alloc: Global, list: &[Value]) -> Result<List<Entry>, ReadError>
     ensures { Reads result (entries_of (items_view list.now)) }
 {
-    Ok(List::new(entries(alloc, &AreCarts, list)?))
+    Ok(List::new(front_entries(alloc, list)?))
 }

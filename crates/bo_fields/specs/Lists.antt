@@ -1,5 +1,5 @@
 -- Lists in a body.
-use Rattle.std.specs.Prelude.{ℕ, List, [], ◌∷◌, ◌++◌, Option, Some, None, Result, Ok, Err}
+use Rattle.std.specs.Prelude.{ℕ, List, [], ◌∷◌, ◌++◌, take, Option, Some, None, Result, Ok, Err}
 use Rattle.serde_json.specs.Data.{Data, Items, no_items, item, Members}
 use Rattle.serde_json.specs.Find.{as_array, as_object}
 use Rattle.bo_faults.specs.declared.fields.Field.{Field}
@@ -49,3 +49,7 @@ texts f d = list f d >>= all_of (entry_text f)
 -- the entries that were read, and those of the rest
 abbrev pub with_front : {A : Type 0} → List A → Result (List A) BodyFault → Result (List A) BodyFault
 with_front front rest = rest >>= λ xs. Ok (front ++ xs)
+
+-- the first n of what was read; a fault of any entry is one of them all
+abbrev pub at_most : {A : Type 0} → ℕ → Result (List A) BodyFault → Result (List A) BodyFault
+at_most n read = read >>= λ xs. Ok (take n xs)

@@ -9,7 +9,7 @@ use crate::error::{BodyFault, ReadError};
 use crate::kinds::{id, loose_text, moment, money, price_mode, text, truth, whole};
 use crate::lists::{ids, texts};
 use crate::modes::{optional, present};
-use bo_base::{Cents, Ids, List, Moment, PriceMode, Text};
+use bo_base::{Cents, List, Moment, PriceMode, Text};
 use bo_faults::Field;
 use serde_json::Value;
 use std::alloc::Global;
@@ -112,11 +112,11 @@ pub fn optional_moment(field: Field, body: &Value) -> Result<Option<Moment>, Bod
 }
 
 /// A list of ids that may be absent. `Memory` where there is none for them.
-pub fn ids_or_none(alloc: Global, field: Field, body: &Value) -> Result<Ids, ReadError>
+pub fn ids_or_none(alloc: Global, field: Field, body: &Value) -> Result<List<u64>, ReadError>
     ensures { Reads result (ids_or_none field (view body.now)) }
 {
     match present(field, body)? {
-        None => Ok(Ids::new(Vec::new(alloc))),
+        None => Ok(List::new(Vec::new(alloc))),
         Some(value) => ids(alloc, field, value),
     }
 }

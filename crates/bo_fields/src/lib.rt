@@ -14,7 +14,7 @@ pub use lacking::{
     ids_or_none, optional_id, optional_loose_text, optional_moment, optional_money, optional_text,
     price_mode_or, text_or_empty, texts_or_none, truth_or, whole_or,
 };
-pub use lists::{Reading, entries, entry_object, ids, list, texts};
+pub use lists::{Reading, entries, entry_object, first_entries, ids, list, texts};
 pub use modes::{maybe, nullable, optional, present, required};
 pub use patched::{
     patched_id_or_null, patched_loose_text, patched_moment_or_null, patched_money,

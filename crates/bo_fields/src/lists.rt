@@ -4,13 +4,13 @@ ghost use Rattle.std.specs.Prelude.{◌≡◌, Result};
 ghost use Rattle.bo_fields.specs.declared.error.BodyFault.{BodyFault};
 ghost use Rattle.serde_json.specs.Data.{Data};
 ghost use Rattle.bo_fields.specs.Reading.{Gives, Reads, Shows, items_of_slice, text_of, view_of};
-ghost use Rattle.bo_fields.specs.Lists.{list, entry_id, entry_object, all_of, ids, entry_text, texts};
+ghost use Rattle.bo_fields.specs.Lists.{list, entry_id, entry_object, all_of, at_most, ids, entry_text, texts};
 ghost use Rattle.serde_json.specs.View.{view, items_view};
 
 use crate::error::{BodyFault, ReadError, fault};
 use crate::kinds::{id, text};
 use crate::modes::not_null;
-use bo_base::{Ids, List, Text};
+use bo_base::{List, Text};
 use bo_faults::{Field, Problem};
 use serde_json::Value;
 use std::alloc::Global;
@@ -53,6 +53,26 @@ pub trait Reading<T: Drop> {
         ensures { Reads result (reading self.now (view entry.now)) };
 }
 
+/// What the first entries of a list say, at most this many of them, or the first fault of any entry: those behind them
+/// are read too, and not kept. `Memory` where there is none for them.
+pub fn first_entries<T: Drop, R: Reading<T>>(
+    alloc: Global,
+    reading: &R,
+    most: usize,
+    list: &[Value],
+) -> Result<Vec<T>, ReadError>
+    ensures { Gives (λ kept. kept.items) result (at_most most (all_of (R.reading reading.now) (items_view list.now))) }
+{
+    let mut found = Vec::new(alloc);
+    for entry in list {
+        let said = reading.read(alloc, entry)?;
+        if found.len() < most && found.push(said).is_err() {
+            return Err(ReadError::Memory);
+        }
+    }
+    Ok(found)
+}
+
 /// What the entries of a list say, or the first fault. `Memory` where there is none for them.
 pub fn entries<T: Drop, R: Reading<T>>(
     alloc: Global,
@@ -61,14 +81,7 @@ pub fn entries<T: Drop, R: Reading<T>>(
 ) -> Result<Vec<T>, ReadError>
     ensures { Gives (λ all. all.items) result (all_of (R.reading reading.now) (items_view list.now)) }
 {
-    let mut found = Vec::new(alloc);
-    for entry in list {
-        let said = reading.read(alloc, entry)?;
-        if found.push(said).is_err() {
-            return Err(ReadError::Memory);
-        }
-    }
-    Ok(found)
+    first_entries(alloc, reading, list.len(), list)
 }
 
 // Entries that are ids.
@@ -86,11 +99,11 @@ impl Reading<u64> for AreIds {
 }
 
 /// A list of ids as the body gives them. `Memory` where there is none for them.
-pub fn ids(alloc: Global, field: Field, value: &Value) -> Result<Ids, ReadError>
+pub fn ids(alloc: Global, field: Field, value: &Value) -> Result<List<u64>, ReadError>
     ensures { Reads result (ids field (view value.now)) }
 {
     let found = entries(alloc, &AreIds { field }, list(field, value)?)?;
-    Ok(Ids::new(found))
+    Ok(List::new(found))
 }
 
 /// An entry that is a text, which isn't empty.
