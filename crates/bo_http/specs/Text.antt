@@ -60,17 +60,24 @@ close_field closes = when closes (codes "Connection: close\r\n")
 abbrev pub content : ℕ → List ℕ → List ℕ
 content status body = when (has_content status) body
 
--- the text of an answer: its status, the methods of the path where they are told, its body, and whether the connection ends after it
-unfoldable pub answer_text : ℕ → Option Methods → List ℕ → Bool → List ℕ
-answer_text status allow body closes = concat (
+-- the most bytes of the head of an answer
+abbrev pub head_room : ℕ
+head_room = 256
+
+-- the head of an answer, with the empty line that ends it
+unfoldable pub head_text : ℕ → Option Methods → ℕ → Bool → List ℕ
+head_text status allow size closes = concat (
     status_line status
-    ∷ content_fields status (length body)
+    ∷ content_fields status size
     ∷ challenge status
     ∷ allow_field allow
     ∷ close_field closes
     ∷ codes "\r\n"
-    ∷ content status body
     ∷ [])
+
+-- the text of an answer: its status, the methods of the path where they are told, its body, and whether the connection ends after it
+unfoldable pub answer_text : ℕ → Option Methods → List ℕ → Bool → List ℕ
+answer_text status allow body closes = head_text status allow (length body) closes ++ content status body
 
 abbrev pub unavailable_body : List ℕ
 unavailable_body = codes "{\"detail\":\"Service unavailable.\"}"

@@ -1,18 +1,19 @@
 -- Runs and chains, one after another.
-use Rattle.std.proofs.Common.{◌≡◌, ℕ, Bool, true, false, List, [], ◌∷◌, ◌++◌, map, Option, Some, Ok, Err, refl, sym, ap, ◌∙◌, subst, subst₂, append_assoc, append-nil, inl, inr}
+use Rattle.std.proofs.Common.{◌≡◌, ℕ, Bool, true, false, List, [], ◌∷◌, ◌++◌, map, Option, Some, Result, Ok, Err, refl, sym, ap, ◌∙◌, subst, subst₂, append_assoc, append-nil, length-append, ◌+◌, inl, inr, arith}
 use Rattle.std.proofs.lemmas.List.{map-append}
 use Rattle.std.specs.Io.KnownBytes.{IsAtEnd}
 use Rattle.bo_base.specs.declared.answer.Answer.{Answer}
 use Rattle.bo_base.specs.declared.device.Tick.{Tick}
 use Rattle.bo_base.specs.Told.{Adds, Gives}
-use Rattle.bo_base.proofs.ToldLemmas.{Adds-nil, Adds-append, Gives-append}
+use Rattle.bo_base.proofs.ToldLemmas.{Adds-nil, Adds-append, Gives-nil, Gives-append}
 use Rattle.bo_http.specs.declared.fault.Fault.{Fault}
 use Rattle.bo_http.specs.Text.{text, fault_text}
-use Rattle.bo_http.specs.Messages.{Message, Takes, Faults, HasNone, closes, Messages}
+use Rattle.bo_http.specs.Messages.{Message, Takes, Faults, HasNone, closes, Messages, whole}
 use Rattle.bo_http.specs.Framed.{TakesFirst}
+use Rattle.bo_http.proofs.FirstLemmas.{no_head}
 use Rattle.bo_serve.specs.declared.failure.Failure.{Failure}
 use Rattle.bo_serve.specs.declared.failure.Failure.TheVariants as failures
-use Rattle.bo_serve.specs.Run.{Item, Runs, Chain, whole, AreAlways, AreAll, Cursor, cursor, Progress, Finished, Stopped, BreaksOff, Broken, TakesIn, CountedIn}
+use Rattle.bo_serve.specs.Run.{Item, Runs, Chain, AreAlways, AreAll, Cursor, cursor, Progress, Finished, Stopped, BreaksOff, Broken, Streams, Devices, InPieces, RunLeads, LosesPiece, TakesIn, CountedIn}
 
 -- ---- chains
 
@@ -102,6 +103,9 @@ message_goes Serves l l' t t' d d' w w' m tick answer b takes told serves wrote 
   taken = wrote;
   runs = (d', answer, [], serves, ap (text answer) test ∙ sym (append-nil (text answer (closes m))), (refl, refl));
 }
+
+none_of_none : HasNone []
+none_of_none = no_head [] (omega arith, λ n line settles. let some = line.some in let here = line.here in absurd (omega arith))
 
 -- ---- several steps
 
@@ -236,29 +240,35 @@ module _ {D : Type 0} (Serves : D → Tick → Message → Answer → D → Type
     };
   }
 
-  pub memory_broken : (p : Cursor D) (l l' : List ℕ) (t : Option (List Tick)) (d : D) (w : Option (List ℕ)) → Progress Serves p (cursor l t d w) → Broken Serves failures.Memory p (cursor l' t d w)
-  memory_broken p l l' t d w x = record { mid = cursor l t d w; before = x; last = stopped l l' t t d w (Adds-nil t) }
+  pub memory_broken : (p : Cursor D) (l l' : List ℕ) (t : Option (List Tick)) (d : D) (w : Option (List ℕ)) → Progress Serves p (cursor l t d w) → LosesPiece l → Broken Serves failures.Memory p (cursor l' t d w)
+  memory_broken p l l' t d w x loses = record { mid = cursor l t d w; before = x; last = (stopped l l' t t d w (Adds-nil t), loses) }
 
   pub limit_broken : (p : Cursor D) (l l' : List ℕ) (t : Option (List Tick)) (d : D) (w : Option (List ℕ)) → Progress Serves p (cursor l t d w) → HasNone l → Broken Serves failures.Limit p (cursor l' t d w)
   limit_broken p l l' t d w x none = record { mid = cursor l t d w; before = x; last = (stopped l l' t t d w (Adds-nil t), none) }
 
   -- a reader that fails, or memory for what it gave that is refused
-  pub read_broken : (e : Failure) (g g' g'' : Option (List ℕ)) (b l l' : List ℕ) (t t' : Option (List Tick)) (d d' : D) (w w' : Option (List ℕ)) (input input' : ℕ)
-      → Gives g b g' → Progress Serves (cursor b t d w) (cursor l t' d' w') → HasNone l → TakesIn (Err e) l l' g' g'' → CountedIn (Err e) input input'
-      → (bytes : List ℕ) × Gives g bytes g'' × Broken Serves e (cursor bytes t d w) (cursor [] t' d' w')
-  read_broken failures.Input g g' g'' b l l' t t' d d' w w' input input' gives x none read counted = (
-    b,
-    subst (λ (s : List ℕ). Gives g s g'') (append-nil b) (Gives-append g g' g'' b [] gives read),
-    record { mid = cursor l t' d' w'; before = x; last = (stopped l [] t' t' d' w' (Adds-nil t'), none) },
-  )
-  read_broken failures.Memory g g' g'' b l l' t t' d d' w w' input input' gives x none (piece, read) counted = (
-    b ++ piece,
-    Gives-append g g' g'' b piece gives read,
-    memory_broken _ (l ++ piece) [] t' d' w' (progress_feed b l piece t t' d d' w w' x),
-  )
-  read_broken failures.Output g g' g'' b l l' t t' d d' w w' input input' gives x none read counted = absurd counted
-  read_broken failures.Clock g g' g'' b l l' t t' d d' w w' input input' gives x none read counted = absurd counted
-  read_broken failures.Limit g g' g'' b l l' t t' d d' w w' input input' gives x none read counted = absurd counted
+  pub read_broken : (e : Failure) (old new : Devices D) (b l l' : List ℕ) (g : Option (List ℕ)) (turn input input' : ℕ)
+      → Gives old.left b g → InPieces b turn 0 → Progress Serves (cursor b old.told old.desk old.taken) (cursor l new.told new.desk new.taken) → HasNone l
+      → new.calls ≡ old.calls + turn + 1 → TakesIn (Err e) l l' g new.left → CountedIn (Err e) input input' → RunLeads Serves old new (Err e)
+  read_broken failures.Input old new b l l' g turn input input' gives pieces x none calls read counted = record {
+    bytes = b;
+    given = subst (λ (s : List ℕ). Gives old.left s new.left) (append-nil b) (Gives-append old.left g new.left b [] gives read.0);
+    pieces = record { most = omega (arith, pieces.most, calls); some = omega (arith, pieces.some, calls) };
+    streams = record { mid = cursor l new.told new.desk new.taken; before = x; last = (stopped l [] new.told new.told new.desk new.taken (Adds-nil new.told), none) };
+  }
+  read_broken failures.Memory old new b l l' g turn input input' gives pieces x none calls (piece, read, (some, most), same) counted = record {
+    bytes = b ++ piece;
+    given = Gives-append old.left g new.left b piece gives read;
+    pieces = record {
+      most = omega (arith, length-append b piece, pieces.most, most, calls);
+      some = omega (arith, length-append b piece, pieces.some, some, calls);
+    };
+    streams = memory_broken _ (l ++ piece) [] new.told new.desk new.taken
+        (progress_feed b l piece old.told new.told old.desk new.desk old.taken new.taken x) (l, piece, refl, none, most);
+  }
+  read_broken failures.Output old new b l l' g turn input input' gives pieces x none calls read counted = absurd counted
+  read_broken failures.Clock old new b l l' g turn input input' gives pieces x none calls read counted = absurd counted
+  read_broken failures.Limit old new b l l' g turn input input' gives pieces x none calls read counted = absurd counted
 
   -- what is left afterwards does not matter
   pub broken_at : (e : Failure) (p : Cursor D) (l l' : List ℕ) (t : Option (List Tick)) (d : D) (w : Option (List ℕ)) → Broken Serves e p (cursor l t d w) → Broken Serves e p (cursor l' t d w)
@@ -272,7 +282,7 @@ module _ {D : Type 0} (Serves : D → Tick → Message → Answer → D → Type
       last_at failures.Clock q y = (stays q y.0, y.1)
       last_at failures.Input q y = (stays q y.0, y.1)
       last_at failures.Limit q y = (stays q y.0, y.1)
-      last_at failures.Memory q y = stays q y
+      last_at failures.Memory q y = (stays q y.0, y.1)
 
   pub finished_at : (p : Cursor D) (IsOf : List Item → Type 0) (l l' : List ℕ) (t : Option (List Tick)) (d : D) (w : Option (List ℕ)) → Finished Serves IsOf p (cursor l t d w) → Finished Serves IsOf p (cursor l' t d w)
   finished_at p IsOf l l' t d w x = record {
@@ -283,4 +293,37 @@ module _ {D : Type 0} (Serves : D → Tick → Message → Answer → D → Type
     told = x.told;
     taken = x.taken;
     runs = x.runs;
+  }
+
+  -- ---- a whole run
+
+  -- a connection that could not be opened
+  pub unopened : (p : Devices D) → RunLeads Serves p p (Err failures.Memory)
+  unopened p = record {
+    bytes = [];
+    given = Gives-nil p.left;
+    pieces = record { most = omega arith; some = omega arith };
+    streams = memory_broken (cursor [] p.told p.desk p.taken) [] [] p.told p.desk p.taken (progress_none _ _ refl) ([], [], refl, none_of_none, omega arith);
+  }
+
+  -- all bytes that came were read in so many calls, and what they lead to is known
+  pub run_leads : (old new : Devices D) (result : Result (Unit {0}) Failure) (bytes : List ℕ) (calls : ℕ) → Gives old.left bytes new.left
+      → InPieces bytes calls 0 → new.calls ≡ old.calls + calls
+      → Streams Serves new.left (cursor bytes old.told old.desk old.taken) (cursor [] new.told new.desk new.taken) result → RunLeads Serves old new result
+  run_leads old new result bytes calls given pieces is streams = record {
+    bytes = bytes;
+    given = given;
+    pieces = record { most = omega (arith, pieces.most, is); some = omega (arith, pieces.some, is) };
+    streams = streams;
+  }
+
+  -- one more call gave nothing, at the end
+  pub run_ends : (old new : Devices D) (u : Unit {0}) (bytes : List ℕ) (g : Option (List ℕ)) (calls : ℕ) → Gives old.left bytes g → Gives g [] new.left
+      → InPieces bytes calls 0 → new.calls ≡ old.calls + calls + 1
+      → Finished Serves (AreAll bytes new.left) (cursor bytes old.told old.desk old.taken) (cursor [] new.told new.desk new.taken) → RunLeads Serves old new (Ok u)
+  run_ends old new u bytes g calls given last pieces is finished = record {
+    bytes = bytes;
+    given = subst (λ (s : List ℕ). Gives old.left s new.left) (append-nil bytes) (Gives-append old.left g new.left bytes [] given last);
+    pieces = record { most = omega (arith, pieces.most, is); some = omega (arith, pieces.some, is) };
+    streams = finished;
   }

@@ -1,12 +1,12 @@
 -- A run of a desk over the messages of a stream.
-use Rattle.std.specs.Prelude.{◌≡◌, ℕ, ◌+◌, ◌<◌, ◌⊎◌, Bool, List, [], ◌∷◌, ◌++◌, length, map, Option, Result, Ok, Err, true, false}
+use Rattle.std.specs.Prelude.{◌≡◌, ℕ, ◌+◌, ◌-◌, ◌*◌, ◌<◌, ◌≤◌, ◌⊎◌, Bool, List, [], ◌∷◌, ◌++◌, length, map, Option, Result, Ok, Err, true, false}
 use Rattle.std.specs.Io.KnownBytes.{IsAtEnd}
 use Rattle.bo_base.specs.declared.answer.Answer.{Answer}
 use Rattle.bo_base.specs.declared.device.Tick.{Tick}
 use Rattle.bo_base.specs.Told.{Adds, Gives}
 use Rattle.bo_http.specs.declared.fault.Fault.{Fault}
 use Rattle.bo_http.specs.Text.{text, fault_text}
-use Rattle.bo_http.specs.Messages.{Message, Takes, Faults, HasNone, closes, Messages}
+use Rattle.bo_http.specs.Messages.{Message, Takes, Faults, HasNone, closes, Messages, whole}
 use Rattle.bo_http.specs.Framed.{TakesFirst}
 use Rattle.bo_serve.specs.declared.failure.Failure.{Failure}
 use Rattle.bo_serve.specs.declared.failure.Failure.TheVariants as failures
@@ -37,10 +37,6 @@ IsNext bytes (Err f) = Faults bytes f
 abbrev pub Chain : List ℕ → List Message → List ℕ → Type 0
 Chain bytes [] rest = bytes ≡ rest
 Chain bytes (m ∷ ms) rest = (mid : List ℕ) × TakesFirst bytes m mid × (closes m ≡ false) × Chain mid ms rest
-
--- a message as an item
-abbrev pub whole : Message → Item
-whole m = Ok m
 
 -- whatever follows the bytes, the items are the messages
 abbrev pub AreAlways : List ℕ → List Item → Type 0
@@ -92,6 +88,14 @@ pub record CutOff {D : Type 0} (Serves : D → Tick → Message → Answer → D
   pub taken : Adds old.taken part new.taken
   pub runs : Runs Serves old.desk ticks (item ∷ []) (part ++ rest) new.desk
 
+-- what one call of a reader gives: some bytes, at most 65,536
+abbrev pub IsPiece : List ℕ → Type 0
+IsPiece piece = (0 < length piece) × (length piece ≤ 65536)
+
+-- no message is left in what was there before the last bytes came, which one call of the reader gave
+abbrev pub LosesPiece : List ℕ → Type 0
+LosesPiece bytes = (waiting : List ℕ) × (piece : List ℕ) × (bytes ≡ waiting ++ piece) × HasNone waiting × (length piece ≤ 65536)
+
 -- nothing more was told or written, and the desk is as it was
 pub record Stopped {D : Type 0} (old new : Cursor D) : Type 0 where
   pub told : Adds old.told [] new.told
@@ -100,13 +104,14 @@ pub record Stopped {D : Type 0} (old new : Cursor D) : Type 0 where
 
 -- Where a run breaks off, behind the messages that were answered whole: where the writer fails, within the text of the next
 -- one; where the clock fails, before the next one, which is there; where the reader fails or its limit is met, once no message
--- is left; and where the room for what was read can't grow, before what was read last.
+-- is left; and where the room for what was read can't grow, once none is left in what was read before, so that only the bytes
+-- of one call are lost.
 abbrev pub BreaksOff : {D : Type 0} → (D → Tick → Message → Answer → D → Type 0) → Failure → Cursor D → Cursor D → Type 0
 BreaksOff Serves failures.Output old new = CutOff Serves old new
 BreaksOff Serves failures.Clock old new = Stopped old new × ((m : Message) × IsNext old.left (Ok m))
 BreaksOff Serves failures.Input old new = Stopped old new × HasNone old.left
 BreaksOff Serves failures.Limit old new = Stopped old new × HasNone old.left
-BreaksOff Serves failures.Memory old new = Stopped old new
+BreaksOff Serves failures.Memory old new = Stopped old new × LosesPiece old.left
 
 -- messages at the front were answered whole, and there the run breaks off
 pub record Broken {D : Type 0} (Serves : D → Tick → Message → Answer → D → Type 0) (e : Failure) (old new : Cursor D) : Type 0 where
@@ -133,6 +138,33 @@ abbrev pub Streams : {D : Type 0} → (D → Tick → Message → Answer → D �
 Streams Serves after old new (Ok u) = Finished Serves (AreAll old.left after) old new
 Streams Serves after old new (Err e) = Broken Serves e old new
 
+-- where the devices of a run and its desk stand: what the reader still has, where that is known, and the calls that were made of
+-- it; the ticks that were told; the desk; and what was written
+pub record Devices (D : Type 0) : Type 0 where
+  pub left : Option (List ℕ)
+  pub calls : ℕ
+  pub told : Option (List Tick)
+  pub desk : D
+  pub taken : Option (List ℕ)
+
+-- how many of the calls of the reader gave nothing: the last one, where the run comes to the end or the reader fails
+abbrev pub idle_reads : Result (Unit {0}) Failure → ℕ
+idle_reads (Ok u) = 1
+idle_reads (Err failures.Input) = 1
+idle_reads (Err failure) = 0
+
+-- each of so many calls of the reader gave 1 to 65,536 of the bytes, but for those that gave nothing
+pub record InPieces (bytes : List ℕ) (calls idle : ℕ) : Type 0 where
+  pub most : length bytes ≤ 65536 * calls
+  pub some : calls ≤ length bytes + idle
+
+-- what a run leads to: the reader gave some bytes, and all that was told and written is of a run over them
+pub record RunLeads {D : Type 0} (Serves : D → Tick → Message → Answer → D → Type 0) (old new : Devices D) (result : Result (Unit {0}) Failure) : Type 0 where
+  pub bytes : List ℕ
+  pub given : Gives old.left bytes new.left
+  pub pieces : InPieces bytes (new.calls - old.calls) (idle_reads result)
+  pub streams : Streams Serves new.left (cursor bytes old.told old.desk old.taken) (cursor [] new.told new.desk new.taken) result
+
 -- a failure was counted where it is the clock's or the writer's, and no other one
 abbrev pub Counted : {A : Type 0} → Result A Failure → ℕ → ℕ → ℕ → ℕ → Type 0
 Counted (Ok a) clock clock' output output' = (clock' ≡ clock) × (output' ≡ output)
@@ -142,23 +174,38 @@ Counted (Err failures.Input) clock clock' output output' = ⊥
 Counted (Err failures.Memory) clock clock' output output' = ⊥
 Counted (Err failures.Limit) clock clock' output output' = ⊥
 
+-- what the devices of a run have counted: the failures of its clock, its writer and its reader, and the calls of the reader
+pub record Counts : Type 0 where
+  pub clock : ℕ
+  pub output : ℕ
+  pub input : ℕ
+  pub calls : ℕ
+
 -- The same of a whole run. It ends with the failure of a device where that device failed, and no other one did; else no
 -- device failed, and the limit is met only by 1,000,000 reads.
-abbrev pub CountedAll : Result (Unit {0}) Failure → ℕ → ℕ → ℕ → ℕ → ℕ → ℕ → ℕ → ℕ → Type 0
-CountedAll (Ok a) clock clock' output output' input input' calls calls' = (clock' ≡ clock) × (output' ≡ output) × (input' ≡ input)
-CountedAll (Err failures.Clock) clock clock' output output' input input' calls calls' = (clock < clock') × (output' ≡ output) × (input' ≡ input)
-CountedAll (Err failures.Output) clock clock' output output' input input' calls calls' = (clock' ≡ clock) × (output < output') × (input' ≡ input)
-CountedAll (Err failures.Input) clock clock' output output' input input' calls calls' = (clock' ≡ clock) × (output' ≡ output) × (input < input')
-CountedAll (Err failures.Memory) clock clock' output output' input input' calls calls' = (clock' ≡ clock) × (output' ≡ output) × (input' ≡ input)
-CountedAll (Err failures.Limit) clock clock' output output' input input' calls calls' = (clock' ≡ clock) × (output' ≡ output) × (input' ≡ input) × (calls' ≡ calls + 1000000)
+abbrev pub CountedAll : Result (Unit {0}) Failure → Counts → Counts → Type 0
+CountedAll (Ok u) old new = (new.clock ≡ old.clock) × (new.output ≡ old.output) × (new.input ≡ old.input)
+CountedAll (Err failures.Clock) old new = (old.clock < new.clock) × (new.output ≡ old.output) × (new.input ≡ old.input)
+CountedAll (Err failures.Output) old new = (new.clock ≡ old.clock) × (old.output < new.output) × (new.input ≡ old.input)
+CountedAll (Err failures.Input) old new = (new.clock ≡ old.clock) × (new.output ≡ old.output) × (old.input < new.input)
+CountedAll (Err failures.Memory) old new = (new.clock ≡ old.clock) × (new.output ≡ old.output) × (new.input ≡ old.input)
+CountedAll (Err failures.Limit) old new =
+    (new.clock ≡ old.clock) × (new.output ≡ old.output) × (new.input ≡ old.input) × (new.calls ≡ old.calls + 1000000)
+
+-- A run ends with a number of its devices only for what they counted: 82 where the reader failed or was called 1,000,000
+-- times, 83 where the writer failed, 85 where the clock failed.
+pub record NumberCounted (number : ℕ) (old new : Counts) : Type 0 where
+  pub input : number ≡ 82 → (old.input < new.input) ⊎ (new.calls ≡ old.calls + 1000000)
+  pub output : number ≡ 83 → old.output < new.output
+  pub clock : number ≡ 85 → old.clock < new.clock
 
 -- The bytes that one call of the reader gives stand behind those that were there; no bytes come only at the end. A call that
--- fails gives none.
+-- fails gives none. Where the room can't grow, what came is lost, and what was there stays.
 abbrev pub TakesIn : Result Bool Failure → List ℕ → List ℕ → Option (List ℕ) → Option (List ℕ) → Type 0
-TakesIn (Ok true) old new given given' = (piece : List ℕ) × Gives given piece given' × (new ≡ old ++ piece)
+TakesIn (Ok true) old new given given' = (piece : List ℕ) × Gives given piece given' × IsPiece piece × (new ≡ old ++ piece)
 TakesIn (Ok false) old new given given' = Gives given [] given' × (new ≡ old) × IsAtEnd given'
-TakesIn (Err failures.Input) old new given given' = Gives given [] given'
-TakesIn (Err e) old new given given' = (piece : List ℕ) × Gives given piece given'
+TakesIn (Err failures.Input) old new given given' = Gives given [] given' × (new ≡ old)
+TakesIn (Err e) old new given given' = (piece : List ℕ) × Gives given piece given' × IsPiece piece × (new ≡ old)
 
 -- the reader's failure was counted
 abbrev pub CountedIn : Result Bool Failure → ℕ → ℕ → Type 0

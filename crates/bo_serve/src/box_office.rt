@@ -12,9 +12,10 @@ ghost use Rattle.bo_serve.specs.Served.{Serves, Leads, token_row, response_of, s
 use crate::desk::Desk;
 use bo_api::{Call, Words};
 use bo_base::{Answer, Draw, Moment, Response, Tick};
+use bo_commands::{Command, Query};
 use bo_http::frame::Frame;
 use bo_lists::Changes;
-use bo_office::{Command, Office, Query};
+use bo_office::Office;
 use bo_usage::Book;
 use std::alloc::{AllocError, Global};
 use std::marker::Model;

@@ -19,12 +19,13 @@ pub enum Failure {
 }
 
 impl Failure {
-    /// Its number: 82 for what was read, 83 for what was written, 85 for the ticks.
+    /// Its number: 6 for want of memory, 82 for what was read, 83 for what was written, 85 for the ticks.
     pub fn number(self) -> u8
         ensures { result ≡ failure_number self }
     {
         match self {
-            Failure::Input | Failure::Limit | Failure::Memory => 82,
+            Failure::Memory => 6,
+            Failure::Input | Failure::Limit => 82,
             Failure::Output => 83,
             Failure::Clock => 85,
         }

@@ -1,14 +1,16 @@
 //! Laws of every run of a box office over a stream.
 
-ghost use Rattle.std.specs.Prelude.{◌≡◌, ◌≤◌, ℕ, List, Option, Some};
+ghost use Rattle.std.specs.Prelude.{◌≡◌, ◌≤◌, ℕ, List, Option, Some, Err};
 ghost use Rattle.bo_base.specs.declared.answer.Answer.{Answer};
 ghost use Rattle.bo_base.specs.declared.device.Tick.{Tick};
 ghost use Rattle.bo_base.specs.Told.{Gives};
 ghost use Rattle.bo_http.specs.Messages.{Messages};
 ghost use Rattle.bo_lists.specs.Sound.{IsSound};
 ghost use Rattle.bo_serve.specs.BoxOfficeView.{BoxOfficeView};
+ghost use Rattle.bo_serve.specs.Failures.{failure_number};
 ghost use Rattle.bo_serve.specs.Kept.{ServesAndKeeps};
-ghost use Rattle.bo_serve.specs.Run.{Item, AreAll, Runs};
+ghost use Rattle.bo_serve.specs.Run.{Item, AreAll, Runs, Counts, CountedAll, NumberCounted};
+ghost use Rattle.bo_serve.specs.declared.failure.Failure.{Failure};
 ghost use Rattle.bo_serve.specs.Served.{Serves, Tells};
 
 /// Where the bytes of a stream are known, the messages that a run answers are those of the whole stream, however it was cut.
@@ -33,4 +35,10 @@ pub fn time_never_falls()
 pub fn streams_take_nothing_too_much()
     ensures { (old : BoxOfficeView) (ticks : List Tick) (items : List Item) (a : List ℕ) (new : BoxOfficeView)
         → IsSound old.state → Runs Serves old ticks items a new → Runs ServesAndKeeps old ticks items a new × IsSound new.state }
+{}
+
+/// A run ends with the number of a device only where that device counted a failure, or the limit of its reads was met: want
+/// of memory has a number of its own.
+pub fn numbers_are_counted()
+    ensures { (failure : Failure) (old new : Counts) → CountedAll (Err failure) old new → NumberCounted (failure_number failure) old new }
 {}

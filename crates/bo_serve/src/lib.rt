@@ -5,10 +5,12 @@ pub mod box_office;
 pub mod desk;
 pub mod failure;
 pub mod laws;
+pub mod room;
 pub mod run;
 mod step;
 
 pub use box_office::BoxOffice;
 pub use desk::Desk;
 pub use failure::Failure;
+pub use room::Room;
 pub use run::run_stream;

@@ -1,25 +1,15 @@
 //! A connection, from its first byte to its end.
 
-ghost use Rattle.std.specs.Prelude.{◌≡◌, ◌+◌, ◌≤◌, ◌<◌, ◌++◌, ℕ, List, [], IfOk, length};
-ghost use Rattle.bo_base.specs.Told.{Gives};
-ghost use Rattle.bo_serve.specs.Run.{Streams, CountedAll, TakesIn, CountedIn, cursor};
+ghost use Rattle.std.specs.Prelude.{◌≡◌, ◌+◌, ◌≤◌, ◌<◌, [], length};
+ghost use Rattle.bo_serve.specs.Run.{RunLeads, CountedAll, TakesIn, CountedIn};
 
 use crate::desk::Desk;
 use crate::failure::Failure;
+use crate::room::Room;
 use crate::step::serve_ready;
 use bo_base::device::{Drain, Source, Ticks};
 use bo_http::frames::Frames;
-use std::alloc::{AllocError, Global};
-
-/// The most bytes that one call of the reader gives.
-const PIECE: usize = 65536;
-
-/// Room for what one call of the reader gives.
-fn room(alloc: Global, size: usize) -> Result<Vec<u8>, AllocError>
-    ensures { IfOk result (λ v. length v.items ≡ size) }
-{
-    vec![in alloc; 0u8; size]
-}
+use std::alloc::Global;
 
 /// Reads once, and adds what came. Whether anything came.
 fn take_in<R: Source>(
@@ -27,7 +17,8 @@ fn take_in<R: Source>(
     piece: &mut [u8],
     reader: &mut R,
 ) -> Result<bool, Failure>
-    requires { 0 < length piece.old }
+    requires some { 0 < length piece.old }
+    requires most { length piece.old ≤ 65536 }
     ensures leads { TakesIn result frames.old.left frames.new.left (R.left reader.old) (R.left reader.new) }
     ensures counted { CountedIn result (R.failures reader.old) (R.failures reader.new) }
     ensures calls { R.calls reader.new ≡ R.calls reader.old + 1 }
@@ -55,12 +46,14 @@ fn serve_all<R: Source, T: Ticks, D: Desk, W: Drain>(
     writer: &mut W,
 ) -> Result<(), Failure>
     requires empty { frames.old.left ≡ [] }
-    requires room { 0 < length piece.old }
-    ensures leads { (bytes : List ℕ) × Gives (R.left reader.old) bytes (R.left reader.new) × Streams D.serves (R.left reader.new)
-        (cursor bytes (T.told ticks.old) desk.old (W.taken writer.old))
-        (cursor [] (T.told ticks.new) desk.new (W.taken writer.new)) result }
-    ensures counted { CountedAll result (T.failures ticks.old) (T.failures ticks.new) (W.failures writer.old) (W.failures writer.new)
-        (R.failures reader.old) (R.failures reader.new) (R.calls reader.old) (R.calls reader.new) }
+    requires some { 0 < length piece.old }
+    requires most { length piece.old ≤ 65536 }
+    ensures leads { RunLeads D.serves
+        (record { left = R.left reader.old; calls = R.calls reader.old; told = T.told ticks.old; desk = desk.old; taken = W.taken writer.old })
+        (record { left = R.left reader.new; calls = R.calls reader.new; told = T.told ticks.new; desk = desk.new; taken = W.taken writer.new }) result }
+    ensures counted { CountedAll result
+        (record { clock = T.failures ticks.old; output = W.failures writer.old; input = R.failures reader.old; calls = R.calls reader.old })
+        (record { clock = T.failures ticks.new; output = W.failures writer.new; input = R.failures reader.new; calls = R.calls reader.new }) }
     ensures calls { R.calls reader.new ≤ R.calls reader.old + 1000000 }
 {
     for turn in 0..1_000_000u32 {
@@ -84,27 +77,25 @@ fn serve_all<R: Source, T: Ticks, D: Desk, W: Drain>(
 
 /// Reads to the end of the stream, or of the connection, and writes the answer of each message in order and nothing
 /// else. It reads at most 1,000,000 times, at most 65,536 bytes a time. Where it fails, what was written is the front of
-/// that text: faults 82 (the reader failed, its limit is met, or the room for what was read could not grow), 83 (the
-/// writer failed), 85 (the clock failed).
+/// that text: faults 6 (there was no memory for what is read), 82 (the reader failed, or its limit is met), 83 (the writer
+/// failed), 85 (the clock failed). What the room held before makes no difference.
 pub fn run_stream<R: Source, T: Ticks, D: Desk, W: Drain>(
     alloc: Global,
+    room: &mut Room,
     reader: &mut R,
     ticks: &mut T,
     desk: &mut D,
     writer: &mut W,
 ) -> Result<(), Failure>
-    ensures leads { (bytes : List ℕ) × Gives (R.left reader.old) bytes (R.left reader.new) × Streams D.serves (R.left reader.new)
-        (cursor bytes (T.told ticks.old) desk.old (W.taken writer.old))
-        (cursor [] (T.told ticks.new) desk.new (W.taken writer.new)) result }
-    ensures counted { CountedAll result (T.failures ticks.old) (T.failures ticks.new) (W.failures writer.old) (W.failures writer.new)
-        (R.failures reader.old) (R.failures reader.new) (R.calls reader.old) (R.calls reader.new) }
+    ensures leads { RunLeads D.serves
+        (record { left = R.left reader.old; calls = R.calls reader.old; told = T.told ticks.old; desk = desk.old; taken = W.taken writer.old })
+        (record { left = R.left reader.new; calls = R.calls reader.new; told = T.told ticks.new; desk = desk.new; taken = W.taken writer.new }) result }
+    ensures counted { CountedAll result
+        (record { clock = T.failures ticks.old; output = W.failures writer.old; input = R.failures reader.old; calls = R.calls reader.old })
+        (record { clock = T.failures ticks.new; output = W.failures writer.new; input = R.failures reader.new; calls = R.calls reader.new }) }
     ensures calls { R.calls reader.new ≤ R.calls reader.old + 1000000 }
 {
-    let Ok(mut frames) = Frames::new(alloc) else {
-        return Err(Failure::Memory);
-    };
-    let Ok(mut piece) = room(alloc, PIECE) else {
-        return Err(Failure::Memory);
-    };
-    serve_all(alloc, &mut frames, &mut piece, reader, ticks, desk, writer)
+    let frames = &mut room.frames;
+    frames.clear();
+    serve_all(alloc, frames, &mut room.piece, reader, ticks, desk, writer)
 }

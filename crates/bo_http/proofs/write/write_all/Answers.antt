@@ -4,13 +4,16 @@ use Rattle.bo_base.specs.Told.{Adds}
 use Rattle.bo_base.proofs.ToldLemmas.{Adds-append, take_on}
 use Rattle.bo_http.proofs.write.write_all.Goals as goal
 
-pub returns-in-Err-clause-part : goal.returns-in-Err-clause-part
-returns-in-Err-clause-part g c =
+pub returns-in-Err : goal.returns-in-Err
+returns-in-Err g c =
     let at = c.loop-at.at in (
-      take at c.args.bytes.now,
-      drop at c.args.bytes.now,
-      sym (take-append-drop at c.args.bytes.now),
-      subst (λ (t : List ℕ). Adds (g.W.Drain.taken c.args.writer.now) t (g.W.Drain.taken c.write.new.self)) (append-nil _) (Adds-append _ _ _ _ _ c.loop-at.invariant.taken c.in-Err.ensures.kept),
+      (
+        take at c.args.bytes.now,
+        drop at c.args.bytes.now,
+        sym (take-append-drop at c.args.bytes.now),
+        subst (λ (t : List ℕ). Adds (g.W.Drain.taken c.args.writer.now) t (g.W.Drain.taken c.write.new.self)) (append-nil _) (Adds-append _ _ _ _ _ c.loop-at.invariant.taken c.in-Err.ensures.kept),
+      ),
+      search rules,
     )
 
 pub loop-at-preserved : goal.loop-at-preserved
