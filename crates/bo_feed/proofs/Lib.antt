@@ -1,2 +1,4 @@
 pub mod TickLemmas
 pub mod FedLemmas
+pub mod WordLemmas
+pub mod LineLaws

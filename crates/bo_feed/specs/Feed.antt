@@ -1,36 +1,51 @@
 -- What `feed` does.
-use Rattle.std.specs.Prelude.{◌≡◌, ℕ, List, [], Option, Some, None, Result, Ok, Err, if◌then◌else◌, nat_le, ⊤}
+use Rattle.std.specs.Prelude.{◌≡◌, ℕ, ◌+◌, ◌≤◌, List, [], Option, Some, None, Result, Ok, Err, if◌then◌else◌, nat_le, ⊤}
+use Rattle.bo_base.specs.declared.device.Tick.{Tick}
 use Rattle.bo_base.specs.declared.refusal.ValueRefusal.{ValueRefusal}
 use Rattle.bo_base.specs.Digits.{number_of}
 use Rattle.bo_base.specs.Moments.{moment_of}
-use Rattle.bo_base.specs.Told.{Gives}
 use Rattle.bo_serve.specs.declared.failure.Failure.{Failure}
-use Rattle.bo_serve.specs.BoxOfficeView.{BoxOfficeView}
 use Rattle.bo_serve.specs.declared.failure.Failure.TheVariants as failures
-use Rattle.bo_serve.specs.Run.{Streams, CountedAll, cursor}
+use Rattle.bo_serve.specs.BoxOfficeView.{BoxOfficeView}
+use Rattle.bo_serve.specs.Run.{Counts, CountedAll, Devices, RunLeads}
 use Rattle.bo_serve.specs.Served.{Serves}
 use Rattle.bo_feed.specs.declared.fault.Fault.{Fault}
 use Rattle.bo_feed.specs.declared.fault.Fault.TheVariants as faults
 use Rattle.bo_feed.specs.FeedTicks.{feed_ticks}
 use Rattle.bo_feed.specs.House.{fresh_house}
 
+-- where a reader and a writer stand: the bytes that are still to come and what was written, where they are known; the calls of
+-- the reader; and the failures of the reader and of the writer
+pub record Ports : Type 0 where
+  pub left : Option (List ℕ)
+  pub taken : Option (List ℕ)
+  pub calls : ℕ
+  pub input : ℕ
+  pub output : ℕ
+
+-- the same with the ticks that were told and the box office between them
+abbrev pub devices : Ports → List Tick → BoxOfficeView → Devices BoxOfficeView
+devices ports told house = record { left = ports.left; calls = ports.calls; told = Some told; desk = house; taken = ports.taken }
+
+-- what they have counted, and how many ticks failed
+abbrev pub counts : Ports → ℕ → Counts
+counts ports clock = record { clock = clock; output = ports.output; input = ports.input; calls = ports.calls }
+
 -- the ticks end only once all numbers of a `u64` were told
 abbrev pub EndsTicks : ℕ → Result (Unit {0}) Failure → Type 0
 EndsTicks count (Err failures.Clock) = count ≡ 18446744073709551615
 EndsTicks count _ = ⊤
 
--- What is read, what is written, and how it ends: a run from the fresh box office over the bytes that were read, with the first ticks,
--- one for each whole request.
-abbrev pub Feeds : ℕ → ℕ → Option (List ℕ) → Option (List ℕ) → Option (List ℕ) → Option (List ℕ) → Result (Unit {0}) Failure → Type 0
-Feeds from step left left' taken taken' result =
-    (bytes : List ℕ) × (count : ℕ) × (house : BoxOfficeView) × Gives left bytes left' × Streams Serves left'
-    (cursor bytes (Some []) fresh_house taken)
-    (cursor [] (Some (feed_ticks from step count)) house taken') result × EndsTicks count result
-
--- A run ends with the failure of its reader or its writer where that failed, and the other one did not; else none failed, and
--- the limit is met only by 1,000,000 reads.
-abbrev pub CountedFed : Result (Unit {0}) Failure → ℕ → ℕ → ℕ → ℕ → ℕ → ℕ → Type 0
-CountedFed result output output' input input' calls calls' = (clock : ℕ) × CountedAll result 0 clock output output' input input' calls calls'
+-- What is read, what is written, and how it ends: a run from the fresh box office with the first ticks, one for each whole
+-- request. It ends with the failure of the reader, the writer or the ticks only where that one failed, and no other one did.
+pub record Feeds (from step : ℕ) (old new : Ports) (result : Result (Unit {0}) Failure) : Type 0 where
+  pub count : ℕ
+  pub clock : ℕ
+  pub house : BoxOfficeView
+  pub leads : RunLeads Serves (devices old [] fresh_house) (devices new (feed_ticks from step count) house) result
+  pub ends_ticks : EndsTicks count result
+  pub counted : CountedAll result (counts old 0) (counts new clock)
+  pub calls : new.calls ≤ old.calls + 1000000
 
 -- 0 to 31536000 seconds
 abbrev pub step_within : Option ℕ → Option ℕ
@@ -52,7 +67,6 @@ as_fault (Ok u) = Ok u
 as_fault (Err failure) = Err (faults.Run failure)
 
 -- a value that can't be read is found before anything is read or written
-abbrev pub FeedsTexts : Option (ℕ × ℕ) → Option (List ℕ) → Option (List ℕ) → Option (List ℕ) → Option (List ℕ) → Result (Unit {0}) Fault → Type 0
-FeedsTexts None left left' taken taken' result = (result ≡ Err faults.Argument) × (left' ≡ left) × (taken' ≡ taken)
-FeedsTexts (Some (from, step)) left left' taken taken' result =
-    (ended : Result (Unit {0}) Failure) × Feeds from step left left' taken taken' ended × (result ≡ as_fault ended)
+abbrev pub FeedsTexts : Option (ℕ × ℕ) → Ports → Ports → Result (Unit {0}) Fault → Type 0
+FeedsTexts None old new result = (result ≡ Err faults.Argument) × (new ≡ old)
+FeedsTexts (Some (from, step)) old new result = (run : Result (Unit {0}) Failure) × Feeds from step old new run × (result ≡ as_fault run)

@@ -3,3 +3,4 @@ pub mod Feed
 pub mod FeedTicks
 pub mod House
 pub mod Line
+pub mod Words

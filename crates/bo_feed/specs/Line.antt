@@ -1,31 +1,47 @@
 -- What a command line comes to.
-use Rattle.std.specs.Prelude.{◌≡◌, ℕ, ◌⊎◌, List, Option, Result, Ok, Err}
+use Rattle.std.specs.Prelude.{◌≡◌, ℕ, ◌⊎◌, List, Result, Ok, Err}
 use Rattle.std.specs.declared.io.ErrorKind.{ErrorKind as IoKind}
 use Rattle.std.specs.declared.io.ErrorKind.TheVariants as io-kinds
+use Rattle.clap.specs.Words.{IsAmong, Text}
 use Rattle.clap.specs.declared.error.kind.ErrorKind.{ErrorKind}
 use Rattle.clap.specs.declared.error.kind.ErrorKind.TheVariants as kinds
+use Rattle.bo_feed.specs.declared.ended.Ended.{Ended}
+use Rattle.bo_feed.specs.declared.ended.Ended.TheVariants as ends
 use Rattle.bo_feed.specs.declared.fault.Fault.{Fault}
-use Rattle.bo_feed.specs.Feed.{feed_values, FeedsTexts}
+use Rattle.bo_feed.specs.declared.fault.Fault.TheVariants as faults
+use Rattle.bo_feed.specs.Feed.{Ports, FeedsTexts, feed_values}
+use Rattle.bo_feed.specs.Words.{Asked, asked, none, plain_words, runs}
 
--- 0 where all was done, 1 where the run failed
-abbrev pub status_of : Result (Unit {0}) Fault → ℕ
-status_of (Ok u) = 0
-status_of (Err fault) = 1
+-- 0 where all was done or help was asked for, 1 where a fault was met, 2 where the line is wrong
+abbrev pub exit_status : Ended → ℕ
+exit_status ends.Well = 0
+exit_status ends.Helped = 0
+exit_status (ends.Failed fault) = 1
+exit_status ends.Wrong = 2
 
--- 0 where help was asked for, 1 where there is no memory to read the line, 2 where the line is wrong
-abbrev pub line_status : ErrorKind → ℕ
-line_status kinds.OutOfMemory = 1
-line_status kinds.DisplayHelp = 0
-line_status kinds.DisplayVersion = 0
-line_status _ = 2
+-- how a run ends
+abbrev pub end_of_run : Result (Unit {0}) Fault → Ended
+end_of_run (Ok u) = ends.Well
+end_of_run (Err fault) = ends.Failed fault
 
--- 2 where a word isn't UTF-8, else there is no memory
-abbrev pub words_status : IoKind → ℕ
-words_status io-kinds.InvalidData = 2
-words_status _ = 1
+-- how a line ends that asks for no run, for this reason
+abbrev pub end_of_line : ErrorKind → Ended
+end_of_line kinds.OutOfMemory = ends.Failed faults.Memory
+end_of_line kinds.DisplayHelp = ends.Helped
+end_of_line kinds.DisplayVersion = ends.Helped
+end_of_line _ = ends.Wrong
 
--- `feed` runs with the texts of its two flags, or the line is no command, and then nothing is read or written
-abbrev pub Ran : Option (List ℕ) → Option (List ℕ) → Option (List ℕ) → Option (List ℕ) → ℕ → Type 0
-Ran left left' taken taken' status =
-    ((from : List ℕ) × (step : List ℕ) × (ended : Result (Unit {0}) Fault) × FeedsTexts (feed_values from step) left left' taken taken' ended × (status ≡ status_of ended))
-    ⊎ ((kind : ErrorKind) × (status ≡ line_status kind) × (left' ≡ left) × (taken' ≡ taken))
+-- words that can't be had: one isn't UTF-8, or there is no memory
+abbrev pub end_of_words : IoKind → Ended
+end_of_words io-kinds.InvalidData = ends.Wrong
+end_of_words _ = ends.Failed faults.Memory
+
+-- What is done is what a line asks for: a run with the texts of its two flags; or no run for one of the reasons, and then nothing
+-- is read and nothing written.
+abbrev pub Does : Asked → Ports → Ports → Ended → Type 0
+Does (runs from step) old new ended = (run : Result (Unit {0}) Fault) × FeedsTexts (feed_values from step) old new run × (ended ≡ end_of_run run)
+Does (none reasons) old new ended = (reason : ErrorKind) × IsAmong reason reasons × (ended ≡ end_of_line reason) × (new ≡ old)
+
+-- what these words ask for is done, or there is no memory to read them, and then nothing is read and nothing written
+abbrev pub Ran : List Text → Ports → Ports → Ended → Type 0
+Ran words old new ended = Does (asked (plain_words words)) old new ended ⊎ ((ended ≡ ends.Failed faults.Memory) × (new ≡ old))

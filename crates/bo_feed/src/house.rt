@@ -1,15 +1,14 @@
 //! A box office without rows, and a stream of requests to it.
 
-ghost use Rattle.std.specs.Prelude.{◌≡◌, ◌+◌, ◌≤◌, ℕ, List, [], IfOk};
-ghost use Rattle.bo_base.specs.Told.{Gives};
+ghost use Rattle.std.specs.Prelude.{◌≡◌, ◌+◌, ◌≤◌, IfOk};
 ghost use Rattle.bo_serve.specs.BoxOfficeView.{BoxOfficeView};
-ghost use Rattle.bo_serve.specs.Run.{Streams, CountedAll, cursor};
+ghost use Rattle.bo_serve.specs.Run.{RunLeads, CountedAll};
 ghost use Rattle.bo_serve.specs.Served.{Serves};
 ghost use Rattle.bo_feed.specs.House.{fresh_house};
 
 use bo_base::{Drain, Source, Text, Ticks};
 use bo_office::Office;
-use bo_serve::{BoxOffice, Failure, run_stream};
+use bo_serve::{BoxOffice, Failure, Room, run_stream};
 use bo_usage::Recount;
 use sha2::{Digest, Sha256};
 use std::alloc::{AllocError, Global};
@@ -32,15 +31,19 @@ pub fn serve_house<R: Source, T: Ticks, W: Drain>(
     ticks: &mut T,
     writer: &mut W,
 ) -> Result<(), Failure>
-    ensures leads { (bytes : List ℕ) × (house : BoxOfficeView) × Gives (R.left reader.old) bytes (R.left reader.new) × Streams Serves (R.left reader.new)
-        (cursor bytes (T.told ticks.old) fresh_house (W.taken writer.old))
-        (cursor [] (T.told ticks.new) house (W.taken writer.new)) result }
-    ensures counted { CountedAll result (T.failures ticks.old) (T.failures ticks.new) (W.failures writer.old) (W.failures writer.new)
-        (R.failures reader.old) (R.failures reader.new) (R.calls reader.old) (R.calls reader.new) }
+    ensures leads { (house : BoxOfficeView) × RunLeads Serves
+        (record { left = R.left reader.old; calls = R.calls reader.old; told = T.told ticks.old; desk = fresh_house; taken = W.taken writer.old })
+        (record { left = R.left reader.new; calls = R.calls reader.new; told = T.told ticks.new; desk = house; taken = W.taken writer.new }) result }
+    ensures counted { CountedAll result
+        (record { clock = T.failures ticks.old; output = W.failures writer.old; input = R.failures reader.old; calls = R.calls reader.old })
+        (record { clock = T.failures ticks.new; output = W.failures writer.new; input = R.failures reader.new; calls = R.calls reader.new }) }
     ensures calls { R.calls reader.new ≤ R.calls reader.old + 1000000 }
 {
     let Ok(mut house) = open_house(alloc) else {
         return Err(Failure::Memory);
     };
-    run_stream(alloc, reader, ticks, &mut house, writer)
+    let Ok(mut room) = Room::new(alloc) else {
+        return Err(Failure::Memory);
+    };
+    run_stream(alloc, &mut room, reader, ticks, &mut house, writer)
 }

@@ -1,133 +1,87 @@
-//! The command line.
+//! What a command line comes to.
 
-ghost use Rattle.std.specs.Prelude.{◌≡◌};
+ghost use Rattle.std.specs.Prelude.{◌≡◌, map, string_bytes};
 ghost use Rattle.clap.specs.Words.{kind_of};
 ghost use Rattle.std.specs.IoError.{error_kind};
-ghost use Rattle.bo_feed.specs.Line.{Ran, line_status, status_of, words_status};
+ghost use Rattle.bo_feed.specs.Line.{Ran, end_of_line, end_of_run, end_of_words};
 
+use crate::ended::Ended;
 use crate::fault::Fault;
-use crate::feeding::{Done, feed_texts};
+use crate::feeding::feed_texts;
+use crate::words::{plain_words, read_line};
+use bo_base::{Drain, Source};
+use clap::Error;
 use clap::error::ErrorKind;
-use clap::{Arg, Command, Error};
-use std::alloc::{AllocError, Global};
+use std::alloc::Global;
 use std::io;
-use std::io::{Eprint, Print, Read, Write};
+use std::io::{Eprint, Print};
 
-// The texts that follow `--from` and `--step`.
-#[derive(Clone, Copy, Debug)]
-struct FeedLine<'a> {
-    pub from: &'a str,
-    pub step: &'a str,
-}
-
-// The commands of the program, with their help.
-fn commands<'a>(alloc: Global) -> Result<Command<'a>, AllocError> {
-    let from = Arg::new(alloc, "from")
-        .long("from")
-        .value_name("MOMENT")
-        .help("The moment of the first request, as 2026-05-01T10:00:00Z")
-        .required(true);
-    let step = Arg::new(alloc, "step")
-        .long("step")
-        .value_name("SECONDS")
-        .help("The seconds from one request to the next, 0 to 31536000")
-        .allow_negative_numbers(true)
-        .required(true);
-    let feed = Command::new(alloc, "feed")
-        .about("Answers raw HTTP requests from standard input, over a box office in memory")
-        .arg(from)?
-        .arg(step)?;
-    Command::new(alloc, "boxoffice")
-        .about("A ticket shop for one event")
-        .subcommand_required(true)
-        .subcommand(feed)
-}
-
-// Reads a command line, whose first word is the program.
-fn read_line<'a>(alloc: Global, words: &'a [String]) -> Result<FeedLine<'a>, Error> {
-    let matches = commands(alloc)?.try_get_matches_from(words)?;
-    let Some((_, feed)) = matches.subcommand() else {
-        return Ok(FeedLine { from: "", step: "" });
-    };
-    Ok(FeedLine {
-        from: feed.get_str("from").unwrap_or(""),
-        step: feed.get_str("step").unwrap_or(""),
-    })
-}
-
-// Says why the program ends with status 1.
-fn report<O: Eprint>(rt: &O, fault: Fault) -> u8
-    ensures { result ≡ 1 }
+// Says with which fault the program ends.
+fn report<O: Eprint>(rt: &O, fault: Fault) -> Ended
+    ensures { result ≡ Ended.Failed fault }
 {
     let _ = eprintln!(rt; "boxoffice: fault {}", fault.number());
-    1
+    Ended::Failed(fault)
 }
 
-/// Says why the words of the line can't be had, and answers the program's exit status: 2 where one of them isn't UTF-8, else 1
-/// with fault 6, for want of memory.
-pub fn report_words<O: Eprint>(rt: &O, error: &io::Error) -> u8
-    ensures { result ≡ words_status (error_kind error.now) }
+/// Says why the words of the line can't be had: one of them isn't UTF-8, or there is no memory.
+pub fn report_words<O: Eprint>(rt: &O, error: &io::Error) -> Ended
+    ensures { result ≡ end_of_words (error_kind error.now) }
 {
     match error.kind() {
         io::ErrorKind::InvalidData => {
             let _ = eprintln!(rt; "error: a word of the command line is not UTF-8");
-            2
+            Ended::Wrong
         }
         _ => report(rt, Fault::Memory),
     }
 }
 
-// The status of a run, whose fault is told.
-fn status<O: Eprint>(rt: &O, ended: Result<(), Fault>) -> u8
-    ensures { result ≡ status_of ended }
+// How a run ends, whose fault is told.
+fn report_run<O: Eprint>(rt: &O, run: Result<(), Fault>) -> Ended
+    ensures { result ≡ end_of_run run }
 {
-    match ended {
-        Ok(()) => 0,
+    match run {
+        Ok(()) => Ended::Well,
         Err(fault) => report(rt, fault),
     }
 }
 
 // Prints what is wrong with a line, or the help that it asks for.
-fn answer_line<O: Print + Eprint>(rt: &O, error: &Error) -> u8
-    ensures { result ≡ line_status (kind_of error.now) }
+fn answer_line<O: Print + Eprint>(rt: &O, error: &Error) -> Ended
+    ensures { result ≡ end_of_line (kind_of error.now) }
 {
     match error.kind() {
         ErrorKind::OutOfMemory => report(rt, Fault::Memory),
         ErrorKind::DisplayHelp | ErrorKind::DisplayVersion => {
             let _ = error.print(rt);
-            0
+            Ended::Helped
         }
         _ => {
             let _ = error.print(rt);
-            2
+            Ended::Wrong
         }
     }
 }
 
-/// Runs a command line, and answers the program's exit status: 0 where all was done or help was asked for, 1 where the run
-/// failed, 2 where the line is wrong.
-pub fn run<O: Print + Eprint, R: Read, W: Write>(
+/// Runs a command line, whose first word is the program, from the reader to the writer. What it asks for decides: the run
+/// that it names, help, or a wrong line; the last two, and a value that can't be read, read nothing and write nothing.
+pub fn run<O: Print + Eprint, R: Source, W: Drain>(
     rt: &O,
     alloc: Global,
     words: &[String],
-    input: R,
-    output: W,
-) -> Done<R, W, u8>
-    ensures { Ran (R.remaining input) (R.remaining result.input) (W.contents output) (W.contents result.output) result.ended }
+    reader: &mut R,
+    writer: &mut W,
+) -> Ended
+    ensures { Ran (map string_bytes words.now)
+        (record { left = R.left reader.old; taken = W.taken writer.old; calls = R.calls reader.old; input = R.failures reader.old; output = W.failures writer.old })
+        (record { left = R.left reader.new; taken = W.taken writer.new; calls = R.calls reader.new; input = R.failures reader.new; output = W.failures writer.new }) result }
 {
-    match read_line(alloc, words) {
-        Ok(line) => {
-            let done = feed_texts(alloc, line.from, line.step, input, output);
-            Done {
-                input: done.input,
-                output: done.output,
-                ended: status(rt, done.ended),
-            }
-        }
-        Err(error) => Done {
-            input,
-            output,
-            ended: answer_line(rt, &error),
-        },
+    let Ok(words) = plain_words(alloc, words) else {
+        return report(rt, Fault::Memory);
+    };
+    match read_line(alloc, words.as_slice()) {
+        Ok(line) => report_run(rt, feed_texts(alloc, line.from, line.step, reader, writer)),
+        Err(error) => answer_line(rt, &error),
     }
 }

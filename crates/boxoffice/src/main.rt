@@ -1,21 +1,50 @@
 //! The box office as a program.
 #![tactic(auto)]
 
+ghost use Rattle.std.specs.Prelude.{◌≡◌, ◌<◌};
+
+use bo_feed::{Ended, counted, report_words, run};
 use std::io;
+use std::io::{Stdin, Stdout};
+use std::marker::Brand;
 use std::process::ExitCode;
+use std::sync::ledger::{Blank, Ledger};
 
 // The words of the command line.
 fn words(rt: &HostRuntime) -> io::Result<Vec<String>> {
     Ok(std::env::args(rt)?.collect(rt.alloc())?)
 }
 
+// Runs a command line over standard input and output, with a ledger for each count of theirs.
+fn run_words<A: Ledger, B: Ledger, C: Ledger, D: Ledger>(
+    rt: &HostRuntime,
+    words: &[String],
+    reads: Blank,
+    read_failures: Blank,
+    writes: Blank,
+    write_failures: Blank,
+) -> Ended
+    requires reads { (reads.name ≡ A.name) × (reads.parts ≡ A.parts) × (0 < A.parts) }
+    requires read_failures { (read_failures.name ≡ B.name) × (read_failures.parts ≡ B.parts) × (0 < B.parts) }
+    requires writes { (writes.name ≡ C.name) × (writes.parts ≡ C.parts) × (0 < C.parts) }
+    requires write_failures { (write_failures.name ≡ D.name) × (write_failures.parts ≡ D.parts) × (0 < D.parts) }
+{
+    let mut reader = counted::<Stdin, A, B>(rt.stdin(), reads, read_failures);
+    let mut writer = counted::<Stdout, C, D>(rt.stdout(), writes, write_failures);
+    run(rt, rt.alloc(), words, &mut reader, &mut writer)
+}
+
 fn main(rt: HostRuntime) -> ExitCode {
-    let status = match words(&rt) {
-        Ok(words) => {
-            let done = bo_feed::run(&rt, rt.alloc(), words.as_slice(), rt.stdin(), rt.stdout());
-            done.ended
-        }
-        Err(error) => bo_feed::report_words(&rt, &error),
+    let ended = match words(&rt) {
+        Ok(words) => run_words::<Brand, Brand, Brand, Brand>(
+            &rt,
+            words.as_slice(),
+            Blank::new(1),
+            Blank::new(1),
+            Blank::new(1),
+            Blank::new(1),
+        ),
+        Err(error) => report_words(&rt, &error),
     };
-    ExitCode::from(status)
+    ExitCode::from(ended.status())
 }

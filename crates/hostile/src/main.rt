@@ -1,43 +1,44 @@
-//! Requests over devices that fail, and over an input without end. Printed is what came of it.
+//! Command lines over devices that fail, over an input without end, and lines of which each comes to something else. Printed
+//! is what came of them.
 #![tactic(auto)]
 
 mod endless;
 mod failing;
+mod lines;
+mod tried;
 
 use crate::endless::{REQUEST, Repeated};
-use crate::failing::{FailingReader, FailingWriter};
-use bo_base::Moment;
-use bo_feed::feed_streams;
+use crate::failing::FailingReader;
+use crate::lines::show_lines;
+use crate::tried::{Tried, run_line, words};
+use bo_feed::{Ended, Fault};
 use bo_serve::Failure;
-use std::alloc::{AllocError, Global};
 use std::io::Read;
 
-// How the requests end, and what is written, where the reader fails at its call number `reads + 1`, and the writer at
-// its call number `writes + 1`.
+// What the line comes to where the reader fails at its call number `reads + 1`, and the writer at its call number
+// `writes + 1`.
 fn answered(
-    alloc: Global,
+    rt: &HostRuntime,
+    line: &[String],
     requests: &[u8],
     reads: usize,
     writes: usize,
-) -> (Result<(), Failure>, Vec<u8>) {
-    let reader = FailingReader::new(requests, reads);
-    let writer = FailingWriter::new(alloc, writes);
-    let done = feed_streams(alloc, Moment::new(1_777_629_600), 60, reader, writer);
-    (done.ended, done.output.into_taken())
+) -> Tried {
+    run_line(rt, line, FailingReader::new(requests, reads), writes)
 }
 
 // Whether a run that failed so wrote the front of what is written without a failure.
-fn breaks_off(run: &(Result<(), Failure>, Vec<u8>), failure: Failure, full: &[u8]) -> bool {
-    run.0 == Err(failure) && full.starts_with(run.1.as_slice())
+fn breaks_off(run: &Tried, failure: Failure, full: &[u8]) -> bool {
+    run.ended == Ended::Failed(Fault::Run(failure)) && full.starts_with(run.written.as_slice())
 }
 
 // Fails each call of the reader in turn. How many runs failed, and whether each broke off as it should.
-fn failing_reads(alloc: Global, requests: &[u8], full: &[u8]) -> (usize, bool) {
+fn failing_reads(rt: &HostRuntime, line: &[String], requests: &[u8], full: &[u8]) -> (usize, bool) {
     let mut good = true;
     for reads in 0..10_000usize {
-        let run = answered(alloc, requests, reads, usize::MAX);
-        if run.0.is_ok() {
-            return (reads, good && run.1.as_slice() == full);
+        let run = answered(rt, line, requests, reads, usize::MAX);
+        if run.ended == Ended::Well {
+            return (reads, good && run.written.as_slice() == full);
         }
         good &= breaks_off(&run, Failure::Input, full);
     }
@@ -45,12 +46,17 @@ fn failing_reads(alloc: Global, requests: &[u8], full: &[u8]) -> (usize, bool) {
 }
 
 // The same for each call of the writer.
-fn failing_writes(alloc: Global, requests: &[u8], full: &[u8]) -> (usize, bool) {
+fn failing_writes(
+    rt: &HostRuntime,
+    line: &[String],
+    requests: &[u8],
+    full: &[u8],
+) -> (usize, bool) {
     let mut good = true;
     for writes in 0..10_000usize {
-        let run = answered(alloc, requests, usize::MAX, writes);
-        if run.0.is_ok() {
-            return (writes, good && run.1.as_slice() == full);
+        let run = answered(rt, line, requests, usize::MAX, writes);
+        if run.ended == Ended::Well {
+            return (writes, good && run.written.as_slice() == full);
         }
         good &= breaks_off(&run, Failure::Output, full);
     }
@@ -58,16 +64,14 @@ fn failing_writes(alloc: Global, requests: &[u8], full: &[u8]) -> (usize, bool) 
 }
 
 // How many answers are written to requests without end, a byte a read, where all of them are this one.
-fn without_end(alloc: Global, answer: &[u8]) -> Option<usize> {
-    let writer = FailingWriter::new(alloc, usize::MAX);
-    let done = feed_streams(alloc, Moment::new(0), 0, Repeated::new(), writer);
-    let ended = done.ended;
-    let written = done.output.into_taken();
-    let all = written
+fn without_end(rt: &HostRuntime, line: &[String], answer: &[u8]) -> Option<usize> {
+    let run = run_line(rt, line, Repeated::new(), usize::MAX);
+    let all = run
+        .written
         .chunks(answer.len().max(1))
         .all(|text| text == answer);
-    if ended == Err(Failure::Limit) && all {
-        Some(written.chunks(answer.len().max(1)).count())
+    if run.ended == Ended::Failed(Fault::Run(Failure::Limit)) && all {
+        Some(run.written.chunks(answer.len().max(1)).count())
     } else {
         None
     }
@@ -75,29 +79,34 @@ fn without_end(alloc: Global, answer: &[u8]) -> Option<usize> {
 
 fn main(rt: HostRuntime) -> anyhow::Result<()> {
     let alloc = rt.alloc();
+    let line = words(
+        alloc,
+        "boxoffice feed --from 2026-05-01T10:00:00Z --step 60",
+    )?;
+    let line = line.as_slice();
     let mut requests = Vec::new(alloc);
     rt.stdin().read_to_end(&mut requests)?;
-    let full = answered(alloc, &requests, usize::MAX, usize::MAX);
+    let full = answered(&rt, line, &requests, usize::MAX, usize::MAX);
     println!(rt;
         "without a failure: {} bytes, ended well: {}",
-        full.1.len(),
-        full.0.is_ok()
+        full.written.len(),
+        full.ended == Ended::Well
     )?;
-    let (reads, good) = failing_reads(alloc, &requests, &full.1);
+    let (reads, good) = failing_reads(&rt, line, &requests, &full.written);
     println!(rt; "each of {reads} reads failing in turn: fault 82 after a front of that: {good}")?;
-    let (writes, good) = failing_writes(alloc, &requests, &full.1);
+    let (writes, good) = failing_writes(&rt, line, &requests, &full.written);
     let some = writes > 4;
     println!(rt;
         "each of the writes failing in turn: fault 83 after a front of that: {}",
         good && some
     )?;
-    let once = answered(alloc, REQUEST, usize::MAX, usize::MAX);
-    let count = without_end(alloc, &once.1);
-    println!(rt; "{}", String::from_utf8_lossy(alloc, &once.1)?)?;
+    let once = answered(&rt, line, REQUEST, usize::MAX, usize::MAX);
+    let count = without_end(&rt, line, &once.written);
+    println!(rt; "{}", String::from_utf8_lossy(alloc, &once.written)?)?;
     println!(rt;
         "without end, a byte a read: answers {}, then fault {}",
         count.unwrap_or(0),
         Failure::Limit.number()
     )?;
-    Ok(())
+    show_lines(&rt, &requests)
 }

@@ -3,19 +3,19 @@ use Rattle.bo_serve.specs.Run.{CountedAll}
 use Rattle.bo_feed.proofs.FedLemmas.{ends_ticks}
 use Rattle.bo_feed.proofs.feeding.feed_with.Goals as goal
 
-pub returns-clause-leads : goal.returns-clause-leads
-returns-clause-leads g c =
-    let run = c.serve_house.ensures.leads in
+pub returns : goal.returns
+returns g c =
+    let run = c.serve_house.ensures in
     let ticks = c.serve_house.new.ticks in
-    (run.0, ticks.told, run.1, run.2, run.3, ends_ticks c.serve_house.result ticks.told c.new.result ticks.failures _ _ _ _ _ _ c.new.ensures ticks.at_end c.serve_house.ensures.counted)
-
-pub returns-clause-counted : goal.returns-clause-counted
-returns-clause-counted g c =
-    let o = g.W.Drain.failures c.args.writer.now in
-    let o' = g.W.Drain.failures c.serve_house.new.writer in
-    let i = g.R.Source.failures c.args.reader.now in
-    let i' = g.R.Source.failures c.serve_house.new.reader in
-    let k = g.R.Source.calls c.args.reader.now in
-    let k' = g.R.Source.calls c.serve_house.new.reader in
-    let clock = c.serve_house.new.ticks.failures in
-    (clock, subst (λ (none : ℕ). CountedAll c.serve_house.result none clock o o' i i' k k') c.new.ensures c.serve_house.ensures.counted)
+    record {
+      count = ticks.told;
+      clock = ticks.failures;
+      house = run.leads.0;
+      leads = run.leads.1;
+      ends_ticks = ends_ticks c.serve_house.result ticks.told _ _ c.new.ensures ticks.at_end run.counted;
+      counted = subst (λ (none : ℕ). CountedAll c.serve_house.result
+          (record { clock = none; output = g.W.Drain.failures c.args.writer.now; input = g.R.Source.failures c.args.reader.now; calls = g.R.Source.calls c.args.reader.now })
+          (record { clock = ticks.failures; output = g.W.Drain.failures c.serve_house.new.writer; input = g.R.Source.failures c.serve_house.new.reader; calls = g.R.Source.calls c.serve_house.new.reader }))
+          c.new.ensures run.counted;
+      calls = run.calls;
+    }

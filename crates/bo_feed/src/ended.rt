@@ -1,0 +1,32 @@
+//! How a command line ends.
+
+ghost use Rattle.std.specs.Prelude.{◌≡◌};
+ghost use Rattle.bo_feed.specs.Line.{exit_status};
+
+use crate::fault::Fault;
+
+/// How a command line ends.
+#[derive(Clone, Copy, Debug, PartialEq, Eq)]
+pub enum Ended {
+    /// All was done.
+    Well,
+    /// With a fault, which is told on standard error.
+    Failed(Fault),
+    /// Help was asked for.
+    Helped,
+    /// The line is wrong.
+    Wrong,
+}
+
+impl Ended {
+    /// The exit status of the program: 0, 1 for a fault, 2 for a wrong line.
+    pub fn status(self) -> u8
+        ensures { result ≡ exit_status self }
+    {
+        match self {
+            Ended::Well | Ended::Helped => 0,
+            Ended::Failed(_) => 1,
+            Ended::Wrong => 2,
+        }
+    }
+}

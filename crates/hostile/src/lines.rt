@@ -1,0 +1,45 @@
+//! Command lines of which each comes to something else.
+
+use crate::failing::FailingReader;
+use crate::tried::{run_line, words};
+use bo_feed::Ended;
+
+/// The lines, each with its words.
+static LINES: [&str; 10] = [
+    "boxoffice feed --from 2027-01-31T23:00:00Z --step 3600",
+    "boxoffice feed --step=0 --from=1970-01-01T00:00:00Z",
+    "boxoffice feed --from noon --step 60",
+    "boxoffice feed --from 2026-05-01T10:00:00Z --step -1",
+    "boxoffice feed --from 2026-05-01T10:00:00Z --step 31536001",
+    "boxoffice feed --from 2026-05-01T10:00:00Z",
+    "boxoffice feed --from 2026-05-01T10:00:00Z --step 60 more",
+    "boxoffice fed",
+    "boxoffice",
+    "boxoffice --help",
+];
+
+// The number of the fault with which a line ended, or 0.
+fn number(ended: Ended) -> u8 {
+    match ended {
+        Ended::Failed(fault) => fault.number(),
+        _ => 0,
+    }
+}
+
+/// Runs each line over the requests, and prints its status, its fault, and what it writes. Help is printed before its line.
+pub fn show_lines(rt: &HostRuntime, requests: &[u8]) -> anyhow::Result<()> {
+    for line in LINES.as_slice() {
+        let words = words(rt.alloc(), line)?;
+        let reader = FailingReader::new(requests, usize::MAX);
+        let tried = run_line(rt, words.as_slice(), reader, usize::MAX);
+        println!(rt;
+            "{line}: status {}, fault {}, {} bytes written",
+            tried.ended.status(),
+            number(tried.ended),
+            tried.written.len()
+        )?;
+        rt.write_all(tried.written.as_slice())?;
+        println!(rt)?;
+    }
+    Ok(())
+}

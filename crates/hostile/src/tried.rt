@@ -1,0 +1,73 @@
+//! A command line over devices that fail.
+
+ghost use Rattle.std.specs.Prelude.{◌≡◌, ◌<◌};
+
+use crate::failing::FailingWriter;
+use bo_feed::{Ended, counted, run};
+use std::alloc::{AllocError, Global};
+use std::io::Read;
+use std::marker::Brand;
+use std::sync::ledger::{Blank, Ledger};
+
+/// What a command line came to.
+#[derive(Drop)]
+pub struct Tried {
+    /// How it ended.
+    pub ended: Ended,
+    /// What was written.
+    pub written: Vec<u8>,
+}
+
+/// The words of a line, with a space between two.
+pub fn words(alloc: Global, line: &str) -> Result<Vec<String>, AllocError> {
+    let mut all = Vec::new(alloc);
+    for word in line.split(' ') {
+        all.push(String::from_str(alloc, word)?)?;
+    }
+    Ok(all)
+}
+
+// The same as `run_line`, with a ledger for each count of the devices.
+fn run_line_with<A: Ledger, B: Ledger, C: Ledger, D: Ledger, R: Read + Drop>(
+    rt: &HostRuntime,
+    words: &[String],
+    input: R,
+    writes: usize,
+    reads: Blank,
+    read_failures: Blank,
+    written: Blank,
+    write_failures: Blank,
+) -> Tried
+    requires reads { (reads.name ≡ A.name) × (reads.parts ≡ A.parts) × (0 < A.parts) }
+    requires read_failures { (read_failures.name ≡ B.name) × (read_failures.parts ≡ B.parts) × (0 < B.parts) }
+    requires written { (written.name ≡ C.name) × (written.parts ≡ C.parts) × (0 < C.parts) }
+    requires write_failures { (write_failures.name ≡ D.name) × (write_failures.parts ≡ D.parts) × (0 < D.parts) }
+{
+    let output = FailingWriter::new(rt.alloc(), writes);
+    let mut reader = counted::<R, A, B>(input, reads, read_failures);
+    let mut writer = counted::<FailingWriter, C, D>(output, written, write_failures);
+    let ended = run(rt, rt.alloc(), words, &mut reader, &mut writer);
+    Tried {
+        ended,
+        written: writer.inner.into_taken(),
+    }
+}
+
+/// Runs a command line from the reader to a writer that fails at its call number `writes + 1`.
+pub fn run_line<R: Read + Drop>(
+    rt: &HostRuntime,
+    words: &[String],
+    input: R,
+    writes: usize,
+) -> Tried {
+    run_line_with::<Brand, Brand, Brand, Brand, R>(
+        rt,
+        words,
+        input,
+        writes,
+        Blank::new(1),
+        Blank::new(1),
+        Blank::new(1),
+        Blank::new(1),
+    )
+}
