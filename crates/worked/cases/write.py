@@ -15,6 +15,8 @@ import catalogue  # noqa: F401
 import vouchers  # noqa: F401
 import orders  # noqa: F401
 import bulk  # noqa: F401
+import limits  # noqa: F401
+import edges  # noqa: F401
 
 HERE = Path(__file__).parent.parent
 
