@@ -131,14 +131,14 @@ class Room:
 
 
 class Running:
-    """One run of rt, in a group of processes of its own, so that an interrupt ends it and nothing else."""
+    """One run of rt, or of another program, in a group of processes of its own, so that an interrupt ends it and nothing else."""
 
     alive = set()
     stopped = False
 
-    def __init__(self, words, at, seconds=None):
+    def __init__(self, words, at, seconds=None, program=(sys.executable, os.path.abspath(__file__))):
         how = {"stdin": subprocess.DEVNULL, "stdout": subprocess.PIPE, "stderr": subprocess.STDOUT}
-        ran = subprocess.Popen([sys.executable, os.path.abspath(__file__), *words], cwd=at, start_new_session=True, text=True, errors="replace", **how)
+        ran = subprocess.Popen([*program, *words], cwd=at, start_new_session=True, text=True, errors="replace", **how)
         Running.alive.add(ran)
         try:
             self.said = ran.communicate(timeout=seconds)[0]
@@ -223,8 +223,10 @@ class Clock:
             print(f"{self.since():>6}  {text}", file=self.out, flush=True)
 
 
-def rt(words):
-    """rt with these words, which reads each crate once for a sum of its sources. Its exit status."""
+def kit():
+    """The kit's rt as a module, which reads each crate once for a sum of its sources."""
+    if "rt" in sys.modules:
+        return sys.modules["rt"]
     loader = importlib.machinery.SourceFileLoader("rt", os.path.realpath(shutil.which("rt")))
     made = importlib.util.module_from_spec(importlib.util.spec_from_loader("rt", loader))
     sys.modules["rt"] = made
@@ -243,9 +245,17 @@ def rt(words):
         return turn.sums[crate.folder]
 
     made.rtlib.Crate.stamp = stamp
-    return made.main(words)
+    return made
+
+
+def is_built(name, top=TOP):
+    """Whether the library was proved as it stands, over the crates below it as they stand."""
+    try:
+        return kit().rtlib.Crate(folder(name, top), top, {}).is_built()
+    except SystemExit:
+        return False
 
 
 if __name__ == "__main__":
     sys.dont_write_bytecode = True
-    sys.exit(rt(sys.argv[1:]))
+    sys.exit(kit().main(sys.argv[1:]))
