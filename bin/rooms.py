@@ -190,9 +190,10 @@ def side_by_side(tasks, work, most=None):
     with ThreadPoolExecutor(most) as pool:
         try:
             while left or running:
-                for it in [it for it in left if any(given.get(other) is False for other in tasks[it][0])]:
-                    left.remove(it)
-                    given[it] = False
+                while failed := [it for it in left if any(given.get(other) is False for other in tasks[it][0])]:
+                    for it in failed:
+                        left.remove(it)
+                        given[it] = False
                 ready = [it for it in left if all(other in given for other in tasks[it][0])]
                 idle = most - len(running)
                 for it in ready[:idle]:
