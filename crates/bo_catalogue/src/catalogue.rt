@@ -3,41 +3,50 @@
 ghost use Rattle.std.specs.Prelude.{◌≡◌, ◌≢◌, ◌≤◌, ◌+◌, Ok, Err, IfOk, IfErr, OnOk, []};
 ghost use Rattle.std.specs.List.{list_all};
 ghost use Rattle.std.specs.Option.{option_copied};
-ghost use Rattle.bo_base.specs.Tables.{with_row};
+ghost use Rattle.bo_base.specs.Tables.{with_row, AreKept};
 ghost use Rattle.bo_catalogue.specs.CatalogueLists.{item_at, variation_at, quota_at, product_of, quotas_of, base_price, is_active, is_sold, variations_of, with_variations};
 ghost use Rattle.bo_catalogue.specs.ItemAdded.{item_added};
 ghost use Rattle.bo_catalogue.specs.ItemChanged.{item_changed};
+ghost use Rattle.bo_catalogue.specs.Members.{quota_weight};
 ghost use Rattle.bo_catalogue.specs.VariationAdded.{variation_added};
 ghost use Rattle.bo_catalogue.specs.Resized.{resized};
 ghost use Rattle.bo_catalogue.specs.QuotaAdded.{quota_added, quota_test, items_stand, variations_stand, variations_fit, items_fit, is_of_one, item_of, items_of, is_offered};
 
 use crate::limits::{takes_row, takes_rows};
+use crate::members::{list_items, list_variations};
 use crate::refusal::CatalogueRefusal;
 use crate::requests::{ItemPatch, NewItem, NewQuota, NewVariation, QuotaPatch, variation_rows};
 use crate::rows::{Item, ItemRows, PricedVariation, Product, Quota, Variation};
 use bo_base::{Cents, Ids, List, Rows};
+use bo_index::{Found, Index};
 use std::alloc::{AllocError, Global};
 use std::marker::Model;
 
-/// All that is for sale. Contracts see the lists of rows, and how many rows each of them can be given
-/// without taking memory.
+/// All that is for sale. Contracts see the lists of rows, and how many rows each of them, and how many members each
+/// index of quotas can be given without taking memory.
 #[derive(Drop)]
 pub struct Catalogue {
     items: Rows<Item>,
     variations: Rows<Variation>,
     quotas: Rows<Quota>,
+    by_item: Index,
+    by_variation: Index,
 }
 
 impl Model for Catalogue {
     ghost use Rattle.std.specs.Prelude.{min};
     ghost use Rattle.bo_catalogue.specs.CatalogueLists.{CatalogueTables};
+    ghost use Rattle.bo_catalogue.specs.Members.{AreMembers};
 
     ghost Value = { CatalogueTables };
 
     ghost view = { λ c. record {
       lists = record { items = c.items.rows; variations = c.variations.rows; quotas = c.quotas.rows };
-      room = min (min c.items.room c.variations.room) c.quotas.room;
+      room = min (min (min c.items.room c.variations.room) c.quotas.room) (min c.by_item.room c.by_variation.room);
     } };
+
+    // The indexes have exactly the items and the variations of the quotas.
+    ghost invariant = { λ c. AreMembers (λ q. q.items) c.quotas.rows c.by_item.rows × AreMembers (λ q. q.variations) c.quotas.rows c.by_variation.rows };
 }
 
 impl Catalogue {
@@ -51,19 +60,8 @@ impl Catalogue {
             items: Rows::new(alloc),
             variations: Rows::new(alloc),
             quotas: Rows::new(alloc),
-        }
-    }
-
-    /// These tables.
-    pub fn of(items: Rows<Item>, variations: Rows<Variation>, quotas: Rows<Quota>) -> Self
-        ensures items { result.lists.items ≡ items.rows }
-        ensures variations { result.lists.variations ≡ variations.rows }
-        ensures quotas { result.lists.quotas ≡ quotas.rows }
-    {
-        Catalogue {
-            items,
-            variations,
-            quotas,
+            by_item: Index::new(alloc),
+            by_variation: Index::new(alloc),
         }
     }
 
@@ -79,6 +77,13 @@ impl Catalogue {
         ensures { option_copied result ≡ variation_at id self.now.lists }
     {
         self.variations.get(id)
+    }
+
+    /// The ids of quotas rise, and there are no more of them than 2^32.
+    pub fn known(&self)
+        ensures { AreKept (λ r. r.id) 4294967296 self.now.lists.quotas }
+    {
+        self.quotas.known();
     }
 
     /// The quota of an id.
@@ -135,22 +140,27 @@ impl Catalogue {
     pub fn quotas_of(&self, alloc: Global, product: Product) -> Result<Vec<u64>, AllocError>
         ensures { IfOk result (λ ids. ids.items ≡ quotas_of product self.now.lists) }
     {
-        self.quotas
-            .as_slice()
-            .iter()
-            .filter(|quota| quota.has(product))
-            .map(|quota| quota.id)
-            .collect(alloc)
+        self.quotas_with(product).to_vec(alloc)
+    }
+
+    /// The ids of the quotas that a product is in, lent.
+    pub fn quotas_with(&self, product: Product) -> Found<'_>
+        ensures { result ≡ quotas_of product self.now.lists }
+    {
+        self.quotas.known();
+        self.by_item.known();
+        self.by_variation.known();
+        match product.variation {
+            None => self.by_item.of_key(product.item),
+            Some(variation) => self.by_variation.of_key(variation),
+        }
     }
 
     /// Whether a product is in a quota.
     pub fn is_sold(&self, product: Product) -> bool
         ensures { result ≡ is_sold product self.now.lists }
     {
-        self.quotas
-            .as_slice()
-            .iter()
-            .any(|quota| quota.has(product))
+        !self.quotas_with(product).is_empty()
     }
 
     /// Whether a product's item is active, and its variation, where it has one.
@@ -427,18 +437,20 @@ impl Catalogue {
 }
 
 impl Catalogue {
-    /// Takes memory, so that this many rows can be put into each table. It is refused where a table would have more
-    /// than 2^32 rows with them, or where there is no memory.
+    /// Takes memory, so that this many rows can be put into each table, and this many members of quotas into each
+    /// index. It is refused where one would have more than 2^32 with them, or where there is no memory.
     pub fn reserve(&mut self, count: usize) -> Result<(), AllocError>
         ensures ok { OnOk result (count ≤ self.new.room) }
         ensures same { self.new.lists ≡ self.old.lists }
     {
         self.items.reserve(count)?;
         self.variations.reserve(count)?;
-        self.quotas.reserve(count)
+        self.quotas.reserve(count)?;
+        self.by_item.reserve(count)?;
+        self.by_variation.reserve(count)
     }
 
-    /// How many rows can be put without taking memory.
+    /// How many rows, and how many members of quotas can be put without taking memory.
     pub fn room(&self) -> usize
         ensures { result ≡ self.now.room }
     {
@@ -446,6 +458,7 @@ impl Catalogue {
             .room()
             .min(self.variations.room())
             .min(self.quotas.room())
+            .min(self.by_item.room().min(self.by_variation.room()))
     }
 
     /// Puts an item in the place of its id.
@@ -469,12 +482,14 @@ impl Catalogue {
     }
 
     /// Puts a quota in the place of its id.
-    /// There has to be room for a row in each table, also where it replaces one.
+    /// There has to be room for its row and its members, also where it replaces one.
     pub fn put_quota(&mut self, row: Quota)
-        requires { 1 ≤ self.old.room }
+        requires { quota_weight row ≤ self.old.room }
         ensures lists { self.new.lists ≡ record self.old.lists { quotas = with_row (λ r. r.id) row self.old.lists.quotas } }
-        ensures room { self.old.room ≤ self.new.room + 1 }
+        ensures room { self.old.room ≤ self.new.room + quota_weight row }
     {
+        list_items(&mut self.by_item, &self.quotas, &row);
+        list_variations(&mut self.by_variation, &self.quotas, &row);
         self.quotas.put(row);
     }
 }

@@ -3,10 +3,12 @@
 
 pub mod catalogue;
 pub mod limits;
+pub mod members;
 pub mod refusal;
 pub mod requests;
 pub mod rows;
 
+pub use bo_index::Found;
 pub use catalogue::Catalogue;
 pub use limits::{LAST_ID, MOST_ROWS, takes_row, takes_rows};
 pub use refusal::CatalogueRefusal;

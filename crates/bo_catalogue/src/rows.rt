@@ -2,6 +2,7 @@
 
 ghost use Rattle.std.specs.Prelude.{◌≡◌, IfOk};
 ghost use Rattle.bo_catalogue.specs.Member.{is_in};
+ghost use Rattle.bo_catalogue.specs.Members.{quota_weight};
 
 use bo_base::{Cents, Ids, List, Row, Text};
 use std::alloc::{AllocError, Global};
@@ -117,6 +118,13 @@ impl Quota {
             items: self.items.copy(alloc)?,
             variations: self.variations.copy(alloc)?,
         })
+    }
+
+    /// How much room it takes in a catalogue: for its row, and for each of its members.
+    pub fn weight(&self) -> usize
+        ensures { result ≡ quota_weight self.now }
+    {
+        1 + (self.items.as_slice().len() + self.variations.as_slice().len())
     }
 
     /// Whether it has the product: by its variation, or, without one, by its item.

@@ -1,6 +1,6 @@
 -- What a change shifts of the uses of vouchers.
 use mathlib.Core.Bool.{beq}
-use Rattle.std.proofs.Common.{◌≡◌, ℕ, ◌≤◌, Bool, true, false, ◌&&◌, eqb, List, [], ◌∷◌, Option, None, Some, refl, ap, count_by, arith}
+use Rattle.std.proofs.Common.{◌≡◌, ℕ, ◌≤◌, length, not, Bool, true, false, ◌&&◌, eqb, List, [], ◌∷◌, Option, None, Some, refl, ap, count_by, arith}
 use Rattle.std.proofs.lemmas.List.Sums.{sum_by-cons}
 use Rattle.std.specs.Prelude.{if◌then◌else◌}
 use Rattle.bo_base.specs.Tables.{sum_at, AreInOrder}
@@ -41,6 +41,16 @@ equal true true h = refl
 equal true false h = absurd (cc h)
 equal false true h = absurd (cc h)
 equal false false h = refl
+
+pub unequal : (a b : Bool) → beq a b ≡ false → a ≡ not b
+unequal true true h = absurd (cc h)
+unequal true false h = refl
+unequal false true h = refl
+unequal false false h = absurd (cc h)
+
+pub all_pass : {T : Type 0} (rows : List T) → count_by (λ r. true) rows ≡ length rows
+all_pass [] = refl
+all_pass (r ∷ rs) = omega (arith, all_pass rs, sum_by-cons (λ s. 1) r rs)
 
 module _ (at : ℕ) (lists : Lists) where
   pub shift_put_cart : (row : CartPos) → AreInOrder (λ r. r.id) lists.carts → IsShift at (PutCart row) lists (record { come = held_by at (Some row); gone = held_by at (cart_at row.id lists) })

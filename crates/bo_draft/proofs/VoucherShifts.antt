@@ -1,20 +1,23 @@
 -- The usage after a voucher came, changed or went.
-use Rattle.std.proofs.Common.{◌≡◌, ℕ, ◌+◌, Bool, true, false, not, ◌&&◌, eqb, List, Option, Some, None, refl, sym, ap, ◌∙◌, count_by, arith}
+use Rattle.std.proofs.Common.{◌≡◌, ℕ, ◌+◌, ◌-◌, sum_by, Bool, true, false, not, ◌&&◌, eqb, List, Option, Some, None, refl, sym, ap, ◌∙◌, count_by, arith}
 use Rattle.std.specs.Prelude.{if◌then◌else◌}
 use Rattle.std.proofs.lemmas.Bool.Decides.{nat_tests}
-use Rattle.bo_base.specs.Tables.{row_at, with_row, without_row, AreInOrder}
+use Rattle.bo_base.specs.Tables.{sum_at, row_at, with_row, without_row, AreInOrder}
 use Rattle.bo_base.proofs.Edits.{row_at-with_row, row_at-without_row, sum_by-with_row, sum_by-without_row}
 use Rattle.bo_catalogue.specs.declared.rows.Quota.{Quota}
 use Rattle.bo_catalogue.specs.Member.{is_in}
 use Rattle.bo_lists.specs.declared.rows.Voucher.{Voucher}
 use Rattle.bo_lists.specs.declared.rows.CartPos.{CartPos}
 use Rattle.bo_lists.specs.declared.changes.Change.TheVariants.{PutVoucher, DropVoucher}
-use Rattle.bo_lists.specs.Conditions.{is_live_cart, names, holds}
+use Rattle.bo_lists.specs.Conditions.{is_live_cart, names, holds, blocks}
 use Rattle.bo_lists.specs.Lists.{Lists, voucher_at}
 use Rattle.bo_lists.specs.Change.{after_change}
-use Rattle.bo_lists.specs.Usage.{usage_of, cart_counts, blocked_by, blocks_if, is_covered_by}
+use Rattle.bo_lists.specs.Usage.{usage_of, redeemed, cart_counts, blocked_by, blocks_if, is_covered_by}
 use Rattle.bo_lists.proofs.Time.{one, eqb_flip, gated, same_sums, sum_by_split}
-use Rattle.bo_draft.specs.Shift.{uncovered, usage_with_voucher}
+use Rattle.bo_lists.specs.Headroom.{held_in}
+use Rattle.bo_lists.proofs.EachRow.{key-row_at}
+use Rattle.bo_draft.specs.Shift.{used, left_of, turned_voucher}
+use Rattle.bo_draft.proofs.Parts.{by_usage, voucher_total}
 
 -- what passes unless a test holds
 unless : {X : Type 0} (b : Bool) (p : X → Bool) (xs : List X) → count_by (λ x. not b && p x) xs ≡ (if b then 0 else count_by p xs)
@@ -47,7 +50,7 @@ module _ (lists : Lists) (at : ℕ) (quota : Quota) (id : ℕ) (come : Option Vo
   each : (l i n o w p : Bool) → (n ≡ true → p ≡ o) → one (l && i && not (if n then w else p)) + one (not o && (l && n && i)) ≡ one (l && i && not p) + one (not w && (l && n && i))
   each l i n o w p h = grind (arith, h)
 
-  carts_with : count_by (cart_counts after at quota) lists.carts + uncovered lists at quota id (voucher_at id lists) ≡ count_by (cart_counts lists at quota) lists.carts + uncovered lists at quota id come
+  pub carts_with : count_by (cart_counts after at quota) lists.carts + (if blocks_if at quota (voucher_at id lists) then 0 else held_in at quota id lists) ≡ count_by (cart_counts lists at quota) lists.carts + (if blocks_if at quota come then 0 else held_in at quota id lists)
   carts_with =
       let old = blocks_if at quota (voucher_at id lists) in
       let new = blocks_if at quota come in
@@ -60,25 +63,38 @@ module _ (lists : Lists) (at : ℕ) (quota : Quota) (id : ℕ) (come : Option Vo
       ∙ sym (sum_by_split (λ c. one (cart_counts lists at quota c)) (λ c. one (not new && claims c)) later lists.carts (λ c. refl))
       ∙ ap (λ n. count_by (cart_counts lists at quota) lists.carts + n) (unless new claims lists.carts)
 
-module _ (lists : Lists) (at : ℕ) (order : AreInOrder (λ r. r.id) lists.vouchers) where
-  pub voucher_put : (row : Voucher) (quota : Quota) → usage_of (after_change (PutVoucher row) lists) at quota ≡ usage_with_voucher lists at row.id (Some row) quota
-  unfolding usage_of blocked_by usage_with_voucher
-  voucher_put row quota =
-      let sum = sum_by-with_row (λ r. r.id) (blocked_by lists at quota) 0 row lists.vouchers order in
-      let carts = carts_with lists at quota row.id (Some row) (with_row (λ r. r.id) row lists.vouchers) (λ x. row_at-with_row (λ r. r.id) x row lists.vouchers) in
-      let new = usage_of (after_change (PutVoucher row) lists) at quota in
-      let want = usage_with_voucher lists at row.id (Some row) quota in
-      let b : new.blocked ≡ want.blocked = omega (arith, sum) in
-      let n : new.carts ≡ want.carts = omega (arith, carts) in
-      λ i. record (usage_of lists at quota) { blocked = b i; carts = n i }
+module _ (lists : Lists) (at : ℕ) (quota : Quota) where
+  blocked_here : (id : ℕ) (voucher : Option Voucher) → ((v : Voucher) → voucher ≡ Some v → v.id ≡ id) → sum_at (blocked_by lists at quota) voucher ≡ (if blocks_if at quota voucher then left_of (redeemed id lists) voucher else 0)
+  unfolding blocked_by
+  blocked_here id None same = refl
+  blocked_here id (Some v) same = ap (λ x. if blocks at quota v then v.max_usages - redeemed x lists else 0) (same v refl)
 
-  pub voucher_drop : (id : ℕ) (quota : Quota) → usage_of (after_change (DropVoucher id) lists) at quota ≡ usage_with_voucher lists at id None quota
-  unfolding usage_of blocked_by usage_with_voucher
+module _ (lists : Lists) (at : ℕ) (order : AreInOrder (λ r. r.id) lists.vouchers) where
+  pub voucher_put : (row : Voucher) (quota : Quota) → used (after_change (PutVoucher row) lists) at quota + turned_voucher lists at quota row.id (voucher_at row.id lists) (Some row) ≡ used lists at quota + turned_voucher lists at quota row.id (Some row) (voucher_at row.id lists)
+  unfolding usage_of blocked_by
+  voucher_put row quota =
+      let after = after_change (PutVoucher row) lists in
+      let b = sum_by (blocked_by lists at quota) after.vouchers in
+      let c = count_by (cart_counts after at quota) lists.carts in
+      let gone = blocked_here lists at quota row.id (voucher_at row.id lists) (key-row_at (λ r. r.id) row.id lists.vouchers) in
+      let come = blocked_here lists at quota row.id (Some row) (λ v is. ap (λ (o : Option Voucher). id_in row.id o) (sym is)) in
+      by_usage lists after at quota (record (usage_of lists at quota) { blocked = b; carts = c }) _ _ refl
+      (voucher_total (usage_of lists at quota) b c (blocks_if at quota (voucher_at row.id lists)) (blocks at quota row) _ _ (held_in at quota row.id lists)
+      (omega (arith, sum_by-with_row (λ r. r.id) (blocked_by lists at quota) 0 row lists.vouchers order, gone, come))
+      (carts_with lists at quota row.id (Some row) (with_row (λ r. r.id) row lists.vouchers) (λ x. row_at-with_row (λ r. r.id) x row lists.vouchers)))
+    where
+      id_in : ℕ → Option Voucher → ℕ
+      id_in d None = d
+      id_in d (Some v) = v.id
+
+  pub voucher_drop : (id : ℕ) (quota : Quota) → used (after_change (DropVoucher id) lists) at quota + turned_voucher lists at quota id (voucher_at id lists) None ≡ used lists at quota + turned_voucher lists at quota id None (voucher_at id lists)
+  unfolding usage_of blocked_by
   voucher_drop id quota =
-      let sum = sum_by-without_row (λ r. r.id) (blocked_by lists at quota) 0 id lists.vouchers order in
-      let carts = carts_with lists at quota id None (without_row (λ r. r.id) id lists.vouchers) (λ x. row_at-without_row (λ r. r.id) x id lists.vouchers) in
-      let new = usage_of (after_change (DropVoucher id) lists) at quota in
-      let want = usage_with_voucher lists at id None quota in
-      let b : new.blocked ≡ want.blocked = omega (arith, sum) in
-      let n : new.carts ≡ want.carts = omega (arith, carts) in
-      λ i. record (usage_of lists at quota) { blocked = b i; carts = n i }
+      let after = after_change (DropVoucher id) lists in
+      let b = sum_by (blocked_by lists at quota) after.vouchers in
+      let c = count_by (cart_counts after at quota) lists.carts in
+      let gone = blocked_here lists at quota id (voucher_at id lists) (key-row_at (λ r. r.id) id lists.vouchers) in
+      by_usage lists after at quota (record (usage_of lists at quota) { blocked = b; carts = c }) _ _ refl
+      (voucher_total (usage_of lists at quota) b c (blocks_if at quota (voucher_at id lists)) false _ 0 (held_in at quota id lists)
+      (omega (arith, sum_by-without_row (λ r. r.id) (blocked_by lists at quota) 0 id lists.vouchers order, gone))
+      (carts_with lists at quota id None (without_row (λ r. r.id) id lists.vouchers) (λ x. row_at-without_row (λ r. r.id) x id lists.vouchers)))

@@ -1,3 +1,5 @@
+pub mod Counts
 pub mod Uses
-pub mod DraftState
 pub mod Shift
+pub mod Touched
+pub mod DraftState

@@ -1,64 +1,58 @@
--- What a change of one row does to the usage of a quota.
-use Rattle.std.specs.Prelude.{◌≡◌, ℕ, ◌+◌, ◌-◌, ◌&&◌, Option, Some, None, if◌then◌else◌}
-use Rattle.bo_base.specs.Tables.{sum_at}
+-- What a change of one row does to all that is used of a quota.
+use mathlib.Core.Bool.{beq}
+use Rattle.std.specs.Prelude.{◌≡◌, ℕ, ◌-◌, ◌≤◌, Bool, false, ◌&&◌, not, List, Option, Some, None, if◌then◌else◌}
+use Rattle.bo_base.specs.Tables.{row_at, sum_at}
+use Rattle.bo_draft.specs.declared.bases.Base.{Base}
+use Rattle.bo_draft.specs.Counts.{value_at}
 use Rattle.bo_catalogue.specs.declared.rows.Quota.{Quota}
+use Rattle.bo_catalogue.specs.declared.rows.Product.{Product}
 use Rattle.bo_catalogue.specs.Member.{is_in}
 use Rattle.bo_lists.specs.declared.rows.CartPos.{CartPos}
 use Rattle.bo_lists.specs.declared.rows.Voucher.{Voucher}
 use Rattle.bo_lists.specs.declared.rows.Order.{Order}
 use Rattle.bo_lists.specs.declared.rows.OrderPos.{OrderPos}
 use Rattle.bo_lists.specs.declared.rows.Waiting.{Waiting}
-use Rattle.bo_lists.specs.declared.rows.Usage.{Usage}
 use Rattle.bo_lists.specs.declared.changes.Change.{Change}
 use Rattle.bo_lists.specs.declared.changes.Change.TheVariants.{PutItem, PutVariation, PutQuota, PutVoucher, PutCart, PutOrder, PutPosition, PutWaiting, DropVoucher, DropCart, DropWaiting}
-use Rattle.bo_lists.specs.Conditions.{is_paid, is_pending, is_in_force}
+use Rattle.bo_lists.specs.Conditions.{is_in_force}
+use Rattle.bo_lists.specs.Total.{total}
 use Rattle.bo_lists.specs.Lists.{Lists, voucher_at, cart_at, order_at, position_at, waiting_at}
 use Rattle.bo_lists.specs.Change.{after_change}
-use Rattle.bo_lists.specs.Usage.{usage_of, stands_as, position_counts, cart_counts, blocked_by, blocks_if, is_covered_by, waits_for}
+use Rattle.bo_lists.specs.Usage.{usage_of, redeemed, stands_as, position_counts, cart_counts, blocks_if, is_covered_by, waits_for}
 use Rattle.bo_lists.specs.Headroom.{held_in, AllHaveHeadroom}
 use Rattle.bo_overlay.specs.Logs.{Log, rows_of}
-use Rattle.bo_overlay.specs.Ordered.{count_ordered, if_stands}
+use Rattle.bo_overlay.specs.declared.tickets.Ticket.{Ticket}
+use Rattle.bo_overlay.specs.Ordered.{count_ordered}
+use Rattle.bo_overlay.specs.Tickets.{AreTicketsOf}
+
+-- all that is used of a quota
+unfoldable pub used : Lists → ℕ → Quota → ℕ
+used lists at quota = total (usage_of lists at quota)
+
+-- what is kept of a quota: how much the lists use of it
+pub record IsBase (lists : Lists) (at : ℕ) (quotas : List Quota) (place : ℕ) (base : Base) : Type 0 where
+  pub value : base.total ≡ value_at (used lists at) quotas place
+  pub few : base.total ≤ 92233720368547758080
+
+-- all that is kept of quotas
+abbrev pub AreBases : Lists → ℕ → List Quota → List Base → Type 0
+AreBases lists at quotas bases = (place : ℕ) (base : Base) → row_at (λ b. b.place) place bases ≡ Some base → IsBase lists at quotas place base
+
+-- one, where it is so
+abbrev pub once : Bool → ℕ
+once b = if b then 1 else 0
 
 -- a cart position counts once, or not
 abbrev pub cart_share : Lists → ℕ → Quota → Option CartPos → ℕ
 cart_share lists at quota cart = sum_at (λ c. if cart_counts lists at quota c then 1 else 0) cart
 
--- the usage where this cart position, or none, stands in the place of the id
-unfoldable pub usage_with_cart : Lists → ℕ → ℕ → Option CartPos → Quota → Usage
-usage_with_cart lists at id come quota =
-    record (usage_of lists at quota) { carts = (usage_of lists at quota).carts + cart_share lists at quota come - cart_share lists at quota (cart_at id lists) }
-
 -- a waiting entry counts once, or not
 abbrev pub waiting_share : Quota → Option Waiting → ℕ
 waiting_share quota entry = sum_at (λ w. if waits_for quota w then 1 else 0) entry
 
--- the usage where this waiting entry, or none, stands in the place of the id
-unfoldable pub usage_with_waiting : Lists → ℕ → ℕ → Option Waiting → Quota → Usage
-usage_with_waiting lists at id come quota =
-    record (usage_of lists at quota) { waiting = (usage_of lists at quota).waiting + waiting_share quota come - waiting_share quota (waiting_at id lists) }
-
--- what a voucher blocks of a quota, and nothing where there is none
-abbrev pub voucher_share : Lists → ℕ → Quota → Option Voucher → ℕ
-voucher_share lists at quota voucher = sum_at (blocked_by lists at quota) voucher
-
--- the live cart positions for the quota's products that name the id count where no voucher covers them
-abbrev pub uncovered : Lists → ℕ → Quota → ℕ → Option Voucher → ℕ
-uncovered lists at quota id voucher = if blocks_if at quota voucher then 0 else held_in at quota id lists
-
--- the usage where this voucher, or none, stands in the place of the id
-unfoldable pub usage_with_voucher : Lists → ℕ → ℕ → Option Voucher → Quota → Usage
-usage_with_voucher lists at id come quota = record (usage_of lists at quota) {
-  blocked = (usage_of lists at quota).blocked + voucher_share lists at quota come - voucher_share lists at quota (voucher_at id lists);
-  carts = (usage_of lists at quota).carts + uncovered lists at quota id come - uncovered lists at quota id (voucher_at id lists);
-}
-
--- the usage with a new order position, which counts by its order's status, and takes a place that its voucher blocked
-unfoldable pub usage_with_position : Lists → ℕ → OrderPos → Quota → Usage
-usage_with_position lists at row quota = record (usage_of lists at quota) {
-  paid = (usage_of lists at quota).paid + (if position_counts is_paid lists quota row then 1 else 0);
-  pending = (usage_of lists at quota).pending + (if position_counts is_pending lists quota row then 1 else 0);
-  blocked = (usage_of lists at quota).blocked - (if stands_as is_in_force (order_at row.order lists) && is_covered_by lists at quota row.voucher then 1 else 0);
-}
+-- a place for a product counts once in its quotas, unless the voucher blocks places there
+abbrev pub spot_share : ℕ → Quota → Product → Option Voucher → ℕ
+spot_share at quota product voucher = once (is_in quota product && not (blocks_if at quota voucher))
 
 -- its positions in the quota
 abbrev pub ordered_in : Lists → Quota → ℕ → ℕ
@@ -68,25 +62,69 @@ ordered_in lists quota id = count_ordered id (λ p. is_in quota p.product) lists
 abbrev pub ordered_covered : Lists → ℕ → Quota → ℕ → ℕ
 ordered_covered lists at quota id = count_ordered id (λ p. is_covered_by lists at quota p.voucher) lists
 
--- the usage where this order stands in the place of its id: its positions count by the new status, and no more by the old one
-unfoldable pub usage_with_order : Lists → ℕ → Order → Quota → Usage
-usage_with_order lists at order quota = record (usage_of lists at quota) {
-  paid = (usage_of lists at quota).paid + if_stands is_paid (Some order) (ordered_in lists quota order.id) - if_stands is_paid (order_at order.id lists) (ordered_in lists quota order.id);
-  pending = (usage_of lists at quota).pending + if_stands is_pending (Some order) (ordered_in lists quota order.id) - if_stands is_pending (order_at order.id lists) (ordered_in lists quota order.id);
-  blocked = (usage_of lists at quota).blocked + if_stands is_in_force (order_at order.id lists) (ordered_covered lists at quota order.id) - if_stands is_in_force (Some order) (ordered_covered lists at quota order.id);
-}
+-- how many of its uses a voucher has left, and none where there is none
+abbrev pub left_of : ℕ → Option Voucher → ℕ
+left_of redeemed voucher = sum_at (λ v. v.max_usages - redeemed) voucher
 
--- the usage after a change of one row
-abbrev pub usage_after : Lists → ℕ → Change → Quota → Usage
-usage_after lists at (PutVoucher row) quota = usage_with_voucher lists at row.id (Some row) quota
-usage_after lists at (DropVoucher id) quota = usage_with_voucher lists at id None quota
-usage_after lists at (PutCart row) quota = usage_with_cart lists at row.id (Some row) quota
-usage_after lists at (DropCart id) quota = usage_with_cart lists at id None quota
-usage_after lists at (PutOrder row) quota = usage_with_order lists at row quota
-usage_after lists at (PutPosition row) quota = usage_with_position lists at row quota
-usage_after lists at (PutWaiting row) quota = usage_with_waiting lists at row.id (Some row) quota
-usage_after lists at (DropWaiting id) quota = usage_with_waiting lists at id None quota
-usage_after lists at _ quota = usage_of lists at quota
+-- what comes with a voucher where another one goes: what it has left, where it blocks places, or else the live cart positions
+-- that the other one covered
+abbrev pub turned_by : Bool → Bool → ℕ → ℕ → ℕ
+turned_by here other left held = if here then left else (if other then held else 0)
+
+-- what comes to a quota with a voucher of this id, where another one or none goes
+abbrev pub turned_voucher : Lists → ℕ → Quota → ℕ → Option Voucher → Option Voucher → ℕ
+turned_voucher lists at quota id voucher other = turned_by (blocks_if at quota voucher) (blocks_if at quota other) (left_of (redeemed id lists) voucher) (held_in at quota id lists)
+
+-- what comes with an order that comes into force, or with one that ends
+abbrev pub turned_order : Bool → ℕ → ℕ → ℕ
+turned_order comes here covered = if comes then here else covered
+
+-- what comes with an order in the place of its id: its positions, or, where it ends, the places that their vouchers block again
+abbrev pub order_come : Lists → ℕ → Order → Quota → ℕ
+order_come lists at row quota =
+    if beq (is_in_force row.status) (stands_as is_in_force (order_at row.id lists)) then 0
+    else turned_order (is_in_force row.status) (ordered_in lists quota row.id) (ordered_covered lists at quota row.id)
+
+-- what goes
+abbrev pub order_gone : Lists → ℕ → Order → Quota → ℕ
+order_gone lists at row quota =
+    if beq (is_in_force row.status) (stands_as is_in_force (order_at row.id lists)) then 0
+    else turned_order (is_in_force row.status) (ordered_covered lists at quota row.id) (ordered_in lists quota row.id)
+
+-- the tickets are those of the order that a change brings into force or ends
+abbrev pub AreTurned : Change → Lists → List Ticket → Type 0
+AreTurned (PutOrder row) lists tickets = beq (is_in_force row.status) (stands_as is_in_force (order_at row.id lists)) ≡ false → AreTicketsOf row.id lists tickets
+AreTurned _ lists tickets = Unit {0}
+
+-- a new order position takes a place, where its order is in force
+abbrev pub sale_come : Lists → OrderPos → Quota → ℕ
+sale_come lists row quota = once (position_counts is_in_force lists quota row)
+
+-- and gives one back that its voucher blocked
+abbrev pub sale_gone : Lists → ℕ → OrderPos → Quota → ℕ
+sale_gone lists at row quota = once (stands_as is_in_force (order_at row.order lists) && is_covered_by lists at quota row.voucher)
+
+-- what comes to a quota with a change
+abbrev pub come_of : Lists → ℕ → Change → Quota → ℕ
+come_of lists at (PutVoucher row) quota = turned_voucher lists at quota row.id (Some row) (voucher_at row.id lists)
+come_of lists at (DropVoucher id) quota = turned_voucher lists at quota id None (voucher_at id lists)
+come_of lists at (PutCart row) quota = cart_share lists at quota (Some row)
+come_of lists at (PutOrder row) quota = order_come lists at row quota
+come_of lists at (PutPosition row) quota = sale_come lists row quota
+come_of lists at (PutWaiting row) quota = waiting_share quota (Some row)
+come_of lists at _ quota = 0
+
+-- what goes
+abbrev pub gone_of : Lists → ℕ → Change → Quota → ℕ
+gone_of lists at (PutVoucher row) quota = turned_voucher lists at quota row.id (voucher_at row.id lists) (Some row)
+gone_of lists at (DropVoucher id) quota = turned_voucher lists at quota id (voucher_at id lists) None
+gone_of lists at (PutCart row) quota = cart_share lists at quota (cart_at row.id lists)
+gone_of lists at (DropCart id) quota = cart_share lists at quota (cart_at id lists)
+gone_of lists at (PutOrder row) quota = order_gone lists at row quota
+gone_of lists at (PutPosition row) quota = sale_gone lists at row quota
+gone_of lists at (PutWaiting row) quota = waiting_share quota (waiting_at row.id lists)
+gone_of lists at (DropWaiting id) quota = waiting_share quota (waiting_at id lists)
+gone_of lists at _ quota = 0
 
 -- no voucher is used too often, before the change and after it
 pub record KeepsHeadroom (at : ℕ) (change : Change) (lists : Lists) : Type 0 where

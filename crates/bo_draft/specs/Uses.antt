@@ -1,6 +1,5 @@
 -- The uses of vouchers, and how many of them came and went with the changes of a draft.
-use Rattle.std.specs.Prelude.{◌≡◌, ℕ, ◌+◌, ◌<◌, Bool, true, not, List, Option, Some, None, if◌then◌else◌}
-use Rattle.bo_base.specs.Tables.{row_at, sum_at}
+use Rattle.std.specs.Prelude.{◌≡◌, ℕ, ◌+◌, ◌<◌, ◌⊎◌, Bool, true, false, not, List, [], ◌∷◌, Option, Some, None, if◌then◌else◌}
 use Rattle.bo_lists.specs.declared.changes.Change.{Change}
 use Rattle.bo_lists.specs.declared.changes.Change.TheVariants.{PutOrder}
 use Rattle.bo_lists.specs.declared.rows.CartPos.{CartPos}
@@ -13,7 +12,8 @@ use Rattle.bo_lists.specs.Conditions.{is_in_force, is_live_cart, names}
 use Rattle.bo_lists.specs.Usage.{redeemed, stands_as}
 use Rattle.bo_overlay.specs.Ordered.{count_ordered}
 use Rattle.bo_draft.specs.declared.use_shift.UseShift.{UseShift}
-use Rattle.bo_draft.specs.declared.uses.UseCount.{UseCount}
+use Rattle.bo_draft.specs.declared.counts.Count.{Count}
+use Rattle.bo_draft.specs.Counts.{came, went}
 
 -- the uses of a voucher: by the positions of orders in force, and by live cart positions
 abbrev pub uses_of : ℕ → Lists → ℕ → ℕ
@@ -46,29 +46,31 @@ abbrev pub TurnsUses : Change → Lists → Type 0
 TurnsUses (PutOrder row) lists = Turns row lists
 TurnsUses _ lists = ⊥
 
--- how often a use of the voucher came; never where it has no row
-abbrev pub came : ℕ → List UseCount → ℕ
-came voucher rows = sum_at (λ r. r.come) (row_at (λ r. r.voucher) voucher rows)
+-- one of these changes, each after those before it, turns the uses of a whole order
+abbrev pub SomeTurns : List Change → Lists → Type 0
+SomeTurns [] lists = ⊥
+SomeTurns (change ∷ changes) lists = TurnsUses change lists ⊎ SomeTurns changes (after_change change lists)
 
--- how often one went
-abbrev pub went : ℕ → List UseCount → ℕ
-went voucher rows = sum_at (λ r. r.gone) (row_at (λ r. r.voucher) voucher rows)
-
--- counts by voucher, and whether they are known
+-- counts by voucher, whether they are known, and whether memory for one was refused
 pub record UsesState : Type 0 where
-  pub rows : List UseCount
+  pub rows : List Count
   pub known : Bool
+  pub lost : Bool
 
 -- where they are known, the uses of each voucher are those of the book with what came and without what went
 abbrev pub AreKept : ℕ → Lists → Lists → UsesState → Type 0
 AreKept at base lists uses = uses.known ≡ true → (voucher : ℕ) → uses_of at lists voucher + went voucher uses.rows ≡ uses_of at base voucher + came voucher uses.rows
 
+-- they are known but where memory was refused, or a change turned the uses of a whole order
+abbrev pub AreKnown : List Change → Lists → UsesState → Type 0
+AreKnown changes base uses = uses.known ≡ false → uses.lost ≡ false → SomeTurns changes base
+
 -- the new rows count one use more of each name
-pub record CountsMore (come gone : Option ℕ) (old new : List UseCount) : Type 0 where
+pub record CountsMore (come gone : Option ℕ) (old new : List Count) : Type 0 where
   pub comes : (voucher : ℕ) → came voucher new ≡ came voucher old + one_use voucher come
   pub goes : (voucher : ℕ) → went voucher new ≡ went voucher old + one_use voucher gone
 
 -- the new rows count the shift; one that isn't known is counted by no rows
-abbrev pub CountsShift : Option UseShift → List UseCount → List UseCount → Type 0
+abbrev pub CountsShift : Option UseShift → List Count → List Count → Type 0
 CountsShift None old new = ⊥
 CountsShift (Some shift) old new = CountsMore shift.come shift.gone old new

@@ -2,8 +2,8 @@
 
 ghost use Rattle.std.specs.Prelude.{true, not, ◌||◌, ◌≡◌, [], ◌≤◌, ◌<◌, ◌+◌, ◌-◌, IfOk, OnOk, OnErr, length, Some, None};
 ghost use Rattle.std.specs.Option.{option_copied};
-ghost use Rattle.bo_lists.specs.Full.{takes_cart, takes_voucher, takes_order, takes_positions};
-ghost use Rattle.bo_lists.specs.Lists.{voucher_at, cart_at, order_at, position_at, positions_of, waiting_at};
+ghost use Rattle.bo_lists.specs.Full.{takes_cart, takes_voucher, takes_order, takes_positions, takes_waiting, takes_checkin_list, takes_checkin};
+ghost use Rattle.bo_lists.specs.Lists.{voucher_at, cart_at, order_at, position_at, positions_of, waiting_at, checkin_list_at, checkin_at};
 ghost use Rattle.bo_lists.specs.Consumed.{consumed};
 ghost use Rattle.bo_lists.specs.Headroom.{has_use, held, HasHeadroom, AllHaveHeadroom};
 ghost use Rattle.bo_lists.specs.Conditions.{is_live_cart};
@@ -11,31 +11,39 @@ ghost use Rattle.bo_base.specs.Tables.{AreInOrder};
 ghost use Rattle.bo_lists.specs.Named.{voucher_of, is_used};
 ghost use Rattle.bo_lists.specs.Over.{first_over};
 ghost use Rattle.bo_lists.specs.Change.{changed};
-ghost use Rattle.bo_draft.specs.DraftState.{DraftState, MarkState, IsMarkOf, Extends, now, back, with_change, usages_of};
+ghost use Rattle.bo_draft.specs.DraftState.{DraftState, MarkState, IsMarkOf, Extends, now, back, with_change};
 ghost use Rattle.bo_overlay.specs.Logs.{rows_of};
+ghost use Rattle.bo_overlay.specs.Due.{due_orders, dead_carts};
 ghost use Rattle.bo_draft.specs.Shift.{CanCome};
-ghost use Rattle.bo_lists.specs.Usage.{redeemed};
+ghost use Rattle.bo_lists.specs.Usage.{redeemed, usage_of};
+ghost use Rattle.bo_lists.specs.Total.{total};
+ghost use Rattle.bo_catalogue.specs.CatalogueLists.{quota_at};
 
-use crate::shift::{carts_after, usages_after};
+use crate::bases::{Base, ask_bases};
+use crate::counts::Count;
+use crate::over::{first_over, used_now};
+use crate::shift::{carts_after, counts_after, turned_tickets, vouchers_after};
 use crate::use_shift::use_shift;
 use crate::uses::Uses;
 use bo_base::codes::LAST_ORDER;
-use bo_base::{List, Moment, Steps, Text};
-use bo_catalogue::{Catalogue, LAST_ID, MOST_ROWS, takes_rows};
-use bo_lists::{CartPos, Change, Changes, NextIds, Order, OrderPos, Own, Usage, Voucher, Waiting};
+use bo_base::{List, Moment, Text};
+use bo_catalogue::{Catalogue, LAST_ID, MOST_ROWS, Quota, takes_rows};
+use bo_lists::{
+    CartPos, Change, Changes, Checkin, CheckinList, NextIds, Order, OrderPos, Own, Voucher, Waiting,
+};
 use bo_overlay::Overlay;
 use bo_usage::Book;
 use std::alloc::{AllocError, Global};
-use std::marker::{Brand, Model};
-use std::sync::ledger::{Blank, Ledger};
+use std::marker::Model;
 
 /// A place in a draft, to which it can go back.
 #[derive(Drop)]
 pub struct Mark {
     count: usize,
     next: NextIds,
-    usages: Vec<Usage>,
+    counts: Vec<Count>,
     carts: usize,
+    vouchers: usize,
     uses: Uses,
 }
 
@@ -44,34 +52,34 @@ impl Model for Mark {
 
     ghost Value = { MarkState };
 
-    ghost view = { λ m. record { count = m.count; next = m.next; usages = m.usages.items; carts = m.carts; uses = m.uses } };
+    ghost view = { λ m. record { count = m.count; next = m.next; counts = m.counts.items; carts = m.carts; vouchers = m.vouchers; uses = m.uses } };
 }
 
 /// A book at a moment, with changes that aren't applied yet.
 #[derive(Drop)]
 pub struct Draft<'a, B: Book> {
+    book: &'a B,
     overlay: Overlay<'a, B>,
     next: NextIds,
     moment: Moment,
-    usages: Vec<Usage>,
+    counts: Vec<Count>,
+    bases: Vec<Base>,
+    again: bool,
     carts: usize,
+    vouchers: usize,
     uses: Uses,
 }
 
 impl<'a, B: Book> Model for Draft<'a, B> {
-    ghost use Rattle.std.specs.Prelude.{◌≡◌, length};
-    ghost use Rattle.bo_draft.specs.DraftState.{DraftState, usages_of};
-    ghost use Rattle.bo_overlay.specs.Logs.{rows_of};
-    ghost use Rattle.bo_lists.specs.Headroom.{AllHaveHeadroom};
-    ghost use Rattle.bo_draft.specs.Uses.{AreKept};
+    ghost use Rattle.bo_draft.specs.DraftState.{DraftState, IsDraft};
 
     ghost Value = { DraftState };
 
     ghost view = { λ d. record { log = d.overlay; next = d.next; moment = d.moment } };
 
-    // The usage of each quota, the number of cart positions and the uses of vouchers are what counting afresh gives,
+    // The counts by quota, the numbers of cart positions and of vouchers and the uses of vouchers are what counting afresh gives,
     // and no voucher is used more often than it may be.
-    ghost invariant = { λ d. (d.usages.items ≡ usages_of (rows_of d.overlay) d.moment) × ((d.carts ≡ length (rows_of d.overlay).carts) × (AllHaveHeadroom d.moment (rows_of d.overlay) × AreKept d.moment d.overlay.base (rows_of d.overlay) d.uses)) };
+    ghost invariant = { λ d. IsDraft (B.state d.book.now) d.overlay d.moment d.counts.items d.bases.items d.carts d.vouchers d.uses };
 }
 
 impl<'a, B: Book> Draft<'a, B> {
@@ -86,13 +94,16 @@ impl<'a, B: Book> Draft<'a, B> {
           moment = moment;
         }) }
     {
-        let usages = usages_now(alloc, book, moment)?;
         Ok(Draft {
+            book,
             overlay: Overlay::new(alloc, book),
             next: book.next_ids(),
             moment,
-            usages,
+            counts: Vec::new(alloc),
+            bases: Vec::new(alloc),
+            again: false,
             carts: book.carts().len(),
+            vouchers: book.vouchers().len(),
             uses: Uses::new(alloc),
         })
     }
@@ -128,17 +139,15 @@ impl<'a, B: Book> Draft<'a, B> {
         self.overlay.voucher(id)
     }
 
-    /// The first voucher with that code, in a draft that has changed no voucher.
+    /// The first voucher with that code.
     pub fn voucher_of(&self, code: &str) -> Option<&Voucher>
-        requires { (now self.now).lists.vouchers ≡ self.now.log.base.vouchers }
         ensures { option_copied result ≡ voucher_of code.now (now self.now).lists }
     {
         self.overlay.voucher_of(code)
     }
 
-    /// Whether an order position, a cart position or a waiting entry names the voucher, in a draft without changes.
+    /// Whether an order position, a cart position or a waiting entry names the voucher.
     pub fn is_used(&self, voucher: u64) -> bool
-        requires { self.now.log.changes ≡ [] }
         ensures { result ≡ is_used voucher (now self.now).lists }
     {
         self.overlay.is_used(voucher)
@@ -180,11 +189,66 @@ impl<'a, B: Book> Draft<'a, B> {
         self.overlay.position(id)
     }
 
+    /// The check-in list of an id.
+    pub fn checkin_list(&self, id: u64) -> Option<&CheckinList>
+        ensures { option_copied result ≡ checkin_list_at id (now self.now).lists }
+    {
+        self.overlay.checkin_list(id)
+    }
+
+    /// The check-in of an id.
+    pub fn checkin(&self, id: u64) -> Option<&Checkin>
+        ensures { option_copied result ≡ checkin_at id (now self.now).lists }
+    {
+        self.overlay.checkin(id)
+    }
+
     /// The waiting entry of an id.
     pub fn waiting(&self, id: u64) -> Option<&Waiting>
         ensures { option_copied result ≡ waiting_at id (now self.now).lists }
     {
         self.overlay.waiting(id)
+    }
+
+    /// All orders, by number, in a draft that has changed none of them.
+    pub fn orders(&self) -> &[Order]
+        requires { (now self.now).lists.orders ≡ self.now.log.base.orders }
+        ensures { result.now ≡ (now self.now).lists.orders }
+    {
+        self.overlay.orders()
+    }
+
+    /// All cart positions, by id, in a draft that has changed none of them.
+    pub fn carts(&self) -> &[CartPos]
+        requires { (now self.now).lists.carts ≡ self.now.log.base.carts }
+        ensures { result.now ≡ (now self.now).lists.carts }
+    {
+        self.overlay.carts()
+    }
+
+    /// The whole waiting list, by id, in a draft that has changed none of it.
+    pub fn waiting_list(&self) -> &[Waiting]
+        requires { (now self.now).lists.waiting ≡ self.now.log.base.waiting }
+        ensures { result.now ≡ (now self.now).lists.waiting }
+    {
+        self.overlay.waiting_list()
+    }
+
+    /// All that is used of a quota that stands: its five counts together.
+    #[tactic(auto, unfolding(crate::specs::Shift::used))]
+    pub fn used(&self, quota: &Quota) -> u128
+        requires { quota_at quota.now.id (now self.now).lists.catalogue ≡ Some quota.now }
+        ensures { result ≡ total (usage_of (now self.now).lists (now self.now).moment quota.now) }
+    {
+        self.overlay.known();
+        used_now(
+            self.book,
+            &self.overlay,
+            self.moment,
+            quota,
+            &self.bases,
+            &self.counts,
+        )
     }
 
     /// Copies of the positions of an order, by id, in a draft that has changed no order position.
@@ -203,6 +267,24 @@ impl<'a, B: Book> Draft<'a, B> {
         ensures { IfOk result (λ ids. ids.items ≡ consumed carts.now (now self.now).lists) }
     {
         self.overlay.carts_in(alloc, carts)
+    }
+
+    /// The numbers of the pending orders that ended before the draft's moment, in order, in a draft that has changed
+    /// no order. `Err` where there is no memory for them.
+    pub fn due_orders(&self, alloc: Global) -> Result<Vec<u64>, AllocError>
+        requires { (now self.now).lists.orders ≡ self.now.log.base.orders }
+        ensures { IfOk result (λ ids. ids.items ≡ due_orders (now self.now).moment (now self.now).lists) }
+    {
+        self.overlay.due_orders(alloc, self.moment)
+    }
+
+    /// The ids of the cart positions that are dead at the draft's moment, in order, in a draft that has changed no
+    /// cart position. `Err` where there is no memory for them.
+    pub fn dead_carts(&self, alloc: Global) -> Result<Vec<u64>, AllocError>
+        requires { (now self.now).lists.carts ≡ self.now.log.base.carts }
+        ensures { IfOk result (λ ids. ids.items ≡ dead_carts (now self.now).moment (now self.now).lists) }
+    {
+        self.overlay.dead_carts(alloc, self.moment)
     }
 
     /// Whether one more cart position may name the voucher.
@@ -303,13 +385,12 @@ impl<'a, B: Book> Draft<'a, B> {
         self.next.voucher
     }
 
-    /// Whether the table of vouchers takes one more row, in a draft without changes: fewer than 1,000,000 stand,
+    /// Whether the table of vouchers takes one more row: fewer than 1,000,000 stand,
     /// and the next id is at most 9,007,199,254,740,991.
     pub fn takes_voucher(&self) -> bool
-        requires { self.now.log.changes ≡ [] }
         ensures { result ≡ takes_voucher (now self.now) }
     {
-        self.overlay.voucher_count() < MOST_ROWS && self.next.voucher <= LAST_ID
+        self.vouchers < MOST_ROWS && self.next.voucher <= LAST_ID
     }
 
     /// Counts the id of a voucher as used.
@@ -320,6 +401,85 @@ impl<'a, B: Book> Draft<'a, B> {
         ensures log { self.new.log ≡ self.old.log }
     {
         self.next.voucher += 1;
+    }
+
+    /// The id that the next waiting entry gets.
+    pub fn next_waiting(&self) -> u64
+        ensures { result ≡ (now self.now).next.waiting }
+    {
+        self.next.waiting
+    }
+
+    /// Whether the table of waiting entries takes one more row, in a draft that has changed none of them:
+    /// fewer than 1,000,000 stand, and the next id is at most 9,007,199,254,740,991.
+    pub fn takes_waiting(&self) -> bool
+        requires { (now self.now).lists.waiting ≡ self.now.log.base.waiting }
+        ensures { result ≡ takes_waiting (now self.now) }
+    {
+        let rows = self.overlay.waiting_list().len();
+        rows < MOST_ROWS && self.next.waiting <= LAST_ID
+    }
+
+    /// Counts the id of a waiting entry as used.
+    pub fn use_waiting_id(&mut self)
+        requires { (now self.old).next.waiting < 9007199254740992 }
+        ensures now { now self.new ≡ record (now self.old) { next = record (now self.old).next { waiting = (now self.old).next.waiting + 1 } } }
+        ensures extends { Extends self.old self.new }
+        ensures log { self.new.log ≡ self.old.log }
+    {
+        self.next.waiting += 1;
+    }
+
+    /// The id that the next check-in list gets.
+    pub fn next_checkin_list(&self) -> u64
+        ensures { result ≡ (now self.now).next.list }
+    {
+        self.next.list
+    }
+
+    /// Whether the table of check-in lists takes one more row, in a draft that has changed none of them:
+    /// fewer than 1,000,000 stand, and the next id is at most 9,007,199,254,740,991.
+    pub fn takes_checkin_list(&self) -> bool
+        requires { (now self.now).lists.checkin_lists ≡ self.now.log.base.checkin_lists }
+        ensures { result ≡ takes_checkin_list (now self.now) }
+    {
+        self.overlay.checkin_lists().len() < MOST_ROWS && self.next.list <= LAST_ID
+    }
+
+    /// Counts the id of a check-in list as used.
+    pub fn use_checkin_list_id(&mut self)
+        requires { (now self.old).next.list < 9007199254740992 }
+        ensures now { now self.new ≡ record (now self.old) { next = record (now self.old).next { list = (now self.old).next.list + 1 } } }
+        ensures extends { Extends self.old self.new }
+        ensures log { self.new.log ≡ self.old.log }
+    {
+        self.next.list += 1;
+    }
+
+    /// The id that the next check-in gets.
+    pub fn next_checkin(&self) -> u64
+        ensures { result ≡ (now self.now).next.checkin }
+    {
+        self.next.checkin
+    }
+
+    /// Whether the table of check-ins takes one more row, in a draft that has changed none of them:
+    /// fewer than 1,000,000 stand, and the next id is at most 9,007,199,254,740,991.
+    pub fn takes_checkin(&self) -> bool
+        requires { (now self.now).lists.checkins ≡ self.now.log.base.checkins }
+        ensures { result ≡ takes_checkin (now self.now) }
+    {
+        self.overlay.checkins().len() < MOST_ROWS && self.next.checkin <= LAST_ID
+    }
+
+    /// Counts the id of a check-in as used.
+    pub fn use_checkin_id(&mut self)
+        requires { (now self.old).next.checkin < 9007199254740992 }
+        ensures now { now self.new ≡ record (now self.old) { next = record (now self.old).next { checkin = (now self.old).next.checkin + 1 } } }
+        ensures extends { Extends self.old self.new }
+        ensures log { self.new.log ≡ self.old.log }
+    {
+        self.next.checkin += 1;
     }
 
     /// Puts a voucher in the place of its id. It isn't used more often than it may be.
@@ -399,6 +559,32 @@ impl<'a, B: Book> Draft<'a, B> {
         self.change(alloc, Change::DropWaiting(id))
     }
 
+    /// Puts a check-in list in the place of its id.
+    /// `Err` where there is no memory or 2^32 changes stand; the draft is then as it was.
+    #[tactic(auto, using(crate::proofs::CanCome::can_put_checkin_list))]
+    pub fn put_checkin_list(&mut self, alloc: Global, row: CheckinList) -> Result<(), AllocError>
+        ensures ok { OnOk result (now self.new ≡ changed (Change.PutCheckinList row) (now self.old)) }
+        ensures extends { Extends self.old self.new }
+        ensures err { OnErr result (self.new ≡ self.old) }
+        ensures log { OnOk result (self.new ≡ with_change (Change.PutCheckinList row) self.old) }
+    {
+        self.known();
+        self.change(alloc, Change::PutCheckinList(row))
+    }
+
+    /// Puts a check-in in the place of its id.
+    /// `Err` where there is no memory or 2^32 changes stand; the draft is then as it was.
+    #[tactic(auto, using(crate::proofs::CanCome::can_put_checkin))]
+    pub fn put_checkin(&mut self, alloc: Global, row: Checkin) -> Result<(), AllocError>
+        ensures ok { OnOk result (now self.new ≡ changed (Change.PutCheckin row) (now self.old)) }
+        ensures extends { Extends self.old self.new }
+        ensures err { OnErr result (self.new ≡ self.old) }
+        ensures log { OnOk result (self.new ≡ with_change (Change.PutCheckin row) self.old) }
+    {
+        self.known();
+        self.change(alloc, Change::PutCheckin(row))
+    }
+
     /// Puts an order in the place of its id: a new one, or one whose status changed.
     /// No voucher may be used too often after it.
     /// `Err` where there is no memory or 2^32 changes stand; the draft is then as it was.
@@ -430,8 +616,8 @@ impl<'a, B: Book> Draft<'a, B> {
         self.change(alloc, Change::PutPosition(row))
     }
 
-    // Makes one change, with what it does to the usage of each quota, to the number of cart positions and to the uses
-    // of vouchers.
+    // Makes one change, with what it brings to the quotas and takes from them, and what it does to the numbers of
+    // cart positions and of vouchers and to the uses of vouchers.
     fn change(&mut self, alloc: Global, change: Change) -> Result<(), AllocError>
         requires { CanCome self.old.moment self.old.log change }
         ensures ok { OnOk result (now self.new ≡ changed change (now self.old)) }
@@ -439,13 +625,37 @@ impl<'a, B: Book> Draft<'a, B> {
         ensures err { OnErr result (self.new ≡ self.old) }
         ensures log { OnOk result (self.new ≡ with_change change self.old) }
     {
-        let usages = usages_after(&self.overlay, alloc, self.moment, &self.usages, &change)?;
+        self.overlay.known();
+        let tickets = turned_tickets(&self.overlay, alloc, &change)?;
+        let catalogue = self.book.catalogue();
+        let quotas = catalogue.quotas();
+        let counts = counts_after(
+            &self.overlay,
+            alloc,
+            self.moment,
+            catalogue,
+            &self.counts,
+            &change,
+            &tickets,
+        )?;
         let carts = carts_after(&self.overlay, self.carts, &change);
-        let shift = use_shift(&self.overlay, self.moment, &change);
+        let vouchers = vouchers_after(&self.overlay, self.vouchers, &change);
+        let shift = use_shift(&self.overlay, self.moment, &change, &tickets);
         self.overlay.push(change)?;
-        self.usages = usages;
+        self.counts = counts;
         self.carts = carts;
-        let _ = self.uses.shift(shift);
+        self.vouchers = vouchers;
+        self.uses.shift(shift);
+        // What a draft's only change touches is asked for once, or not at all.
+        ask_bases(
+            self.book,
+            self.moment,
+            quotas,
+            self.again,
+            &self.counts,
+            &mut self.bases,
+        );
+        self.again = true;
         Ok(())
     }
 
@@ -457,8 +667,9 @@ impl<'a, B: Book> Draft<'a, B> {
         Ok(Mark {
             count: self.overlay.len(),
             next: self.next,
-            usages: self.usages.to_vec(alloc)?,
+            counts: self.counts.to_vec(alloc)?,
             carts: self.carts,
+            vouchers: self.vouchers,
             uses: self.uses.copy(alloc)?,
         })
     }
@@ -469,10 +680,16 @@ impl<'a, B: Book> Draft<'a, B> {
         requires { IsMarkOf self.now mark.now }
         ensures { result ≡ first_over (now (back mark.now self.now)).lists (now self.now).lists (now self.now).moment own.now }
     {
-        self.overlay.known();
-        let quotas = self.overlay.catalogue().quotas();
-        self.overlay
-            .first_over(self.moment, quotas, own, &mark.usages, &self.usages)
+        first_over(
+            self.book,
+            &self.overlay,
+            self.moment,
+            own,
+            &self.bases,
+            mark.count,
+            &mark.counts,
+            &self.counts,
+        )
     }
 
     /// Undoes all that came after the mark.
@@ -483,14 +700,16 @@ impl<'a, B: Book> Draft<'a, B> {
         let Mark {
             count,
             next,
-            usages,
+            counts,
             carts,
+            vouchers,
             uses,
         } = mark;
         self.overlay.truncate(count);
         self.next = next;
-        self.usages = usages;
+        self.counts = counts;
         self.carts = carts;
+        self.vouchers = vouchers;
         self.uses = uses;
     }
 
@@ -500,43 +719,17 @@ impl<'a, B: Book> Draft<'a, B> {
         ensures next { result.next ≡ self.entry.next }
     {
         let Draft {
+            book: _,
             overlay,
             next,
             moment: _,
-            usages: _,
+            counts: _,
+            bases: _,
+            again: _,
             carts: _,
+            vouchers: _,
             uses: _,
         } = self;
         Changes::new(overlay.into_log(), next)
     }
-}
-
-// The usage of each quota in the book.
-fn usages_now<B: Book>(alloc: Global, book: &B, moment: Moment) -> Result<Vec<Usage>, AllocError>
-    requires { (B.state book.now).moment ≤ moment }
-    ensures { IfOk result (λ usages. usages.items ≡ usages_of (B.state book.now).lists moment) }
-{
-    usages_in::<B, Brand>(alloc, book, moment, Blank::new(1))
-}
-
-// The same, in a ledger of steps that nobody reads.
-#[tactic(auto, unfolding(crate::specs::DraftState::usages_of))]
-fn usages_in<B: Book, L: Ledger>(
-    alloc: Global,
-    book: &B,
-    moment: Moment,
-    blank: Blank,
-) -> Result<Vec<Usage>, AllocError>
-    requires name { blank.name ≡ L.name }
-    requires parts { blank.parts ≡ L.parts }
-    requires some { 0 < blank.parts }
-    requires moment { (B.state book.now).moment ≤ moment }
-    ensures { IfOk result (λ usages. usages.items ≡ usages_of (B.state book.now).lists moment) }
-{
-    let mut steps = Steps::<L>::new(blank);
-    let mut usages = Vec::new(alloc);
-    for quota in book.catalogue().quotas() {
-        usages.push(book.usage_at(quota, moment, &mut steps))?;
-    }
-    Ok(usages)
 }

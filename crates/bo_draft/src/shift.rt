@@ -1,290 +1,599 @@
-//! What a change of one row does to the usage of each quota.
+//! What a change of one row does to all that is used of the quotas.
 
-ghost use Rattle.std.specs.Prelude.{◌≡◌, ◌+◌, ◌-◌, IfOk, length, map, Some, None, if◌then◌else◌};
+ghost use Rattle.std.specs.Prelude.{◌≡◌, ◌-◌, ℕ, IfOk, OnOk, length, count_by, false, true, if◌then◌else◌};
 ghost use Rattle.std.specs.Option.{option_copied};
-ghost use Rattle.bo_base.specs.Tables.{sum_at};
-ghost use Rattle.bo_lists.specs.Change.{after_change};
-ghost use Rattle.bo_lists.specs.Usage.{usage_of, stands_as, is_covered_by};
-ghost use Rattle.bo_lists.specs.Conditions.{is_paid, is_pending, is_in_force};
+ghost use Rattle.bo_base.specs.Tables.{AreInOrder, sum_at};
+ghost use Rattle.bo_catalogue.specs.declared.rows.Quota.{Quota};
 ghost use Rattle.bo_catalogue.specs.Member.{is_in};
+ghost use Rattle.bo_lists.specs.declared.changes.Change.TheVariants.{PutOrder};
+ghost use Rattle.bo_lists.specs.Change.{after_change};
+ghost use Rattle.bo_lists.specs.Headroom.{held_in};
+ghost use Rattle.bo_lists.specs.Lists.{voucher_at, cart_at, order_at, waiting_at};
+ghost use Rattle.bo_lists.specs.Conditions.{is_in_force};
+ghost use Rattle.bo_lists.specs.Usage.{redeemed, stands_as, is_covered_by, blocks_if};
 ghost use Rattle.bo_overlay.specs.Logs.{rows_of};
-ghost use Rattle.bo_draft.specs.DraftState.{usages_of};
-ghost use Rattle.bo_draft.specs.Shift.{CanCome, usage_after, cart_share, usage_with_cart, waiting_share, usage_with_waiting, voucher_share, uncovered, usage_with_voucher, usage_with_position, usage_with_order, ordered_in, ordered_covered};
+ghost use Rattle.bo_draft.specs.Counts.{IsMore, if_any};
+ghost use Rattle.bo_draft.specs.Touched.{NoOther, NoneElse, Keeps};
+ghost use Rattle.bo_draft.specs.Shift.{come_of, gone_of, once, spot_share, sale_come, sale_gone, cart_share, waiting_share, left_of, turned_by, turned_voucher, turned_order, order_come, order_gone, AreTurned};
 
+use crate::counts::Count;
+use crate::share::{Share, Shares, count_each};
+use crate::touched::{touch_product, touch_voucher};
 use bo_base::Moment;
-use bo_catalogue::Quota;
-use bo_lists::{CartPos, Change, Order, OrderPos, Usage, Voucher, Waiting};
-use bo_overlay::{Overlay, count_if};
-use bo_usage::{Book, PositionTest};
+use bo_catalogue::{Catalogue, Product, Quota};
+use bo_lists::{CartPos, Change, Order, OrderPos, Voucher, Waiting};
+use bo_overlay::{Overlay, Ticket, count_if};
+use bo_usage::Book;
 use std::alloc::{AllocError, Global};
 
-/// The usage of each quota after one more change, by the usage before it.
-pub fn usages_after<B: Book>(
+/// The counts by quota after one more change, by those before it.
+pub fn counts_after<B: Book>(
     overlay: &Overlay<'_, B>,
     alloc: Global,
     at: Moment,
-    usages: &[Usage],
+    catalogue: &Catalogue,
+    counts: &[Count],
     change: &Change,
-) -> Result<Vec<Usage>, AllocError>
-    requires can { CanCome at overlay.now change.now }
-    requires usages { usages.now ≡ usages_of (rows_of overlay.now) at }
-    ensures { IfOk result (λ new. new.items ≡ usages_of (after_change change.now (rows_of overlay.now)) at) }
+    tickets: &[Ticket],
+) -> Result<Vec<Count>, AllocError>
+    requires order { AreInOrder (λ r. r.id) counts.now }
+    requires turned { AreTurned change.now (rows_of overlay.now) tickets.now }
+    ensures order { IfOk result (λ new. AreInOrder (λ r. r.id) new.items) }
+    ensures more { IfOk result (λ new. IsMore (come_of (rows_of overlay.now) at change.now) (gone_of (rows_of overlay.now) at change.now) catalogue.now.lists.quotas counts.now new.items) }
 {
-    overlay.known();
-    let quotas = overlay.catalogue().quotas();
-    usages_among(overlay, alloc, at, quotas, usages, change)
-}
-
-// The same of some quotas.
-fn usages_among<B: Book>(
-    overlay: &Overlay<'_, B>,
-    alloc: Global,
-    at: Moment,
-    quotas: &[Quota],
-    usages: &[Usage],
-    change: &Change,
-) -> Result<Vec<Usage>, AllocError>
-    requires can { CanCome at overlay.now change.now }
-    requires usages { usages.now ≡ map (usage_of (rows_of overlay.now) at) quotas.now }
-    ensures { IfOk result (λ new. new.items ≡ map (usage_after (rows_of overlay.now) at change.now) quotas.now) }
-{
-    let mut new = Vec::new(alloc);
-    for i in 0..quotas.len() {
-        new.push(usage_after(overlay, at, &quotas[i], usages[i], change)?)?;
-    }
+    let mut new = counts.to_vec(alloc)?;
+    count_change(overlay, alloc, at, catalogue, &mut new, change, tickets)?;
     Ok(new)
 }
 
-// The usage of one quota after one more change.
-fn usage_after<B: Book>(
+// Adds what a change brings to the quotas and takes from them.
+fn count_change<B: Book>(
     overlay: &Overlay<'_, B>,
+    alloc: Global,
     at: Moment,
-    quota: &Quota,
-    usage: Usage,
+    catalogue: &Catalogue,
+    counts: &mut Vec<Count>,
     change: &Change,
-) -> Result<Usage, AllocError>
-    requires can { CanCome at overlay.now change.now }
-    requires usage { usage ≡ usage_of (rows_of overlay.now) at quota.now }
-    ensures { IfOk result (λ new. new ≡ usage_after (rows_of overlay.now) at change.now quota.now) }
+    tickets: &[Ticket],
+) -> Result<(), AllocError>
+    requires order { AreInOrder (λ r. r.id) counts.old.items }
+    requires turned { AreTurned change.now (rows_of overlay.now) tickets.now }
+    ensures order { AreInOrder (λ r. r.id) counts.new.items }
+    ensures more { OnOk result (IsMore (come_of (rows_of overlay.now) at change.now) (gone_of (rows_of overlay.now) at change.now) catalogue.now.lists.quotas counts.old.items counts.new.items) }
 {
     match change {
-        Change::PutVoucher(row) => with_voucher(overlay, at, quota, usage, row.id, Some(row)),
-        Change::DropVoucher(id) => with_voucher(overlay, at, quota, usage, *id, None),
-        Change::PutCart(row) => with_cart(overlay, at, quota, usage, row.id, Some(row)),
-        Change::DropCart(id) => with_cart(overlay, at, quota, usage, *id, None),
-        Change::PutWaiting(row) => with_waiting(overlay, at, quota, usage, row.id, Some(row)),
-        Change::DropWaiting(id) => with_waiting(overlay, at, quota, usage, *id, None),
-        Change::PutOrder(row) => with_order(overlay, at, quota, usage, row),
-        Change::PutPosition(row) => with_position(overlay, at, quota, usage, row),
-        _ => Ok(usage),
+        Change::PutVoucher(row) => with_voucher(
+            overlay,
+            alloc,
+            at,
+            catalogue,
+            counts,
+            row.id,
+            Some(row),
+        ),
+        Change::DropVoucher(id) => with_voucher(overlay, alloc, at, catalogue, counts, *id, None),
+        Change::PutCart(row) => with_cart(overlay, alloc, at, catalogue, counts, row.id, Some(row)),
+        Change::DropCart(id) => with_cart(overlay, alloc, at, catalogue, counts, *id, None),
+        Change::PutWaiting(row) => with_waiting(
+            overlay,
+            alloc,
+            at,
+            catalogue,
+            counts,
+            row.id,
+            Some(row),
+        ),
+        Change::DropWaiting(id) => with_waiting(overlay, alloc, at, catalogue, counts, *id, None),
+        Change::PutOrder(row) => with_order(overlay, alloc, at, catalogue, counts, row, tickets),
+        Change::PutPosition(row) => with_position(overlay, alloc, at, catalogue, counts, row),
+        _ => Ok(()),
     }
 }
 
-// The usage where this cart position, or none, stands in the place of the id.
-#[tactic(auto, unfolding(crate::specs::Shift::usage_with_cart))]
-fn with_cart<B: Book>(
-    overlay: &Overlay<'_, B>,
-    at: Moment,
-    quota: &Quota,
-    usage: Usage,
-    id: u64,
-    come: Option<&CartPos>,
-) -> Result<Usage, AllocError>
-    requires { usage ≡ usage_of (rows_of overlay.now) at quota.now }
-    ensures { IfOk result (λ new. new ≡ usage_with_cart (rows_of overlay.now) at id (option_copied come.entry) quota.now) }
-{
-    let gone = cart_share(overlay, at, quota, overlay.cart(id));
-    let come = cart_share(overlay, at, quota, come);
-    Ok(Usage {
-        carts: moved(usage.carts, come, gone)?,
-        ..usage
-    })
+// A place for a product, which counts in its quotas but where the voucher blocks places.
+#[derive(Drop)]
+struct Spot<'s> {
+    product: Product,
+    voucher: Option<&'s Voucher>,
 }
 
-// How much a cart position adds to a quota.
-fn cart_share<B: Book>(
-    overlay: &Overlay<'_, B>,
-    at: Moment,
-    quota: &Quota,
-    cart: Option<&CartPos>,
-) -> u64
-    ensures { result ≡ cart_share (rows_of overlay.now) at quota.now (option_copied cart.entry) }
-{
-    match cart {
-        None => 0,
-        Some(cart) => u64::from(overlay.cart_counts(at, quota, cart)),
+impl<'s> Spot<'s> {
+    // Whether it counts in the quota.
+    fn counts(&self, at: Moment, quota: &Quota) -> u64
+        ensures { result ≡ spot_share at quota.now self.now.product (option_copied self.now.voucher) }
+    {
+        u64::from(quota.has(self.product) && !blocks(at, quota, self.voucher))
     }
 }
 
-// The usage where this waiting entry, or none, stands in the place of the id.
-#[tactic(auto, unfolding(crate::specs::Shift::usage_with_waiting))]
-fn with_waiting<B: Book>(
-    overlay: &Overlay<'_, B>,
-    at: Moment,
-    quota: &Quota,
-    usage: Usage,
-    id: u64,
-    come: Option<&Waiting>,
-) -> Result<Usage, AllocError>
-    requires { usage ≡ usage_of (rows_of overlay.now) at quota.now }
-    ensures { IfOk result (λ new. new ≡ usage_with_waiting (rows_of overlay.now) at id (option_copied come.entry) quota.now) }
-{
-    let gone = waiting_share(quota, overlay.waiting(id));
-    let come = waiting_share(quota, come);
-    Ok(Usage {
-        waiting: moved(usage.waiting, come, gone)?,
-        ..usage
-    })
-}
-
-// The usage where this voucher, or none, stands in the place of the id.
-#[tactic(auto, unfolding(crate::specs::Shift::usage_with_voucher))]
-fn with_voucher<B: Book>(
-    overlay: &Overlay<'_, B>,
-    at: Moment,
-    quota: &Quota,
-    usage: Usage,
-    id: u64,
-    come: Option<&Voucher>,
-) -> Result<Usage, AllocError>
-    requires { usage ≡ usage_of (rows_of overlay.now) at quota.now }
-    ensures { IfOk result (λ new. new ≡ usage_with_voucher (rows_of overlay.now) at id (option_copied come.entry) quota.now) }
-{
-    let gone = overlay.voucher(id);
-    let blocked = moved(
-        usage.blocked,
-        voucher_share(overlay, at, quota, come),
-        voucher_share(overlay, at, quota, gone),
-    )?;
-    let carts = moved(
-        usage.carts,
-        uncovered(overlay, at, quota, id, come),
-        uncovered(overlay, at, quota, id, gone),
-    )?;
-    Ok(Usage {
-        blocked,
-        carts,
-        ..usage
-    })
-}
-
-// What a voucher blocks of a quota.
-#[tactic(auto, unfolding(bo_lists::specs::Usage::blocked_by))]
-fn voucher_share<B: Book>(
-    overlay: &Overlay<'_, B>,
-    at: Moment,
-    quota: &Quota,
-    voucher: Option<&Voucher>,
-) -> u64
-    ensures { result ≡ voucher_share (rows_of overlay.now) at quota.now (option_copied voucher.entry) }
+// Whether the voucher, if there is one, blocks places of the quota.
+fn blocks(at: Moment, quota: &Quota, voucher: Option<&Voucher>) -> bool
+    ensures { result ≡ blocks_if at quota.now (option_copied voucher.entry) }
 {
     match voucher {
+        None => false,
+        Some(voucher) => voucher.blocks(at, quota),
+    }
+}
+
+// A place that comes, and one that goes.
+#[derive(Drop)]
+struct Spots<'s> {
+    at: Moment,
+    come: Option<Spot<'s>>,
+    gone: Option<Spot<'s>>,
+}
+
+impl<'s> Share for Spots<'s> {
+    ghost come = { λ s q. if_any s.come (λ p. spot_share s.at q p.product (option_copied p.voucher)) };
+
+    ghost gone = { λ s q. if_any s.gone (λ p. spot_share s.at q p.product (option_copied p.voucher)) };
+
+    fn shares(&self, quota: &Quota) -> Shares {
+        Shares {
+            come: spot_counts(self.at, quota, &self.come),
+            gone: spot_counts(self.at, quota, &self.gone),
+        }
+    }
+
+    fn touch(
+        &self,
+        alloc: Global,
+        catalogue: &Catalogue,
+        ids: &mut Vec<u64>,
+    ) -> Result<(), AllocError> {
+        touch_spot(alloc, catalogue, &self.come, ids)?;
+        touch_spot(alloc, catalogue, &self.gone, ids)?;
+        Ok(())
+    }
+}
+
+// Adds the ids of the quotas that a place may count in, if there is one.
+fn touch_spot(
+    alloc: Global,
+    catalogue: &Catalogue,
+    spot: &Option<Spot<'_>>,
+    ids: &mut Vec<u64>,
+) -> Result<(), AllocError>
+    ensures more { OnOk result ((at : ℕ) → NoneElse ids.new.items catalogue.now.lists (λ q. if_any spot.now (λ p. spot_share at q p.product (option_copied p.voucher)))) }
+    ensures keeps { OnOk result (Keeps ids.old.items ids.new.items) }
+{
+    match spot {
+        None => Ok(()),
+        Some(spot) => touch_product(alloc, catalogue, spot.product, ids),
+    }
+}
+
+// How much a place counts in the quota, if there is one.
+fn spot_counts(at: Moment, quota: &Quota, spot: &Option<Spot<'_>>) -> u64
+    ensures { result ≡ if_any spot.now (λ p. spot_share at quota.now p.product (option_copied p.voucher)) }
+{
+    match spot {
         None => 0,
-        Some(voucher) => {
-            if voucher.blocks(at, quota) {
-                u64::from(voucher.max_usages).saturating_sub(overlay.redeemed(voucher.id))
+        Some(spot) => spot.counts(at, quota),
+    }
+}
+
+// The voucher that a row names, if it stands.
+fn voucher_of<'o, B: Book>(overlay: &'o Overlay<'_, B>, voucher: Option<u64>) -> Option<&'o Voucher>
+    ensures { (q : Quota) → (at : ℕ) → blocks_if at q (option_copied result) ≡ is_covered_by (rows_of overlay.now) at q voucher }
+{
+    match voucher {
+        None => None,
+        Some(id) => overlay.voucher(id),
+    }
+}
+
+// The place that a cart position takes, while it lives.
+fn cart_spot<'o, B: Book>(
+    overlay: &'o Overlay<'_, B>,
+    at: Moment,
+    cart: Option<&CartPos>,
+) -> Option<Spot<'o>>
+    ensures { (q : Quota) → if_any result (λ p. spot_share at q p.product (option_copied p.voucher)) ≡ cart_share (rows_of overlay.now) at q (option_copied cart.entry) }
+{
+    match cart {
+        None => None,
+        Some(cart) => {
+            if cart.is_live(at) {
+                Some(Spot {
+                    product: cart.product,
+                    voucher: voucher_of(overlay, cart.voucher),
+                })
             } else {
-                0
+                None
             }
         }
     }
 }
 
-// How many cart positions that name the id count, where this voucher, or none, covers them.
-fn uncovered<B: Book>(
+// Counts a cart position, or none, in the place of the id.
+fn with_cart<B: Book>(
     overlay: &Overlay<'_, B>,
+    alloc: Global,
     at: Moment,
-    quota: &Quota,
+    catalogue: &Catalogue,
+    counts: &mut Vec<Count>,
     id: u64,
-    voucher: Option<&Voucher>,
-) -> u64
-    ensures { result ≡ uncovered (rows_of overlay.now) at quota.now id (option_copied voucher.entry) }
+    come: Option<&CartPos>,
+) -> Result<(), AllocError>
+    requires { AreInOrder (λ r. r.id) counts.old.items }
+    ensures order { AreInOrder (λ r. r.id) counts.new.items }
+    ensures more { OnOk result (IsMore (λ q. cart_share (rows_of overlay.now) at q (option_copied come.entry)) (λ q. cart_share (rows_of overlay.now) at q (cart_at id (rows_of overlay.now))) catalogue.now.lists.quotas counts.old.items counts.new.items) }
 {
-    let covers = match voucher {
-        None => false,
-        Some(voucher) => voucher.blocks(at, quota),
-    };
-    if covers {
-        0
-    } else {
-        overlay.held_in(id, quota, at)
+    let come = cart_spot(overlay, at, come);
+    let gone = cart_spot(overlay, at, overlay.cart(id));
+    count_each(counts, alloc, catalogue, &Spots { at, come, gone })
+}
+
+// The place for which a waiting entry waits, where it has no voucher.
+fn waiting_spot<'s>(at: Moment, entry: Option<&Waiting>) -> Option<Spot<'s>>
+    ensures { (q : Quota) → if_any result (λ p. spot_share at q p.product (option_copied p.voucher)) ≡ waiting_share q (option_copied entry.entry) }
+{
+    match entry {
+        None => None,
+        Some(entry) => match entry.voucher {
+            Some(_) => None,
+            None => Some(Spot {
+                product: entry.product,
+                voucher: None,
+            }),
+        },
     }
 }
 
-// The usage with a new order position.
-#[tactic(auto, unfolding(crate::specs::Shift::usage_with_position))]
+// Counts a waiting entry, or none, in the place of the id.
+fn with_waiting<B: Book>(
+    overlay: &Overlay<'_, B>,
+    alloc: Global,
+    at: Moment,
+    catalogue: &Catalogue,
+    counts: &mut Vec<Count>,
+    id: u64,
+    come: Option<&Waiting>,
+) -> Result<(), AllocError>
+    requires { AreInOrder (λ r. r.id) counts.old.items }
+    ensures order { AreInOrder (λ r. r.id) counts.new.items }
+    ensures more { OnOk result (IsMore (λ q. waiting_share q (option_copied come.entry)) (λ q. waiting_share q (waiting_at id (rows_of overlay.now))) catalogue.now.lists.quotas counts.old.items counts.new.items) }
+{
+    let come = waiting_spot(at, come);
+    let gone = waiting_spot(at, overlay.waiting(id));
+    count_each(counts, alloc, catalogue, &Spots { at, come, gone })
+}
+
+// A place that is sold, and the one that its voucher may have blocked.
+#[derive(Drop)]
+struct Sale<'s> {
+    at: Moment,
+    product: Product,
+    voucher: Option<&'s Voucher>,
+}
+
+impl<'s> Share for Sale<'s> {
+    ghost come = { λ s q. once (is_in q s.product) };
+
+    ghost gone = { λ s q. once (blocks_if s.at q (option_copied s.voucher)) };
+
+    fn shares(&self, quota: &Quota) -> Shares {
+        Shares {
+            come: u64::from(quota.has(self.product)),
+            gone: u64::from(blocks(self.at, quota, self.voucher)),
+        }
+    }
+
+    fn touch(
+        &self,
+        alloc: Global,
+        catalogue: &Catalogue,
+        ids: &mut Vec<u64>,
+    ) -> Result<(), AllocError> {
+        touch_product(alloc, catalogue, self.product, ids)?;
+        touch_voucher(alloc, catalogue, self.voucher, ids)?;
+        Ok(())
+    }
+}
+
+// Counts a new order position, where its order is in force.
 fn with_position<B: Book>(
     overlay: &Overlay<'_, B>,
+    alloc: Global,
     at: Moment,
-    quota: &Quota,
-    usage: Usage,
+    catalogue: &Catalogue,
+    counts: &mut Vec<Count>,
     row: &OrderPos,
-) -> Result<Usage, AllocError>
-    requires { usage ≡ usage_of (rows_of overlay.now) at quota.now }
-    ensures { IfOk result (λ new. new ≡ usage_with_position (rows_of overlay.now) at row.now quota.now) }
+) -> Result<(), AllocError>
+    requires { AreInOrder (λ r. r.id) counts.old.items }
+    ensures order { AreInOrder (λ r. r.id) counts.new.items }
+    ensures more { OnOk result (IsMore (sale_come (rows_of overlay.now) row.now) (sale_gone (rows_of overlay.now) at row.now) catalogue.now.lists.quotas counts.old.items counts.new.items) }
 {
-    let order = overlay.order(row.order);
-    let here = quota.has(row.product);
-    let paid = is_paid(order) && here;
-    let pending = is_pending(order) && here;
-    let taken = is_in_force(order) && overlay.covers(at, quota, row.voucher);
-    Ok(Usage {
-        paid: moved(usage.paid, u64::from(paid), 0)?,
-        pending: moved(usage.pending, u64::from(pending), 0)?,
-        blocked: moved(usage.blocked, 0, u64::from(taken))?,
-        ..usage
-    })
+    if !is_in_force(overlay.order(row.order)) {
+        return Ok(());
+    }
+    let voucher = voucher_of(overlay, row.voucher);
+    count_each(
+        counts,
+        alloc,
+        catalogue,
+        &Sale {
+            at,
+            product: row.product,
+            voucher,
+        },
+    )
 }
 
-// The usage where this order stands in the place of its id.
-#[tactic(auto, unfolding(crate::specs::Shift::usage_with_order))]
+// A voucher that comes in the place of an id, and one that goes.
+#[derive(Drop)]
+struct Turn<'o, 'a, B: Book> {
+    overlay: &'o Overlay<'a, B>,
+    at: Moment,
+    id: u64,
+    redeemed: u64,
+    come: Option<&'o Voucher>,
+    gone: Option<&'o Voucher>,
+}
+
+impl<'o, 'a, B: Book> Share for Turn<'o, 'a, B> {
+    ghost come = { λ t q. turned_by (blocks_if t.at q (option_copied t.come)) (blocks_if t.at q (option_copied t.gone)) (left_of t.redeemed (option_copied t.come)) (held_in t.at q t.id (rows_of t.overlay.now)) };
+
+    ghost gone = { λ t q. turned_by (blocks_if t.at q (option_copied t.gone)) (blocks_if t.at q (option_copied t.come)) (left_of t.redeemed (option_copied t.gone)) (held_in t.at q t.id (rows_of t.overlay.now)) };
+
+    fn shares(&self, quota: &Quota) -> Shares {
+        let comes = blocks(self.at, quota, self.come);
+        let goes = blocks(self.at, quota, self.gone);
+        let held = if comes == goes {
+            0
+        } else {
+            self.overlay.held_in(self.id, quota, self.at)
+        };
+        Shares {
+            come: turned_by(comes, goes, left_of(self.redeemed, self.come), held),
+            gone: turned_by(goes, comes, left_of(self.redeemed, self.gone), held),
+        }
+    }
+
+    fn touch(
+        &self,
+        alloc: Global,
+        catalogue: &Catalogue,
+        ids: &mut Vec<u64>,
+    ) -> Result<(), AllocError> {
+        touch_voucher(alloc, catalogue, self.come, ids)?;
+        touch_voucher(alloc, catalogue, self.gone, ids)?;
+        Ok(())
+    }
+}
+
+// What comes to a quota with a voucher where another one goes: what it has left, where it blocks places,
+// or else the cart positions that the other one covered.
+fn turned_by(here: bool, other: bool, left: u64, held: u64) -> u64
+    ensures { result ≡ turned_by here other left held }
+{
+    if here { left } else { count_if(other, held) }
+}
+
+// How many of its uses a voucher has left.
+fn left_of(redeemed: u64, voucher: Option<&Voucher>) -> u64
+    ensures { result ≡ left_of redeemed (option_copied voucher.entry) }
+{
+    match voucher {
+        None => 0,
+        Some(voucher) => u64::from(voucher.max_usages).saturating_sub(redeemed),
+    }
+}
+
+// Whether the voucher may block places of a quota now.
+fn may_block(at: Moment, voucher: Option<&Voucher>) -> bool
+    ensures { result ≡ false → (q : Quota) → blocks_if at q (option_copied voucher.entry) ≡ false }
+{
+    match voucher {
+        None => false,
+        Some(voucher) => voucher.block_quota && voucher.is_live(at),
+    }
+}
+
+// Counts a voucher, or none, in the place of the id.
+fn with_voucher<B: Book>(
+    overlay: &Overlay<'_, B>,
+    alloc: Global,
+    at: Moment,
+    catalogue: &Catalogue,
+    counts: &mut Vec<Count>,
+    id: u64,
+    come: Option<&Voucher>,
+) -> Result<(), AllocError>
+    requires { AreInOrder (λ r. r.id) counts.old.items }
+    ensures order { AreInOrder (λ r. r.id) counts.new.items }
+    ensures more { OnOk result (IsMore (λ q. turned_voucher (rows_of overlay.now) at q id (option_copied come.entry) (voucher_at id (rows_of overlay.now))) (λ q. turned_voucher (rows_of overlay.now) at q id (voucher_at id (rows_of overlay.now)) (option_copied come.entry)) catalogue.now.lists.quotas counts.old.items counts.new.items) }
+{
+    let gone = overlay.voucher(id);
+    if !may_block(at, come) && !may_block(at, gone) {
+        return Ok(());
+    }
+    let redeemed = overlay.redeemed(id);
+    count_each(
+        counts,
+        alloc,
+        catalogue,
+        &Turn {
+            overlay,
+            at,
+            id,
+            redeemed,
+            come,
+            gone,
+        },
+    )
+}
+
+// The places of an order that comes into force, or ends.
+#[derive(Drop)]
+struct OrderTurn<'o> {
+    at: Moment,
+    comes: bool,
+    spots: Vec<Spot<'o>>,
+}
+
+impl<'o> Share for OrderTurn<'o> {
+    ghost come = { λ t q. turned_order t.comes (count_by (λ s. is_in q s.product) t.spots.items) (count_by (λ s. blocks_if t.at q (option_copied s.voucher)) t.spots.items) };
+
+    ghost gone = { λ t q. turned_order t.comes (count_by (λ s. blocks_if t.at q (option_copied s.voucher)) t.spots.items) (count_by (λ s. is_in q s.product) t.spots.items) };
+
+    fn shares(&self, quota: &Quota) -> Shares {
+        let here = count_here(quota, &self.spots);
+        let covered = count_covered(self.at, quota, &self.spots);
+        if self.comes {
+            Shares {
+                come: here,
+                gone: covered,
+            }
+        } else {
+            Shares {
+                come: covered,
+                gone: here,
+            }
+        }
+    }
+
+    fn touch(
+        &self,
+        alloc: Global,
+        catalogue: &Catalogue,
+        ids: &mut Vec<u64>,
+    ) -> Result<(), AllocError> {
+        touch_spots(alloc, catalogue, &self.spots, ids)?;
+        Ok(())
+    }
+}
+
+// Adds the ids of the quotas that these places are for, and of which their vouchers may block places.
+fn touch_spots(
+    alloc: Global,
+    catalogue: &Catalogue,
+    spots: &[Spot<'_>],
+    ids: &mut Vec<u64>,
+) -> Result<(), AllocError>
+    ensures here { OnOk result (NoneElse ids.new.items catalogue.now.lists (λ q. count_by (λ s. is_in q s.product) spots.now)) }
+    ensures covered { OnOk result ((at : ℕ) → NoneElse ids.new.items catalogue.now.lists (λ q. count_by (λ s. blocks_if at q (option_copied s.voucher)) spots.now)) }
+{
+    for spot in spots {
+        touch_both(alloc, catalogue, spot, ids)?;
+    }
+    Ok(())
+}
+
+// Adds the ids of the quotas that a place is for, and of which its voucher may block places.
+fn touch_both(
+    alloc: Global,
+    catalogue: &Catalogue,
+    spot: &Spot<'_>,
+    ids: &mut Vec<u64>,
+) -> Result<(), AllocError>
+    ensures here { OnOk result (NoOther ids.new.items catalogue.now.lists (λ q. is_in q spot.now.product)) }
+    ensures covered { OnOk result ((at : ℕ) → NoOther ids.new.items catalogue.now.lists (λ q. blocks_if at q (option_copied spot.now.voucher))) }
+    ensures keeps { OnOk result (Keeps ids.old.items ids.new.items) }
+{
+    touch_product(alloc, catalogue, spot.product, ids)?;
+    touch_voucher(alloc, catalogue, spot.voucher, ids)?;
+    Ok(())
+}
+
+// How many of the places are for products of the quota.
+fn count_here(quota: &Quota, spots: &[Spot<'_>]) -> u64
+    ensures { result ≡ count_by (λ s. is_in quota.now s.product) spots.now }
+{
+    spots.iter().filter(|s| quota.has(s.product)).count() as u64
+}
+
+// How many of them have vouchers that block places of the quota.
+fn count_covered(at: Moment, quota: &Quota, spots: &[Spot<'_>]) -> u64
+    ensures { result ≡ count_by (λ s. blocks_if at quota.now (option_copied s.voucher)) spots.now }
+{
+    spots
+        .iter()
+        .filter(|s| blocks(at, quota, s.voucher))
+        .count() as u64
+}
+
+// The place of a ticket, with its voucher.
+fn spot_of<'o, B: Book>(overlay: &'o Overlay<'_, B>, ticket: &Ticket) -> Spot<'o>
+    ensures product { result.product ≡ ticket.now.product }
+    ensures covered { (q : Quota) → (at : ℕ) → blocks_if at q (option_copied result.voucher) ≡ is_covered_by (rows_of overlay.now) at q ticket.now.voucher }
+{
+    Spot {
+        product: ticket.product,
+        voucher: voucher_of(overlay, ticket.voucher),
+    }
+}
+
+// The places of these tickets, with their vouchers.
+fn spots_of<'o, B: Book>(
+    overlay: &'o Overlay<'_, B>,
+    alloc: Global,
+    tickets: &[Ticket],
+) -> Result<Vec<Spot<'o>>, AllocError>
+    ensures here { IfOk result (λ spots. (q : Quota) → count_by (λ s. is_in q s.product) spots.items ≡ count_by (λ t. is_in q t.product) tickets.now) }
+    ensures covered { IfOk result (λ spots. (q : Quota) → (at : ℕ) → count_by (λ s. blocks_if at q (option_copied s.voucher)) spots.items ≡ count_by (λ t. is_covered_by (rows_of overlay.now) at q t.voucher) tickets.now) }
+{
+    let mut spots = Vec::new(alloc);
+    for ticket in tickets {
+        spots.push(spot_of(overlay, ticket))?;
+    }
+    Ok(spots)
+}
+
+// Counts the positions of an order that stands in the place of its id, where it comes into force or ends.
 fn with_order<B: Book>(
     overlay: &Overlay<'_, B>,
+    alloc: Global,
     at: Moment,
-    quota: &Quota,
-    usage: Usage,
+    catalogue: &Catalogue,
+    counts: &mut Vec<Count>,
     row: &Order,
-) -> Result<Usage, AllocError>
-    requires { usage ≡ usage_of (rows_of overlay.now) at quota.now }
-    ensures { IfOk result (λ new. new ≡ usage_with_order (rows_of overlay.now) at row.now quota.now) }
+    tickets: &[Ticket],
+) -> Result<(), AllocError>
+    requires order { AreInOrder (λ r. r.id) counts.old.items }
+    requires turned { AreTurned (PutOrder row.now) (rows_of overlay.now) tickets.now }
+    ensures order { AreInOrder (λ r. r.id) counts.new.items }
+    ensures more { OnOk result (IsMore (order_come (rows_of overlay.now) at row.now) (order_gone (rows_of overlay.now) at row.now) catalogue.now.lists.quotas counts.old.items counts.new.items) }
 {
-    let old = overlay.order(row.id);
-    let new = Some(row);
-    let here = ordered_in(overlay, quota, row.id);
-    let taken = ordered_covered(overlay, at, quota, row.id);
-    Ok(Usage {
-        paid: moved(
-            usage.paid,
-            count_if(is_paid(new), here),
-            count_if(is_paid(old), here),
-        )?,
-        pending: moved(
-            usage.pending,
-            count_if(is_pending(new), here),
-            count_if(is_pending(old), here),
-        )?,
-        blocked: moved(
-            usage.blocked,
-            count_if(is_in_force(old), taken),
-            count_if(is_in_force(new), taken),
-        )?,
-        ..usage
-    })
+    let comes = row.status.is_in_force();
+    if comes == is_in_force(overlay.order(row.id)) {
+        return Ok(());
+    }
+    if tickets.is_empty() {
+        return Ok(());
+    }
+    let spots = spots_of(overlay, alloc, tickets)?;
+    count_each(counts, alloc, catalogue, &OrderTurn { at, comes, spots })
 }
 
-// How many positions of the order are for products of the quota.
-fn ordered_in<B: Book>(overlay: &Overlay<'_, B>, quota: &Quota, order: u64) -> u64
-    ensures { result ≡ ordered_in (rows_of overlay.now) quota.now order }
+/// The tickets of an order that a change brings into force or ends.
+pub fn turned_tickets<B: Book>(
+    overlay: &Overlay<'_, B>,
+    alloc: Global,
+    change: &Change,
+) -> Result<Vec<Ticket>, AllocError>
+    ensures { IfOk result (λ tickets. AreTurned change.now (rows_of overlay.now) tickets.items) }
 {
-    overlay.count_ordered(overlay.len(), order, &InQuota { quota })
+    match change {
+        Change::PutOrder(row) => order_tickets(overlay, alloc, row),
+        _ => Ok(Vec::new(alloc)),
+    }
 }
 
-// How many of its positions have vouchers that block places of the quota.
-fn ordered_covered<B: Book>(overlay: &Overlay<'_, B>, at: Moment, quota: &Quota, order: u64) -> u64
-    ensures { result ≡ ordered_covered (rows_of overlay.now) at quota.now order }
+// The tickets of an order that comes into force or ends where it stands in the place of its id.
+fn order_tickets<B: Book>(
+    overlay: &Overlay<'_, B>,
+    alloc: Global,
+    row: &Order,
+) -> Result<Vec<Ticket>, AllocError>
+    ensures { IfOk result (λ tickets. AreTurned (PutOrder row.now) (rows_of overlay.now) tickets.items) }
 {
-    let test = Covered { overlay, at, quota };
-    overlay.count_ordered(overlay.len(), order, &test)
+    if row.status.is_in_force() == is_in_force(overlay.order(row.id)) {
+        return Ok(Vec::new(alloc));
+    }
+    overlay.tickets_of(alloc, row.id)
 }
 
 /// The number of cart positions after one more change, by the number before it.
@@ -300,53 +609,16 @@ pub fn carts_after<B: Book>(overlay: &Overlay<'_, B>, carts: usize, change: &Cha
     }
 }
 
-// A test of order positions: those for products of the quota.
-#[derive(Drop)]
-struct InQuota<'q> {
-    quota: &'q Quota,
-}
-
-impl<'q> PositionTest for InQuota<'q> {
-    ghost passes = { λ t p. is_in t.quota.now p.product };
-
-    fn passes(&self, position: &OrderPos) -> bool {
-        self.quota.has(position.product)
-    }
-}
-
-// A test of order positions: those whose vouchers block places of the quota.
-#[derive(Drop)]
-struct Covered<'o, 'a, B: Book> {
-    overlay: &'o Overlay<'a, B>,
-    at: Moment,
-    quota: &'o Quota,
-}
-
-impl<'o, 'a, B: Book> PositionTest for Covered<'o, 'a, B> {
-    ghost passes = { λ t p. is_covered_by (rows_of t.overlay.now) t.at t.quota.now p.voucher };
-
-    fn passes(&self, position: &OrderPos) -> bool {
-        self.overlay.covers(self.at, self.quota, position.voucher)
-    }
-}
-
-// Whether an order stands and is paid.
-fn is_paid(order: Option<&Order>) -> bool
-    ensures { result ≡ stands_as is_paid (option_copied order.entry) }
+/// The number of vouchers after one more change, by the number before it.
+pub fn vouchers_after<B: Book>(overlay: &Overlay<'_, B>, vouchers: usize, change: &Change) -> usize
+    requires vouchers { vouchers ≡ length (rows_of overlay.now).vouchers }
+    ensures { result ≡ length (after_change change.now (rows_of overlay.now)).vouchers }
 {
-    match order {
-        None => false,
-        Some(order) => order.status.is_paid(),
-    }
-}
-
-// Whether an order stands and waits for its payment.
-fn is_pending(order: Option<&Order>) -> bool
-    ensures { result ≡ stands_as is_pending (option_copied order.entry) }
-{
-    match order {
-        None => false,
-        Some(order) => order.status.is_pending(),
+    overlay.known();
+    match change {
+        Change::PutVoucher(row) => without_voucher(vouchers + 1, overlay.voucher(row.id)),
+        Change::DropVoucher(id) => without_voucher(vouchers, overlay.voucher(*id)),
+        _ => vouchers,
     }
 }
 
@@ -360,30 +632,19 @@ pub fn is_in_force(order: Option<&Order>) -> bool
     }
 }
 
-// How much a waiting entry adds to a quota.
-fn waiting_share(quota: &Quota, entry: Option<&Waiting>) -> u64
-    ensures { result ≡ waiting_share quota.now (option_copied entry.entry) }
-{
-    match entry {
-        None => 0,
-        Some(entry) => u64::from(entry.waits_for(quota)),
-    }
-}
-
-/// A count that gains some and then loses some.
-/// One of 2^64, which no book reaches, is refused as a want of memory.
-pub fn moved(count: u64, come: u64, gone: u64) -> Result<u64, AllocError>
-    ensures { IfOk result (λ new. new ≡ count + come - gone) }
-{
-    match count.checked_add(come) {
-        None => Err(AllocError),
-        Some(sum) => Ok(sum.saturating_sub(gone)),
-    }
-}
-
 // A number of rows, less one where such a row stood.
 fn without_one(count: usize, gone: Option<&CartPos>) -> usize
     ensures { result ≡ count - sum_at (λ c. 1) (option_copied gone.entry) }
+{
+    match gone {
+        None => count,
+        Some(_) => count.saturating_sub(1),
+    }
+}
+
+// A number of vouchers, less the one that goes.
+fn without_voucher(count: usize, gone: Option<&Voucher>) -> usize
+    ensures { result ≡ count - sum_at (λ v. 1) (option_copied gone.entry) }
 {
     match gone {
         None => count,

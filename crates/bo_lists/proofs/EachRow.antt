@@ -3,8 +3,6 @@ use Rattle.std.proofs.Common.{◌≡◌, ℕ, suc, ◌+◌, ◌<◌, ◌≤◌, 
 use Rattle.std.specs.List.{AllByRecursion, list_any}
 use Rattle.std.proofs.lemmas.Bool.Decides.{nat_tests, leb_tells, eqb_tells}
 use Rattle.bo_base.specs.Tables.{row_at, with_row, without_row}
-use Rattle.bo_base.proofs.Places.{with_row_in_order, without_row_in_order}
-use Rattle.bo_lists.specs.Sound.{AreNumbered}
 
 -- neither of two
 pub neither_first : (a b : Bool) → (a || b) ≡ false → a ≡ false
@@ -97,26 +95,3 @@ module _ {T : Type 0} (key : T → ℕ) where
   pub next_absent : (next : ℕ) (rows : List T) → AllByRecursion (λ r. key r < next) rows → row_at key next rows ≡ None
   next_absent next [] h = refl
   next_absent next (r ∷ rs) h = grind (arith, nat_tests, h.0, next_absent next rs h.1)
-
-  below_more : (next : ℕ) (rows : List T) → AllByRecursion (λ r. key r < next) rows → AllByRecursion (λ r. key r < next + 1) rows
-  below_more next rows h = all_weaker (λ r. key r < next) (λ r. key r < next + 1) (λ r lt. omega (arith, lt)) rows h
-
-  -- a row with the next id
-  pub numbered_put : (row : T) (next : ℕ) (rows : List T) → key row ≡ next → AreNumbered key next rows → AreNumbered key (next + 1) (with_row key row rows)
-  numbered_put row next rows e h = record {
-    in_order = with_row_in_order key 0 row rows (omega arith) h.in_order;
-    below = all-with_row (λ r. key r < next + 1) row rows (omega (arith, e)) (below_more next rows h.below);
-  }
-
-  -- a row with the id of one that stands
-  pub numbered_changed : (row old : T) (next : ℕ) (rows : List T) → row_at key (key row) rows ≡ Some old → AreNumbered key next rows → AreNumbered key next (with_row key row rows)
-  numbered_changed row old next rows e h = record {
-    in_order = with_row_in_order key 0 row rows (omega arith) h.in_order;
-    below = all-with_row (λ r. key r < next) row rows (found_below (key row) next rows old e h.below) h.below;
-  }
-
-  pub numbered_dropped : (id next : ℕ) (rows : List T) → AreNumbered key next rows → AreNumbered key next (without_row key id rows)
-  numbered_dropped id next rows h = record {
-    in_order = without_row_in_order key 0 id rows h.in_order;
-    below = all-without_row (λ r. key r < next) id rows h.below;
-  }

@@ -3,14 +3,6 @@ pub mod Found
 pub mod Time
 pub mod Headroom
 pub mod OrderHeadroom
-pub mod Fit
-pub mod Fresh
-pub mod Codes
-pub mod Varied
-pub mod Sound
-pub mod SoundOrders
 pub mod Takes
 pub mod Lowers
 pub mod Orders
-pub mod Exact
-pub mod OrderLowers

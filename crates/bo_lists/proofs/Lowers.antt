@@ -1,4 +1,5 @@
--- What raises no usage: a cart position that goes, a voucher that nothing names and that goes, and what is put into the catalogue.
+-- What raises no usage: a cart position that goes, a voucher that nothing names and that goes, what is put into the catalogue,
+-- check-in lists and check-ins.
 use Rattle.std.proofs.Common.{◌≡◌, ℕ, ◌≤◌, Bool, false, not, ◌&&◌, eqb, cond, List, [], ◌∷◌, Option, Some, None, refl, ap, ◌∙◌, map, sum_by, arith}
 use Rattle.std.specs.Prelude.{◌||◌, if◌then◌else◌}
 use Rattle.std.specs.List.{list_any}
@@ -11,7 +12,9 @@ use Rattle.bo_catalogue.specs.declared.rows.Variation.{Variation}
 use Rattle.bo_catalogue.specs.CatalogueLists.{CatalogueLists}
 use Rattle.bo_catalogue.specs.Member.{is_in}
 use Rattle.bo_lists.specs.declared.rows.CartPos.{CartPos}
-use Rattle.bo_lists.specs.declared.changes.Change.TheVariants.{PutVariation, DropVoucher, DropCart}
+use Rattle.bo_lists.specs.declared.rows.CheckinList.{CheckinList}
+use Rattle.bo_lists.specs.declared.rows.Checkin.{Checkin}
+use Rattle.bo_lists.specs.declared.changes.Change.TheVariants.{PutVariation, DropVoucher, DropCart, PutCheckinList, PutCheckin}
 use Rattle.bo_lists.specs.Conditions.{is_live_cart, names}
 use Rattle.bo_lists.specs.Lists.{Lists, voucher_at}
 use Rattle.bo_lists.specs.Named.{is_ordered, is_in_cart, is_sent, is_used}
@@ -63,3 +66,12 @@ pub put_variations_apart : (rows : List Variation) (lists : Lists) (at : ℕ) (q
 put_variations_apart [] lists at quota = refl
 put_variations_apart (row ∷ rows) lists at quota =
     put_variations_apart rows (after_change (PutVariation row) lists) at quota ∙ catalogue_apart lists (after_change (PutVariation row) lists).catalogue at quota
+
+-- nor on the door's lists, or on what was checked in by them
+pub checkin_list_apart : (row : CheckinList) (lists : Lists) (at : ℕ) (quota : Quota) → usage_of (after_change (PutCheckinList row) lists) at quota ≡ usage_of lists at quota
+unfolding usage_of blocked_by
+checkin_list_apart row lists at quota = refl
+
+pub checkin_apart : (row : Checkin) (lists : Lists) (at : ℕ) (quota : Quota) → usage_of (after_change (PutCheckin row) lists) at quota ≡ usage_of lists at quota
+unfolding usage_of blocked_by
+checkin_apart row lists at quota = refl

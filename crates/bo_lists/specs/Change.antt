@@ -3,7 +3,7 @@ use Rattle.std.specs.Prelude.{ℕ, List, [], ◌∷◌, map}
 use Rattle.bo_base.specs.Tables.{with_row, without_row}
 use Rattle.bo_lists.specs.declared.rows.NextIds.{NextIds}
 use Rattle.bo_lists.specs.declared.changes.Change.{Change}
-use Rattle.bo_lists.specs.declared.changes.Change.TheVariants.{PutItem, PutVariation, PutQuota, PutVoucher, PutCart, PutOrder, PutPosition, PutWaiting, DropVoucher, DropCart, DropWaiting}
+use Rattle.bo_lists.specs.declared.changes.Change.TheVariants.{PutItem, PutVariation, PutQuota, PutVoucher, PutCart, PutOrder, PutPosition, PutWaiting, DropVoucher, DropCart, DropWaiting, PutCheckinList, PutCheckin}
 use Rattle.bo_lists.specs.Lists.{Lists, State}
 
 -- a row that is put stands in the place of its id, and one that is dropped is gone
@@ -19,6 +19,8 @@ after_change (PutWaiting row) lists = record lists { waiting = with_row (λ r. r
 after_change (DropVoucher id) lists = record lists { vouchers = without_row (λ r. r.id) id lists.vouchers }
 after_change (DropCart id) lists = record lists { carts = without_row (λ r. r.id) id lists.carts }
 after_change (DropWaiting id) lists = record lists { waiting = without_row (λ r. r.id) id lists.waiting }
+after_change (PutCheckinList row) lists = record lists { checkin_lists = with_row (λ r. r.id) row lists.checkin_lists }
+after_change (PutCheckin row) lists = record lists { checkins = with_row (λ r. r.id) row lists.checkins }
 
 -- one change after another
 abbrev pub after_all : List Change → Lists → Lists

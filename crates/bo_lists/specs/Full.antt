@@ -18,3 +18,12 @@ takes_order state = nat_lt (length state.lists.orders) last_order && nat_le stat
 -- so many more order positions, whose ids count on
 abbrev pub takes_positions : ℕ → State → Bool
 takes_positions count state = takes_rows count state.next.position state.lists.positions
+
+abbrev pub takes_waiting : State → Bool
+takes_waiting state = takes_row state.next.waiting state.lists.waiting
+
+abbrev pub takes_checkin_list : State → Bool
+takes_checkin_list state = takes_row state.next.list state.lists.checkin_lists
+
+abbrev pub takes_checkin : State → Bool
+takes_checkin state = takes_row state.next.checkin state.lists.checkins

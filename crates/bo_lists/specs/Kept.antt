@@ -3,10 +3,12 @@ use Rattle.std.specs.Prelude.{ℕ}
 use Rattle.bo_base.specs.Tables.{AreKept}
 use Rattle.bo_lists.specs.Lists.{Lists}
 
--- in the lists of sales ids rise, and none of them is longer than this
+-- in the lists of sales and of the door ids rise, and none of them is longer than this
 pub record IsKept (limit : ℕ) (lists : Lists) : Type 0 where
   pub vouchers : AreKept (λ r. r.id) limit lists.vouchers
   pub carts : AreKept (λ r. r.id) limit lists.carts
   pub orders : AreKept (λ r. r.id) limit lists.orders
   pub positions : AreKept (λ r. r.id) limit lists.positions
   pub waiting : AreKept (λ r. r.id) limit lists.waiting
+  pub checkin_lists : AreKept (λ r. r.id) limit lists.checkin_lists
+  pub checkins : AreKept (λ r. r.id) limit lists.checkins

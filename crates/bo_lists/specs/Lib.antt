@@ -4,15 +4,14 @@ pub mod Usage
 pub mod Total
 pub mod Available
 pub mod Change
+pub mod Weight
 pub mod Kept
 pub mod Over
 pub mod Headroom
 pub mod Fits
 pub mod Named
 pub mod Ordered
-pub mod Varied
 pub mod Numbered
-pub mod Sound
 pub mod Full
 pub mod Consumed
 pub mod Takes

@@ -7,6 +7,8 @@ use Rattle.bo_lists.specs.declared.rows.CartPos.{CartPos}
 use Rattle.bo_lists.specs.declared.rows.Order.{Order}
 use Rattle.bo_lists.specs.declared.rows.OrderPos.{OrderPos}
 use Rattle.bo_lists.specs.declared.rows.Waiting.{Waiting}
+use Rattle.bo_lists.specs.declared.rows.CheckinList.{CheckinList}
+use Rattle.bo_lists.specs.declared.rows.Checkin.{Checkin}
 use Rattle.bo_lists.specs.declared.rows.NextIds.{NextIds}
 
 pub record Lists : Type 0 where
@@ -16,6 +18,8 @@ pub record Lists : Type 0 where
   pub orders : List Order
   pub positions : List OrderPos
   pub waiting : List Waiting
+  pub checkin_lists : List CheckinList
+  pub checkins : List Checkin
 
 -- the rows, the ids that new rows get, and the moment
 pub record State : Type 0 where
@@ -42,8 +46,14 @@ positions_of order lists = filter (λ p. order == p.order) lists.positions
 abbrev pub waiting_at : ℕ → Lists → Option Waiting
 waiting_at id lists = row_at (λ r. r.id) id lists.waiting
 
+abbrev pub checkin_list_at : ℕ → Lists → Option CheckinList
+checkin_list_at id lists = row_at (λ r. r.id) id lists.checkin_lists
+
+abbrev pub checkin_at : ℕ → Lists → Option Checkin
+checkin_at id lists = row_at (λ r. r.id) id lists.checkins
+
 abbrev pub no_rows : Lists
-no_rows = record { catalogue = record { items = []; variations = []; quotas = [] }; vouchers = []; carts = []; orders = []; positions = []; waiting = [] }
+no_rows = record { catalogue = record { items = []; variations = []; quotas = [] }; vouchers = []; carts = []; orders = []; positions = []; waiting = []; checkin_lists = []; checkins = [] }
 
 -- ids count from 1 in each table
 abbrev pub first_ids : NextIds

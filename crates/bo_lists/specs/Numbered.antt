@@ -7,8 +7,11 @@ use Rattle.bo_lists.specs.declared.rows.CartPos.{CartPos}
 use Rattle.bo_lists.specs.declared.rows.Voucher.{Voucher}
 use Rattle.bo_lists.specs.declared.rows.Order.{Order}
 use Rattle.bo_lists.specs.declared.rows.OrderPos.{OrderPos}
+use Rattle.bo_lists.specs.declared.rows.Waiting.{Waiting}
+use Rattle.bo_lists.specs.declared.rows.CheckinList.{CheckinList}
+use Rattle.bo_lists.specs.declared.rows.Checkin.{Checkin}
 use Rattle.bo_lists.specs.declared.changes.Change.{Change}
-use Rattle.bo_lists.specs.declared.changes.Change.TheVariants.{PutItem, PutVariation, PutQuota, PutVoucher, PutCart, PutOrder, PutPosition}
+use Rattle.bo_lists.specs.declared.changes.Change.TheVariants.{PutItem, PutVariation, PutQuota, PutVoucher, PutCart, PutOrder, PutPosition, PutWaiting, PutCheckinList, PutCheckin}
 use Rattle.bo_lists.specs.Lists.{State}
 use Rattle.bo_lists.specs.Change.{after_change, after_all}
 
@@ -41,3 +44,12 @@ with_order row state = record state { lists = after_change (PutOrder row) state.
 
 abbrev pub with_position : OrderPos → State → State
 with_position row state = record state { lists = after_change (PutPosition row) state.lists; next = record state.next { position = state.next.position + 1 } }
+
+abbrev pub with_waiting : Waiting → State → State
+with_waiting row state = record state { lists = after_change (PutWaiting row) state.lists; next = record state.next { waiting = state.next.waiting + 1 } }
+
+abbrev pub with_checkin_list : CheckinList → State → State
+with_checkin_list row state = record state { lists = after_change (PutCheckinList row) state.lists; next = record state.next { list = state.next.list + 1 } }
+
+abbrev pub with_checkin : Checkin → State → State
+with_checkin row state = record state { lists = after_change (PutCheckin row) state.lists; next = record state.next { checkin = state.next.checkin + 1 } }

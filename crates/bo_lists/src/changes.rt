@@ -1,8 +1,9 @@
 //! Changes of single rows.
 
-ghost use Rattle.std.specs.Prelude.{◌≡◌, length};
+ghost use Rattle.std.specs.Prelude.{◌≡◌, ◌≤◌, IfSome, IfNone};
+ghost use Rattle.bo_lists.specs.Weight.{change_weight, weight};
 
-use crate::rows::{CartPos, NextIds, Order, OrderPos, Voucher, Waiting};
+use crate::rows::{CartPos, Checkin, CheckinList, NextIds, Order, OrderPos, Voucher, Waiting};
 use bo_catalogue::{Item, Quota, Variation};
 use std::marker::Model;
 
@@ -31,6 +32,22 @@ pub enum Change {
     DropCart(u64),
     /// Deletes the waiting entry with this id, if there is one.
     DropWaiting(u64),
+    /// Puts a check-in list in the place of its id.
+    PutCheckinList(CheckinList),
+    /// Puts a check-in in the place of its id.
+    PutCheckin(Checkin),
+}
+
+impl Change {
+    /// How much room it needs in a book: for one row, and for each member of a quota that it puts.
+    pub fn weight(&self) -> usize
+        ensures { result ≡ change_weight self.now }
+    {
+        match self {
+            Change::PutQuota(row) => row.weight(),
+            _ => 1,
+        }
+    }
 }
 
 /// Changes in order, with the next ids that stand afterwards.
@@ -62,6 +79,18 @@ impl Changes {
         ensures { result.now ≡ self.now.list }
     {
         self.list.as_slice()
+    }
+
+    /// How much room they need in a book. It is none where it is 2^64 or more.
+    pub fn weight(&self) -> Option<usize>
+        ensures some { IfSome result (λ count. count ≡ weight self.now.list) }
+        ensures none { IfNone result (18446744073709551616 ≤ weight self.now.list) }
+    {
+        let mut count: usize = 0;
+        for change in self.as_slice() {
+            count = count.checked_add(change.weight())?;
+        }
+        Some(count)
     }
 
     /// The next ids that stand afterwards.

@@ -3,11 +3,10 @@
 
 mod available;
 pub mod changes;
-pub mod laws;
 pub mod rows;
 
 pub use changes::{Change, Changes};
 pub use rows::{
-    Availability, CartPos, NextIds, Order, OrderPos, OrderRows, Own, Status, Usage, Voucher,
-    Waiting,
+    Availability, CartPos, Checkin, CheckinKind, CheckinList, NextIds, Order, OrderPos, OrderRows,
+    Own, Status, Usage, Voucher, Waiting,
 };

@@ -8,7 +8,7 @@ ghost use Rattle.bo_lists.specs.Consumed.{is_consumed};
 ghost use Rattle.bo_lists.specs.Usage.{waits_for};
 ghost use Rattle.bo_lists.specs.Fits.{has_variation, fits_item, fits_by, fits};
 
-use bo_base::{Cents, List, Moment, PriceMode, Row, Text};
+use bo_base::{Cents, Ids, List, Moment, PriceMode, Row, Text};
 use bo_catalogue::{Catalogue, Product, Quota};
 use std::alloc::{AllocError, Global};
 
@@ -95,6 +95,38 @@ pub struct Waiting {
     pub voucher: Option<u64>,
 }
 
+/// A list by which a door checks tickets in. Its name has 1 to 254 bytes.
+/// It is for all products, or else for the items of `limit_products`, whose ids rise.
+#[derive(Debug, Drop)]
+pub struct CheckinList {
+    pub id: u64,
+    pub name: Text,
+    pub all_products: bool,
+    pub limit_products: Ids,
+    pub include_pending: bool,
+    pub allow_multiple_entries: bool,
+    pub allow_entry_after_exit: bool,
+}
+
+/// Whether a ticket came in or went out.
+#[derive(Clone, Copy, Debug, PartialEq, Eq)]
+pub enum CheckinKind {
+    Entry,
+    Exit,
+}
+
+/// One check-in of an order position by a list, at the moment `datetime`.
+/// A nonce has 1 to 254 bytes, and a list has it once for a position.
+#[derive(Debug, Drop)]
+pub struct Checkin {
+    pub id: u64,
+    pub list: u64,
+    pub position: u64,
+    pub kind: CheckinKind,
+    pub datetime: Moment,
+    pub nonce: Option<Text>,
+}
+
 /// A row that a request adds or revives, by its id.
 /// It doesn't count against the request where its voucher ignores quotas.
 #[derive(Clone, Copy, Debug, PartialEq, Eq)]
@@ -170,6 +202,22 @@ impl Row for OrderPos {
 }
 
 impl Row for Waiting {
+    ghost key = { λ r. r.id };
+
+    fn id(&self) -> u64 {
+        self.id
+    }
+}
+
+impl Row for CheckinList {
+    ghost key = { λ r. r.id };
+
+    fn id(&self) -> u64 {
+        self.id
+    }
+}
+
+impl Row for Checkin {
     ghost key = { λ r. r.id };
 
     fn id(&self) -> u64 {
@@ -402,5 +450,42 @@ impl CartPos {
         ensures { result ≡ holds at voucher self.now }
     {
         self.is_live(at) && self.voucher == Some(voucher)
+    }
+}
+
+impl CheckinList {
+    /// An equal row.
+    pub fn copy(&self, alloc: Global) -> Result<CheckinList, AllocError>
+        ensures { IfOk result (λ row. row ≡ self.now) }
+    {
+        Ok(CheckinList {
+            id: self.id,
+            name: self.name.copy(alloc)?,
+            all_products: self.all_products,
+            limit_products: self.limit_products.copy(alloc)?,
+            include_pending: self.include_pending,
+            allow_multiple_entries: self.allow_multiple_entries,
+            allow_entry_after_exit: self.allow_entry_after_exit,
+        })
+    }
+}
+
+impl Checkin {
+    /// An equal row.
+    pub fn copy(&self, alloc: Global) -> Result<Checkin, AllocError>
+        ensures { IfOk result (λ row. row ≡ self.now) }
+    {
+        let nonce = match &self.nonce {
+            None => None,
+            Some(nonce) => Some(nonce.copy(alloc)?),
+        };
+        Ok(Checkin {
+            id: self.id,
+            list: self.list,
+            position: self.position,
+            kind: self.kind,
+            datetime: self.datetime,
+            nonce,
+        })
     }
 }

@@ -23,15 +23,17 @@ use Rattle.bo_lists.specs.declared.changes.Change.TheVariants.{PutItem, PutVaria
 use Rattle.bo_lists.specs.Change.{after_change, changed}
 use Rattle.bo_lists.specs.Lists.{State}
 use Rattle.bo_lists.specs.Numbered.{with_item, with_variation, with_quota}
-use Rattle.bo_lists.specs.Sound.{IsSound}
-use Rattle.bo_lists.specs.Varied.{sold_as, is_sold_as, is_of_varied}
+use Rattle.bo_sound.specs.Sound.{IsSound}
+use Rattle.bo_sound.specs.Varied.{sold_as, is_sold_as, is_of_varied}
 use Rattle.bo_lists.specs.Takes.{used}
 use Rattle.bo_lists.specs.Total.{total}
 use Rattle.bo_lists.specs.Usage.{usage_of}
 use Rattle.bo_lists.proofs.EachRow.{key-row_at}
 use Rattle.bo_lists.proofs.Lowers.{catalogue_apart, put_variations_apart}
-use Rattle.bo_lists.proofs.Sound.{sound_item, variation_rows_count, sound_changed_item, sound_variation, sound_quota, sound_resized}
-use Rattle.bo_lists.proofs.Varied.{made_of_it}
+use Rattle.bo_sound.proofs.Sound.{sound_item, variation_rows_count, sound_changed_item, sound_variation, sound_quota, sound_resized}
+use Rattle.bo_sound.proofs.Numbered.{TakesSome, takes_it, takes_them}
+use Rattle.bo_sound.proofs.Varied.{made_of_it}
+use Rattle.bo_office.proofs.Members.{added_members}
 
 and_first : (a b : Bool) → (a && b) ≡ true → a ≡ true
 and_first true b h = refl
@@ -66,7 +68,10 @@ pub item_sound : (new : NewItem) (state : State) (rows : ItemRows) → item_adde
 item_sound new state rows h sound =
     let a = item_added_is new state.next.item state.next.variation state.lists.catalogue rows h in
     let made = item_rows new state.next.item state.next.variation in
-    subst (λ (r : ItemRows). IsSound (with_item r state)) a.is_rows (sound_item state made refl (variation_rows_count new.variations state.next.item state.next.variation) (made_of_it new.variations state.next.item state.next.variation) sound)
+    let one = takes_it state.next.item state.lists.catalogue.items (and_first (takes_row state.next.item state.lists.catalogue.items) (takes_rows (length new.variations) state.next.variation state.lists.catalogue.variations) a.has_room) in
+    let some = takes_them (length new.variations) state.next.variation state.lists.catalogue.variations (and_second (takes_row state.next.item state.lists.catalogue.items) (takes_rows (length new.variations) state.next.variation state.lists.catalogue.variations) a.has_room) in
+    let all = subst (λ (n : ℕ). TakesSome n state.next.variation state.lists.catalogue.variations) (sym (variation_rows-length new.variations state.next.item state.next.variation)) some in
+    subst (λ (r : ItemRows). IsSound (with_item r state)) a.is_rows (sound_item state made refl one all (variation_rows_count new.variations state.next.item state.next.variation) (made_of_it new.variations state.next.item state.next.variation) sound)
 
 pub item_change_sound : (id : ℕ) (patch : ItemPatch) (state : State) (row : Item) → item_changed id patch state.lists.catalogue ≡ Ok row → IsSound state → IsSound (changed (PutItem row) state)
 item_change_sound id patch state row h sound =
@@ -79,12 +84,12 @@ variation_sound item new state made h sound =
     let a = variation_added_is item new state.next.variation state.lists.catalogue made h in
     let own : made.row.item ≡ item = sym (ap (λ (m : PricedVariation). m.row.item) a.is_made) ∙ key-row_at (λ (r : Item). r.id) item state.lists.catalogue.items a.of a.stood in
     let of_varied : is_of_varied state.lists.catalogue.items made.row ≡ true = ap (λ (n : ℕ). is_sold_as (λ varied. varied) n state.lists.catalogue.items) own ∙ (ap (sold_as (λ varied. varied)) a.stood ∙ a.varied) in
-    sound_variation state made.row (sym (ap (λ (m : PricedVariation). m.row.id) a.is_made)) of_varied sound
+    sound_variation state made.row (sym (ap (λ (m : PricedVariation). m.row.id) a.is_made)) (takes_it state.next.variation state.lists.catalogue.variations a.has_room) of_varied sound
 
 pub quota_sound : (new : NewQuota) (state : State) (row : Quota) → quota_added new state.next.quota state.lists.catalogue ≡ Ok row → IsSound state → IsSound (with_quota row state)
 quota_sound new state row h sound =
     let a = quota_added_is new state.next.quota state.lists.catalogue row h in
-    sound_quota state row (sym (ap (λ (r : Quota). r.id) a.is_row)) sound
+    sound_quota state row (sym (ap (λ (r : Quota). r.id) a.is_row)) (takes_it state.next.quota state.lists.catalogue.quotas a.has_room) (added_members new state.next.quota state.lists.catalogue row h) sound
 
 pub resize_sound : (id : ℕ) (patch : QuotaPatch) (state : State) (row : Quota) → resized id patch state.lists.catalogue ≡ Ok row → IsSound state → IsSound (changed (PutQuota row) state)
 resize_sound id patch state row h sound =

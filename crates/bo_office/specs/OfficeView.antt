@@ -2,7 +2,7 @@
 use Rattle.std.specs.Prelude.{ℕ, List}
 use Rattle.bo_lists.specs.Lists.{State}
 
--- the short names of the organizer and the event, the state, and how many changes it has room for
+-- the short names of the organizer and the event, the state, and the weight of the changes that it has room for
 pub record OfficeView : Type 0 where
   pub organizer : List ℕ
   pub event : List ℕ

@@ -1,9 +1,10 @@
 //! One box office over a book.
 
-ghost use Rattle.std.specs.Prelude.{◌≡◌, ◌≤◌, ℕ, IfOk, OnOk, length};
+ghost use Rattle.std.specs.Prelude.{◌≡◌, ◌≤◌, ℕ, IfOk, OnOk};
 ghost use Rattle.bo_base.specs.declared.draw.Draw.{Draw};
 ghost use Rattle.bo_lists.specs.Change.{applied};
-ghost use Rattle.bo_lists.specs.Sound.{IsSound};
+ghost use Rattle.bo_lists.specs.Weight.{weight};
+ghost use Rattle.bo_sound.specs.Sound.{IsSound};
 ghost use Rattle.bo_office.specs.Step.{RefusesWithoutChange, step, no_change};
 ghost use Rattle.bo_office.specs.Answer.{answer};
 
@@ -14,7 +15,8 @@ use bo_usage::Book;
 use std::alloc::{AllocError, Global};
 use std::marker::Model;
 
-/// A box office over any book. Contracts see its two names, its state, and how many changes it has room for.
+/// A box office over any book. Contracts see its two names, its state, and the weight of the
+/// changes that it has room for.
 #[derive(Drop)]
 pub struct Office<B: Book> {
     organizer: Text,
@@ -23,7 +25,7 @@ pub struct Office<B: Book> {
 }
 
 impl<B: Book> Model for Office<B> {
-    ghost use Rattle.bo_lists.specs.Sound.{IsSound};
+    ghost use Rattle.bo_sound.specs.Sound.{IsSound};
     ghost use Rattle.bo_office.specs.OfficeView.{OfficeView};
 
     ghost Value = { OfficeView };
@@ -157,7 +159,7 @@ impl<B: Book> Office<B> {
 
     /// Takes the memory that these changes need.
     pub fn reserve(&mut self, changes: &Changes) -> Result<(), AllocError>
-        ensures ok { OnOk result (length changes.now.list ≤ self.new.room) }
+        ensures ok { OnOk result (weight changes.now.list ≤ self.new.room) }
         ensures state { self.new.state ≡ self.old.state }
         ensures organizer { self.new.organizer ≡ self.old.organizer }
         ensures event { self.new.event ≡ self.old.event }
@@ -165,9 +167,10 @@ impl<B: Book> Office<B> {
         self.book.reserve(changes)
     }
 
-    /// Makes these changes at a moment. There is room for them, and the office stays sound.
+    /// Makes these changes at a moment that isn't before the office's. There is room for them, and the office stays sound.
     pub fn adopt(&mut self, changes: Changes, at: Moment)
-        requires room { length changes.list ≤ self.old.room }
+        requires room { weight changes.list ≤ self.old.room }
+        requires moment { self.old.state.moment ≤ at }
         requires sound { IsSound (applied changes at self.old.state) }
         ensures state { self.new.state ≡ applied changes at self.old.state }
         ensures organizer { self.new.organizer ≡ self.old.organizer }

@@ -13,8 +13,10 @@ use Rattle.bo_lists.specs.Full.{takes_cart}
 use Rattle.bo_lists.specs.Fits.{is_fit}
 use Rattle.bo_lists.specs.Numbered.{with_cart}
 use Rattle.bo_lists.specs.Over.{first_over, ignores}
-use Rattle.bo_lists.specs.Sound.{IsSound}
-use Rattle.bo_lists.proofs.Sound.{sound_cart}
+use Rattle.bo_sound.specs.Sound.{IsSound}
+use Rattle.bo_sound.specs.Varied.{AllVaried, IsProduct}
+use Rattle.bo_sound.proofs.Numbered.{takes_it}
+use Rattle.bo_sound.proofs.Sound.{sound_cart}
 use Rattle.bo_vouchers.specs.declared.refusal.VoucherRefusal.{VoucherRefusal}
 use Rattle.bo_vouchers.specs.declared.refusal.VoucherRefusal.TheVariants.{Catalogue, NoHeadroom}
 use Rattle.bo_orders.specs.CartId.{cart_id_test}
@@ -26,22 +28,27 @@ use Rattle.bo_orders.specs.declared.refusal.OrderRefusal.TheVariants.{Voucher as
 use Rattle.bo_orders.specs.Carts.{position_added, placed, placed_by, placed_if, has_use_for, cart_row, row_in_cart, row_of_sold}
 use Rattle.bo_orders.specs.Sold.{sold_for}
 use Rattle.bo_orders.specs.declared.sold.Sold.{Sold}
-use Rattle.bo_orders.proofs.SoldLemmas.{sold_fits}
+use Rattle.bo_orders.proofs.SoldLemmas.{sold_fits, sold_is_product}
 
--- the row has the next id, and names no voucher, or one that stands and is for its product
+-- the row has the next id and a product, and names no voucher, or one that stands and is for the product
 pub record IsNew (state : State) (row : CartPos) : Type 0 where
   pub id : row.id ≡ state.next.cart
   pub fit : is_fit state.lists row.product row.voucher ≡ true
+  pub product : IsProduct state.lists.catalogue row.product
 
 ok_row : (a b : CartPos) → (let all : Result CartPos OrderRefusal = Ok a in all ≡ Ok b) → a ≡ b
 ok_row a b h = cc
 
-module _ (new : NewCart) (draw : Draw) (state : State) (order : AreInOrder (λ r. r.id) state.lists.vouchers) (row : CartPos) where
+module _ (new : NewCart) (draw : Draw) (state : State) (order : AreInOrder (λ r. r.id) state.lists.vouchers) (of_varied : AllVaried state.lists) (row : CartPos) where
   by_sold : (sold : Result Sold VoucherRefusal) → sold_for new.asked state ≡ sold → row_of_sold new draw state sold ≡ Ok row → IsNew state row
   by_sold (Err refusal) is h = absurd (cc)
   by_sold (Ok sold) is h =
       let same = ok_row _ row h in
-      record { id = sym (ap (λ (r : CartPos). r.id) same); fit = sym (ap (λ (r : CartPos). is_fit state.lists r.product r.voucher) same) ∙ sold_fits new.asked state order sold is }
+      record {
+        id = sym (ap (λ (r : CartPos). r.id) same);
+        fit = sym (ap (λ (r : CartPos). is_fit state.lists r.product r.voucher) same) ∙ sold_fits new.asked state order sold is;
+        product = subst (λ (r : CartPos). IsProduct state.lists.catalogue r.product) same (sold_is_product new.asked state of_varied sold is);
+      }
 
   by_cart : (test : Result (Unit {0}) OrderRefusal) → row_in_cart new draw state test ≡ Ok row → IsNew state row
   by_cart (Err refusal) h = absurd (cc)
@@ -56,24 +63,26 @@ pub record IsAdded (new : NewCart) (draw : Draw) (before after : State) (row : C
   pub is_row : cart_row new draw before ≡ Ok row
   pub has_use : has_use_for row before ≡ true
   pub not_over : first_over before.lists (after_change (PutCart row) before.lists) before.moment (Cart row.id ∷ []) ≡ None
+  pub takes : takes_cart before ≡ true
   pub is_after : with_cart row before ≡ after
 
 module _ (new : NewCart) (draw : Draw) (before after : State) (row : CartPos) where
-  by_room : (r : CartPos) (room : Bool) → cart_row new draw before ≡ Ok r → has_use_for r before ≡ true → first_over before.lists (after_change (PutCart r) before.lists) before.moment (Cart r.id ∷ []) ≡ None → (let all : Result (State × CartPos) OrderRefusal = if room then Ok (with_cart r before, r) else Err (OfVoucher (Catalogue Full)) in all ≡ Ok (after, row)) → IsAdded new draw before after row
-  by_room r true is left over h =
+  by_room : (r : CartPos) (room : Bool) → takes_cart before ≡ room → cart_row new draw before ≡ Ok r → has_use_for r before ≡ true → first_over before.lists (after_change (PutCart r) before.lists) before.moment (Cart r.id ∷ []) ≡ None → (let all : Result (State × CartPos) OrderRefusal = if room then Ok (with_cart r before, r) else Err (OfVoucher (Catalogue Full)) in all ≡ Ok (after, row)) → IsAdded new draw before after row
+  by_room r true e is left over h =
       let same : (let made : State × CartPos = (with_cart r before, r) in made ≡ (after, row)) = cc in
       let row_is : r ≡ row = ap (λ (x : State × CartPos). x.1) same in
       record {
         is_row = is ∙ ap (λ (x : CartPos). Ok x) row_is;
         has_use = subst (λ (x : CartPos). has_use_for x before ≡ true) row_is left;
         not_over = subst (λ (x : CartPos). first_over before.lists (after_change (PutCart x) before.lists) before.moment (Cart x.id ∷ []) ≡ None) row_is over;
+        takes = e;
         is_after = ap (λ (x : CartPos). with_cart x before) (sym row_is) ∙ ap (λ (x : State × CartPos). x.0) same;
       }
-  by_room r false is left over h = absurd (cc)
+  by_room r false e is left over h = absurd (cc)
 
   by_over : (r : CartPos) (over : Option ℕ) → cart_row new draw before ≡ Ok r → has_use_for r before ≡ true → first_over before.lists (after_change (PutCart r) before.lists) before.moment (Cart r.id ∷ []) ≡ over → placed_by r before over ≡ Ok (after, row) → IsAdded new draw before after row
   by_over r (Some quota) is left e h = absurd (cc)
-  by_over r None is left e h = by_room r (takes_cart before) is left e h
+  by_over r None is left e h = by_room r (takes_cart before) refl is left e h
 
   by_use : (r : CartPos) (left : Bool) → cart_row new draw before ≡ Ok r → has_use_for r before ≡ left → (if left then placed_by r before (first_over before.lists (after_change (PutCart r) before.lists) before.moment (Cart r.id ∷ [])) else Err (OfVoucher NoHeadroom)) ≡ Ok (after, row) → IsAdded new draw before after row
   by_use r true is left h = by_over r _ is left refl h
@@ -110,5 +119,5 @@ module _ (new : NewCart) (draw : Draw) (before after : State) (row : CartPos) wh
   pub added_sound : IsSound before → position_added new draw before ≡ Ok (after, row) → IsSound after
   added_sound sound h =
       let a = added_is h in
-      let n = row_is_new new draw before sound.vouchers.in_order row a.is_row in
-      subst IsSound a.is_after (sound_cart before row n.id a.has_use n.fit sound)
+      let n = row_is_new new draw before sound.ids.vouchers.in_order sound.varied row a.is_row in
+      subst IsSound a.is_after (sound_cart before row n.id (takes_it before.next.cart before.lists.carts a.takes) n.product a.has_use n.fit sound)

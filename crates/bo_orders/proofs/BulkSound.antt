@@ -4,7 +4,7 @@ use Rattle.std.specs.Prelude.{nat_lt, length, if◌then◌else◌}
 use Rattle.bo_base.specs.declared.draw.Draw.{Draw}
 use Rattle.bo_lists.specs.declared.rows.CartPos.{CartPos}
 use Rattle.bo_lists.specs.Lists.{State}
-use Rattle.bo_lists.specs.Sound.{IsSound}
+use Rattle.bo_sound.specs.Sound.{IsSound}
 use Rattle.bo_orders.specs.declared.new_cart.NewCart.{NewCart}
 use Rattle.bo_orders.specs.declared.bulk.Entry.{Entry}
 use Rattle.bo_orders.specs.declared.bulk.Entry.TheVariants.{New, Faulty}

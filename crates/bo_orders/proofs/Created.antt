@@ -1,34 +1,38 @@
 -- What is known where an order was made.
-use Rattle.std.proofs.Common.{◌≡◌, ℕ, ◌+◌, Bool, true, false, List, [], ◌∷◌, length, map, Option, Some, None, Result, Ok, Err, refl, sym, ap, ◌∙◌, subst, arith}
+use Rattle.std.proofs.Common.{◌≡◌, ℕ, ◌+◌, ◌<◌, ◌≤◌, Bool, true, false, List, [], ◌∷◌, length, map, Option, Some, None, Result, Ok, Err, refl, sym, ap, ◌∙◌, subst, arith}
 use Rattle.std.specs.Prelude.{◌&&◌, is_some, if◌then◌else◌}
 use Rattle.std.specs.List.{AllByRecursion}
 use Rattle.std.proofs.lemmas.Bool.Decides.{nat_tests}
+use Rattle.bo_base.specs.Codes.{last_order}
 use Rattle.bo_base.specs.Tables.{AreInOrder}
 use Rattle.bo_base.specs.declared.draw.Draw.{Draw}
 use Rattle.bo_base.proofs.Edits.{row_at-with_row}
-use Rattle.bo_catalogue.specs.declared.rows.Item.{Item}
+use Rattle.bo_catalogue.specs.CatalogueLists.{CatalogueLists}
 use Rattle.bo_catalogue.specs.declared.refusal.CatalogueRefusal.TheVariants.{Full}
 use Rattle.bo_lists.specs.declared.rows.NextIds.{NextIds}
 use Rattle.bo_lists.specs.declared.rows.Order.{Order}
 use Rattle.bo_lists.specs.declared.rows.OrderPos.{OrderPos}
 use Rattle.bo_lists.specs.declared.rows.OrderRows.{OrderRows}
 use Rattle.bo_lists.specs.declared.rows.Own.TheVariants.{Position}
-use Rattle.bo_lists.specs.declared.changes.Change.TheVariants.{PutOrder, PutPosition, DropCart}
+use Rattle.bo_lists.specs.declared.changes.Change.TheVariants.{PutOrder, PutPosition}
 use Rattle.bo_lists.specs.Conditions.{is_in_force}
 use Rattle.bo_lists.specs.Usage.{stands_as}
 use Rattle.bo_lists.specs.Lists.{Lists, State, order_at}
-use Rattle.bo_lists.specs.Change.{after_change, after_all, changed, without_carts}
+use Rattle.bo_lists.specs.Change.{after_change, changed, without_carts}
 use Rattle.bo_lists.specs.Consumed.{consumed}
 use Rattle.bo_lists.specs.Fits.{is_fit}
 use Rattle.bo_lists.specs.Full.{takes_order, takes_positions}
 use Rattle.bo_lists.specs.Headroom.{has_use}
 use Rattle.bo_lists.specs.Over.{first_over}
-use Rattle.bo_lists.specs.Sound.{IsSound}
-use Rattle.bo_lists.specs.Varied.{AllVaried, is_product}
-use Rattle.bo_lists.proofs.Fit.{fit_same}
-use Rattle.bo_lists.proofs.SoundOrders.{sound_order, sound_position, sound_drop_carts}
+use Rattle.bo_lists.proofs.EachRow.{all_weaker}
+use Rattle.bo_sound.specs.Secrets.{has_own_secret}
+use Rattle.bo_sound.specs.Sound.{IsSound, IsSoundSoFar}
+use Rattle.bo_sound.specs.Varied.{AllVaried, IsProduct}
+use Rattle.bo_sound.proofs.Fit.{fit_same}
+use Rattle.bo_sound.proofs.Numbered.{Takes, TakesSome, takes_first, takes_others}
+use Rattle.bo_sound.proofs.SoundOrders.{sound_order, sound_position, sound_whole, sound_drop_carts}
 use Rattle.bo_vouchers.specs.declared.refusal.VoucherRefusal.{VoucherRefusal}
-use Rattle.bo_vouchers.specs.declared.refusal.VoucherRefusal.TheVariants.{Catalogue, NoHeadroom}
+use Rattle.bo_vouchers.specs.declared.refusal.VoucherRefusal.TheVariants.{Catalogue}
 use Rattle.bo_orders.specs.declared.new_order.NewOrder.{NewOrder}
 use Rattle.bo_orders.specs.declared.sold.Asked.{Asked}
 use Rattle.bo_orders.specs.declared.sold.Sold.{Sold}
@@ -36,6 +40,8 @@ use Rattle.bo_orders.specs.declared.refusal.OrderRefusal.{OrderRefusal}
 use Rattle.bo_orders.specs.declared.refusal.OrderRefusal.TheVariants.{Voucher as OfVoucher}
 use Rattle.bo_orders.specs.Sold.{sold_for}
 use Rattle.bo_orders.specs.Created.{order_row, position_row, position_of_sold, position_for, and_rows, rows_for, position_put, with_positions, with_ids_used, unless_over, placed_with, AreCounted, with_order_row, order_placed, created_of, counts_test, created_if, order_created}
+use Rattle.bo_orders.proofs.Counted.{are_rows, created_whole}
+use Rattle.bo_orders.proofs.Puts.{put_is, carts_keep_catalogue, carts_keep_orders, carts_keep_positions, carts_keep_vouchers}
 use Rattle.bo_orders.proofs.SoldLemmas.{sold_fits, sold_is_product}
 use Rattle.bo_orders.proofs.Rows.{by_force, counted, puts_next}
 
@@ -108,19 +114,6 @@ module _ (new : NewOrder) (draw : Draw) (before after : State) (made : OrderRows
       let m = created_is h in
       subst (λ (s : State). first_over before.lists s.lists before.moment (map (λ p. Position p.id) made.positions) ≡ None) m.is_after m.not_over
 
--- a put of a position, which had a use of its voucher left
-pub record IsPut (row : OrderPos) (state after : State) : Type 0 where
-  pub left : has_use state.moment state.lists row.voucher ≡ true
-  pub is : changed (PutPosition row) state ≡ after
-
-put_if : (row : OrderPos) (state after : State) (left : Bool) → has_use state.moment state.lists row.voucher ≡ left → (let put : Result State OrderRefusal = (if left then Ok (changed (PutPosition row) state) else Err (OfVoucher NoHeadroom)) in put ≡ Ok after) → IsPut row state after
-put_if row state after true e h = record { left = e; is = cc (h) }
-put_if row state after false e h = absurd (cc (h))
-
-pub put_is : (row : OrderPos) (state after : State) → position_put row state ≡ Ok after → IsPut row state after
-unfolding position_put
-put_is row state after h = put_if row state after (has_use state.moment state.lists row.voucher) refl h
-
 -- puts leave the moment
 puts_moment : (rows : List OrderPos) (state after : State) → with_positions rows (Ok state) ≡ Ok after → after.moment ≡ state.moment
 puts_moment [] state after h = let same : state ≡ after = cc (h) in ap (λ (s : State). s.moment) (sym same)
@@ -135,19 +128,6 @@ created_moment new draw before after made h =
     let m = created_is new draw before after made h in
     ap (λ (s : State). s.moment) (sym m.is_after) ∙ puts_moment made.positions (with_order_row made.order new.consume_carts before) m.put m.puts
 
--- the box office without some cart positions sells the same
-carts_keep_quotas : (ids : List ℕ) (lists : Lists) → (after_all (map DropCart ids) lists).catalogue.quotas ≡ lists.catalogue.quotas
-carts_keep_quotas [] lists = refl
-carts_keep_quotas (id ∷ ids) lists = carts_keep_quotas ids (after_change (DropCart id) lists)
-
-carts_keep_items : (ids : List ℕ) (lists : Lists) → (after_all (map DropCart ids) lists).catalogue.items ≡ lists.catalogue.items
-carts_keep_items [] lists = refl
-carts_keep_items (id ∷ ids) lists = carts_keep_items ids (after_change (DropCart id) lists)
-
-carts_keep_vouchers : (ids : List ℕ) (lists : Lists) → (after_all (map DropCart ids) lists).vouchers ≡ lists.vouchers
-carts_keep_vouchers [] lists = refl
-carts_keep_vouchers (id ∷ ids) lists = carts_keep_vouchers ids (after_change (DropCart id) lists)
-
 -- an order that was put stands
 order_stands : (row : Order) (lists : Lists) → is_some (order_at row.id (after_change (PutOrder row) lists)) ≡ true
 order_stands row lists =
@@ -155,9 +135,9 @@ order_stands row lists =
     let found : order_at row.id (after_change (PutOrder row) lists) ≡ Some row = grind (arith, nat_tests, e) in
     ap (λ (o : Option Order). is_some o) found
 
--- each row is the order's, its voucher is for its product, and the product is named as its item is sold
+-- each row is the order's, its voucher is for its product, and its product is one
 abbrev IsOwn : Lists → ℕ → OrderPos → Type 0
-IsOwn lists number p = (p.order ≡ number) × ((is_fit lists p.product p.voucher ≡ true) × (is_product lists.catalogue.items p.product ≡ true))
+IsOwn lists number p = (p.order ≡ number) × ((is_fit lists p.product p.voucher ≡ true) × IsProduct lists.catalogue p.product)
 
 module _ (draw : Draw) (state : State) (order : AreInOrder (λ r. r.id) state.lists.vouchers) (of_varied : AllVaried state.lists) where
   own_sold : (id number : ℕ) (asked : Asked) (sold : Result Sold VoucherRefusal) (row : OrderPos) → sold_for asked state ≡ sold → position_of_sold draw state.next.order id number sold ≡ Ok row → IsOwn state.lists state.next.order row
@@ -189,39 +169,41 @@ numbered id state = record state { next = record state.next { order = state.next
 module _ (lists : Lists) (number : ℕ) where
   -- it sells the same, and the order stands
   record Goes (id : ℕ) (state : State) : Type 0 where
-    items : lists.catalogue.items ≡ state.lists.catalogue.items
-    quotas : lists.catalogue.quotas ≡ state.lists.catalogue.quotas
+    catalogue : lists.catalogue ≡ state.lists.catalogue
     vouchers : lists.vouchers ≡ state.lists.vouchers
     stands : is_some (order_at number state.lists) ≡ true
-    sound : IsSound (numbered id state)
+    sound : IsSoundSoFar (numbered id state)
 
-  goes_on : (id : ℕ) (row : OrderPos) (state : State) → row.id ≡ id → IsOwn lists number row → has_use state.moment state.lists row.voucher ≡ true → Goes id state → Goes (id + 1) (changed (PutPosition row) state)
-  goes_on id row state e own left g = record {
-    items = g.items;
-    quotas = g.quotas;
+  goes_on : (id : ℕ) (row : OrderPos) (state : State) → row.id ≡ id → IsOwn lists number row → has_own_secret row ≡ true → has_use state.moment state.lists row.voucher ≡ true → Takes id state.lists.positions → Goes id state → Goes (id + 1) (changed (PutPosition row) state)
+  goes_on id row state e own secret left takes g = record {
+    catalogue = g.catalogue;
     vouchers = g.vouchers;
     stands = g.stands;
-    sound = sound_position (numbered id state) row e
-        (ap (λ (n : ℕ). is_some (order_at n state.lists)) own.0 ∙ g.stands)
-        (fit_same lists state.lists g.quotas g.vouchers row.product row.voucher own.1.0)
-        (subst (λ (items : List Item). is_product items row.product ≡ true) g.items own.1.1)
+    sound = sound_position (numbered id state) row e takes
+        (ap (λ (n : ℕ). is_some (order_at n state.lists)) own.0 ∙ g.stands, secret)
+        (fit_same lists state.lists (ap (λ (c : CatalogueLists). c.quotas) g.catalogue) g.vouchers row.product row.voucher own.1.0)
+        (subst (λ (c : CatalogueLists). IsProduct c row.product) g.catalogue own.1.1)
         (by_force (stands_as is_in_force (order_at row.order state.lists)) (has_use state.moment state.lists row.voucher) left)
         g.sound;
   }
 
-  puts_sound : (rows : List OrderPos) (id : ℕ) (state put : State) → AreCounted id rows → AllByRecursion (IsOwn lists number) rows → Goes id state → with_positions rows (Ok state) ≡ Ok put → IsSound (numbered (id + length rows) put)
-  puts_sound [] id state put counted own g h =
+  puts_sound : (rows : List OrderPos) (id : ℕ) (state put : State) → TakesSome (length rows) id state.lists.positions → AreCounted id rows → AllByRecursion (IsOwn lists number) rows → AllByRecursion (λ p. has_own_secret p ≡ true) rows → Goes id state → with_positions rows (Ok state) ≡ Ok put → IsSoundSoFar (numbered (id + length rows) put)
+  puts_sound [] id state put takes counted own secrets g h =
       let same : state ≡ put = cc (h) in
       let end : id ≡ id + 0 = omega arith in
-      subst (λ (n : ℕ). IsSound (numbered n put)) end (subst (λ (s : State). IsSound (numbered id s)) same g.sound)
-  puts_sound (row ∷ rows) id state put counted own g h = by_put (position_put row state) refl h (λ made on. puts_sound rows (id + 1) made put counted.1 own.1 on)
+      subst (λ (n : ℕ). IsSoundSoFar (numbered n put)) end (subst (λ (s : State). IsSoundSoFar (numbered id s)) same g.sound)
+  puts_sound (row ∷ rows) id state put takes counted own secrets g h = by_put (position_put row state) refl h (λ made more on. puts_sound rows (id + 1) made put more counted.1 own.1 secrets.1 on)
     where
-      by_put : (done : Result State OrderRefusal) → position_put row state ≡ done → with_positions rows done ≡ Ok put → ((made : State) → Goes (id + 1) made → with_positions rows (Ok made) ≡ Ok put → IsSound (numbered (id + 1 + length rows) put)) → IsSound (numbered (id + length (row ∷ rows)) put)
+      by_put : (done : Result State OrderRefusal) → position_put row state ≡ done → with_positions rows done ≡ Ok put → ((made : State) → TakesSome (length rows) (id + 1) made.lists.positions → Goes (id + 1) made → with_positions rows (Ok made) ≡ Ok put → IsSoundSoFar (numbered (id + 1 + length rows) put)) → IsSoundSoFar (numbered (id + length (row ∷ rows)) put)
       by_put (Err refusal) e h more = absurd (cc (h))
       by_put (Ok made) e h more =
           let p = put_is row state made e in
           let end : id + 1 + length rows ≡ id + length (row ∷ rows) = omega arith in
-          subst (λ (n : ℕ). IsSound (numbered n put)) end (more made (subst (Goes (id + 1)) p.is (goes_on id row state counted.0 own.0 p.left g)) h)
+          subst (λ (n : ℕ). IsSoundSoFar (numbered n put)) end (more made (subst (λ (s : State). TakesSome (length rows) (id + 1) s.lists.positions) p.is (takes_others (λ (r : OrderPos). r.id) row rows id state.lists.positions takes)) (subst (Goes (id + 1)) p.is (goes_on id row state counted.0 own.0 secrets.0 p.left (takes_first (λ (r : OrderPos). r.id) row rows id state.lists.positions takes) g)) h)
+
+-- there is a code for one order more, and room for its positions
+takes_all : (count : ℕ) (state : State) → (takes_order state && takes_positions count state) ≡ true → ((length state.lists.orders < last_order) × (state.next.order ≤ last_order)) × TakesSome count state.next.position state.lists.positions
+takes_all count state h = ((grind (arith, nat_tests, h), grind (arith, nat_tests, h)), (grind (arith, nat_tests, h), grind (arith, nat_tests, h)))
 
 -- a box office stays sound as an order is made
 pub created_sound : (new : NewOrder) (draw : Draw) (before after : State) (made : OrderRows) → IsSound before → order_created new draw before ≡ Ok (after, made) → IsSound after
@@ -231,13 +213,20 @@ created_sound new draw before after made sound h =
     let start = before.next.position in
     let state = with_order_row made.order new.consume_carts before in
     let id : made.order.id ≡ before.next.order = sym (ap (λ (o : Order). o.id) m.is_order) in
+    let room = takes_all (length made.positions) before m.takes in
     let g : Goes before.lists before.next.order start state = record {
-      items = sym (carts_keep_items ids before.lists);
-      quotas = sym (carts_keep_quotas ids before.lists);
+      catalogue = sym (carts_keep_catalogue ids before.lists);
       vouchers = sym (carts_keep_vouchers ids before.lists);
       stands = subst (λ (n : ℕ). is_some (order_at n state.lists) ≡ true) id (order_stands made.order (without_carts ids before).lists);
-      sound = sound_order (without_carts ids before) made.order id (sound_drop_carts ids before sound);
+      sound = sound_order (without_carts ids before) made.order id (subst (λ (orders : List Order). (length orders < last_order) × (before.next.order ≤ last_order)) (sym (carts_keep_orders ids before.lists)) room.0) (sound_drop_carts ids before sound);
     } in
+    let takes = subst (λ (positions : List OrderPos). TakesSome (length made.positions) start positions) (sym (carts_keep_positions ids before.lists)) room.1 in
     let next = puts_next made.positions state m.put m.puts in
-    let all = puts_sound before.lists before.next.order made.positions start state m.put (counted draw before start 1 new.positions made.positions m.are_rows) (are_own draw before sound.vouchers.in_order sound.varied start 1 new.positions made.positions m.are_rows) g m.puts in
-    subst IsSound m.is_after (subst (λ (n : ℕ). IsSound (numbered n m.put)) (ap (λ (x : NextIds). x.position + length made.positions) (sym next)) all)
+    let ids_count = counted draw before start 1 new.positions made.positions m.are_rows in
+    let own = are_own draw before sound.ids.vouchers.in_order sound.varied start 1 new.positions made.positions m.are_rows in
+    let rows = are_rows draw before start 1 new.positions made.positions m.are_rows in
+    let all = puts_sound before.lists before.next.order made.positions start state m.put takes ids_count own rows.secrets g m.puts in
+    let of_it = all_weaker (IsOwn before.lists before.next.order) (λ p. p.order ≡ before.next.order) (λ p known. known.0) made.positions own in
+    let whole = created_whole new draw before (after, made) made.order made.positions ids m.put h sound.ids.orders sound.ids.positions sound.ordered id m.are_rows ids_count of_it m.puts in
+    let full = sound_whole (numbered (start + length made.positions) m.put) whole all in
+    subst IsSound m.is_after (subst (λ (n : ℕ). IsSound (numbered n m.put)) (ap (λ (x : NextIds). x.position + length made.positions) (sym next)) full)

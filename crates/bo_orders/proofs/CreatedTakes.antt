@@ -17,7 +17,8 @@ use Rattle.bo_lists.proofs.Takes.{none_passes, within}
 use Rattle.bo_orders.specs.declared.new_order.NewOrder.{NewOrder}
 use Rattle.bo_orders.specs.declared.refusal.OrderRefusal.{OrderRefusal}
 use Rattle.bo_orders.specs.Created.{position_put, with_positions, AreCounted, with_order_row, order_created}
-use Rattle.bo_orders.proofs.Created.{put_is, created_is, created_moment, created_none_over}
+use Rattle.bo_orders.proofs.Created.{created_is, created_moment, created_none_over}
+use Rattle.bo_orders.proofs.Puts.{put_is}
 use Rattle.bo_orders.proofs.Revivals.{weighs_positions}
 use Rattle.bo_orders.proofs.Rows.{counted}
 

@@ -5,10 +5,10 @@ use Rattle.bo_lists.specs.declared.rows.CartPos.{CartPos}
 use Rattle.bo_lists.specs.declared.changes.Change.TheVariants.{DropCart}
 use Rattle.bo_lists.specs.Lists.{State, cart_at}
 use Rattle.bo_lists.specs.Change.{changed}
-use Rattle.bo_lists.specs.Sound.{IsSound}
+use Rattle.bo_sound.specs.Sound.{IsSound}
 use Rattle.bo_lists.specs.Takes.{used}
 use Rattle.bo_lists.proofs.Lowers.{drop_cart_lowers}
-use Rattle.bo_lists.proofs.Sound.{sound_drop_cart}
+use Rattle.bo_sound.proofs.Sound.{sound_drop_cart}
 use Rattle.bo_orders.specs.Dropped.{position_dropped, dropped_at}
 
 module _ (id : ℕ) (before after : State) where

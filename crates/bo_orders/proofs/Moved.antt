@@ -11,11 +11,11 @@ use Rattle.bo_lists.specs.Lists.{State, order_at, positions_of}
 use Rattle.bo_lists.specs.Change.{after_change, changed}
 use Rattle.std.specs.List.{AllByRecursion}
 use Rattle.bo_lists.specs.Over.{first_over, ignores}
-use Rattle.bo_lists.specs.Sound.{IsSound}
+use Rattle.bo_sound.specs.Sound.{IsSound}
 use Rattle.bo_lists.specs.Takes.{used, TakesNoMore}
 use Rattle.bo_lists.specs.Conditions.{is_in_force}
-use Rattle.bo_lists.proofs.OrderLowers.{moved_order_lowers}
-use Rattle.bo_lists.proofs.SoundOrders.{sound_changed_order}
+use Rattle.bo_sound.proofs.OrderLowers.{moved_order_lowers}
+use Rattle.bo_sound.proofs.SoundOrders.{sound_changed_order}
 use Rattle.bo_orders.specs.declared.moves.Move.{Move}
 use Rattle.bo_orders.specs.declared.moves.Turn.{Turn}
 use Rattle.bo_orders.specs.declared.refusal.OrderRefusal.{OrderRefusal}
@@ -176,7 +176,7 @@ module _ (number : ℕ) (change : Move) (before after : State) (rows : OrderRows
       let weighed = m.not_over (comes_back m (its_old m old stood ∙ ended) force) in
       let in_before = subst (λ (s : State). AllByRecursion (λ p. ignores s.lists p.voucher ≡ false) rows.positions) (sym m.is_after) heed in
       let own = subst (λ ps. AllByRecursion (λ p. ignores before.lists p.voucher ≡ false) ps) (sym (ap (λ (r : OrderRows). r.positions) m.is_rows)) in_before in
-      subst (λ (s : State). TakesNoMore before s) m.is_after (revival_takes_no_more before rows.order sound.positions.in_order own weighed)
+      subst (λ (s : State). TakesNoMore before s) m.is_after (revival_takes_no_more before rows.order sound.ids.positions.in_order own weighed)
 
   -- any other move raises no usage of a quota that stands
   pub moved_lowers : (old : Order) (quota : Quota) → IsSound before → quota_at quota.id before.lists.catalogue ≡ Some quota → order_at number before.lists ≡ Some old → (is_in_force old.status ≡ true) ⊎ (is_in_force rows.order.status ≡ false) → Gives (order_moved number change before) → used after quota ≤ used before quota

@@ -13,10 +13,11 @@ use Rattle.bo_lists.specs.Change.{changed, without_carts, after_change}
 use Rattle.bo_lists.specs.Consumed.{consumed}
 use Rattle.bo_lists.specs.Full.{takes_order, takes_positions}
 use Rattle.bo_lists.specs.Headroom.{has_use, AllHaveHeadroom}
-use Rattle.bo_lists.specs.Sound.{IsSound}
+use Rattle.bo_sound.specs.Sound.{IsSound}
 use Rattle.bo_lists.proofs.OrderHeadroom.{headroom_position}
-use Rattle.bo_lists.proofs.EachRow.{numbered_put, next_absent}
-use Rattle.bo_lists.proofs.SoundOrders.{sound_order, sound_drop_carts}
+use Rattle.bo_lists.proofs.EachRow.{next_absent}
+use Rattle.bo_sound.proofs.Numbered.{numbered_put}
+use Rattle.bo_sound.proofs.SoundOrders.{new_order_headroom, sound_drop_carts}
 use Rattle.bo_orders.specs.declared.sold.Asked.{Asked}
 use Rattle.bo_orders.specs.declared.refusal.OrderRefusal.{OrderRefusal}
 use Rattle.bo_orders.specs.declared.refusal.OrderRefusal.TheVariants.{Voucher as OfVoucher}
@@ -28,7 +29,7 @@ use Rattle.bo_orders.specs.Created.{IsReady, AreCounted, with_order_row, positio
 
 -- an order of the next id can be put
 pub order_headroom : (row : Order) (ids : List ℕ) (state : State) → row.id ≡ state.next.order → IsSound state → AllHaveHeadroom state.moment (after_change (PutOrder row) (without_carts ids state).lists)
-order_headroom row ids state e h = (sound_order (without_carts ids state) row e (sound_drop_carts ids state h)).headroom
+order_headroom row ids state e h = new_order_headroom (without_carts ids state) row e (sound_drop_carts ids state h)
 
 pub carts_headroom : (ids : List ℕ) (state : State) → IsSound state → AllHaveHeadroom state.moment (without_carts ids state).lists
 carts_headroom ids state h = (sound_drop_carts ids state h).headroom
@@ -37,8 +38,8 @@ carts_headroom ids state h = (sound_drop_carts ids state h).headroom
 pub ready_order : (row : Order) (carts : List (List ℕ)) (state : State) → row.id ≡ state.next.order → IsSound state → IsReady state.next.position (with_order_row row carts state)
 ready_order row carts state e h =
     let ids = consumed carts state.lists in
-    let made = sound_order (without_carts ids state) row e (sound_drop_carts ids state h) in
-    record { positions = made.positions; vouchers = made.vouchers.in_order; headroom = made.headroom }
+    let left = sound_drop_carts ids state h in
+    record { from_one = h.range.next_ids.positions.from_one; positions = left.ids.positions; vouchers = left.ids.vouchers.in_order; headroom = order_headroom row ids state e h }
 
 pub by_force : (force left : Bool) → left ≡ true → (not force || left) ≡ true
 by_force true left e = e
@@ -53,7 +54,7 @@ put_headroom row state h left = headroom_position state.moment row state.lists h
 
 -- and then the next one can be
 ready_put : (row : OrderPos) (state : State) → IsReady row.id state → has_use state.moment state.lists row.voucher ≡ true → IsReady (row.id + 1) (changed (PutPosition row) state)
-ready_put row state h left = record { positions = numbered_put (λ r. r.id) row row.id state.lists.positions refl h.positions; vouchers = h.vouchers; headroom = put_headroom row state h left }
+ready_put row state h left = record { from_one = omega arith; positions = numbered_put (λ r. r.id) row row.id state.lists.positions refl h.from_one h.positions; vouchers = h.vouchers; headroom = put_headroom row state h left }
 
 ready_if : (row : OrderPos) (state after : State) (left : Bool) → has_use state.moment state.lists row.voucher ≡ left → (let put : Result State OrderRefusal = (if left then Ok (changed (PutPosition row) state) else Err (OfVoucher NoHeadroom)) in put ≡ Ok after) → IsReady row.id state → IsReady (row.id + 1) after
 ready_if row state after true e h ready = let same : changed (PutPosition row) state ≡ after = cc (h) in subst (IsReady (row.id + 1)) same (ready_put row state ready e)

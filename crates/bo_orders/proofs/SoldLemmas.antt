@@ -16,7 +16,8 @@ use Rattle.bo_lists.specs.Lists.{State}
 use Rattle.bo_lists.specs.Conditions.{is_live_voucher}
 use Rattle.bo_lists.specs.Fits.{fits, fits_if, is_fit}
 use Rattle.bo_lists.specs.Named.{voucher_of}
-use Rattle.bo_lists.specs.Varied.{sold_as, is_sold_as, is_of_varied, AllVaried, names_as_sold, is_product}
+use Rattle.bo_sound.specs.Targets.{variation_by}
+use Rattle.bo_sound.specs.Varied.{sold_as, is_sold_as, is_of_varied, AllVaried, names_as_sold, IsProduct}
 use Rattle.bo_lists.proofs.EachRow.{all-row_at}
 use Rattle.bo_lists.proofs.Found.{row_at_found}
 use Rattle.bo_vouchers.specs.declared.refusal.VoucherRefusal.{VoucherRefusal}
@@ -70,31 +71,31 @@ module _ (asked : Asked) (state : State) (order : AreInOrder (λ r. r.id) state.
 ok_product : (a b : Product) → (let all : Result Product CatalogueRefusal = Ok a in all ≡ Ok b) → a ≡ b
 ok_product a b h = cc
 
--- a product that can be asked for names a variation exactly where its item is sold by variation
+-- a product that can be asked for is one: it names a variation, which stands and is of its item, exactly where the item is sold by variation
 module _ (lists : CatalogueLists) (of_varied : AllByRecursion (λ v. is_of_varied lists.items v ≡ true) lists.variations) (product : Product) where
   abbrev GivesProduct : Result Product CatalogueRefusal → Type 0
   GivesProduct result = result ≡ Ok product
 
-  by_plain : (item : ℕ) (row : Item) (varied : Bool) → item_at item lists ≡ Some row → row.varied ≡ varied → GivesProduct (plain_product item varied) → is_product lists.items product ≡ true
+  by_plain : (item : ℕ) (row : Item) (varied : Bool) → item_at item lists ≡ Some row → row.varied ≡ varied → GivesProduct (plain_product item varied) → IsProduct lists product
   by_plain item row true stood is h = absurd (cc)
   by_plain item row false stood is h =
       let same = ok_product _ product h in
-      subst (λ (p : Product). is_product lists.items p ≡ true) same (ap (sold_as (names_as_sold None)) stood ∙ ap (names_as_sold None) is)
+      subst (IsProduct lists) same (record { as_sold = ap (sold_as (names_as_sold None)) stood ∙ ap (names_as_sold None) is; own = refl })
 
-  by_item_of : (item id : ℕ) (variation : Variation) (own : Bool) → variation_at id lists ≡ Some variation → eqb variation.item item ≡ own → (row : Item) → item_at item lists ≡ Some row → GivesProduct (if own then Ok (record { item = item; variation = Some id }) else Err NoVariation) → is_product lists.items product ≡ true
+  by_item_of : (item id : ℕ) (variation : Variation) (own : Bool) → variation_at id lists ≡ Some variation → eqb variation.item item ≡ own → (row : Item) → item_at item lists ≡ Some row → GivesProduct (if own then Ok (record { item = item; variation = Some id }) else Err NoVariation) → IsProduct lists product
   by_item_of item id variation false found is row stood h = absurd (cc)
   by_item_of item id variation true found is row stood h =
       let same = ok_product _ product h in
       let own : variation.item ≡ item = grind (arith, nat_tests, is) in
       let known = all-row_at (λ (v : Variation). v.id) (λ v. is_of_varied lists.items v ≡ true) id lists.variations variation found of_varied in
       let varied : row.varied ≡ true = sym (ap (sold_as (λ varied. varied)) stood) ∙ subst (λ (n : ℕ). is_sold_as (λ varied. varied) n lists.items ≡ true) own known in
-      subst (λ (p : Product). is_product lists.items p ≡ true) same (ap (sold_as (names_as_sold (Some id))) stood ∙ ap (names_as_sold (Some id)) varied)
+      subst (IsProduct lists) same (record { as_sold = ap (sold_as (names_as_sold (Some id))) stood ∙ ap (names_as_sold (Some id)) varied; own = ap (variation_by (Some item)) found ∙ is })
 
-  by_variation : (item id : ℕ) (found : Option Variation) → variation_at id lists ≡ found → (row : Item) → item_at item lists ≡ Some row → GivesProduct (varied_product item id found) → is_product lists.items product ≡ true
+  by_variation : (item id : ℕ) (found : Option Variation) → variation_at id lists ≡ found → (row : Item) → item_at item lists ≡ Some row → GivesProduct (varied_product item id found) → IsProduct lists product
   by_variation item id None found row stood h = absurd (cc)
   by_variation item id (Some variation) found row stood h = by_item_of item id variation (eqb variation.item item) found refl row stood h
 
-  by_item : (item : ℕ) (variation : Option ℕ) (found : Option Item) → item_at item lists ≡ found → GivesProduct (product_by item variation found lists) → is_product lists.items product ≡ true
+  by_item : (item : ℕ) (variation : Option ℕ) (found : Option Item) → item_at item lists ≡ found → GivesProduct (product_by item variation found lists) → IsProduct lists product
   by_item item variation None stood h = absurd (cc)
   by_item item None (Some row) stood h = by_plain item row row.varied stood refl h
   by_item item (Some id) (Some row) stood h = by_variation item id (variation_at id lists) refl row stood h
@@ -107,11 +108,11 @@ module _ (lists : CatalogueLists) (of_varied : AllByRecursion (λ v. is_of_varie
   by_active asked true h = by_sold asked (is_sold asked lists) h
   by_active asked false h = absurd (cc)
 
-  by_asked : (item : ℕ) (variation : Option ℕ) (asked : Result Product CatalogueRefusal) → product_of item variation lists ≡ asked → GivesProduct (if_for_sale lists asked) → is_product lists.items product ≡ true
+  by_asked : (item : ℕ) (variation : Option ℕ) (asked : Result Product CatalogueRefusal) → product_of item variation lists ≡ asked → GivesProduct (if_for_sale lists asked) → IsProduct lists product
   by_asked item variation (Err refusal) is h = absurd (cc)
   by_asked item variation (Ok asked) is h = by_item item variation (item_at item lists) refl (is ∙ ap (λ (p : Product). Ok p) (by_active asked (is_active asked lists) h))
 
-  for_sale_is_product : (item : ℕ) (variation : Option ℕ) → GivesProduct (product_for_sale item variation lists) → is_product lists.items product ≡ true
+  for_sale_is_product : (item : ℕ) (variation : Option ℕ) → GivesProduct (product_for_sale item variation lists) → IsProduct lists product
   for_sale_is_product item variation h = by_asked item variation (product_of item variation lists) refl h
 
 module _ (asked : Asked) (state : State) (of_varied : AllVaried state.lists) (sold : Sold) where
@@ -123,11 +124,11 @@ module _ (asked : Asked) (state : State) (of_varied : AllVaried state.lists) (so
   voucher_product product (Err refusal) h = absurd (cc)
   voucher_product product (Ok voucher) h = price_product product voucher (price_by asked.price voucher (base_price product state.lists.catalogue)) h
 
-  by_for_sale : (product : Result Product CatalogueRefusal) → product_for_sale asked.item asked.variation state.lists.catalogue ≡ product → sold_of asked state product ≡ Ok sold → is_product state.lists.catalogue.items sold.product ≡ true
+  by_for_sale : (product : Result Product CatalogueRefusal) → product_for_sale asked.item asked.variation state.lists.catalogue ≡ product → sold_of asked state product ≡ Ok sold → IsProduct state.lists.catalogue sold.product
   by_for_sale (Err refusal) is h = absurd (cc)
-  by_for_sale (Ok product) is h = subst (λ (p : Product). is_product state.lists.catalogue.items p ≡ true) (voucher_product product (voucher_asked asked.voucher state product) h) (for_sale_is_product state.lists.catalogue of_varied product asked.item asked.variation is)
+  by_for_sale (Ok product) is h = subst (IsProduct state.lists.catalogue) (voucher_product product (voucher_asked asked.voucher state product) h) (for_sale_is_product state.lists.catalogue of_varied product asked.item asked.variation is)
 
-  -- the product of what is sold names a variation exactly where its item is sold by variation
-  pub sold_is_product : sold_for asked state ≡ Ok sold → is_product state.lists.catalogue.items sold.product ≡ true
+  -- the product of what is sold is one
+  pub sold_is_product : sold_for asked state ≡ Ok sold → IsProduct state.lists.catalogue sold.product
   unfolding sold_for
   sold_is_product h = by_for_sale (product_for_sale asked.item asked.variation state.lists.catalogue) refl h

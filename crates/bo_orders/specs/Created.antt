@@ -1,5 +1,5 @@
 -- Making an order out of carts.
-use Rattle.std.specs.Prelude.{◌≡◌, ℕ, ◌+◌, ◌&&◌, nat_lt, List, [], ◌∷◌, ◌++◌, ◌==◌, length, map, min, unwrap_or, Option, Some, None, Result, Ok, Err, if◌then◌else◌}
+use Rattle.std.specs.Prelude.{◌≡◌, ℕ, ◌+◌, ◌≤◌, ◌&&◌, nat_lt, List, [], ◌∷◌, ◌++◌, ◌==◌, length, map, min, unwrap_or, Option, Some, None, Result, Ok, Err, if◌then◌else◌}
 use Rattle.bo_base.specs.Moments.{last_moment}
 use Rattle.bo_base.specs.Secrets.{secret}
 use Rattle.bo_base.specs.Tables.{AreInOrder}
@@ -18,7 +18,8 @@ use Rattle.bo_lists.specs.Consumed.{consumed}
 use Rattle.bo_lists.specs.Full.{takes_order, takes_positions}
 use Rattle.bo_lists.specs.Headroom.{has_use, AllHaveHeadroom}
 use Rattle.bo_lists.specs.Over.{first_over}
-use Rattle.bo_lists.specs.Sound.{AreNumbered}
+use Rattle.bo_sound.specs.Ids.{AreNumbered}
+use Rattle.bo_sound.specs.Positions.{most_positions}
 use Rattle.bo_vouchers.specs.declared.refusal.VoucherRefusal.{VoucherRefusal}
 use Rattle.bo_vouchers.specs.declared.refusal.VoucherRefusal.TheVariants.{Catalogue, NoHeadroom, SoldOut}
 use Rattle.bo_orders.specs.declared.new_order.NewOrder.{NewOrder}
@@ -106,6 +107,7 @@ placed_with row rows before (Ok after) = unless_over row rows before after (firs
 
 -- the next order position, of this id, can be put
 pub record IsReady (id : ℕ) (state : State) : Type 0 where
+  pub from_one : 1 ≤ id
   pub positions : AreNumbered (λ r. r.id) id state.lists.positions
   pub vouchers : AreInOrder (λ r. r.id) state.lists.vouchers
   pub headroom : AllHaveHeadroom state.moment state.lists
@@ -126,9 +128,6 @@ order_placed row rows carts state = placed_with row rows state (with_positions r
 abbrev pub created_of : NewOrder → State → Result (List OrderPos) OrderRefusal → Result (State × OrderRows) OrderRefusal
 created_of new state (Err refusal) = Err refusal
 created_of new state (Ok rows) = order_placed (order_row new state) rows new.consume_carts state
-
-abbrev pub most_positions : ℕ
-most_positions = 500
 
 abbrev pub counts_test : NewOrder → Result (Unit {0}) OrderRefusal
 counts_test new =

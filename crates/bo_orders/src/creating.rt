@@ -4,7 +4,7 @@ ghost use Rattle.std.specs.Prelude.{◌≡◌, ◌≢◌, ◌≤◌, ◌+◌, Ok
 ghost use Rattle.bo_draft.specs.DraftState.{now, Extends};
 ghost use Rattle.bo_lists.specs.Change.{without_carts};
 ghost use Rattle.bo_lists.specs.Full.{takes_order, takes_positions};
-ghost use Rattle.bo_lists.specs.Sound.{IsSound};
+ghost use Rattle.bo_sound.specs.Sound.{IsSound};
 ghost use Rattle.bo_lists.specs.declared.rows.Own.TheVariants.{Position};
 ghost use Rattle.bo_orders.specs.Created.{order_created, counts_test, order_row, position_for, rows_for, position_put, with_positions, with_order_row, order_placed, IsReady, AreCounted};
 

@@ -11,14 +11,16 @@ ghost use Rattle.bo_lists.specs.declared.rows.CartPos.{CartPos};
 ghost use Rattle.bo_lists.specs.declared.rows.Order.{Order};
 ghost use Rattle.bo_lists.specs.declared.rows.OrderRows.{OrderRows};
 ghost use Rattle.bo_lists.specs.declared.rows.Own.{Own};
-ghost use Rattle.bo_lists.specs.Sound.{IsSound};
+ghost use Rattle.bo_sound.specs.Sound.{IsSound};
 ghost use Rattle.bo_lists.specs.Conditions.{is_in_force};
 ghost use Rattle.bo_orders.specs.declared.bulk.Entry.{Entry};
 ghost use Rattle.bo_orders.specs.declared.new_cart.NewCart.{NewCart};
 ghost use Rattle.bo_orders.specs.declared.new_order.NewOrder.{NewOrder};
-ghost use Rattle.bo_orders.specs.Bulk.{all_added, after_outcomes};
+ghost use Rattle.bo_orders.specs.declared.bulk.Outcome.{Outcome};
+ghost use Rattle.bo_orders.specs.Bulk.{all_added, many_added, after_outcomes};
 ghost use Rattle.bo_orders.specs.Carts.{position_added};
 ghost use Rattle.bo_orders.specs.Created.{order_created};
+ghost use Rattle.bo_orders.specs.Dropped.{position_dropped};
 ghost use Rattle.bo_orders.specs.Moves.{order_moved};
 ghost use Rattle.bo_orders.specs.declared.moves.Move.{Move};
 ghost use Rattle.bo_lists.specs.Takes.{used, TakesNoMore};
@@ -45,6 +47,23 @@ pub fn bulk_is_each_by_itself()
     ensures { (xs ys : List Entry) (draw : Draw) (state : State) →
         all_added (xs ++ ys) draw state ≡
         after_outcomes (all_added xs draw state).1 (all_added ys draw (all_added xs draw state).0) }
+{}
+
+/// A sound box office stays sound where cart positions are added, one or many in one call, or one is deleted: before and
+/// after it no voucher is named by more order positions in force and live cart positions than it may be used.
+pub fn carts_keep_sound()
+    ensures added { (new : NewCart) (draw : Draw) (before after : State) (row : CartPos) →
+        IsSound before → position_added new draw before ≡ Ok (after, row) → IsSound after }
+    ensures many { (entries : List Entry) (draw : Draw) (before after : State) (outcomes : List Outcome) →
+        IsSound before → many_added entries draw before ≡ Ok (after, outcomes) → IsSound after }
+    ensures dropped { (id : ℕ) (before after : State) →
+        IsSound before → position_dropped id before ≡ Ok after → IsSound after }
+{}
+
+/// A cart position that is deleted raises no quota's usage.
+pub fn dropping_lowers()
+    ensures { (id : ℕ) (before after : State) (quota : Quota) →
+        position_dropped id before ≡ Ok after → used after quota ≤ used before quota }
 {}
 
 /// Each order that is made was weighed, without the carts that it consumes: it takes too much of no quota, where

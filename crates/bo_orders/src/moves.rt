@@ -7,7 +7,7 @@ ghost use Rattle.bo_lists.specs.declared.rows.Own.TheVariants.{Position};
 ghost use Rattle.bo_lists.specs.Change.{after_change};
 ghost use Rattle.bo_lists.specs.Headroom.{held, has_room};
 ghost use Rattle.bo_lists.specs.Lists.{order_at, positions_of};
-ghost use Rattle.bo_lists.specs.Sound.{IsSound};
+ghost use Rattle.bo_sound.specs.Sound.{IsSound};
 ghost use Rattle.bo_lists.specs.Conditions.{is_in_force, names};
 ghost use Rattle.bo_lists.specs.Usage.{stands_as, redeemed};
 ghost use Rattle.bo_orders.specs.Moves.{to, revived, turned, end_after, moved_row, moved_to, moved_as, moved_by, have_uses_again, revival, order_moved};

@@ -1,5 +1,5 @@
 -- The last place in a log that touches a row: after one more change, and what stands there.
-use Rattle.std.proofs.Common.{◌≡◌, ℕ, suc, ◌+◌, ◌<◌, Bool, true, false, List, [], ◌∷◌, ◌++◌, length, get_or, Some, None, Option, refl, sym, ap, ◌∙◌, arith}
+use Rattle.std.proofs.Common.{◌≡◌, ℕ, suc, ◌<◌, Bool, true, false, List, [], ◌∷◌, ◌++◌, length, get_or, Some, None, Option, refl, sym, ap, ◌∙◌, arith}
 use Rattle.std.proofs.lemmas.Option.{none-some}
 use Rattle.std.specs.Prelude.{if◌then◌else◌}
 use Rattle.std.specs.Option.{IfSome}
@@ -16,18 +16,18 @@ some_is i j same = ap number same
     number None = i
     number (Some place) = place
 
-module _ (passes : Change → Bool) where
+module _ {T : Type 0} (passes : T → Bool) where
   more_by : (here b : Bool) (n : ℕ) (o : Option ℕ) → further here (if b then Some n else o) ≡ (if b then Some (suc n) else further here o)
   more_by here true n o = refl
   more_by here false n o = refl
 
   -- one more change is the last place, if it passes
-  pub last_place-more : (log : List Change) (change : Change) → last_place passes (log ++ change ∷ []) ≡ (if passes change then Some (length log) else last_place passes log)
+  pub last_place-more : (log : List T) (change : T) → last_place passes (log ++ change ∷ []) ≡ (if passes change then Some (length log) else last_place passes log)
   last_place-more [] change = refl
   last_place-more (c ∷ log) change = ap (further (passes c)) (last_place-more log change) ∙ more_by (passes c) (passes change) (length log) (last_place passes log)
 
   -- the last place is one of the log
-  pub last_within : (log : List Change) (i : ℕ) → last_place passes log ≡ Some i → i < length log
+  pub last_within : (log : List T) (i : ℕ) → last_place passes log ≡ Some i → i < length log
   last_within [] i is = absurd (none-some i is)
   last_within (c ∷ log) i is = by_later (last_place passes log) (last_within log) (passes c) is
     where
@@ -37,12 +37,12 @@ module _ (passes : Change → Bool) where
       by_later None more false same = absurd (none-some i same)
 
   -- so it is below the length
-  pub last_below : (log : List Change) (o : Option ℕ) → o ≡ last_place passes log → IfSome o (λ place. place < length log)
+  pub last_below : (log : List T) (o : Option ℕ) → o ≡ last_place passes log → IfSome o (λ place. place < length log)
   last_below log None is = tt
   last_below log (Some place) is = last_within log place (sym is)
 
   -- the change there passes
-  pub last_passes : (log : List Change) (i : ℕ) (d : Change) → last_place passes log ≡ Some i → passes (get_or log i d) ≡ true
+  pub last_passes : (log : List T) (i : ℕ) (d : T) → last_place passes log ≡ Some i → passes (get_or log i d) ≡ true
   last_passes [] i d is = absurd (none-some i is)
   last_passes (c ∷ log) i d is = by_later (last_place passes log) (λ j. last_passes log j d) (passes c) refl is
     where

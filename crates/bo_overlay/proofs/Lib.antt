@@ -7,3 +7,8 @@ pub mod Kept
 pub mod OrderSums
 pub mod Holds
 pub mod Redeems
+pub mod OfOrder
+pub mod Names
+pub mod Coded
+pub mod KeyIndexes
+pub mod CodeKeys

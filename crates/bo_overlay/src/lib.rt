@@ -3,7 +3,12 @@
 
 mod cart_conditions;
 mod change_log;
+mod digests;
+mod key_log;
 mod overlay;
+mod row_names;
+mod tickets;
 mod touched;
 
 pub use overlay::{Overlay, count_if};
+pub use tickets::Ticket;

@@ -1,9 +1,15 @@
 //! The rows of a book, with changes.
 
-ghost use Rattle.std.specs.Prelude.{◌≡◌, ◌++◌, [], ◌∷◌, IfOk, OnOk, OnErr, length, take, ◌≤◌, ◌<◌, ◌+◌, ◌-◌, ◌^◌, ◌==◌, ◌&&◌, count_by, map, if◌then◌else◌};
+ghost use Rattle.std.specs.Prelude.{◌≡◌, ◌++◌, [], ◌∷◌, IfOk, OnOk, OnErr, length, take, ◌≤◌, ◌<◌, ◌+◌, ◌-◌, ◌^◌, ◌==◌, ◌&&◌, count_by, if◌then◌else◌, find, option_map, is_none};
 ghost use Rattle.std.specs.Option.{option_copied};
-ghost use Rattle.bo_lists.specs.Lists.{voucher_at, cart_at, order_at, position_at, positions_of, waiting_at};
+ghost use Rattle.bo_lists.specs.Lists.{voucher_at, cart_at, order_at, position_at, positions_of, waiting_at, checkin_list_at, checkin_at};
 ghost use Rattle.bo_lists.specs.Named.{voucher_of, is_used};
+ghost use Rattle.bo_usage.specs.Naming.{naming};
+ghost use Rattle.bo_overlay.specs.Names.{name_gone};
+ghost use Rattle.bo_overlay.specs.Coded.{IsLeast, lesser, IsPutBelow, IsUnchanged, is_place, put_if};
+ghost use Rattle.bo_overlay.specs.Places.{touches, last_place};
+ghost use Rattle.bo_overlay.specs.Due.{due_orders, dead_carts};
+ghost use Rattle.bo_base.specs.Texts.{same_text};
 ghost use Rattle.bo_lists.specs.Consumed.{consumed};
 ghost use Rattle.bo_lists.specs.Kept.{IsKept};
 ghost use Rattle.bo_base.specs.Tables.{sum_at};
@@ -11,16 +17,21 @@ ghost use Rattle.bo_lists.specs.Headroom.{held, held_in};
 ghost use Rattle.bo_overlay.specs.Logs.{Log, rows_of, rows_at, IsSale, AreSales};
 ghost use Rattle.bo_lists.specs.Conditions.{is_in_force, names};
 ghost use Rattle.bo_overlay.specs.Ordered.{count_ordered};
-ghost use Rattle.bo_lists.specs.Over.{is_free, is_free_cart, is_free_position, ignores, weighed, is_over_size, first_over_among};
+ghost use Rattle.bo_overlay.specs.Tickets.{AreTicketsOf};
+ghost use Rattle.bo_lists.specs.Over.{is_free, is_free_cart, is_free_position, ignores, weighed, is_over_size};
 ghost use Rattle.bo_lists.specs.Total.{total};
 ghost use Rattle.bo_lists.specs.Usage.{usage_of, stands_as, uses, redeemed, is_covered_by, is_covered, cart_counts, position_counts};
-ghost use Rattle.bo_overlay.specs.Steps.{voucher_put, cart_put, order_put, position_put, waiting_put, puts};
+ghost use Rattle.bo_overlay.specs.Steps.{voucher_put, cart_put, order_put, position_put, waiting_put, checkin_list_put, checkin_put, puts};
 
 use crate::cart_conditions::{CartCondition, Holds, HoldsIn};
 use crate::change_log::{ChangeLog, Table};
+use crate::digests::{code_key, digest};
+use crate::key_log::KeyLog;
+use crate::row_names::{cart_name, entry_name, is_name, name_put};
+use crate::tickets::{Ticket, copy_tickets, put_tickets};
 use bo_base::{List, Moment, Text};
 use bo_catalogue::{Catalogue, Quota};
-use bo_lists::{CartPos, Change, Order, OrderPos, Own, Usage, Voucher, Waiting};
+use bo_lists::{CartPos, Change, Checkin, CheckinList, Order, OrderPos, Own, Voucher, Waiting};
 use bo_usage::{Book, PositionTest};
 use std::alloc::{AllocError, Global};
 use std::marker::Model;
@@ -30,18 +41,19 @@ use std::marker::Model;
 pub struct Overlay<'a, B: Book> {
     book: &'a B,
     log: ChangeLog,
+    codes: KeyLog,
 }
 
 impl<'a, B: Book> Model for Overlay<'a, B> {
-    ghost use Rattle.std.specs.Prelude.{◌≤◌, length};
-    ghost use Rattle.bo_overlay.specs.Logs.{Log, AreSales};
+    ghost use Rattle.bo_overlay.specs.Logs.{Log};
+    ghost use Rattle.bo_overlay.specs.Keys.{IsOverlay};
 
     ghost Value = { Log };
 
     ghost view = { λ s. record { base = (B.state s.book.now).lists; changes = s.log } };
 
-    // What is for sale is as in the book, and each order position that is put is a new one.
-    ghost invariant = { λ s. (length s.log ≤ 4294967296) × AreSales s.log (B.state s.book.now).lists };
+    // What is for sale is as in the book, each order position that is put is a new one, and each change has its key.
+    ghost invariant = { λ s. IsOverlay (B.state s.book.now).lists s.log s.codes };
 }
 
 impl<'a, B: Book> Overlay<'a, B> {
@@ -53,6 +65,7 @@ impl<'a, B: Book> Overlay<'a, B> {
         Overlay {
             book,
             log: ChangeLog::new(alloc),
+            codes: KeyLog::new(alloc),
         }
     }
 
@@ -63,28 +76,140 @@ impl<'a, B: Book> Overlay<'a, B> {
         self.book.catalogue()
     }
 
-    /// The first voucher with that code, where no voucher has changed.
+    /// The first voucher with that code.
     pub fn voucher_of(&self, code: &str) -> Option<&Voucher>
-        requires { (rows_of self.now).vouchers ≡ self.now.base.vouchers }
         ensures { option_copied result ≡ voucher_of code.now (rows_of self.now) }
     {
-        self.book.voucher_of(code)
+        self.book.known();
+        match lesser(self.unchanged_of(code), self.put_of(code)) {
+            None => None,
+            Some(id) => self.voucher(id),
+        }
     }
 
-    /// Whether a row names the voucher, where nothing has changed.
+    // The least id of the book's vouchers with that code that no change touches.
+    fn unchanged_of(&self, code: &str) -> Option<u64>
+        ensures { IsLeast (IsUnchanged code.now self.now) result }
+    {
+        self.book.known();
+        let first = self.book.voucher_of(code)?;
+        if self.is_unchanged(first.id) {
+            return Some(first.id);
+        }
+        self.first_unchanged(code)
+    }
+
+    // The same, where a change touches the book's first one.
+    fn first_unchanged(&self, code: &str) -> Option<u64>
+        ensures { result ≡ option_map (λ v. v.id) (find (λ v. same_text v.code code.now && is_none (last_place (touches 3 v.id) self.now.changes)) self.now.base.vouchers) }
+    {
+        let vouchers = self.book.vouchers();
+        let first = vouchers
+            .iter()
+            .find(|v| v.code.same(code) && self.is_unchanged(v.id));
+        first.map(|v| v.id)
+    }
+
+    // Whether no change touches the voucher.
+    fn is_unchanged(&self, voucher: u64) -> bool
+        ensures { result ≡ is_none (last_place (touches 3 voucher) self.now.changes) }
+    {
+        self.log.last(Table::Vouchers, voucher).is_none()
+    }
+
+    // The least id of the vouchers with that code that changes put.
+    fn put_of(&self, code: &str) -> Option<u64>
+        ensures { IsLeast (IsPutBelow (length self.now.changes) code.now self.now) result }
+    {
+        let mut least = None;
+        let mut found = self.codes.last(digest(code));
+        'earlier: while let Some(place) = found {
+            least = lesser(least, self.put_if(place, self.log.get(place), code));
+            found = self.codes.before(place);
+        }
+        least
+    }
+
+    // The id of the voucher with that code that the change at a place puts, where no later one touches it.
+    fn put_if(&self, place: usize, change: &Change, code: &str) -> Option<u64>
+        ensures { result ≡ put_if code.now place self.now change.now }
+    {
+        match change {
+            Change::PutVoucher(row) => {
+                if row.code.same(code) && self.is_last(place, row.id) {
+                    Some(row.id)
+                } else {
+                    None
+                }
+            }
+            _ => None,
+        }
+    }
+
+    // Whether the change at this place is the last one that touches the voucher.
+    fn is_last(&self, place: usize, voucher: u64) -> bool
+        ensures { result ≡ is_place place (last_place (touches 3 voucher) self.now.changes) }
+    {
+        self.log.last(Table::Vouchers, voucher) == Some(place)
+    }
+
+    /// Whether a row names the voucher.
+    #[tactic(auto, using(crate::proofs::Names::used_if_named))]
     pub fn is_used(&self, voucher: u64) -> bool
-        requires { self.now.changes ≡ [] }
         ensures { result ≡ is_used voucher (rows_of self.now) }
     {
-        self.book.is_used(voucher)
+        0 < self.naming(voucher)
     }
 
-    /// How many vouchers there are, where nothing has changed.
-    pub fn voucher_count(&self) -> usize
-        requires { self.now.changes ≡ [] }
-        ensures { result ≡ length (rows_of self.now).vouchers }
+    // How many rows name the voucher.
+    fn naming(&self, voucher: u64) -> u64
+        ensures { result ≡ naming voucher (rows_of self.now) }
     {
-        self.book.vouchers().len()
+        let mut count = self.book.naming(voucher);
+        for i in 0..self.log.len() {
+            count = self.naming_after(i, voucher, count);
+        }
+        count
+    }
+
+    // The count after one more change.
+    fn naming_after(&self, i: usize, voucher: u64, count: u64) -> u64
+        requires place { i < length self.now.changes }
+        requires before { count ≡ naming voucher (rows_at i self.now) }
+        requires few { count ≤ 12884901888 + i }
+        ensures value { result ≡ naming voucher (rows_at (i + 1) self.now) }
+        ensures few { result ≤ 12884901888 + i + 1 }
+    {
+        self.book.known();
+        let change = self.log.get(i);
+        let come = u64::from(is_name(voucher, name_put(change)));
+        let gone = u64::from(is_name(voucher, self.name_gone(i, change)));
+        (count + come).saturating_sub(gone)
+    }
+
+    // The voucher that the row named which a change replaces or drops.
+    fn name_gone(&self, i: usize, change: &Change) -> Option<u64>
+        requires { i ≤ length self.now.changes }
+        ensures { result ≡ name_gone (rows_at i self.now) change.now }
+    {
+        match change {
+            Change::PutCart(row) => cart_name(self.cart_at(i, row.id)),
+            Change::DropCart(id) => cart_name(self.cart_at(i, *id)),
+            Change::PutWaiting(row) => entry_name(self.waiting_at(i, row.id)),
+            Change::DropWaiting(id) => entry_name(self.waiting_at(i, *id)),
+            _ => None,
+        }
+    }
+
+    // The waiting entry as it was before a change.
+    fn waiting_at(&self, i: usize, id: u64) -> Option<&Waiting>
+        requires { i ≤ length self.now.changes }
+        ensures { option_copied result ≡ waiting_at id (rows_at i self.now) }
+    {
+        match self.log.last_before(i, Table::Waiting, id) {
+            None => self.book.entry(id),
+            Some(place) => waiting_put(self.log.get(place)),
+        }
     }
 
     /// All orders, by id, where none has changed.
@@ -95,12 +220,70 @@ impl<'a, B: Book> Overlay<'a, B> {
         self.book.orders()
     }
 
+    /// All cart positions, by id, where none has changed.
+    pub fn carts(&self) -> &[CartPos]
+        requires { (rows_of self.now).carts ≡ self.now.base.carts }
+        ensures { result.now ≡ (rows_of self.now).carts }
+    {
+        self.book.carts()
+    }
+
+    /// The whole waiting list, by id, where none of it has changed.
+    pub fn waiting_list(&self) -> &[Waiting]
+        requires { (rows_of self.now).waiting ≡ self.now.base.waiting }
+        ensures { result.now ≡ (rows_of self.now).waiting }
+    {
+        self.book.waiting()
+    }
+
     /// All order positions, by id, where none has changed.
     pub fn positions(&self) -> &[OrderPos]
         requires { (rows_of self.now).positions ≡ self.now.base.positions }
         ensures { result.now ≡ (rows_of self.now).positions }
     {
         self.book.positions()
+    }
+
+    /// All check-in lists, by id, where none has changed.
+    pub fn checkin_lists(&self) -> &[CheckinList]
+        requires { (rows_of self.now).checkin_lists ≡ self.now.base.checkin_lists }
+        ensures { result.now ≡ (rows_of self.now).checkin_lists }
+    {
+        self.book.checkin_lists()
+    }
+
+    /// All check-ins, by id, where none has changed.
+    pub fn checkins(&self) -> &[Checkin]
+        requires { (rows_of self.now).checkins ≡ self.now.base.checkins }
+        ensures { result.now ≡ (rows_of self.now).checkins }
+    {
+        self.book.checkins()
+    }
+
+    /// The numbers of the pending orders that ended before a moment, in order, where no order has changed.
+    pub fn due_orders(&self, alloc: Global, at: Moment) -> Result<Vec<u64>, AllocError>
+        requires { (rows_of self.now).orders ≡ self.now.base.orders }
+        ensures { IfOk result (λ ids. ids.items ≡ due_orders at (rows_of self.now)) }
+    {
+        let orders = self.book.orders();
+        orders
+            .iter()
+            .filter(|o| o.status.is_pending() && o.expires < at)
+            .map(|o| o.id)
+            .collect(alloc)
+    }
+
+    /// The ids of the cart positions that are dead at a moment, in order, where no cart position has changed.
+    pub fn dead_carts(&self, alloc: Global, at: Moment) -> Result<Vec<u64>, AllocError>
+        requires { (rows_of self.now).carts ≡ self.now.base.carts }
+        ensures { IfOk result (λ ids. ids.items ≡ dead_carts at (rows_of self.now)) }
+    {
+        let carts = self.book.carts();
+        carts
+            .iter()
+            .filter(|c| !c.is_live(at))
+            .map(|c| c.id)
+            .collect(alloc)
     }
 
     /// Copies of the positions of an order, by id, where no order position has changed.
@@ -125,10 +308,15 @@ impl<'a, B: Book> Overlay<'a, B> {
         ensures ok { OnOk result (self.new ≡ record self.old { changes = self.old.changes ++ change ∷ [] }) }
         ensures err { OnErr result (self.new ≡ self.old) }
     {
-        if self.log.len() == 4294967296 {
+        let count = self.log.len();
+        if count == 4294967296 {
             return Err(AllocError);
         }
-        self.log.push(change)?;
+        self.codes.push(code_key(&change))?;
+        if self.log.push(change).is_err() {
+            self.codes.truncate(count);
+            return Err(AllocError);
+        }
         Ok(())
     }
 
@@ -212,6 +400,17 @@ impl<'a, B: Book> Overlay<'a, B> {
         self.book.known();
         let kept = self.book.count_ordered(order, test);
         kept + self.count_put(i, order, test)
+    }
+
+    /// The tickets of an order: as many as it has positions, in whatever order.
+    pub fn tickets_of(&self, alloc: Global, order: u64) -> Result<Vec<Ticket>, AllocError>
+        ensures { IfOk result (λ tickets. AreTicketsOf order (rows_of self.now) tickets.items) }
+    {
+        self.book.known();
+        let rows = self.book.positions_of(alloc, order)?;
+        let mut tickets = copy_tickets(alloc, rows.as_slice())?;
+        put_tickets(&mut tickets, order, self.log.as_slice())?;
+        Ok(tickets)
     }
 
     // How many positions of the order that pass the test the first `i` changes put.
@@ -400,51 +599,21 @@ impl<'a, B: Book> Overlay<'a, B> {
             .count()
     }
 
-    /// Whether a request takes too much of a quota that was used and is used as these say.
+    /// Whether a request takes too much of a quota of which so much was used before, and is used now.
     #[tactic(auto, unfolding(bo_lists::specs::Over::weighed))]
-    pub fn is_over(
-        &self,
-        at: Moment,
-        quota: &Quota,
-        own: &[Own],
-        before: &Usage,
-        after: &Usage,
-    ) -> bool
-        requires { after.now ≡ usage_of (rows_of self.now) at quota.now }
-        ensures { result ≡ is_over_size quota.now.size (total before.now) (weighed (rows_of self.now) at quota.now own.now) }
+    pub fn is_over(&self, at: Moment, quota: &Quota, own: &[Own], before: u128, after: u128) -> bool
+        requires { after ≡ total (usage_of (rows_of self.now) at quota.now) }
+        ensures { result ≡ is_over_size quota.now.size before (weighed (rows_of self.now) at quota.now own.now) }
     {
         let Some(size) = quota.size else {
             return false;
         };
         // Where all that is used isn't too much, the own rows needn't be looked up.
-        let used = after.total();
-        if used <= u128::from(size) || used <= before.total() {
+        if after <= u128::from(size) || after <= before {
             return false;
         }
-        let weight = used.saturating_sub(self.free_count(at, quota, own) as u128);
-        u128::from(size) < weight && before.total() < weight
-    }
-
-    /// The first of the quotas of which a request takes too much, by their usage before and after it.
-    pub fn first_over(
-        &self,
-        at: Moment,
-        quotas: &[Quota],
-        own: &[Own],
-        before: &[Usage],
-        after: &[Usage],
-    ) -> Option<u64>
-        requires before { length before.now ≡ length quotas.now }
-        requires after { after.now ≡ map (usage_of (rows_of self.now) at) quotas.now }
-        ensures { result ≡ first_over_among (rows_of self.now) at own.now before.now quotas.now }
-    {
-        for i in 0..quotas.len() {
-            let quota = &quotas[i];
-            if self.is_over(at, quota, own, &before[i], &after[i]) {
-                return Some(quota.id);
-            }
-        }
-        None
+        let weight = after.saturating_sub(self.free_count(at, quota, own) as u128);
+        u128::from(size) < weight && before < weight
     }
 
     /// Undoes all but the first changes.
@@ -452,6 +621,7 @@ impl<'a, B: Book> Overlay<'a, B> {
         requires { count ≤ length self.old.changes }
         ensures { self.new ≡ record self.old { changes = take count self.old.changes } }
     {
+        self.codes.truncate(count);
         self.log.truncate(count);
     }
 
@@ -459,7 +629,11 @@ impl<'a, B: Book> Overlay<'a, B> {
     pub fn into_log(self) -> Vec<Change>
         ensures { result.items ≡ self.entry.changes }
     {
-        let Overlay { book: _, log } = self;
+        let Overlay {
+            book: _,
+            log,
+            codes: _,
+        } = self;
         log.into_vec()
     }
 
@@ -512,6 +686,26 @@ impl<'a, B: Book> Overlay<'a, B> {
             Some(place) => waiting_put(self.log.get(place)),
         }
     }
+
+    /// The check-in list of an id.
+    pub fn checkin_list(&self, id: u64) -> Option<&CheckinList>
+        ensures { option_copied result ≡ checkin_list_at id (rows_of self.now) }
+    {
+        match self.log.last(Table::CheckinLists, id) {
+            None => self.book.checkin_list(id),
+            Some(place) => checkin_list_put(self.log.get(place)),
+        }
+    }
+
+    /// The check-in of an id.
+    pub fn checkin(&self, id: u64) -> Option<&Checkin>
+        ensures { option_copied result ≡ checkin_at id (rows_of self.now) }
+    {
+        match self.log.last(Table::Checkins, id) {
+            None => self.book.checkin(id),
+            Some(place) => checkin_put(self.log.get(place)),
+        }
+    }
 }
 
 // The voucher that a change puts.
@@ -544,6 +738,17 @@ fn waiting_put(change: &Change) -> Option<&Waiting>
     }
 }
 
+// The lesser of two ids, or the one that there is.
+fn lesser(a: Option<u64>, b: Option<u64>) -> Option<u64>
+    ensures { result ≡ lesser a b }
+{
+    match (a, b) {
+        (Some(a), Some(b)) => Some(a.min(b)),
+        (Some(a), None) => Some(a),
+        (None, b) => b,
+    }
+}
+
 // The order that a change puts.
 fn order_put(change: &Change) -> Option<&Order>
     ensures { option_copied result ≡ order_put change.now }
@@ -560,6 +765,26 @@ fn position_put(change: &Change) -> Option<&OrderPos>
 {
     match change {
         Change::PutPosition(row) => Some(row),
+        _ => None,
+    }
+}
+
+// The check-in list that a change puts.
+fn checkin_list_put(change: &Change) -> Option<&CheckinList>
+    ensures { option_copied result ≡ checkin_list_put change.now }
+{
+    match change {
+        Change::PutCheckinList(row) => Some(row),
+        _ => None,
+    }
+}
+
+// The check-in that a change puts.
+fn checkin_put(change: &Change) -> Option<&Checkin>
+    ensures { option_copied result ≡ checkin_put change.now }
+{
+    match change {
+        Change::PutCheckin(row) => Some(row),
         _ => None,
     }
 }

@@ -1,5 +1,5 @@
 -- Runs over one stream are alike, and time never falls.
-use Rattle.std.proofs.Common.{◌≡◌, ℕ, ◌≤◌, max, List, [], ◌∷◌, ◌++◌, Option, Some, None, Ok, Err, inl, inr, sym, ap, ap₂, ◌∙◌, subst, arith, append-nil}
+use Rattle.std.proofs.Common.{◌≡◌, ℕ, ◌≤◌, List, [], ◌∷◌, ◌++◌, Option, Some, None, Ok, Err, inl, inr, sym, ap, ap₂, ◌∙◌, subst, arith, append-nil}
 use Rattle.bo_base.specs.declared.answer.Answer.{Answer}
 use Rattle.bo_base.specs.declared.answer.Answer.TheVariants as answers
 use Rattle.bo_base.specs.declared.device.Tick.{Tick}
@@ -8,7 +8,8 @@ use Rattle.bo_base.specs.Told.{Gives}
 use Rattle.bo_http.specs.Messages.{Message, Messages, closes}
 use Rattle.bo_http.specs.Text.{text}
 use Rattle.bo_lists.specs.Lists.{State}
-use Rattle.bo_office.proofs.Runs.{stores_all}
+use Rattle.bo_office.specs.Runs.{moment_at}
+use Rattle.bo_office.proofs.Runs.{not_before, stores_all}
 use Rattle.bo_api.specs.declared.call.Call.{Call}
 use Rattle.bo_api.specs.declared.call.Call.TheVariants as calls
 use Rattle.bo_serve.specs.BoxOfficeView.{BoxOfficeView}
@@ -43,14 +44,14 @@ alike old (t ∷ ts) (Ok m ∷ items) a b new other (mid, answer, rest, tells, i
 
 -- ---- time
 
-later_after : (organizer event : List ℕ) (call : Call) (clock : ℕ) (draw : Draw) (state : State) → state.moment ≤ (response_of organizer event call (max state.moment clock) draw state).0.moment
+later_after : (organizer event : List ℕ) (call : Call) (clock : ℕ) (draw : Draw) (state : State) → state.moment ≤ (response_of organizer event call (moment_at clock state) draw state).0.moment
 later_after organizer event (calls.Unauthorized response) clock draw state = omega arith
 later_after organizer event (calls.Read query) clock draw state = omega arith
 later_after organizer event (calls.ReadRefused response) clock draw state = omega arith
-later_after organizer event (calls.WriteRefused response) clock draw state = omega arith
+later_after organizer event (calls.WriteRefused response) clock draw state = not_before clock state
 later_after organizer event (calls.Write command) clock draw state =
     let stores = (stores_all (record { clock = clock; draw = draw; command = command } ∷ []) state).0 in
-    subst (λ (n : ℕ). state.moment ≤ n) (sym stores) (omega arith)
+    subst (λ (n : ℕ). state.moment ≤ n) (sym stores) (not_before clock state)
 
 never_falls_once : (old : BoxOfficeView) (tick : Tick) (m : Message) (answer : Answer) (new : BoxOfficeView) → Serves old tick m answer new → old.state.moment ≤ new.state.moment
 never_falls_once old tick m (answers.Decided response) new leads = subst (λ (v : BoxOfficeView). old.state.moment ≤ v.state.moment) (sym leads.0) (later_after old.organizer old.event _ tick.clock tick.draw old.state)

@@ -1,9 +1,10 @@
 //! The box office as a desk: what it does with one message, and what it answers.
 
-ghost use Rattle.std.specs.Prelude.{◌≡◌, ◌≤◌, Ok, IfOk, OnErr, max};
+ghost use Rattle.std.specs.Prelude.{◌≡◌, ◌≤◌, Ok, IfOk, OnErr, max, min};
+ghost use Rattle.bo_base.specs.Moments.{last_moment};
 ghost use Rattle.bo_words.specs.Replies.{words};
 ghost use Rattle.bo_lists.specs.Lists.{State};
-ghost use Rattle.bo_lists.specs.Sound.{IsSound};
+ghost use Rattle.bo_sound.specs.Sound.{IsSound};
 ghost use Rattle.bo_office.specs.Answer.{answer};
 ghost use Rattle.bo_office.specs.Step.{step};
 ghost use Rattle.bo_serve.specs.BoxOfficeView.{BoxOfficeView};
@@ -30,7 +31,7 @@ pub struct BoxOffice<B: Book> {
 }
 
 impl<B: Book> Model for BoxOffice<B> {
-    ghost use Rattle.bo_lists.specs.Sound.{IsSound};
+    ghost use Rattle.bo_sound.specs.Sound.{IsSound};
     ghost use Rattle.bo_serve.specs.BoxOfficeView.{BoxOfficeView};
 
     ghost Value = { BoxOfficeView };
@@ -73,9 +74,10 @@ impl<B: Book> BoxOffice<B> {
 
     // The moment of a message: the clock's, but never before the office's.
     fn moment_at(&self, clock: Moment) -> Moment
-        ensures at { result ≡ max self.now.state.moment clock }
+        ensures at { result ≡ max self.now.state.moment (min clock last_moment) }
         ensures later { self.now.state.moment ≤ result }
     {
+        let _ = clock.get();
         let stored = self.office.moment();
         if stored.is_before(clock) {
             clock

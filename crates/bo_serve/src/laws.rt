@@ -5,7 +5,7 @@ ghost use Rattle.bo_base.specs.declared.answer.Answer.{Answer};
 ghost use Rattle.bo_base.specs.declared.device.Tick.{Tick};
 ghost use Rattle.bo_base.specs.Told.{Gives};
 ghost use Rattle.bo_http.specs.Messages.{Messages};
-ghost use Rattle.bo_lists.specs.Sound.{IsSound};
+ghost use Rattle.bo_sound.specs.Sound.{IsSound};
 ghost use Rattle.bo_serve.specs.BoxOfficeView.{BoxOfficeView};
 ghost use Rattle.bo_serve.specs.Failures.{failure_number};
 ghost use Rattle.bo_serve.specs.Kept.{ServesAndKeeps};
@@ -31,7 +31,8 @@ pub fn time_never_falls()
 {}
 
 /// Whatever bytes come to a sound box office, each request that is carried out as a command makes a step that takes too
-/// much of no quota, as the laws of the office say it; no other message changes a row; and the box office stays sound.
+/// much of no quota, as the laws of the office say it by the command, of a bulk call by its entries; that uses no id again;
+/// any other message changes the moment at most; and the box office stays sound.
 pub fn streams_take_nothing_too_much()
     ensures { (old : BoxOfficeView) (ticks : List Tick) (items : List Item) (a : List ℕ) (new : BoxOfficeView)
         → IsSound old.state → Runs Serves old ticks items a new → Runs ServesAndKeeps old ticks items a new × IsSound new.state }

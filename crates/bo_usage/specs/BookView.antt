@@ -1,4 +1,4 @@
--- What a contract sees of a book: its state, and how many changes it has room for.
+-- What a contract sees of a book: its state, and the weight of the changes that it has room for.
 use Rattle.std.specs.Prelude.{ℕ}
 use Rattle.bo_lists.specs.Lists.{State}
 

@@ -1,1 +1,2 @@
 pub mod BookView
+pub mod Naming

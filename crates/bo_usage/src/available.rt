@@ -1,6 +1,7 @@
 //! What is left of a quota.
 
-ghost use Rattle.std.specs.Prelude.{◌≡◌, ◌≤◌, ◌<◌};
+ghost use Rattle.std.specs.Prelude.{◌≡◌, ◌≤◌, ◌<◌, Some};
+ghost use Rattle.bo_catalogue.specs.CatalogueLists.{quota_at};
 ghost use Rattle.bo_lists.specs.Available.{availability};
 
 use crate::book::Book;
@@ -10,9 +11,10 @@ use bo_lists::Availability;
 use std::marker::Brand;
 use std::sync::ledger::{Blank, Ledger};
 
-/// What is left of a quota at a moment that isn't before the book's.
+/// What is left of a quota that stands, at a moment that isn't before the book's.
 pub fn availability<B: Book>(book: &B, quota: &Quota, at: Moment) -> Availability
-    requires { (B.state book.now).moment ≤ at }
+    requires moment { (B.state book.now).moment ≤ at }
+    requires stands { quota_at quota.now.id (B.state book.now).lists.catalogue ≡ Some quota.now }
     ensures { result ≡ availability (B.state book.now).lists at quota.now }
 {
     availability_in::<B, Brand>(book, quota, at, Blank::new(1))
@@ -29,6 +31,7 @@ fn availability_in<B: Book, L: Ledger>(
     requires parts { blank.parts ≡ L.parts }
     requires some { 0 < blank.parts }
     requires moment { (B.state book.now).moment ≤ at }
+    requires stands { quota_at quota.now.id (B.state book.now).lists.catalogue ≡ Some quota.now }
     ensures { result ≡ availability (B.state book.now).lists at quota.now }
 {
     let mut steps = Steps::<L>::new(blank);

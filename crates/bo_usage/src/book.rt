@@ -1,19 +1,24 @@
 //! What keeps the rows.
 
-ghost use Rattle.std.specs.Prelude.{◌≡◌, ◌≤◌, ◌↔◌, ◌==◌, ◌&&◌, ℕ, Bool, length, IfOk, OnOk, IsTrue, count_by};
+ghost use Rattle.std.specs.Prelude.{◌≡◌, ◌≤◌, ◌↔◌, ◌==◌, ◌&&◌, ℕ, Bool, IfOk, OnOk, IsTrue, count_by, Some};
+ghost use Rattle.bo_catalogue.specs.CatalogueLists.{quota_at};
 ghost use Rattle.std.specs.Option.{option_copied};
 ghost use Rattle.bo_lists.specs.declared.rows.OrderPos.{OrderPos};
-ghost use Rattle.bo_lists.specs.Lists.{State, voucher_at, cart_at, order_at, position_at, positions_of, waiting_at};
+ghost use Rattle.bo_lists.specs.Lists.{State, voucher_at, cart_at, order_at, position_at, positions_of, waiting_at, checkin_list_at, checkin_at};
 ghost use Rattle.bo_lists.specs.Usage.{redeemed, usage_of};
 ghost use Rattle.bo_lists.specs.Change.{applied};
+ghost use Rattle.bo_lists.specs.Weight.{weight};
 ghost use Rattle.bo_lists.specs.Headroom.{held, held_in};
-ghost use Rattle.bo_lists.specs.Named.{voucher_of, is_used};
+ghost use Rattle.bo_lists.specs.Named.{voucher_of};
+ghost use Rattle.bo_usage.specs.Naming.{naming};
 ghost use Rattle.bo_lists.specs.Kept.{IsKept};
 ghost use Rattle.bo_lists.specs.Consumed.{consumed};
 
 use bo_base::{List, Moment, Steps, Text};
 use bo_catalogue::{Catalogue, Quota};
-use bo_lists::{CartPos, Changes, NextIds, Order, OrderPos, Usage, Voucher, Waiting};
+use bo_lists::{
+    CartPos, Changes, Checkin, CheckinList, NextIds, Order, OrderPos, Usage, Voucher, Waiting,
+};
 use std::alloc::{AllocError, Global};
 use std::sync::ledger::Ledger;
 
@@ -32,10 +37,10 @@ pub trait Book {
     /// The rows, the next ids and the moment.
     ghost state: { Self → State };
 
-    /// How many changes can be applied without taking memory.
+    /// Changes of so much weight can be applied without taking memory.
     ghost room: { Self → ℕ };
 
-    /// Ids rise in each list of sales, and none of these lists is longer than 2^32.
+    /// Ids rise in each list of sales and of the door, and none of these lists is longer than 2^32.
     fn known(&self)
         ensures { IsKept 4294967296 (state self.now).lists };
 
@@ -59,9 +64,10 @@ pub trait Book {
     fn voucher_of(&self, code: &str) -> Option<&Voucher>
         ensures { option_copied result ≡ voucher_of code.now (state self.now).lists };
 
-    /// Whether an order position, a cart position or a waiting entry names the voucher.
-    fn is_used(&self, voucher: u64) -> bool
-        ensures { result ≡ is_used voucher (state self.now).lists };
+    /// How many order positions, cart positions and waiting entries name the voucher.
+    fn naming(&self, voucher: u64) -> u64
+        ensures value { result ≡ naming voucher (state self.now).lists }
+        ensures few { result ≤ 12884901888 };
 
     /// The cart position of an id.
     fn cart(&self, id: u64) -> Option<&CartPos>
@@ -78,6 +84,14 @@ pub trait Book {
     /// The waiting entry of an id.
     fn entry(&self, id: u64) -> Option<&Waiting>
         ensures { option_copied result ≡ waiting_at id (state self.now).lists };
+
+    /// The check-in list of an id.
+    fn checkin_list(&self, id: u64) -> Option<&CheckinList>
+        ensures { option_copied result ≡ checkin_list_at id (state self.now).lists };
+
+    /// The check-in of an id.
+    fn checkin(&self, id: u64) -> Option<&Checkin>
+        ensures { option_copied result ≡ checkin_at id (state self.now).lists };
 
     /// How many positions of the order pass the test.
     fn count_ordered<T: PositionTest>(&self, order: u64, test: &T) -> u64
@@ -108,13 +122,22 @@ pub trait Book {
     fn positions(&self) -> &[OrderPos]
         ensures { result.now ≡ (state self.now).lists.positions };
 
+    /// All check-in lists, by id.
+    fn checkin_lists(&self) -> &[CheckinList]
+        ensures { result.now ≡ (state self.now).lists.checkin_lists };
+
+    /// All check-ins, by id.
+    fn checkins(&self) -> &[Checkin]
+        ensures { result.now ≡ (state self.now).lists.checkins };
+
     /// The whole waiting list, by id.
     fn waiting(&self) -> &[Waiting]
         ensures { result.now ≡ (state self.now).lists.waiting };
 
-    /// What uses a quota at a moment that isn't before the book's.
+    /// What uses a quota that stands, at a moment that isn't before the book's.
     fn usage_at<L: Ledger>(&self, quota: &Quota, at: Moment, steps: &mut Steps<L>) -> Usage
-        requires { (state self.now).moment ≤ at }
+        requires moment { (state self.now).moment ≤ at }
+        requires stands { quota_at quota.now.id (state self.now).lists.catalogue ≡ Some quota.now }
         ensures { result ≡ usage_of (state self.now).lists at quota.now };
 
     /// How many positions of pending and paid orders name the voucher.
@@ -134,15 +157,16 @@ pub trait Book {
 
     /// Takes the memory that these changes need.
     fn reserve(&mut self, changes: &Changes) -> Result<(), AllocError>
-        ensures ok { OnOk result (length changes.now.list ≤ room self.new) }
+        ensures ok { OnOk result (weight changes.now.list ≤ room self.new) }
         ensures same { state self.new ≡ state self.old };
 
     /// Whether these changes can be applied without taking memory.
     fn has_room(&self, changes: &Changes) -> bool
-        ensures { IsTrue result ↔ (length changes.now.list ≤ room self.now) };
+        ensures { IsTrue result ↔ (weight changes.now.list ≤ room self.now) };
 
-    /// Makes exactly these changes, at a moment.
+    /// Makes exactly these changes, at a moment that isn't before the book's.
     fn apply(&mut self, changes: Changes, at: Moment)
-        requires { length changes.list ≤ room self.old }
+        requires room { weight changes.list ≤ room self.old }
+        requires moment { (state self.old).moment ≤ at }
         ensures { state self.new ≡ applied changes at (state self.old) };
 }

@@ -1,17 +1,20 @@
 //! A book that counts.
 
-ghost use Rattle.std.specs.Prelude.{◌≡◌, ◌≤◌, ◌+◌, ◌↔◌, ℕ, length, OnOk, IsTrue, [], min, count_by, sum_by};
+ghost use Rattle.std.specs.Prelude.{◌≡◌, ◌≤◌, ◌+◌, ◌↔◌, ℕ, OnOk, IsTrue, [], min, count_by, sum_by};
 ghost use Rattle.std.specs.Option.{option_copied};
 ghost use Rattle.bo_lists.specs.Lists.{empty, order_at};
-ghost use Rattle.bo_lists.specs.Conditions.{is_paid, is_pending, is_in_force};
+ghost use Rattle.bo_lists.specs.Conditions.{is_paid, is_pending, is_in_force, names};
 ghost use Rattle.bo_lists.specs.Usage.{stands_as, uses, redeemed, usage_of, position_counts, blocked_by, is_covered, cart_counts, waits_for};
-ghost use Rattle.bo_lists.specs.Named.{is_ordered, is_in_cart, is_sent};
 ghost use Rattle.bo_lists.specs.Change.{applied, after_change, after_all};
+ghost use Rattle.bo_lists.specs.Weight.{change_weight, weight};
 
 use crate::book::{Book, PositionTest};
 use bo_base::{List, Moment, Rows, Steps, Text};
 use bo_catalogue::{Catalogue, Quota};
-use bo_lists::{CartPos, Change, Changes, NextIds, Order, OrderPos, Usage, Voucher, Waiting};
+use bo_lists::{
+    CartPos, Change, Changes, Checkin, CheckinList, NextIds, Order, OrderPos, Usage, Voucher,
+    Waiting,
+};
 use std::alloc::{AllocError, Global};
 use std::marker::Model;
 use std::sync::ledger::Ledger;
@@ -25,6 +28,8 @@ pub struct Recount {
     orders: Rows<Order>,
     positions: Rows<OrderPos>,
     waiting: Rows<Waiting>,
+    checkin_lists: Rows<CheckinList>,
+    checkins: Rows<Checkin>,
     next: NextIds,
     moment: Moment,
 }
@@ -44,11 +49,13 @@ impl Model for Recount {
           orders = b.orders.rows;
           positions = b.positions.rows;
           waiting = b.waiting.rows;
+          checkin_lists = b.checkin_lists.rows;
+          checkins = b.checkins.rows;
         };
         next = b.next;
         moment = b.moment;
       };
-      room = min b.catalogue.room (min (min b.vouchers.room b.carts.room) (min (min b.orders.room b.positions.room) b.waiting.room));
+      room = min b.catalogue.room (min (min b.vouchers.room b.carts.room) (min (min b.orders.room b.positions.room) (min b.waiting.room (min b.checkin_lists.room b.checkins.room))));
     } };
 }
 
@@ -64,15 +71,17 @@ impl Recount {
             orders: Rows::new(alloc),
             positions: Rows::new(alloc),
             waiting: Rows::new(alloc),
+            checkin_lists: Rows::new(alloc),
+            checkins: Rows::new(alloc),
             next: NextIds::first(),
             moment: Moment::new(0),
         }
     }
 
     fn apply_one(&mut self, change: Change)
-        requires { 1 ≤ self.old.room }
+        requires { change_weight change ≤ self.old.room }
         ensures lists { self.new.state ≡ record self.old.state { lists = after_change change self.old.state.lists } }
-        ensures room { self.old.room ≤ self.new.room + 1 }
+        ensures room { self.old.room ≤ self.new.room + change_weight change }
     {
         match change {
             Change::PutItem(row) => self.catalogue.put_item(row),
@@ -86,6 +95,8 @@ impl Recount {
             Change::DropVoucher(id) => self.vouchers.delete(id),
             Change::DropCart(id) => self.carts.delete(id),
             Change::DropWaiting(id) => self.waiting.delete(id),
+            Change::PutCheckinList(row) => self.checkin_lists.put(row),
+            Change::PutCheckin(row) => self.checkins.put(row),
         }
     }
 }
@@ -189,25 +200,37 @@ impl Recount {
             .count() as u64
     }
 
-    fn is_ordered(&self, voucher: u64) -> bool
-        ensures { result ≡ is_ordered voucher self.now.state.lists }
+    // How many order positions name the voucher.
+    fn naming_positions(&self, voucher: u64) -> u64
+        ensures value { result ≡ count_by (λ p. names voucher p.voucher) self.now.state.lists.positions }
+        ensures few { result ≤ 4294967296 }
     {
         let positions = self.positions.as_slice();
-        positions.iter().any(|p| p.voucher == Some(voucher))
+        positions
+            .iter()
+            .filter(|p| p.voucher == Some(voucher))
+            .count() as u64
     }
 
-    fn is_in_cart(&self, voucher: u64) -> bool
-        ensures { result ≡ is_in_cart voucher self.now.state.lists }
+    // How many cart positions name it, dead ones too.
+    fn naming_carts(&self, voucher: u64) -> u64
+        ensures value { result ≡ count_by (λ c. names voucher c.voucher) self.now.state.lists.carts }
+        ensures few { result ≤ 4294967296 }
     {
         let carts = self.carts.as_slice();
-        carts.iter().any(|c| c.voucher == Some(voucher))
+        carts.iter().filter(|c| c.voucher == Some(voucher)).count() as u64
     }
 
-    fn is_sent(&self, voucher: u64) -> bool
-        ensures { result ≡ is_sent voucher self.now.state.lists }
+    // How many waiting entries name it.
+    fn naming_entries(&self, voucher: u64) -> u64
+        ensures value { result ≡ count_by (λ w. names voucher w.voucher) self.now.state.lists.waiting }
+        ensures few { result ≤ 4294967296 }
     {
         let entries = self.waiting.as_slice();
-        entries.iter().any(|e| e.voucher == Some(voucher))
+        entries
+            .iter()
+            .filter(|e| e.voucher == Some(voucher))
+            .count() as u64
     }
 
     fn waiting_in(&self, quota: &Quota) -> u64
@@ -229,6 +252,8 @@ impl Book for Recount {
         self.orders.known();
         self.positions.known();
         self.waiting.known();
+        self.checkin_lists.known();
+        self.checkins.known();
     }
 
     fn catalogue(&self) -> &Catalogue {
@@ -251,8 +276,8 @@ impl Book for Recount {
         self.vouchers().iter().find(|v| v.code.same(code))
     }
 
-    fn is_used(&self, voucher: u64) -> bool {
-        self.is_ordered(voucher) || self.is_in_cart(voucher) || self.is_sent(voucher)
+    fn naming(&self, voucher: u64) -> u64 {
+        self.naming_positions(voucher) + self.naming_carts(voucher) + self.naming_entries(voucher)
     }
 
     fn cart(&self, id: u64) -> Option<&CartPos> {
@@ -269,6 +294,14 @@ impl Book for Recount {
 
     fn entry(&self, id: u64) -> Option<&Waiting> {
         self.waiting.get(id)
+    }
+
+    fn checkin_list(&self, id: u64) -> Option<&CheckinList> {
+        self.checkin_lists.get(id)
+    }
+
+    fn checkin(&self, id: u64) -> Option<&Checkin> {
+        self.checkins.get(id)
     }
 
     fn count_ordered<T: PositionTest>(&self, order: u64, test: &T) -> u64 {
@@ -318,6 +351,14 @@ impl Book for Recount {
         self.waiting.as_slice()
     }
 
+    fn checkin_lists(&self) -> &[CheckinList] {
+        self.checkin_lists.as_slice()
+    }
+
+    fn checkins(&self) -> &[Checkin] {
+        self.checkins.as_slice()
+    }
+
     #[tactic(auto, unfolding(bo_lists::specs::Usage::usage_of))]
     fn usage_at<L: Ledger>(&self, quota: &Quota, at: Moment, _steps: &mut Steps<L>) -> Usage {
         Usage {
@@ -347,23 +388,22 @@ impl Book for Recount {
     }
 
     fn reserve(&mut self, changes: &Changes) -> Result<(), AllocError> {
-        let count = changes.as_slice().len();
+        let Some(count) = changes.weight() else {
+            return Err(AllocError);
+        };
         self.catalogue.reserve(count)?;
         self.vouchers.reserve(count)?;
         self.carts.reserve(count)?;
         self.orders.reserve(count)?;
         self.positions.reserve(count)?;
-        self.waiting.reserve(count)
+        self.waiting.reserve(count)?;
+        self.checkin_lists.reserve(count)?;
+        self.checkins.reserve(count)
     }
 
     fn has_room(&self, changes: &Changes) -> bool {
-        let count = changes.as_slice().len();
-        count <= self.catalogue.room()
-            && count <= self.vouchers.room()
-            && count <= self.carts.room()
-            && count <= self.orders.room()
-            && count <= self.positions.room()
-            && count <= self.waiting.room()
+        let room = self.room_left();
+        changes.weight().is_some_and(|count| count <= room)
     }
 
     fn apply(&mut self, changes: Changes, at: Moment) {
@@ -375,8 +415,19 @@ impl Book for Recount {
 }
 
 impl Recount {
+    // Changes of so much weight can be applied without taking memory.
+    fn room_left(&self) -> usize
+        ensures { result ≡ self.now.room }
+    {
+        let sold = self.vouchers.room().min(self.carts.room());
+        let ordered = self.orders.room().min(self.positions.room());
+        let door = self.checkin_lists.room().min(self.checkins.room());
+        let others = ordered.min(self.waiting.room().min(door));
+        self.catalogue.room().min(sold.min(others))
+    }
+
     fn apply_list(&mut self, mut list: Vec<Change>)
-        requires { length list.items ≤ self.old.room }
+        requires { weight list.items ≤ self.old.room }
         ensures { self.new.state ≡ record self.old.state { lists = after_all list.items self.old.state.lists } }
     {
         list.reverse();

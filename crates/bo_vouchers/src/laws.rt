@@ -5,14 +5,18 @@ ghost use Rattle.bo_base.specs.declared.draw.Draw.{Draw};
 ghost use Rattle.bo_catalogue.specs.declared.rows.Quota.{Quota};
 ghost use Rattle.bo_lists.specs.Lists.{State};
 ghost use Rattle.bo_lists.specs.Over.{first_over};
-ghost use Rattle.bo_lists.specs.Sound.{IsSound};
+ghost use Rattle.bo_sound.specs.Sound.{IsSound};
 ghost use Rattle.bo_lists.specs.Takes.{used, TakesNoMore};
 ghost use Rattle.bo_lists.specs.declared.rows.Voucher.{Voucher};
 ghost use Rattle.bo_vouchers.specs.declared.requests.NewVoucher.{NewVoucher};
 ghost use Rattle.bo_vouchers.specs.declared.requests.VoucherPatch.{VoucherPatch};
+ghost use Rattle.bo_lists.specs.Named.{voucher_of};
+ghost use Rattle.bo_vouchers.specs.Codes.{IsDraw, made_code};
 ghost use Rattle.bo_vouchers.specs.Made.{voucher_made};
 ghost use Rattle.bo_vouchers.specs.Changed.{voucher_changed};
 ghost use Rattle.bo_vouchers.specs.Deleted.{voucher_deleted};
+
+use bo_base::Draw;
 
 /// No voucher that is made, and that doesn't ignore quotas, leaves a quota over: what is used afterwards is within
 /// the quota's size, or no more than was used before.
@@ -48,4 +52,17 @@ pub fn vouchers_keep_sound()
         IsSound before → voucher_changed id patch before ≡ Ok (after, row) → IsSound after }
     ensures deleted { (id : ℕ) (before after : State) →
         IsSound before → voucher_deleted id before ≡ Ok after → IsSound after }
+{}
+
+/// Each draw is sixteen bytes.
+pub fn draws_are_sixteen_bytes(draw: Draw)
+    ensures { IsDraw draw }
+{
+    let _bytes = draw.bytes;
+}
+
+/// In a sound box office no voucher has the code that the next one gets where none is given, whatever the draw.
+pub fn made_codes_are_free()
+    ensures { (draw : Draw) (state : State) →
+        IsDraw draw → IsSound state → voucher_of (made_code draw state.next.voucher) state.lists ≡ None }
 {}

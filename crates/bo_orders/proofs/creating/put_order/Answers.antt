@@ -5,7 +5,7 @@ use Rattle.bo_lists.specs.Lists.{State}
 use Rattle.bo_lists.specs.Change.{changed}
 use Rattle.bo_lists.specs.Headroom.{AllHaveHeadroom}
 use Rattle.bo_draft.specs.DraftState.{now}
-use Rattle.bo_orders.proofs.Rows.{order_headroom, carts_headroom}
+use Rattle.bo_orders.proofs.Rows.{order_headroom}
 use Rattle.bo_orders.proofs.creating.put_order.Goals as goal
 
 pub put_order-requires : goal.put_order-requires

@@ -1,10 +1,12 @@
 use Rattle.std.proofs.Common.{rules, ◌≡◌, sym, ap, ◌∙◌}
 use Rattle.bo_lists.specs.Lists.{Lists}
+use Rattle.bo_lists.specs.Change.{applied}
+use Rattle.bo_vouchers.specs.Made.{voucher_made}
 use Rattle.bo_draft.specs.DraftState.{DraftState, now}
 use Rattle.bo_office.specs.ShownRows.{show_voucher}
 use Rattle.bo_commands.specs.declared.replies.Shown.{Shown}
 use Rattle.bo_commands.specs.declared.replies.Reply.TheVariants.{Made}
-use Rattle.bo_office.proofs.Vouchers.{made_shown}
+use Rattle.bo_office.proofs.Vouchers.{made_shown, made_step, finished}
 use Rattle.bo_office.proofs.office.Office.add_voucher.Goals.{in-Ok, in-Err}
 use Rattle.bo_office.proofs.office.Office.add_voucher.Goals as goal
 
@@ -12,6 +14,6 @@ pub returns-clause-step : goal.returns-clause-step
 returns-clause-step g c =
     let before : (now c.in_ok-draft.draft).lists ≡ c.args.self.now.state.lists = ap (λ (d : DraftState). (now d).lists) c.in_ok-draft.ensures.draft in
     elim c.match-make.branch [
-      | in-Ok w ↦ (let known : c.match-make.reply ≡ Made (show_voucher (now c.make.new.draft).lists w.in-Ok.row) = w.reply-is ∙ ap (λ (s : Shown). Made s) (w.show_voucher.ensures ∙ (ap (λ (l : Lists). show_voucher l w.in-Ok.row) (sym before) ∙ made_shown _ _ _ _ _ w.in-Ok.ensures.done)) in search rules)
+      | in-Ok w ↦ (let known : c.match-make.reply ≡ Made (show_voucher (now c.make.new.draft).lists w.in-Ok.row) = w.reply-is ∙ ap (λ (s : Shown). Made s) (w.show_voucher.ensures ∙ (ap (λ (l : Lists). show_voucher l w.in-Ok.row) (sym before) ∙ made_shown _ _ _ _ _ w.in-Ok.ensures.done)) in made_step c.args.new.now c.args.draw c.args.at c.args.self.now.state (now c.make.new.draft) w.in-Ok.row (applied c.finish.result c.args.at c.args.self.now.state) c.match-make.reply (finished c.args.self.now.state c.args.at c.make.new.draft c.finish.result c.finish.ensures.list c.finish.ensures.next (w.in-Ok.ensures.extends.base ∙ ap (λ (d : DraftState). d.log.base) c.in_ok-draft.ensures.draft) (w.in-Ok.ensures.extends.moment ∙ ap (λ (d : DraftState). d.moment) c.in_ok-draft.ensures.draft)) known (ap (λ (d : DraftState). voucher_made c.args.new.now c.args.draw (now d)) (sym c.in_ok-draft.ensures.draft) ∙ w.in-Ok.ensures.done))
       | in-Err w ↦ search rules
     ]

@@ -1,10 +1,12 @@
 use Rattle.std.proofs.Common.{rules, ◌≡◌, sym, ap, ◌∙◌}
 use Rattle.bo_lists.specs.Lists.{Lists}
+use Rattle.bo_lists.specs.Change.{applied}
+use Rattle.bo_vouchers.specs.Changed.{voucher_changed}
 use Rattle.bo_draft.specs.DraftState.{DraftState, now}
 use Rattle.bo_office.specs.ShownRows.{show_voucher}
 use Rattle.bo_commands.specs.declared.replies.Shown.{Shown}
 use Rattle.bo_commands.specs.declared.replies.Reply.TheVariants.{Found}
-use Rattle.bo_office.proofs.Vouchers.{changed_shown}
+use Rattle.bo_office.proofs.Vouchers.{changed_shown, changed_step, finished}
 use Rattle.bo_office.proofs.office.Office.change_voucher.Goals.{in-Ok, in-Err}
 use Rattle.bo_office.proofs.office.Office.change_voucher.Goals as goal
 
@@ -12,6 +14,6 @@ pub returns-clause-step : goal.returns-clause-step
 returns-clause-step g c draw =
     let before : (now c.in_ok-draft.draft).lists ≡ c.args.self.now.state.lists = ap (λ (d : DraftState). (now d).lists) c.in_ok-draft.ensures.draft in
     elim c.match-patch.branch [
-      | in-Ok w ↦ (let known : c.match-patch.reply ≡ Found (show_voucher (now c.patch.new.draft).lists w.in-Ok.row) = w.reply-is ∙ ap (λ (s : Shown). Found s) (w.show_voucher.ensures ∙ (ap (λ (l : Lists). show_voucher l w.in-Ok.row) (sym before) ∙ changed_shown _ _ _ _ _ w.in-Ok.ensures.done)) in search rules)
+      | in-Ok w ↦ (let known : c.match-patch.reply ≡ Found (show_voucher (now c.patch.new.draft).lists w.in-Ok.row) = w.reply-is ∙ ap (λ (s : Shown). Found s) (w.show_voucher.ensures ∙ (ap (λ (l : Lists). show_voucher l w.in-Ok.row) (sym before) ∙ changed_shown _ _ _ _ _ w.in-Ok.ensures.done)) in changed_step c.args.id c.args.patch.now draw c.args.at c.args.self.now.state (now c.patch.new.draft) w.in-Ok.row (applied c.finish.result c.args.at c.args.self.now.state) c.match-patch.reply (finished c.args.self.now.state c.args.at c.patch.new.draft c.finish.result c.finish.ensures.list c.finish.ensures.next (w.in-Ok.ensures.extends.base ∙ ap (λ (d : DraftState). d.log.base) c.in_ok-draft.ensures.draft) (w.in-Ok.ensures.extends.moment ∙ ap (λ (d : DraftState). d.moment) c.in_ok-draft.ensures.draft)) known (ap (λ (d : DraftState). voucher_changed c.args.id c.args.patch.now (now d)) (sym c.in_ok-draft.ensures.draft) ∙ w.in-Ok.ensures.done))
       | in-Err w ↦ search rules
     ]

@@ -1,5 +1,6 @@
-use Rattle.std.proofs.Common.{◌≡◌, ◌≤◌, length, reverse, vec_len}
+use Rattle.std.proofs.Common.{◌≡◌, ◌≤◌, reverse, vec_len}
 use Rattle.bo_lists.specs.Change.{after_all}
+use Rattle.bo_lists.specs.Weight.{weight}
 use Rattle.bo_usage.proofs.recount.Recount.apply_list.Given as goal
 
 -- the changes that are left lead to where all lead
@@ -8,7 +9,7 @@ invariant-loop-change l = record {
   rest : after_all (reverse l.list.items) l.self.state.lists ≡ after_all l.fn.list.items l.fn.self.state.lists;
   next : l.self.state.next ≡ l.fn.self.state.next;
   moment : l.self.state.moment ≡ l.fn.self.state.moment;
-  room : length l.list.items ≤ l.self.room;
+  room : weight (reverse l.list.items) ≤ l.self.room;
 }
 
 abbrev pub decreases-loop-change : goal.decreases-loop-change

@@ -1,0 +1,20 @@
+use Rattle.std.proofs.Common.{sym, ap, ◌∙◌}
+use Rattle.bo_catalogue.specs.CatalogueLists.{CatalogueLists, quota_at}
+use Rattle.bo_lists.specs.Lists.{Lists}
+use Rattle.bo_overlay.proofs.Sales.{sales_catalogue}
+use Rattle.bo_draft.specs.DraftState.{DraftState, now}
+use Rattle.bo_draft.specs.Shift.{used}
+use Rattle.bo_draft.proofs.draft.Draft.used.Goals as goal
+
+pub used_now-requires-clause-stands : goal.used_now-requires-clause-stands
+used_now-requires-clause-stands g c =
+    let log = c.self.inside.overlay in
+    let id = c.args.quota.now.id in
+    ap (λ (l : Lists). quota_at id l.catalogue) (sym c.self.invariant.base)
+    ∙ ap (λ (k : CatalogueLists). quota_at id k) (sym (sales_catalogue log.changes log.base c.known.ensures.sales))
+    ∙ ap (λ (d : DraftState). quota_at id (now d).lists.catalogue) c.self.view_is
+    ∙ c.requires
+
+pub returns : goal.returns
+unfolding used
+returns g c = c.used_now.ensures ∙ ap (λ (d : DraftState). used (now d).lists (now d).moment c.args.quota.now) c.self.view_is

@@ -1,0 +1,163 @@
+//! How much the book uses of the quotas that were asked for.
+
+ghost use Rattle.std.specs.Prelude.{◌≡◌, ◌≤◌, ◌<◌, length, slice_index_or, Some};
+ghost use Rattle.bo_base.specs.Tables.{AreInOrder};
+ghost use Rattle.bo_catalogue.specs.CatalogueLists.{quota_at};
+ghost use Rattle.bo_catalogue.specs.declared.rows.Quota.{Quota};
+ghost use Rattle.bo_draft.specs.Shift.{used, AreBases};
+
+use crate::counts::Count;
+use bo_base::{Moment, Row, Steps, place_of};
+use bo_catalogue::Quota;
+use bo_usage::Book;
+use std::alloc::AllocError;
+use std::marker::Brand;
+use std::sync::ledger::{Blank, Ledger};
+
+/// How much the book uses of the quota at a place.
+#[derive(Clone, Copy, Debug)]
+pub struct Base {
+    pub place: u64,
+    pub total: u128,
+}
+
+impl Row for Base {
+    ghost key = { λ r. r.place };
+
+    fn id(&self) -> u64 {
+        self.place
+    }
+}
+
+/// Asks the book, if that is wanted, for the quotas that have counts, each of them once. Where there is no memory for an
+/// answer, it isn't kept, and the book is asked again.
+pub fn ask_bases<B: Book>(
+    book: &B,
+    at: Moment,
+    quotas: &[Quota],
+    wanted: bool,
+    counts: &[Count],
+    bases: &mut Vec<Base>,
+)
+    requires sold { quotas.now ≡ (B.state book.now).lists.catalogue.quotas }
+    requires order { AreInOrder (λ r. r.place) bases.old.items }
+    requires known { AreBases (B.state book.now).lists at quotas.now bases.old.items }
+    requires past { (B.state book.now).moment ≤ at }
+    ensures order { AreInOrder (λ r. r.place) bases.new.items }
+    ensures known { AreBases (B.state book.now).lists at quotas.now bases.new.items }
+{
+    if !wanted {
+        return;
+    }
+    // Both lists are in order of the place, so that most answers are where the next one is looked for.
+    let mut next = 0;
+    for row in counts {
+        next = ask_next(book, at, quotas, row.id, next, bases).saturating_add(1);
+    }
+}
+
+// The same for the quota at a place, whose answer may be kept here. Answers where it is kept.
+fn ask_next<B: Book>(
+    book: &B,
+    at: Moment,
+    quotas: &[Quota],
+    place: u64,
+    here: usize,
+    bases: &mut Vec<Base>,
+) -> usize
+    requires sold { quotas.now ≡ (B.state book.now).lists.catalogue.quotas }
+    requires order { AreInOrder (λ r. r.place) bases.old.items }
+    requires known { AreBases (B.state book.now).lists at quotas.now bases.old.items }
+    requires past { (B.state book.now).moment ≤ at }
+    ensures order { AreInOrder (λ r. r.place) bases.new.items }
+    ensures known { AreBases (B.state book.now).lists at quotas.now bases.new.items }
+{
+    if is_at(bases, place, here) {
+        return here;
+    }
+    ask_base(book, at, quotas, place, bases).unwrap_or(here)
+}
+
+// Whether the answer for the quota at a place is kept here.
+fn is_at(bases: &[Base], place: u64, here: usize) -> bool {
+    here < bases.len() && bases[here].place == place
+}
+
+// Asks the book for the quota at a place, unless that is known, and answers where it is kept.
+fn ask_base<B: Book>(
+    book: &B,
+    at: Moment,
+    quotas: &[Quota],
+    place: u64,
+    bases: &mut Vec<Base>,
+) -> Result<usize, AllocError>
+    requires sold { quotas.now ≡ (B.state book.now).lists.catalogue.quotas }
+    requires order { AreInOrder (λ r. r.place) bases.old.items }
+    requires known { AreBases (B.state book.now).lists at quotas.now bases.old.items }
+    requires past { (B.state book.now).moment ≤ at }
+    ensures order { AreInOrder (λ r. r.place) bases.new.items }
+    ensures known { AreBases (B.state book.now).lists at quotas.now bases.new.items }
+{
+    match place_of(bases, place) {
+        Ok(found) => Ok(found),
+        Err(gap) => {
+            let index = place as usize;
+            if quotas.len() <= index {
+                return Ok(gap);
+            }
+            book.catalogue().known();
+            let total = used_in_book(book, &quotas[index], at);
+            bases.insert(gap, Base { place, total })?;
+            Ok(gap)
+        }
+    }
+}
+
+/// How much the book uses of the quota at a place: what is known, or else its answer.
+pub fn base_of<B: Book>(
+    book: &B,
+    at: Moment,
+    quotas: &[Quota],
+    place: usize,
+    bases: &[Base],
+) -> u128
+    requires place { place < length quotas.now }
+    requires sold { quotas.now ≡ (B.state book.now).lists.catalogue.quotas }
+    requires order { AreInOrder (λ r. r.place) bases.now }
+    requires known { AreBases (B.state book.now).lists at quotas.now bases.now }
+    requires past { (B.state book.now).moment ≤ at }
+    ensures value { (d : Quota) → result ≡ used (B.state book.now).lists at (slice_index_or quotas.now place d) }
+    ensures few { result ≤ 92233720368547758080 }
+{
+    book.catalogue().known();
+    match place_of(bases, place as u64) {
+        Ok(found) => bases[found].total,
+        Err(_) => used_in_book(book, &quotas[place], at),
+    }
+}
+
+// All that is used of a quota that stands in the book.
+fn used_in_book<B: Book>(book: &B, quota: &Quota, at: Moment) -> u128
+    requires moment { (B.state book.now).moment ≤ at }
+    requires stands { quota_at quota.now.id (B.state book.now).lists.catalogue ≡ Some quota.now }
+    ensures value { result ≡ used (B.state book.now).lists at quota.now }
+    ensures few { result ≤ 92233720368547758080 }
+{
+    used_in::<B, Brand>(book, quota, at, Blank::new(1))
+}
+
+// The same, in a ledger of steps that nobody reads.
+#[tactic(auto, unfolding(crate::specs::Shift::used))]
+fn used_in<B: Book, L: Ledger>(book: &B, quota: &Quota, at: Moment, blank: Blank) -> u128
+    requires name { blank.name ≡ L.name }
+    requires parts { blank.parts ≡ L.parts }
+    requires some { 0 < blank.parts }
+    requires moment { (B.state book.now).moment ≤ at }
+    requires stands { quota_at quota.now.id (B.state book.now).lists.catalogue ≡ Some quota.now }
+    ensures value { result ≡ used (B.state book.now).lists at quota.now }
+    ensures few { result ≤ 92233720368547758080 }
+{
+    let mut steps = Steps::<L>::new(blank);
+    let usage = book.usage_at(quota, at, &mut steps);
+    usage.total()
+}

@@ -1,0 +1,3 @@
+mod Cuts
+pub mod Sorted
+pub mod EntryLemmas

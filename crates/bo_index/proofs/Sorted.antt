@@ -1,0 +1,54 @@
+-- Numbers that rise strictly, and what sorting leaves of them.
+use Rattle.std.proofs.Common.{◌≡◌, ℕ, zero, suc, ◌+◌, Bool, true, false, List, [], ◌∷◌, ◌++◌, get_or, eqb, cond, refl, sym, ap, ◌∙◌, subst, arith}
+use Rattle.std.specs.Prelude.{filter}
+use Rattle.std.specs.List.{Contains}
+use Rattle.std.specs.List.Sorted.{IsStrictlyIncreasing}
+use Rattle.std.proofs.lemmas.Bool.Decides.{nat_tests}
+use Rattle.std.proofs.lemmas.List.Folds.{list_any_at, Any-from_list_any}
+use Rattle.bo_base.specs.Tables.{has, with_row, InOrderFrom, AreInOrder}
+use Rattle.bo_base.specs.Rising.{with_ids, rising}
+use Rattle.bo_base.proofs.Places.{at_least, order_weaker}
+use Rattle.bo_base.proofs.RisingLemmas.{is_rising}
+
+increasing : (n : ℕ) (ids : List ℕ) → InOrderFrom (λ n. n) n ids → IsStrictlyIncreasing ids
+increasing n [] h k lt = absurd (omega arith)
+increasing n (x ∷ xs) h zero lt = omega (arith, at_least (λ n. n) (x + 1) xs h.1 0 0 (omega arith))
+increasing n (x ∷ xs) h (suc k) lt = let next : suc k + 1 ≡ suc (k + 1) = omega arith in rw next (increasing (x + 1) xs h.1 k (omega arith))
+
+-- numbers that rise are so in rising order
+rising_same : (ids : List ℕ) → AreInOrder (λ n. n) ids → rising ids ≡ ids
+rising_same ids h = sym (is_rising ids ids (increasing 0 ids h) (λ k c. c) (λ k c. c))
+
+-- two rising lists that have the same are the same
+contains_if_has : (k : ℕ) (ids : List ℕ) → has k ids ≡ true → Contains ids k
+contains_if_has k ids h =
+    let found = Any-from_list_any (λ x. eqb x k) ids h in
+    let is : found.1 ≡ k = grind (arith, nat_tests, found.4) in
+    (found.0, found.2, subst (λ n. get_or ids found.0 n ≡ n) is found.3)
+
+has_if_contains : (k : ℕ) (ids : List ℕ) → Contains ids k → has k ids ≡ true
+has_if_contains k ids h = list_any_at (λ x. eqb x k) ids h.0 k h.1 (rw h.2 (same k))
+  where
+    same : (k : ℕ) → eqb k k ≡ true
+    same k = grind (arith, nat_tests)
+
+pub same_ids : (xs ys : List ℕ) → AreInOrder (λ n. n) xs → AreInOrder (λ n. n) ys → ((k : ℕ) → has k xs ≡ has k ys) → xs ≡ ys
+same_ids xs ys p q same =
+    is_rising ys xs (increasing 0 xs p) (λ k c. contains_if_has k xs (same k ∙ has_if_contains k ys c)) (λ k c. contains_if_has k ys (sym (same k) ∙ has_if_contains k xs c))
+    ∙ rising_same ys q
+
+with_ids-append : (xs ys ids : List ℕ) → with_ids (xs ++ ys) ids ≡ with_ids ys (with_ids xs ids)
+with_ids-append [] ys ids = refl
+with_ids-append (x ∷ xs) ys ids = with_ids-append xs ys (with_row (λ n. n) x ids)
+
+-- more numbers behind some that rise, all sorted
+pub sorted_in : (ids more : List ℕ) → AreInOrder (λ n. n) ids → rising (ids ++ more) ≡ with_ids more ids
+sorted_in ids more h = with_ids-append ids more [] ∙ ap (with_ids more) (rising_same ids h)
+
+pub filter_in_order : (test : ℕ → Bool) (n : ℕ) (ids : List ℕ) → InOrderFrom (λ n. n) n ids → InOrderFrom (λ n. n) n (filter test ids)
+filter_in_order test n [] h = tt
+filter_in_order test n (x ∷ xs) h = by_test (test x) (filter_in_order test (x + 1) xs h.1)
+  where
+    by_test : (b : Bool) → InOrderFrom (λ n. n) (x + 1) (filter test xs) → InOrderFrom (λ n. n) n (cond b (x ∷ filter test xs) (filter test xs))
+    by_test true more = (h.0, more)
+    by_test false more = order_weaker (λ n. n) (x + 1) n (filter test xs) (omega (arith, h.0)) more

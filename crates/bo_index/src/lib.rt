@@ -1,0 +1,10 @@
+//! Indexes: which ids have a key.
+#![tactic(auto)]
+
+pub mod entries;
+pub mod found;
+pub mod index;
+
+pub use entries::{entry, id_of};
+pub use found::Found;
+pub use index::Index;

@@ -1,0 +1,470 @@
+-- No step lowers a next id, and the ids of its new rows are new.
+use Rattle.std.proofs.Common.{◌≡◌, ℕ, ◌+◌, ◌≤◌, ◌<◌, ◌≢◌, ◌⊎◌, inl, inr, Bool, true, false, eqb, List, [], ◌∷◌, length, map, Some, None, Result, Ok, Err, refl, sym, ap, ◌∙◌, subst, arith}
+use Rattle.std.specs.Prelude.{is_some, if◌then◌else◌}
+use Rattle.std.proofs.lemmas.Bool.Decides.{eqb_tells}
+use Rattle.bo_base.specs.Tables.{row_at, with_row, without_row}
+use Rattle.bo_base.specs.declared.draw.Draw.{Draw}
+use Rattle.bo_base.proofs.Edits.{row_at-with_row, row_at-without_row}
+use Rattle.bo_catalogue.specs.declared.rows.Item.{Item}
+use Rattle.bo_catalogue.specs.declared.rows.ItemRows.{ItemRows}
+use Rattle.bo_catalogue.specs.declared.rows.PricedVariation.{PricedVariation}
+use Rattle.bo_catalogue.specs.declared.rows.Quota.{Quota}
+use Rattle.bo_catalogue.specs.declared.rows.Variation.{Variation}
+use Rattle.bo_catalogue.specs.declared.requests.ItemPatch.{ItemPatch}
+use Rattle.bo_catalogue.specs.declared.requests.NewItem.{NewItem}
+use Rattle.bo_catalogue.specs.declared.requests.NewQuota.{NewQuota}
+use Rattle.bo_catalogue.specs.declared.requests.NewVariation.{NewVariation}
+use Rattle.bo_catalogue.specs.declared.requests.QuotaPatch.{QuotaPatch}
+use Rattle.bo_catalogue.specs.CatalogueLists.{item_at, quota_at}
+use Rattle.bo_catalogue.specs.ItemAdded.{item_rows, item_added}
+use Rattle.bo_catalogue.specs.ItemChanged.{item_changed}
+use Rattle.bo_catalogue.specs.VariationAdded.{variation_added}
+use Rattle.bo_catalogue.specs.QuotaAdded.{quota_added}
+use Rattle.bo_catalogue.specs.Resized.{resized}
+use Rattle.bo_catalogue.proofs.Added.{item_added_is, item_changed_is, variation_added_is, quota_added_is, resized_is}
+use Rattle.bo_lists.specs.declared.changes.Change.TheVariants.{PutItem, PutVariation, PutQuota, PutVoucher, PutOrder, PutPosition, DropVoucher, DropCart}
+use Rattle.bo_lists.specs.declared.rows.CartPos.{CartPos}
+use Rattle.bo_lists.specs.declared.rows.NextIds.{NextIds}
+use Rattle.bo_lists.specs.declared.rows.Order.{Order}
+use Rattle.bo_lists.specs.declared.rows.OrderPos.{OrderPos}
+use Rattle.bo_lists.specs.declared.rows.OrderRows.{OrderRows}
+use Rattle.bo_lists.specs.declared.rows.Voucher.{Voucher}
+use Rattle.bo_lists.specs.Change.{after_change, after_all, changed, without_carts}
+use Rattle.bo_lists.specs.Consumed.{consumed}
+use Rattle.bo_lists.specs.Lists.{State, voucher_at, order_at}
+use Rattle.bo_lists.specs.Numbered.{AreFrom, with_item, with_variation, with_quota, with_voucher, with_cart}
+use Rattle.bo_lists.proofs.EachRow.{key-row_at}
+use Rattle.bo_sound.proofs.Sound.{variation_rows_count}
+use Rattle.bo_vouchers.specs.declared.requests.NewVoucher.{NewVoucher}
+use Rattle.bo_vouchers.specs.declared.requests.VoucherPatch.{VoucherPatch}
+use Rattle.bo_vouchers.specs.Made.{voucher_made}
+use Rattle.bo_vouchers.specs.Changed.{voucher_changed}
+use Rattle.bo_vouchers.specs.Deleted.{voucher_deleted}
+use Rattle.bo_vouchers.proofs.Made.{made_is, made_id}
+use Rattle.bo_vouchers.proofs.Changed.{changed_is}
+use Rattle.bo_vouchers.proofs.Deleted.{deleted_is}
+use Rattle.bo_orders.specs.declared.bulk.Entry.{Entry}
+use Rattle.bo_orders.specs.declared.bulk.Entry.TheVariants.{New, Faulty}
+use Rattle.bo_orders.specs.declared.moves.Move.{Move}
+use Rattle.bo_orders.specs.declared.new_cart.NewCart.{NewCart}
+use Rattle.bo_orders.specs.declared.new_order.NewOrder.{NewOrder}
+use Rattle.bo_orders.specs.declared.refusal.OrderRefusal.{OrderRefusal}
+use Rattle.bo_orders.specs.Bulk.{outcome_of, entry_added, all_added}
+use Rattle.bo_orders.specs.Carts.{cart_row, position_added, row_in_cart, row_of_sold}
+use Rattle.bo_orders.specs.Created.{AreCounted, position_put, with_positions, with_order_row, order_created}
+use Rattle.bo_orders.specs.Dropped.{position_dropped}
+use Rattle.bo_orders.specs.Moves.{order_moved}
+use Rattle.bo_orders.proofs.Added.{added_is}
+use Rattle.bo_orders.proofs.Created.{created_is}
+use Rattle.bo_orders.proofs.Dropped.{dropped_is}
+use Rattle.bo_orders.proofs.MoveLemmas.{found_id}
+use Rattle.bo_orders.proofs.Moved.{moved_is}
+use Rattle.bo_orders.proofs.Puts.{put_is}
+use Rattle.bo_orders.proofs.Rows.{counted, puts_next}
+use Rattle.bo_orders.specs.CartId.{cart_id_test}
+use Rattle.bo_orders.specs.Sold.{sold_for}
+use Rattle.bo_orders.specs.declared.sold.Sold.{Sold}
+use Rattle.bo_vouchers.specs.declared.refusal.VoucherRefusal.{VoucherRefusal}
+use Rattle.bo_office.specs.NewIds.{IdsGoOn, AllIdsGoOn}
+
+no_less : (n : ℕ) → n ≤ n
+no_less n = omega arith
+
+-- ---- one table
+
+module _ {T : Type 0} (key : T → ℕ) where
+  same : (next : ℕ) (rows : List T) → IdsGoOn key next next rows rows
+  same next rows = record { rises = no_less next; new = λ id stands. inl stands }
+
+  -- a row that is put is found under its id
+  found : (row : T) (rows : List T) (id : ℕ) → is_some (row_at key id (with_row key row rows)) ≡ true → (key row ≡ id) ⊎ (is_some (row_at key id rows) ≡ true)
+  found row rows id stands = by_id (eqb_tells (key row) id) (ap is_some (sym (row_at-with_row key id row rows)) ∙ stands)
+    where
+      by_id : (t : ((eqb (key row) id ≡ true) × (key row ≡ id)) ⊎ ((eqb (key row) id ≡ false) × (key row ≢ id))) → is_some (if eqb (key row) id then Some row else row_at key id rows) ≡ true → (key row ≡ id) ⊎ (is_some (row_at key id rows) ≡ true)
+      by_id (inl t) e = inl t.1
+      by_id (inr t) e = inr (ap (λ (b : Bool). is_some (if b then Some row else row_at key id rows)) (sym t.0) ∙ e)
+
+  put_new : (row : T) (next : ℕ) (rows : List T) → key row ≡ next → IdsGoOn key next (next + 1) rows (with_row key row rows)
+  put_new row next rows own = record { rises = omega arith; new = λ id stands. by_id id (found row rows id stands) }
+    where
+      by_id : (id : ℕ) → (key row ≡ id) ⊎ (is_some (row_at key id rows) ≡ true) → (is_some (row_at key id rows) ≡ true) ⊎ ((next ≤ id) × (id < next + 1))
+      by_id id (inl e) = inr (omega (arith, own, e), omega (arith, own, e))
+      by_id id (inr stood) = inl stood
+
+  put_old : (row old : T) (next : ℕ) (rows : List T) → row_at key (key row) rows ≡ Some old → IdsGoOn key next next rows (with_row key row rows)
+  put_old row old next rows stood = record { rises = no_less next; new = λ id stands. inl (by_id id (found row rows id stands)) }
+    where
+      by_id : (id : ℕ) → (key row ≡ id) ⊎ (is_some (row_at key id rows) ≡ true) → is_some (row_at key id rows) ≡ true
+      by_id id (inl e) = subst (λ (n : ℕ). is_some (row_at key n rows) ≡ true) e (ap is_some stood)
+      by_id id (inr stands) = stands
+
+  dropped : (gone next : ℕ) (rows : List T) → IdsGoOn key next next rows (without_row key gone rows)
+  dropped gone next rows = record { rises = no_less next; new = λ id stands. inl (by_id id (eqb gone id) (ap is_some (sym (row_at-without_row key id gone rows)) ∙ stands)) }
+    where
+      by_id : (id : ℕ) (b : Bool) → is_some (if b then None else row_at key id rows) ≡ true → is_some (row_at key id rows) ≡ true
+      by_id id true e = absurd (cc (e))
+      by_id id false e = e
+
+  one_more : (a b c : ℕ) (xs ys zs : List T) → IdsGoOn key a b xs ys → IdsGoOn key b c ys zs → IdsGoOn key a c xs zs
+  one_more a b c xs ys zs first second = record { rises = omega (arith, first.rises, second.rises); new = λ id stands. by_second id (second.new id stands) }
+    where
+      by_first : (id : ℕ) → (is_some (row_at key id xs) ≡ true) ⊎ ((a ≤ id) × (id < b)) → (is_some (row_at key id xs) ≡ true) ⊎ ((a ≤ id) × (id < c))
+      by_first id (inl stood) = inl stood
+      by_first id (inr t) = inr (t.0, omega (arith, t.1, second.rises))
+
+      by_second : (id : ℕ) → (is_some (row_at key id ys) ≡ true) ⊎ ((b ≤ id) × (id < c)) → (is_some (row_at key id xs) ≡ true) ⊎ ((a ≤ id) × (id < c))
+      by_second id (inl stood) = by_first id (first.new id stood)
+      by_second id (inr t) = inr (omega (arith, t.0, first.rises), t.1)
+
+-- ---- all tables
+
+pub all_same : (s : State) → AllIdsGoOn s s
+all_same s = record {
+  items = same (λ r. r.id) s.next.item s.lists.catalogue.items;
+  variations = same (λ r. r.id) s.next.variation s.lists.catalogue.variations;
+  quotas = same (λ r. r.id) s.next.quota s.lists.catalogue.quotas;
+  vouchers = same (λ r. r.id) s.next.voucher s.lists.vouchers;
+  carts = same (λ r. r.id) s.next.cart s.lists.carts;
+  orders = same (λ r. r.id) s.next.order s.lists.orders;
+  positions = same (λ r. r.id) s.next.position s.lists.positions;
+  waiting = same (λ r. r.id) s.next.waiting s.lists.waiting;
+  checkin_lists = same (λ r. r.id) s.next.list s.lists.checkin_lists;
+  checkins = same (λ r. r.id) s.next.checkin s.lists.checkins;
+}
+
+pub all_more : (a b c : State) → AllIdsGoOn a b → AllIdsGoOn b c → AllIdsGoOn a c
+all_more a b c first second = record {
+  items = one_more (λ r. r.id) a.next.item b.next.item c.next.item a.lists.catalogue.items b.lists.catalogue.items c.lists.catalogue.items first.items second.items;
+  variations = one_more (λ r. r.id) a.next.variation b.next.variation c.next.variation a.lists.catalogue.variations b.lists.catalogue.variations c.lists.catalogue.variations first.variations second.variations;
+  quotas = one_more (λ r. r.id) a.next.quota b.next.quota c.next.quota a.lists.catalogue.quotas b.lists.catalogue.quotas c.lists.catalogue.quotas first.quotas second.quotas;
+  vouchers = one_more (λ r. r.id) a.next.voucher b.next.voucher c.next.voucher a.lists.vouchers b.lists.vouchers c.lists.vouchers first.vouchers second.vouchers;
+  carts = one_more (λ r. r.id) a.next.cart b.next.cart c.next.cart a.lists.carts b.lists.carts c.lists.carts first.carts second.carts;
+  orders = one_more (λ r. r.id) a.next.order b.next.order c.next.order a.lists.orders b.lists.orders c.lists.orders first.orders second.orders;
+  positions = one_more (λ r. r.id) a.next.position b.next.position c.next.position a.lists.positions b.lists.positions c.lists.positions first.positions second.positions;
+  waiting = one_more (λ r. r.id) a.next.waiting b.next.waiting c.next.waiting a.lists.waiting b.lists.waiting c.lists.waiting first.waiting second.waiting;
+  checkin_lists = one_more (λ r. r.id) a.next.list b.next.list c.next.list a.lists.checkin_lists b.lists.checkin_lists c.lists.checkin_lists first.checkin_lists second.checkin_lists;
+  checkins = one_more (λ r. r.id) a.next.checkin b.next.checkin c.next.checkin a.lists.checkins b.lists.checkins c.lists.checkins first.checkins second.checkins;
+}
+
+module _ (s : State) where
+  -- an item without its variations
+  new_item : (row : Item) → row.id ≡ s.next.item → AllIdsGoOn s (record s { lists = after_change (PutItem row) s.lists; next = record s.next { item = s.next.item + 1 } })
+  new_item row own = record {
+    items = put_new (λ r. r.id) row s.next.item s.lists.catalogue.items own;
+    variations = same (λ r. r.id) s.next.variation s.lists.catalogue.variations;
+    quotas = same (λ r. r.id) s.next.quota s.lists.catalogue.quotas;
+    vouchers = same (λ r. r.id) s.next.voucher s.lists.vouchers;
+    carts = same (λ r. r.id) s.next.cart s.lists.carts;
+    orders = same (λ r. r.id) s.next.order s.lists.orders;
+    positions = same (λ r. r.id) s.next.position s.lists.positions;
+    waiting = same (λ r. r.id) s.next.waiting s.lists.waiting;
+    checkin_lists = same (λ r. r.id) s.next.list s.lists.checkin_lists;
+    checkins = same (λ r. r.id) s.next.checkin s.lists.checkins;
+  }
+
+  old_item : (row old : Item) → item_at row.id s.lists.catalogue ≡ Some old → AllIdsGoOn s (changed (PutItem row) s)
+  old_item row old stood = record {
+    items = put_old (λ r. r.id) row old s.next.item s.lists.catalogue.items stood;
+    variations = same (λ r. r.id) s.next.variation s.lists.catalogue.variations;
+    quotas = same (λ r. r.id) s.next.quota s.lists.catalogue.quotas;
+    vouchers = same (λ r. r.id) s.next.voucher s.lists.vouchers;
+    carts = same (λ r. r.id) s.next.cart s.lists.carts;
+    orders = same (λ r. r.id) s.next.order s.lists.orders;
+    positions = same (λ r. r.id) s.next.position s.lists.positions;
+    waiting = same (λ r. r.id) s.next.waiting s.lists.waiting;
+    checkin_lists = same (λ r. r.id) s.next.list s.lists.checkin_lists;
+    checkins = same (λ r. r.id) s.next.checkin s.lists.checkins;
+  }
+
+  new_variation : (row : Variation) → row.id ≡ s.next.variation → AllIdsGoOn s (with_variation row s)
+  new_variation row own = record {
+    items = same (λ r. r.id) s.next.item s.lists.catalogue.items;
+    variations = put_new (λ r. r.id) row s.next.variation s.lists.catalogue.variations own;
+    quotas = same (λ r. r.id) s.next.quota s.lists.catalogue.quotas;
+    vouchers = same (λ r. r.id) s.next.voucher s.lists.vouchers;
+    carts = same (λ r. r.id) s.next.cart s.lists.carts;
+    orders = same (λ r. r.id) s.next.order s.lists.orders;
+    positions = same (λ r. r.id) s.next.position s.lists.positions;
+    waiting = same (λ r. r.id) s.next.waiting s.lists.waiting;
+    checkin_lists = same (λ r. r.id) s.next.list s.lists.checkin_lists;
+    checkins = same (λ r. r.id) s.next.checkin s.lists.checkins;
+  }
+
+  new_quota : (row : Quota) → row.id ≡ s.next.quota → AllIdsGoOn s (with_quota row s)
+  new_quota row own = record {
+    items = same (λ r. r.id) s.next.item s.lists.catalogue.items;
+    variations = same (λ r. r.id) s.next.variation s.lists.catalogue.variations;
+    quotas = put_new (λ r. r.id) row s.next.quota s.lists.catalogue.quotas own;
+    vouchers = same (λ r. r.id) s.next.voucher s.lists.vouchers;
+    carts = same (λ r. r.id) s.next.cart s.lists.carts;
+    orders = same (λ r. r.id) s.next.order s.lists.orders;
+    positions = same (λ r. r.id) s.next.position s.lists.positions;
+    waiting = same (λ r. r.id) s.next.waiting s.lists.waiting;
+    checkin_lists = same (λ r. r.id) s.next.list s.lists.checkin_lists;
+    checkins = same (λ r. r.id) s.next.checkin s.lists.checkins;
+  }
+
+  old_quota : (row old : Quota) → quota_at row.id s.lists.catalogue ≡ Some old → AllIdsGoOn s (changed (PutQuota row) s)
+  old_quota row old stood = record {
+    items = same (λ r. r.id) s.next.item s.lists.catalogue.items;
+    variations = same (λ r. r.id) s.next.variation s.lists.catalogue.variations;
+    quotas = put_old (λ r. r.id) row old s.next.quota s.lists.catalogue.quotas stood;
+    vouchers = same (λ r. r.id) s.next.voucher s.lists.vouchers;
+    carts = same (λ r. r.id) s.next.cart s.lists.carts;
+    orders = same (λ r. r.id) s.next.order s.lists.orders;
+    positions = same (λ r. r.id) s.next.position s.lists.positions;
+    waiting = same (λ r. r.id) s.next.waiting s.lists.waiting;
+    checkin_lists = same (λ r. r.id) s.next.list s.lists.checkin_lists;
+    checkins = same (λ r. r.id) s.next.checkin s.lists.checkins;
+  }
+
+  new_voucher : (row : Voucher) → row.id ≡ s.next.voucher → AllIdsGoOn s (with_voucher row s)
+  new_voucher row own = record {
+    items = same (λ r. r.id) s.next.item s.lists.catalogue.items;
+    variations = same (λ r. r.id) s.next.variation s.lists.catalogue.variations;
+    quotas = same (λ r. r.id) s.next.quota s.lists.catalogue.quotas;
+    vouchers = put_new (λ r. r.id) row s.next.voucher s.lists.vouchers own;
+    carts = same (λ r. r.id) s.next.cart s.lists.carts;
+    orders = same (λ r. r.id) s.next.order s.lists.orders;
+    positions = same (λ r. r.id) s.next.position s.lists.positions;
+    waiting = same (λ r. r.id) s.next.waiting s.lists.waiting;
+    checkin_lists = same (λ r. r.id) s.next.list s.lists.checkin_lists;
+    checkins = same (λ r. r.id) s.next.checkin s.lists.checkins;
+  }
+
+  old_voucher : (row old : Voucher) → voucher_at row.id s.lists ≡ Some old → AllIdsGoOn s (changed (PutVoucher row) s)
+  old_voucher row old stood = record {
+    items = same (λ r. r.id) s.next.item s.lists.catalogue.items;
+    variations = same (λ r. r.id) s.next.variation s.lists.catalogue.variations;
+    quotas = same (λ r. r.id) s.next.quota s.lists.catalogue.quotas;
+    vouchers = put_old (λ r. r.id) row old s.next.voucher s.lists.vouchers stood;
+    carts = same (λ r. r.id) s.next.cart s.lists.carts;
+    orders = same (λ r. r.id) s.next.order s.lists.orders;
+    positions = same (λ r. r.id) s.next.position s.lists.positions;
+    waiting = same (λ r. r.id) s.next.waiting s.lists.waiting;
+    checkin_lists = same (λ r. r.id) s.next.list s.lists.checkin_lists;
+    checkins = same (λ r. r.id) s.next.checkin s.lists.checkins;
+  }
+
+  drop_voucher : (id : ℕ) → AllIdsGoOn s (changed (DropVoucher id) s)
+  drop_voucher id = record {
+    items = same (λ r. r.id) s.next.item s.lists.catalogue.items;
+    variations = same (λ r. r.id) s.next.variation s.lists.catalogue.variations;
+    quotas = same (λ r. r.id) s.next.quota s.lists.catalogue.quotas;
+    vouchers = dropped (λ r. r.id) id s.next.voucher s.lists.vouchers;
+    carts = same (λ r. r.id) s.next.cart s.lists.carts;
+    orders = same (λ r. r.id) s.next.order s.lists.orders;
+    positions = same (λ r. r.id) s.next.position s.lists.positions;
+    waiting = same (λ r. r.id) s.next.waiting s.lists.waiting;
+    checkin_lists = same (λ r. r.id) s.next.list s.lists.checkin_lists;
+    checkins = same (λ r. r.id) s.next.checkin s.lists.checkins;
+  }
+
+  new_cart : (row : CartPos) → row.id ≡ s.next.cart → AllIdsGoOn s (with_cart row s)
+  new_cart row own = record {
+    items = same (λ r. r.id) s.next.item s.lists.catalogue.items;
+    variations = same (λ r. r.id) s.next.variation s.lists.catalogue.variations;
+    quotas = same (λ r. r.id) s.next.quota s.lists.catalogue.quotas;
+    vouchers = same (λ r. r.id) s.next.voucher s.lists.vouchers;
+    carts = put_new (λ r. r.id) row s.next.cart s.lists.carts own;
+    orders = same (λ r. r.id) s.next.order s.lists.orders;
+    positions = same (λ r. r.id) s.next.position s.lists.positions;
+    waiting = same (λ r. r.id) s.next.waiting s.lists.waiting;
+    checkin_lists = same (λ r. r.id) s.next.list s.lists.checkin_lists;
+    checkins = same (λ r. r.id) s.next.checkin s.lists.checkins;
+  }
+
+  drop_cart : (id : ℕ) → AllIdsGoOn s (changed (DropCart id) s)
+  drop_cart id = record {
+    items = same (λ r. r.id) s.next.item s.lists.catalogue.items;
+    variations = same (λ r. r.id) s.next.variation s.lists.catalogue.variations;
+    quotas = same (λ r. r.id) s.next.quota s.lists.catalogue.quotas;
+    vouchers = same (λ r. r.id) s.next.voucher s.lists.vouchers;
+    carts = dropped (λ r. r.id) id s.next.cart s.lists.carts;
+    orders = same (λ r. r.id) s.next.order s.lists.orders;
+    positions = same (λ r. r.id) s.next.position s.lists.positions;
+    waiting = same (λ r. r.id) s.next.waiting s.lists.waiting;
+    checkin_lists = same (λ r. r.id) s.next.list s.lists.checkin_lists;
+    checkins = same (λ r. r.id) s.next.checkin s.lists.checkins;
+  }
+
+  old_order : (row old : Order) → order_at row.id s.lists ≡ Some old → AllIdsGoOn s (changed (PutOrder row) s)
+  old_order row old stood = record {
+    items = same (λ r. r.id) s.next.item s.lists.catalogue.items;
+    variations = same (λ r. r.id) s.next.variation s.lists.catalogue.variations;
+    quotas = same (λ r. r.id) s.next.quota s.lists.catalogue.quotas;
+    vouchers = same (λ r. r.id) s.next.voucher s.lists.vouchers;
+    carts = same (λ r. r.id) s.next.cart s.lists.carts;
+    orders = put_old (λ r. r.id) row old s.next.order s.lists.orders stood;
+    positions = same (λ r. r.id) s.next.position s.lists.positions;
+    waiting = same (λ r. r.id) s.next.waiting s.lists.waiting;
+    checkin_lists = same (λ r. r.id) s.next.list s.lists.checkin_lists;
+    checkins = same (λ r. r.id) s.next.checkin s.lists.checkins;
+  }
+
+-- the order's id is used, and the next position gets this one
+abbrev numbered : ℕ → State → State
+numbered id s = record s { next = record s.next { order = s.next.order + 1; position = id } }
+
+new_order : (s : State) (row : Order) → row.id ≡ s.next.order → AllIdsGoOn s (numbered s.next.position (changed (PutOrder row) s))
+new_order s row own = record {
+  items = same (λ r. r.id) s.next.item s.lists.catalogue.items;
+  variations = same (λ r. r.id) s.next.variation s.lists.catalogue.variations;
+  quotas = same (λ r. r.id) s.next.quota s.lists.catalogue.quotas;
+  vouchers = same (λ r. r.id) s.next.voucher s.lists.vouchers;
+  carts = same (λ r. r.id) s.next.cart s.lists.carts;
+  orders = put_new (λ r. r.id) row s.next.order s.lists.orders own;
+  positions = same (λ r. r.id) s.next.position s.lists.positions;
+  waiting = same (λ r. r.id) s.next.waiting s.lists.waiting;
+  checkin_lists = same (λ r. r.id) s.next.list s.lists.checkin_lists;
+  checkins = same (λ r. r.id) s.next.checkin s.lists.checkins;
+}
+
+new_position : (s : State) (id : ℕ) (row : OrderPos) → row.id ≡ id → AllIdsGoOn (numbered id s) (numbered (id + 1) (changed (PutPosition row) s))
+new_position s id row own = record {
+  items = same (λ r. r.id) s.next.item s.lists.catalogue.items;
+  variations = same (λ r. r.id) s.next.variation s.lists.catalogue.variations;
+  quotas = same (λ r. r.id) s.next.quota s.lists.catalogue.quotas;
+  vouchers = same (λ r. r.id) s.next.voucher s.lists.vouchers;
+  carts = same (λ r. r.id) s.next.cart s.lists.carts;
+  orders = same (λ r. r.id) (s.next.order + 1) s.lists.orders;
+  positions = put_new (λ r. r.id) row id s.lists.positions own;
+  waiting = same (λ r. r.id) s.next.waiting s.lists.waiting;
+  checkin_lists = same (λ r. r.id) s.next.list s.lists.checkin_lists;
+  checkins = same (λ r. r.id) s.next.checkin s.lists.checkins;
+}
+
+new_variations : (rows : List Variation) (s : State) → AreFrom s.next.variation rows → AllIdsGoOn s (record s { lists = after_all (map PutVariation rows) s.lists; next = record s.next { variation = s.next.variation + length rows } })
+new_variations [] s from =
+    let none : s.next.variation ≡ s.next.variation + 0 = omega arith in
+    subst (λ (n : ℕ). AllIdsGoOn s (record s { next = record s.next { variation = n } })) none (all_same s)
+new_variations (row ∷ rows) s from =
+    let one = with_variation row s in
+    let end : s.next.variation + 1 + length rows ≡ s.next.variation + length (row ∷ rows) = omega arith in
+    let to : ℕ → State = λ n. record s { lists = after_all (map PutVariation (row ∷ rows)) s.lists; next = record s.next { variation = n } } in
+    subst (λ (n : ℕ). AllIdsGoOn s (to n)) end (all_more s one (to (s.next.variation + 1 + length rows)) (new_variation s row from.0) (new_variations rows one from.1))
+
+drop_carts : (ids : List ℕ) (s : State) → AllIdsGoOn s (without_carts ids s)
+drop_carts [] s = all_same s
+drop_carts (id ∷ ids) s = all_more s (changed (DropCart id) s) (without_carts (id ∷ ids) s) (drop_cart s id) (drop_carts ids (changed (DropCart id) s))
+
+new_positions : (rows : List OrderPos) (id : ℕ) (s put : State) → AreCounted id rows → with_positions rows (Ok s) ≡ Ok put → AllIdsGoOn (numbered id s) (numbered (id + length rows) put)
+new_positions [] id s put from h =
+    let end : id ≡ id + 0 = omega arith in
+    let is : s ≡ put = cc (h) in
+    subst (λ (n : ℕ). AllIdsGoOn (numbered id s) (numbered n put)) end (subst (λ (t : State). AllIdsGoOn (numbered id s) (numbered id t)) is (all_same (numbered id s)))
+new_positions (row ∷ rows) id s put from h = by_put (position_put row s) refl h (λ made. new_positions rows (id + 1) made put from.1)
+  where
+    by_put : (done : Result State OrderRefusal) → position_put row s ≡ done → with_positions rows done ≡ Ok put → ((made : State) → with_positions rows (Ok made) ≡ Ok put → AllIdsGoOn (numbered (id + 1) made) (numbered (id + 1 + length rows) put)) → AllIdsGoOn (numbered id s) (numbered (id + length (row ∷ rows)) put)
+    by_put (Err refusal) e h more = absurd (cc (h))
+    by_put (Ok made) e h more =
+        let end : id + 1 + length rows ≡ id + length (row ∷ rows) = omega arith in
+        let one : AllIdsGoOn (numbered id s) (numbered (id + 1) made) = subst (λ (t : State). AllIdsGoOn (numbered id s) (numbered (id + 1) t)) (put_is row s made e).is (new_position s id row from.0) in
+        subst (λ (n : ℕ). AllIdsGoOn (numbered id s) (numbered n put)) end (all_more (numbered id s) (numbered (id + 1) made) (numbered (id + 1 + length rows) put) one (more made h))
+
+-- ---- each command
+
+pub item_ids : (new : NewItem) (s : State) (rows : ItemRows) → item_added new s.next.item s.next.variation s.lists.catalogue ≡ Ok rows → AllIdsGoOn s (with_item rows s)
+item_ids new s rows h =
+    let a = item_added_is new s.next.item s.next.variation s.lists.catalogue rows h in
+    subst (λ (r : ItemRows). AllIdsGoOn s (with_item r s)) a.is_rows (with_rows (item_rows new s.next.item s.next.variation) refl (variation_rows_count new.variations s.next.item s.next.variation))
+  where
+    with_rows : (made : ItemRows) → made.item.id ≡ s.next.item → AreFrom s.next.variation made.variations → AllIdsGoOn s (with_item made s)
+    with_rows made own from =
+        let one : State = record s { lists = after_change (PutItem made.item) s.lists; next = record s.next { item = s.next.item + 1 } } in
+        all_more s one (with_item made s) (new_item s made.item own) (new_variations made.variations one from)
+
+pub item_change_ids : (id : ℕ) (patch : ItemPatch) (s : State) (row : Item) → item_changed id patch s.lists.catalogue ≡ Ok row → AllIdsGoOn s (changed (PutItem row) s)
+item_change_ids id patch s row h =
+    let c = item_changed_is id patch s.lists.catalogue row h in
+    let own : row.id ≡ id = sym (ap (λ (r : Item). r.id) c.is_row) ∙ key-row_at (λ (r : Item). r.id) id s.lists.catalogue.items c.old c.stood in
+    old_item s row c.old (ap (λ (n : ℕ). item_at n s.lists.catalogue) own ∙ c.stood)
+
+pub variation_ids : (item : ℕ) (new : NewVariation) (s : State) (made : PricedVariation) → variation_added item new s.next.variation s.lists.catalogue ≡ Ok made → AllIdsGoOn s (with_variation made.row s)
+variation_ids item new s made h =
+    let a = variation_added_is item new s.next.variation s.lists.catalogue made h in
+    new_variation s made.row (sym (ap (λ (m : PricedVariation). m.row.id) a.is_made))
+
+pub quota_ids : (new : NewQuota) (s : State) (row : Quota) → quota_added new s.next.quota s.lists.catalogue ≡ Ok row → AllIdsGoOn s (with_quota row s)
+quota_ids new s row h =
+    let a = quota_added_is new s.next.quota s.lists.catalogue row h in
+    new_quota s row (sym (ap (λ (r : Quota). r.id) a.is_row))
+
+pub resize_ids : (id : ℕ) (patch : QuotaPatch) (s : State) (row : Quota) → resized id patch s.lists.catalogue ≡ Ok row → AllIdsGoOn s (changed (PutQuota row) s)
+resize_ids id patch s row h =
+    let c = resized_is id patch s.lists.catalogue row h in
+    let own : row.id ≡ id = sym (ap (λ (r : Quota). r.id) c.is_row) ∙ key-row_at (λ (r : Quota). r.id) id s.lists.catalogue.quotas c.old c.stood in
+    old_quota s row c.old (ap (λ (n : ℕ). quota_at n s.lists.catalogue) own ∙ c.stood)
+
+pub made_ids : (new : NewVoucher) (draw : Draw) (s after : State) (row : Voucher) → voucher_made new draw s ≡ Ok (after, row) → AllIdsGoOn s after
+made_ids new draw s after row h =
+    let m = made_is new draw s after row h in
+    subst (λ (t : State). AllIdsGoOn s t) m.is_after (new_voucher s row (made_id new draw s after row m))
+
+pub changed_ids : (id : ℕ) (patch : VoucherPatch) (s after : State) (row : Voucher) → voucher_changed id patch s ≡ Ok (after, row) → AllIdsGoOn s after
+changed_ids id patch s after row h =
+    let c = changed_is id patch s after row h in
+    let own : row.id ≡ id = sym (ap (λ (r : Voucher). r.id) c.asked.is_row) ∙ key-row_at (λ (r : Voucher). r.id) id s.lists.vouchers c.old c.stood in
+    subst (λ (t : State). AllIdsGoOn s t) c.is_after (old_voucher s row c.old (ap (λ (n : ℕ). voucher_at n s.lists) own ∙ c.stood))
+
+pub deleted_ids : (id : ℕ) (s after : State) → voucher_deleted id s ≡ Ok after → AllIdsGoOn s after
+deleted_ids id s after h = subst (λ (t : State). AllIdsGoOn s t) (deleted_is id s after h).is_after (drop_voucher s id)
+
+pub dropped_ids : (id : ℕ) (s after : State) → position_dropped id s ≡ Ok after → AllIdsGoOn s after
+dropped_ids id s after h = subst (λ (t : State). AllIdsGoOn s t) (dropped_is id s after h) (drop_cart s id)
+
+-- the row of a new cart position has the next id
+module _ (new : NewCart) (draw : Draw) (s : State) (row : CartPos) where
+  id_if_sold : (sold : Result Sold VoucherRefusal) → row_of_sold new draw s sold ≡ Ok row → row.id ≡ s.next.cart
+  id_if_sold (Err refusal) h = absurd (cc (h))
+  id_if_sold (Ok sold) h = by_row _ h
+    where
+      by_row : (r : CartPos) → (let made : Result CartPos OrderRefusal = Ok r in made ≡ Ok row) → row.id ≡ r.id
+      by_row r e = let is : r ≡ row = cc (e) in ap (λ (x : CartPos). x.id) (sym is)
+
+  id_in_cart : (test : Result (Unit {0}) OrderRefusal) → row_in_cart new draw s test ≡ Ok row → row.id ≡ s.next.cart
+  id_in_cart (Err refusal) h = absurd (cc (h))
+  id_in_cart (Ok u) h = id_if_sold (sold_for new.asked s) h
+
+  cart_id_is : cart_row new draw s ≡ Ok row → row.id ≡ s.next.cart
+  unfolding cart_row
+  cart_id_is h = id_in_cart (cart_id_test new.cart_id) h
+
+pub added_ids : (new : NewCart) (draw : Draw) (s after : State) (row : CartPos) → position_added new draw s ≡ Ok (after, row) → AllIdsGoOn s after
+added_ids new draw s after row h =
+    let a = added_is new draw s after row h in
+    subst (λ (t : State). AllIdsGoOn s t) a.is_after (new_cart s row (cart_id_is new draw s row a.is_row))
+
+one_added : (new : NewCart) (draw : Draw) (s : State) (made : Result (State × CartPos) OrderRefusal) → position_added new draw s ≡ made → AllIdsGoOn s (outcome_of s made).0
+one_added new draw s (Err refusal) h = all_same s
+one_added new draw s (Ok (after, row)) h = added_ids new draw s after row h
+
+entry_ids : (entry : Entry) (draw : Draw) (s : State) → AllIdsGoOn s (entry_added entry draw s).0
+entry_ids (New new) draw s = one_added new draw s (position_added new draw s) refl
+entry_ids (Faulty fault) draw s = all_same s
+
+pub entries_ids : (entries : List Entry) (draw : Draw) (s : State) → AllIdsGoOn s (all_added entries draw s).0
+entries_ids [] draw s = all_same s
+entries_ids (entry ∷ entries) draw s =
+    let next = (entry_added entry draw s).0 in
+    all_more s next (all_added entries draw next).0 (entry_ids entry draw s) (entries_ids entries draw next)
+
+pub created_ids : (new : NewOrder) (draw : Draw) (s after : State) (made : OrderRows) → order_created new draw s ≡ Ok (after, made) → AllIdsGoOn s after
+created_ids new draw s after made h =
+    let m = created_is new draw s after made h in
+    let start = s.next.position in
+    let free = without_carts (consumed new.consume_carts s.lists) s in
+    let placed = with_order_row made.order new.consume_carts s in
+    let own : made.order.id ≡ s.next.order = sym (ap (λ (o : Order). o.id) m.is_order) in
+    let ordered : AllIdsGoOn s (numbered start placed) = all_more s free (numbered start placed) (drop_carts (consumed new.consume_carts s.lists) s) (new_order free made.order own) in
+    let end = numbered (start + length made.positions) m.put in
+    let all : AllIdsGoOn s end = all_more s (numbered start placed) end ordered (new_positions made.positions start placed m.put (counted draw s start 1 new.positions made.positions m.are_rows) m.puts) in
+    let next = puts_next made.positions placed m.put m.puts in
+    subst (λ (t : State). AllIdsGoOn s t) m.is_after (subst (λ (n : ℕ). AllIdsGoOn s (numbered n m.put)) (ap (λ (x : NextIds). x.position + length made.positions) (sym next)) all)
+
+pub moved_ids : (number : ℕ) (change : Move) (s after : State) (rows : OrderRows) → order_moved number change s ≡ Ok (after, rows) → AllIdsGoOn s after
+moved_ids number change s after rows h =
+    let m = moved_is number change s after rows h in
+    let id : m.old.id ≡ number = found_id number s.lists.orders m.old m.stood in
+    let row : rows.order.id ≡ m.old.id = sym (ap (λ (o : Order). o.id) m.is_row) in
+    subst (λ (t : State). AllIdsGoOn s t) m.is_after (old_order s rows.order m.old (ap (λ n. order_at n s.lists) (row ∙ id) ∙ m.stood))

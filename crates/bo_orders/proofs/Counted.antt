@@ -1,0 +1,146 @@
+-- The positions of a new order: as many as are asked for, numbered from 1, each with a secret of its own.
+use Rattle.std.proofs.Common.{◌≡◌, ◌≢◌, ℕ, ◌+◌, ◌<◌, ◌≤◌, Bool, true, false, List, [], ◌∷◌, ◌++◌, append_assoc, append-nil, length, map, Option, Some, None, Result, Ok, Err, eqb, refl, sym, ap, ◌∙◌, subst, subst₂, arith}
+use Rattle.std.specs.Prelude.{is_some, nat_lt, if◌then◌else◌}
+use Rattle.std.specs.List.{AllByRecursion}
+use Rattle.std.proofs.lemmas.Bool.Decides.{nat_tests}
+use Rattle.bo_base.specs.Tables.{row_at, with_row}
+use Rattle.bo_base.specs.declared.draw.Draw.{Draw}
+use Rattle.bo_lists.specs.declared.rows.Order.{Order}
+use Rattle.bo_lists.specs.declared.rows.OrderPos.{OrderPos}
+use Rattle.bo_lists.specs.declared.rows.OrderRows.{OrderRows}
+use Rattle.bo_lists.specs.declared.changes.Change.TheVariants.{DropCart}
+use Rattle.bo_lists.specs.Lists.{State}
+use Rattle.bo_lists.specs.Change.{after_all}
+use Rattle.bo_lists.proofs.EachRow.{all_weaker, all-with_row, found_below}
+use Rattle.bo_sound.specs.Ids.{AreNumbered}
+use Rattle.bo_sound.specs.Positions.{most_positions, CountFrom, AreWhole, AllHavePositions, AreOrdered}
+use Rattle.bo_sound.specs.Secrets.{has_own_secret}
+use Rattle.bo_sound.proofs.Positions.{last_put, whole_created}
+use Rattle.bo_sound.proofs.Secrets.{made_ends}
+use Rattle.bo_vouchers.specs.declared.refusal.VoucherRefusal.{VoucherRefusal}
+use Rattle.bo_orders.specs.declared.new_order.NewOrder.{NewOrder}
+use Rattle.bo_orders.specs.declared.sold.Asked.{Asked}
+use Rattle.bo_orders.specs.declared.sold.Sold.{Sold}
+use Rattle.bo_orders.specs.declared.refusal.OrderRefusal.{OrderRefusal}
+use Rattle.bo_orders.specs.declared.refusal.OrderRefusal.TheVariants.{Empty, TooMany}
+use Rattle.bo_orders.specs.Sold.{sold_for}
+use Rattle.bo_orders.specs.Created.{position_row, position_of_sold, position_for, and_rows, rows_for, position_put, with_positions, AreCounted, counts_test, created_if, order_created}
+use Rattle.bo_orders.proofs.Puts.{put_is, carts_keep_orders, carts_keep_positions}
+
+-- an order that is made asks for 1 to 500 positions
+record AreFew (new : NewOrder) : Type 0 where
+  some : 0 < length new.positions
+  few : length new.positions ≤ most_positions
+
+module _ (new : NewOrder) where
+  abbrev Passes : Result (Unit {0}) OrderRefusal → Type 0
+  Passes result = result ≡ Ok tt
+
+  abbrev carts_test : Result (Unit {0}) OrderRefusal
+  carts_test = if nat_lt most_positions (length new.consume_carts) then Err TooMany else Ok tt
+
+  by_many : (b : Bool) → nat_lt most_positions (length new.positions) ≡ b → 0 < length new.positions → Passes (if b then Err TooMany else carts_test) → AreFew new
+  by_many true e some h = absurd (cc)
+  by_many false e some h = record { some = some; few = grind (arith, nat_tests, e) }
+
+  by_none : (b : Bool) → eqb (length new.positions) 0 ≡ b → Passes (if b then Err Empty else (if nat_lt most_positions (length new.positions) then Err TooMany else carts_test)) → AreFew new
+  by_none true e h = absurd (cc)
+  by_none false e h = by_many (nat_lt most_positions (length new.positions)) refl (grind (arith, nat_tests, e)) h
+
+  are_few : Passes (counts_test new) → AreFew new
+  are_few h = by_none (eqb (length new.positions) 0) refl h
+
+  module _ (draw : Draw) (before : State) (made : State × OrderRows) where
+    by_counts : (counts : Result (Unit {0}) OrderRefusal) → counts_test new ≡ counts → created_if new draw before counts ≡ Ok made → AreFew new
+    by_counts (Err refusal) e h = absurd (cc)
+    by_counts (Ok u) e h = are_few e
+
+    created_few : order_created new draw before ≡ Ok made → AreFew new
+    unfolding order_created
+    created_few h = by_counts (counts_test new) refl h
+
+-- the rows of what is asked for: their numbers count on, their secrets end in them, and there are as many
+pub record AreRows (number : ℕ) (asked : List Asked) (rows : List OrderPos) : Type 0 where
+  pub counted : CountFrom number rows
+  pub secrets : AllByRecursion (λ p. has_own_secret p ≡ true) rows
+  pub all : length rows ≡ length asked
+
+module _ (draw : Draw) (state : State) where
+  numbered_sold : (id number : ℕ) (sold : Result Sold VoucherRefusal) (row : OrderPos) → position_of_sold draw state.next.order id number sold ≡ Ok row → (row.positionid ≡ number) × (has_own_secret row ≡ true)
+  numbered_sold id number (Err refusal) row h = absurd (cc (h))
+  numbered_sold id number (Ok sold) row h =
+      let same : position_row draw state.next.order id number sold ≡ row = cc (h) in
+      subst (λ (r : OrderPos). (r.positionid ≡ number) × (has_own_secret r ≡ true)) same (refl, made_ends draw state.next.order number)
+
+  numbered_row : (id number : ℕ) (asked : Asked) (row : OrderPos) → position_for draw state id number asked ≡ Ok row → (row.positionid ≡ number) × (has_own_secret row ≡ true)
+  unfolding position_for
+  numbered_row id number asked row h = numbered_sold id number (sold_for asked state) row h
+
+  both : (id number : ℕ) (asked : Asked) (others : List Asked) (first : Result OrderPos OrderRefusal) → position_for draw state id number asked ≡ first → (rest : Result (List OrderPos) OrderRefusal) → ((rows : List OrderPos) → rest ≡ Ok rows → AreRows (number + 1) others rows) → (rows : List OrderPos) → and_rows first rest ≡ Ok rows → AreRows number (asked ∷ others) rows
+  both id number asked others (Err refusal) e rest more rows h = absurd (cc (h))
+  both id number asked others (Ok row) e (Err refusal) more rows h = absurd (cc (h))
+  both id number asked others (Ok row) e (Ok rest_rows) more rows h =
+      let same : (row ∷ rest_rows) ≡ rows = cc (h) in
+      let first = numbered_row id number asked row e in
+      let rest = more rest_rows refl in
+      subst (AreRows number (asked ∷ others)) same (record { counted = (first.0, rest.counted); secrets = (first.1, rest.secrets); all = omega (arith, rest.all) })
+
+  pub are_rows : (id number : ℕ) (asked : List Asked) (rows : List OrderPos) → rows_for draw state id number asked ≡ Ok rows → AreRows number asked rows
+  are_rows id number [] rows h = let same : [] ≡ rows = cc (h) in subst (AreRows number []) same (record { counted = tt; secrets = tt; all = refl })
+  are_rows id number (entry ∷ more) rows h = both id number entry more (position_for draw state id number entry) refl (rows_for draw state (id + 1) (number + 1) more) (are_rows (id + 1) (number + 1) more) rows h
+
+-- puts leave the orders, and put the positions behind those that stand
+record StandBehind (rows : List OrderPos) (state put : State) : Type 0 where
+  orders : put.lists.orders ≡ state.lists.orders
+  positions : put.lists.positions ≡ state.lists.positions ++ rows
+
+stand_behind : (rows : List OrderPos) (id : ℕ) (state put : State) → AreCounted id rows → AllByRecursion (λ r. r.id < id) state.lists.positions → with_positions rows (Ok state) ≡ Ok put → StandBehind rows state put
+stand_behind [] id state put counted below h =
+    let same : state ≡ put = cc (h) in
+    record { orders = ap (λ (s : State). s.lists.orders) (sym same); positions = ap (λ (s : State). s.lists.positions) (sym same) ∙ sym (append-nil state.lists.positions) }
+stand_behind (row ∷ rows) id state put counted below h = by_put (position_put row state) refl h (λ made on. stand_behind rows (id + 1) made put counted.1 on)
+  where
+    by_put : (done : Result State OrderRefusal) → position_put row state ≡ done → with_positions rows done ≡ Ok put → ((made : State) → AllByRecursion (λ r. r.id < id + 1) made.lists.positions → with_positions rows (Ok made) ≡ Ok put → StandBehind rows made put) → StandBehind (row ∷ rows) state put
+    by_put (Err refusal) e h more = absurd (cc (h))
+    by_put (Ok made) e h more =
+        let is = (put_is row state made e).is in
+        let later = all-with_row (λ r. r.id) (λ r. r.id < id + 1) row state.lists.positions (omega (arith, counted.0)) (all_weaker (λ r. r.id < id) (λ r. r.id < id + 1) (λ r lt. omega (arith, lt)) state.lists.positions below) in
+        let rest = more made (subst (λ (s : State). AllByRecursion (λ r. r.id < id + 1) s.lists.positions) is later) h in
+        let above = all_weaker (λ r. r.id < id) (λ r. r.id < row.id) (λ r lt. omega (arith, lt, counted.0)) state.lists.positions below in
+        let behind : made.lists.positions ≡ state.lists.positions ++ (row ∷ []) = ap (λ (s : State). s.lists.positions) (sym is) ∙ last_put row state.lists.positions above in
+        record {
+          orders = rest.orders ∙ ap (λ (s : State). s.lists.orders) (sym is);
+          positions = rest.positions ∙ ap (λ (ps : List OrderPos). ps ++ rows) behind ∙ append_assoc state.lists.positions (row ∷ []) rows;
+        }
+
+-- no position is of an order that isn't there yet
+none_of_next : (next : ℕ) (orders : List Order) (positions : List OrderPos) → AllByRecursion (λ o. o.id < next) orders → AllByRecursion (λ p. is_some (row_at (λ o. o.id) p.order orders) ≡ true) positions → AllByRecursion (λ p. p.order ≢ next) positions
+none_of_next next orders positions below stand = all_weaker (λ p. is_some (row_at (λ o. o.id) p.order orders) ≡ true) (λ p. p.order ≢ next) (λ p e. other p.order e) positions stand
+  where
+    by_found : (order : ℕ) (found : Option Order) → row_at (λ o. o.id) order orders ≡ found → is_some found ≡ true → order ≢ next
+    by_found order None e s = absurd (cc)
+    by_found order (Some o) e s = λ same. omega (arith, same, found_below (λ (o : Order). o.id) order next orders o e below)
+
+    other : (order : ℕ) → is_some (row_at (λ o. o.id) order orders) ≡ true → order ≢ next
+    other order e = by_found order (row_at (λ o. o.id) order orders) refl e
+
+-- so where each order had its positions, each has them with the new order and its rows
+pub created_whole : (new : NewOrder) (draw : Draw) (before : State) (made : State × OrderRows) (row : Order) (rows : List OrderPos) (ids : List ℕ) (put : State) → order_created new draw before ≡ Ok made
+    → AreNumbered (λ r. r.id) before.next.order before.lists.orders → AreNumbered (λ r. r.id) before.next.position before.lists.positions → AreOrdered before.lists.orders before.lists.positions
+    → row.id ≡ before.next.order → rows_for draw before before.next.position 1 new.positions ≡ Ok rows → AreCounted before.next.position rows → AllByRecursion (λ p. p.order ≡ before.next.order) rows
+    → with_positions rows (Ok (record before { lists = record (after_all (map DropCart ids) before.lists) { orders = with_row (λ r. r.id) row (after_all (map DropCart ids) before.lists).orders } })) ≡ Ok put
+    → AllHavePositions put.lists.orders put.lists.positions
+created_whole new draw before made row rows ids put done orders positions ordered id asked counted own puts =
+    let few = created_few new draw before made done in
+    let are = are_rows draw before before.next.position 1 new.positions rows asked in
+    let keeps = carts_keep_positions ids before.lists in
+    let behind = stand_behind rows before.next.position (record before { lists = record (after_all (map DropCart ids) before.lists) { orders = with_row (λ r. r.id) row (after_all (map DropCart ids) before.lists).orders } }) put counted (subst (λ (ps : List OrderPos). AllByRecursion (λ p. p.id < before.next.position) ps) (sym keeps) positions.below) puts in
+    let whole : AreWhole rows = record { some = omega (arith, are.all, few.some); few = omega (arith, are.all, few.few); counted = are.counted } in
+    subst₂ (λ (os : List Order) (ps : List OrderPos). AllHavePositions os ps)
+    (sym (behind.orders ∙ ap (λ (os : List Order). with_row (λ r. r.id) row os) (carts_keep_orders ids before.lists)))
+    (sym (behind.positions ∙ ap (λ (ps : List OrderPos). ps ++ rows) keeps))
+    (whole_created row before.lists.orders before.lists.positions rows
+    (subst (λ (n : ℕ). AllByRecursion (λ o. o.id < n) before.lists.orders) (sym id) orders.below)
+    (subst (λ (n : ℕ). AllByRecursion (λ p. p.order ≢ n) before.lists.positions) (sym id) (none_of_next before.next.order before.lists.orders before.lists.positions orders.below ordered.each.stand))
+    (subst (λ (n : ℕ). AllByRecursion (λ p. p.order ≡ n) rows) (sym id) own)
+    whole ordered.whole)

@@ -1,0 +1,13 @@
+pub mod Ids
+pub mod Range
+pub mod Few
+pub mod Members
+pub mod Targets
+pub mod Varied
+pub mod Reserved
+pub mod OwnCodes
+pub mod Secrets
+pub mod Positions
+pub mod Sent
+pub mod Sound
+pub mod Checkins

@@ -1,0 +1,5 @@
+//! What holds of every box office at its moment, and what keeps it so.
+#![tactic(auto)]
+
+pub mod laws;
+pub mod reserved;

@@ -1,0 +1,5 @@
+use Rattle.bo_vouchers.proofs.OwnCodes.{next_code_free}
+use Rattle.bo_vouchers.proofs.laws.made_codes_are_free.Goals as goal
+
+pub returns : goal.returns
+returns c = next_code_free
