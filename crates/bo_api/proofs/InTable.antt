@@ -4,11 +4,11 @@ use Rattle.matchit.proofs.OnLiterals.{matchit_on_literals}
 use Rattle.bo_api.specs.declared.routes.Route.{Route}
 use Rattle.bo_api.specs.declared.routes.Route.TheVariants as routes
 use Rattle.bo_bodies.specs.declared.form.MoveName.TheVariants as names
-use Rattle.bo_api.specs.Routes.{all_routes, catalogue_routes, sale_routes, order_routes, with_route}
+use Rattle.bo_api.specs.Routes.{all_routes, catalogue_routes, sale_routes, order_routes, waiting_routes, door_routes, with_route}
 use Rattle.bo_api.specs.Table.{IsInTable}
 
 pub in_table : (route : Route) → IsInTable route
-unfolding matchit_on_literals all_routes catalogue_routes sale_routes order_routes with_route
+unfolding matchit_on_literals all_routes catalogue_routes sale_routes order_routes waiting_routes door_routes with_route
 in_table routes.Items = record { scan = _; read = refl; held = refl }
 in_table routes.Item = record { scan = _; read = refl; held = refl }
 in_table routes.Variations = record { scan = _; read = refl; held = refl }
@@ -27,3 +27,12 @@ in_table (routes.Move names.MarkPending) = record { scan = _; read = refl; held 
 in_table (routes.Move names.MarkExpired) = record { scan = _; read = refl; held = refl }
 in_table (routes.Move names.MarkCanceled) = record { scan = _; read = refl; held = refl }
 in_table (routes.Move names.Extend) = record { scan = _; read = refl; held = refl }
+in_table routes.WaitingEntries = record { scan = _; read = refl; held = refl }
+in_table routes.WaitingEntry = record { scan = _; read = refl; held = refl }
+in_table routes.SendVoucher = record { scan = _; read = refl; held = refl }
+in_table routes.Periodic = record { scan = _; read = refl; held = refl }
+in_table routes.CheckinLists = record { scan = _; read = refl; held = refl }
+in_table routes.CheckinList = record { scan = _; read = refl; held = refl }
+in_table routes.Status = record { scan = _; read = refl; held = refl }
+in_table routes.Tickets = record { scan = _; read = refl; held = refl }
+in_table routes.Redeem = record { scan = _; read = refl; held = refl }

@@ -2,6 +2,7 @@ pub mod Added
 pub mod Utf8
 pub mod OrderNames
 pub mod InTable
+pub mod Secrets
 pub mod Seeking
 pub mod RoutePaths
 pub mod ShopPaths

@@ -1,5 +1,5 @@
 -- That the path of a page reads back as that page of that list.
-use Rattle.std.proofs.Common.{◌≡◌, ◌≢◌, ℕ, ◌<◌, ◌≤◌, ◌^◌, List, [], ◌∷◌, ◌++◌, length, Some, true, false, nat_lt, nat_le, refl, ap, ◌∙◌, arith, codes, All, lit<}
+use Rattle.std.proofs.Common.{◌≡◌, ◌≢◌, ℕ, ◌<◌, ◌≤◌, ◌==◌, ◌^◌, List, [], ◌∷◌, ◌++◌, length, Some, true, false, nat_lt, nat_le, refl, ap, ◌∙◌, arith, codes, All, lit<}
 use Rattle.std.specs.List.{list_all}
 use Rattle.std.specs.Fmt.{decimal}
 use Rattle.std.specs.Char.{is_ascii_digit}
@@ -19,11 +19,13 @@ use Rattle.bo_commands.specs.declared.requests.Resource.{Resource}
 use Rattle.bo_commands.specs.declared.requests.Resource.TheVariants as resources
 use Rattle.bo_words.specs.Pages.{page_path, resource_path}
 use Rattle.bo_api.specs.declared.path.Target.TheVariants as targets
+use Rattle.bo_api.specs.declared.routes.Route.{Route}
 use Rattle.bo_api.specs.declared.routes.Route.TheVariants as routes
-use Rattle.bo_api.specs.Page.{decoded, page_in, page_of}
-use Rattle.bo_api.specs.Path.{in_shop, query_of, target_of}
-use Rattle.bo_api.specs.Table.{IsName, has}
-use Rattle.bo_api.proofs.ShopPaths.{named_with_query, query_behind, shop_unmarked}
+use Rattle.bo_api.specs.Page.{IsNamed, decoded, page_in, page_of}
+use Rattle.bo_api.specs.Path.{◌>>=◌, in_shop, query_of, target_by, target_of}
+use Rattle.matchit.specs.Level.{IsText}
+use Rattle.bo_api.specs.Table.{IsName, IsSegment, has, path_with}
+use Rattle.bo_api.proofs.ShopPaths.{has_append, named_with_query, query_behind, shop_unmarked}
 
 -- what holds of each digit
 each_digit : (P : ℕ → Type 0) → ((c : ℕ) → 48 ≤ c → c ≤ 57 → P c) → (ds : List ℕ) → AllDigits 10 ds → All P ds
@@ -90,44 +92,104 @@ path_grouped : (organizer event : List ℕ) (resource : Resource) (number : ℕ)
 unfolding page_path
 path_grouped organizer event resource number = append_assoc (in_shop organizer event (resource_path resource)) (codes "?page=") (decimal number)
 
-list_unmarked : (resource : Resource) → has 63 (resource_path resource) ≡ false
-list_unmarked resources.Items = refl
-list_unmarked resources.Quotas = refl
-list_unmarked resources.Vouchers = refl
-list_unmarked resources.Carts = refl
-list_unmarked resources.Orders = refl
+-- digits lack what is no digit
+lacks : (byte : ℕ) → ((c : ℕ) → 48 ≤ c → c ≤ 57 → (c == byte) ≡ false) → (ds : List ℕ) → AllDigits 10 ds → has byte ds ≡ false
+lacks byte is [] h = refl
+lacks byte is (c ∷ ds) h =
+    let digit = digit_at (c ∷ []) 0 (h.0, tt) (lit< tt) in
+    rw (is c digit.0 digit.1) (lacks byte is ds h.1)
 
-pub page_back : (organizer event : List ℕ) (resource : Resource) (number : ℕ) → has 63 organizer ≡ false → has 63 event ≡ false → number < 10 ^ 18
+number_lacks : (byte n : ℕ) → n < 2 ^ 64 → ((c : ℕ) → 48 ≤ c → c ≤ 57 → (c == byte) ≡ false) → has byte (decimal n) ≡ false
+number_lacks byte n h is = lacks byte is (decimal n) (decimal_is_IsNumeral n h).0.1
+
+-- the number of a check-in list, between what stands before it and behind it
+between_unmarked : (front text back : List ℕ) → has 63 front ≡ false → has 63 text ≡ false → has 63 back ≡ false → has 63 (front ++ text ++ back) ≡ false
+between_unmarked front text back f t b = has_append 63 (front ++ text) back (has_append 63 front text f t) b
+
+list_unmarked : (resource : Resource) → IsNamed resource → has 63 (resource_path resource) ≡ false
+list_unmarked resources.Items h = refl
+list_unmarked resources.Quotas h = refl
+list_unmarked resources.Vouchers h = refl
+list_unmarked resources.Carts h = refl
+list_unmarked resources.Orders h = refl
+list_unmarked resources.WaitingEntries h = refl
+list_unmarked resources.CheckinLists h = refl
+list_unmarked (resources.Tickets door) h =
+    let few : door < 10 ^ 18 = h in
+    let wide : door < 2 ^ 64 = omega arith in
+    between_unmarked (codes "/checkinlists/") (decimal door) (codes "/positions/") refl (number_lacks 63 door wide (λ c low high. grind (arith, nat_tests))) refl
+
+pub page_back : (organizer event : List ℕ) (resource : Resource) (number : ℕ) → IsNamed resource → has 63 organizer ≡ false → has 63 event ≡ false → number < 10 ^ 18
     → page_of (page_path organizer event resource number) ≡ Some number
 unfolding page_of
-page_back organizer event resource number o e h =
+page_back organizer event resource number named o e h =
     let wide : number < 2 ^ 64 = omega arith in
     let query : query_of (page_path organizer event resource number) ≡ codes "page=" ++ decimal number =
     ap query_of (path_grouped organizer event resource number)
-    ∙ query_behind (in_shop organizer event (resource_path resource)) (codes "page=" ++ decimal number) (shop_unmarked organizer event (resource_path resource) o e (list_unmarked resource)) in
+    ∙ query_behind (in_shop organizer event (resource_path resource)) (codes "page=" ++ decimal number) (shop_unmarked organizer event (resource_path resource) o e (list_unmarked resource named)) in
     ap (λ q. page_in (raw_pairs q)) query ∙ ap page_in (one_pair number wide) ∙ pair_read number h
 
 -- a name, for the routes that read none
-some_name : IsName (codes "1")
+some_segment : IsSegment (codes "1")
 unfolding lib.Utf8.encode
-some_name = record {
+some_segment = record {
   some = lit< tt;
   bytes = (lit< tt, tt);
   utf8 = (codes "1", (refl, refl));
   slash = refl;
   mark = refl;
+}
+
+some_name : IsName (codes "1")
+some_name = record {
+  segment = some_segment;
   other = λ e. let lengths : 1 ≡ 11 = ap length e in omega arith;
 }
 
-list_named : (organizer event query : List ℕ) (resource : Resource) → has 63 organizer ≡ false → has 63 event ≡ false
-    → target_of organizer event (in_shop organizer event (resource_path resource) ++ 63 ∷ query) ≡ Some (targets.All resource)
-list_named organizer event query resources.Items o e = named_with_query organizer event (codes "1") query routes.Items some_name o e
-list_named organizer event query resources.Quotas o e = named_with_query organizer event (codes "1") query routes.Quotas some_name o e
-list_named organizer event query resources.Vouchers o e = named_with_query organizer event (codes "1") query routes.Vouchers some_name o e
-list_named organizer event query resources.Carts o e = named_with_query organizer event (codes "1") query routes.CartPositions some_name o e
-list_named organizer event query resources.Orders o e = named_with_query organizer event (codes "1") query routes.Orders some_name o e
+digits_text : (ds : List ℕ) → AllDigits 10 ds → IsText ds
+digits_text [] h = tt
+digits_text (c ∷ ds) h =
+    let digit = digit_at (c ∷ []) 0 (h.0, tt) (lit< tt) in
+    let small : c < 256 = let high : c ≤ 57 = digit.1 in omega arith in
+    (small, digits_text ds h.1)
 
-pub list_back : (organizer event : List ℕ) (resource : Resource) (number : ℕ) → has 63 organizer ≡ false → has 63 event ≡ false
+-- a number is a name
+number_named : (n : ℕ) → n < 2 ^ 64 → IsName (decimal n)
+number_named n h =
+    let numeral = decimal_is_IsNumeral n h in
+    let b : has 98 (decimal n) ≡ false = number_lacks 98 n h (λ c low high. grind (arith, nat_tests)) in
+    record {
+      segment = record {
+        some = numeral.0.0;
+        bytes = digits_text (decimal n) numeral.0.1;
+        utf8 = IsUtf8-from_ascii (decimal n) (IsAscii-decimal n h);
+        slash = number_lacks 47 n h (λ c low high. grind (arith, nat_tests));
+        mark = number_lacks 63 n h (λ c low high. grind (arith, nat_tests));
+      };
+      other = λ e. let t : has 98 (codes "bulk_create") ≡ false = rw e at b in cc;
+    }
+
+-- the path of a list names it, whatever query follows
+by_name : (organizer event name query : List ℕ) (route : Route) → IsName name → has 63 organizer ≡ false → has 63 event ≡ false
+    → target_of organizer event (in_shop organizer event (path_with name (codes "1") route) ++ 63 ∷ query) ≡ target_by (Some name) route
+by_name organizer event name query route n o e = named_with_query organizer event name (codes "1") query route n some_segment o e
+
+list_named : (organizer event query : List ℕ) (resource : Resource) → IsNamed resource → has 63 organizer ≡ false → has 63 event ≡ false
+    → target_of organizer event (in_shop organizer event (resource_path resource) ++ 63 ∷ query) ≡ Some (targets.All resource)
+list_named organizer event query resources.Items h o e = by_name organizer event (codes "1") query routes.Items some_name o e
+list_named organizer event query resources.Quotas h o e = by_name organizer event (codes "1") query routes.Quotas some_name o e
+list_named organizer event query resources.Vouchers h o e = by_name organizer event (codes "1") query routes.Vouchers some_name o e
+list_named organizer event query resources.Carts h o e = by_name organizer event (codes "1") query routes.CartPositions some_name o e
+list_named organizer event query resources.Orders h o e = by_name organizer event (codes "1") query routes.Orders some_name o e
+list_named organizer event query resources.WaitingEntries h o e = by_name organizer event (codes "1") query routes.WaitingEntries some_name o e
+list_named organizer event query resources.CheckinLists h o e = by_name organizer event (codes "1") query routes.CheckinLists some_name o e
+list_named organizer event query (resources.Tickets door) h o e =
+    let few : door < 10 ^ 18 = h in
+    let wide : door < 2 ^ 64 = omega arith in
+    by_name organizer event (decimal door) query routes.Tickets (number_named door wide) o e
+    ∙ ap (λ id. id >>= λ n. Some (targets.All (resources.Tickets n))) (number_back door h)
+
+pub list_back : (organizer event : List ℕ) (resource : Resource) (number : ℕ) → IsNamed resource → has 63 organizer ≡ false → has 63 event ≡ false
     → target_of organizer event (page_path organizer event resource number) ≡ Some (targets.All resource)
-list_back organizer event resource number o e =
-    ap (target_of organizer event) (path_grouped organizer event resource number) ∙ list_named organizer event (codes "page=" ++ decimal number) resource o e
+list_back organizer event resource number h o e =
+    ap (target_of organizer event) (path_grouped organizer event resource number) ∙ list_named organizer event (codes "page=" ++ decimal number) resource h o e

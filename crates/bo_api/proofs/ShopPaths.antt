@@ -11,8 +11,8 @@ use Rattle.std.proofs.Math.Seq.{take-append_seam, drop-append_seam, drop-append-
 use Rattle.bo_api.specs.declared.routes.Route.{Route}
 use Rattle.bo_api.specs.declared.routes.Route.TheVariants as routes
 use Rattle.bo_bodies.specs.declared.form.MoveName.TheVariants as names
-use Rattle.bo_api.specs.Table.{IsName, has, path_with}
-use Rattle.bo_api.specs.Path.{after, within, path_of, query_of, mark_of, up_to, behind, segment, target_by, target_of, in_shop}
+use Rattle.bo_api.specs.Table.{IsName, IsSegment, has, path_with}
+use Rattle.bo_api.specs.Path.{after, within, path_of, query_of, mark_of, up_to, behind, segment, target_by, target_of, ticket_named, in_shop}
 use Rattle.bo_api.proofs.RoutePaths.{path_route}
 
 mark_step : (c x : ℕ) (xs : List ℕ) (v : Bool) → (x == c) ≡ v → has c (x ∷ xs) ≡ false
@@ -51,7 +51,7 @@ path_before path query h = ap (up_to (path ++ 63 ∷ query)) (marked path query 
 pub query_behind : (path query : List ℕ) → has 63 path ≡ false → query_of (path ++ 63 ∷ query) ≡ query
 query_behind path query h = ap (behind (path ++ 63 ∷ query)) (marked path query h) ∙ drop-append-add path (63 ∷ query) 1
 
-has_append : (c : ℕ) (xs ys : List ℕ) → has c xs ≡ false → has c ys ≡ false → has c (xs ++ ys) ≡ false
+pub has_append : (c : ℕ) (xs ys : List ℕ) → has c xs ≡ false → has c ys ≡ false → has c (xs ++ ys) ≡ false
 has_append c xs ys a b = list_any-append (λ x. x == c) xs ys ∙ rw (a, b) refl
 
 after_front : (front rest : List ℕ) → after front (front ++ rest) ≡ Some rest
@@ -84,51 +84,83 @@ second front id rest f i =
     ap (λ (parts : List (List ℕ)). slice_get parts 1) (slice_split_at (λ b. b == 47) front 47 (id ++ 47 ∷ rest) (no_slash front f) refl)
     ∙ ap (λ (parts : List (List ℕ)). slice_get parts 0) (slice_split_at (λ b. b == 47) id 47 rest (no_slash id i) refl)
 
+-- the text between the fourth slash and the fifth
+fourth : (front id mid ticket rest : List ℕ) → has 47 front ≡ false → has 47 id ≡ false → has 47 mid ≡ false → has 47 ticket ≡ false
+    → segment 4 (47 ∷ (front ++ 47 ∷ (id ++ 47 ∷ (mid ++ 47 ∷ (ticket ++ 47 ∷ rest))))) ≡ Some ticket
+fourth front id mid ticket rest f i m t =
+    ap (λ (parts : List (List ℕ)). slice_get parts 3) (slice_split_at (λ b. b == 47) front 47 (id ++ 47 ∷ (mid ++ 47 ∷ (ticket ++ 47 ∷ rest))) (no_slash front f) refl)
+    ∙ ap (λ (parts : List (List ℕ)). slice_get parts 2) (slice_split_at (λ b. b == 47) id 47 (mid ++ 47 ∷ (ticket ++ 47 ∷ rest)) (no_slash id i) refl)
+    ∙ ap (λ (parts : List (List ℕ)). slice_get parts 1) (slice_split_at (λ b. b == 47) mid 47 (ticket ++ 47 ∷ rest) (no_slash mid m) refl)
+    ∙ ap (λ (parts : List (List ℕ)). slice_get parts 0) (slice_split_at (λ b. b == 47) ticket 47 rest (no_slash ticket t) refl)
+
+-- what stands in the place of the ticket is what a scan reads
+ticket_read : (id ticket : List ℕ) → IsName id → IsSegment ticket → segment 4 (path_with id ticket routes.Redeem) ≡ Some ticket
+ticket_read id ticket n s = fourth (codes "checkinlists") id (codes "positions") ticket (codes "redeem/") refl n.segment.slash refl s.slash
+
 -- what stands in the place of the id is what the route reads
-place_read : (route : Route) (id : List ℕ) → IsName id → target_by (segment 2 (path_with id route)) route ≡ target_by (Some id) route
-place_read routes.Items id n = refl
-place_read routes.Quotas id n = refl
-place_read routes.Vouchers id n = refl
-place_read routes.CartPositions id n = refl
-place_read routes.BulkCreate id n = refl
-place_read routes.Orders id n = refl
-place_read routes.Item (b ∷ id) n = ap (λ text. target_by text routes.Item) (second (codes "items") (b ∷ id) [] refl n.slash)
-place_read routes.Variations (b ∷ id) n = ap (λ text. target_by text routes.Variations) (second (codes "items") (b ∷ id) (codes "variations/") refl n.slash)
-place_read routes.Quota (b ∷ id) n = ap (λ text. target_by text routes.Quota) (second (codes "quotas") (b ∷ id) [] refl n.slash)
-place_read routes.Availability (b ∷ id) n = ap (λ text. target_by text routes.Availability) (second (codes "quotas") (b ∷ id) (codes "availability/") refl n.slash)
-place_read routes.Voucher (b ∷ id) n = ap (λ text. target_by text routes.Voucher) (second (codes "vouchers") (b ∷ id) [] refl n.slash)
-place_read routes.CartPosition (b ∷ id) n = ap (λ text. target_by text routes.CartPosition) (second (codes "cartpositions") (b ∷ id) [] refl n.slash)
-place_read routes.Order (b ∷ id) n = ap (λ text. target_by text routes.Order) (second (codes "orders") (b ∷ id) [] refl n.slash)
-place_read (routes.Move names.MarkPaid) (b ∷ id) n = ap (λ text. target_by text (routes.Move names.MarkPaid)) (second (codes "orders") (b ∷ id) (codes "mark_paid/") refl n.slash)
-place_read (routes.Move names.MarkPending) (b ∷ id) n = ap (λ text. target_by text (routes.Move names.MarkPending)) (second (codes "orders") (b ∷ id) (codes "mark_pending/") refl n.slash)
-place_read (routes.Move names.MarkExpired) (b ∷ id) n = ap (λ text. target_by text (routes.Move names.MarkExpired)) (second (codes "orders") (b ∷ id) (codes "mark_expired/") refl n.slash)
-place_read (routes.Move names.MarkCanceled) (b ∷ id) n = ap (λ text. target_by text (routes.Move names.MarkCanceled)) (second (codes "orders") (b ∷ id) (codes "mark_canceled/") refl n.slash)
-place_read (routes.Move names.Extend) (b ∷ id) n = ap (λ text. target_by text (routes.Move names.Extend)) (second (codes "orders") (b ∷ id) (codes "extend/") refl n.slash)
-place_read _ [] n = let some : 0 < 0 = n.some in absurd (omega arith)
+place_read : (route : Route) (id ticket : List ℕ) → IsName id → target_by (segment 2 (path_with id ticket route)) route ≡ target_by (Some id) route
+place_read routes.Items id ticket n = refl
+place_read routes.Quotas id ticket n = refl
+place_read routes.Vouchers id ticket n = refl
+place_read routes.CartPositions id ticket n = refl
+place_read routes.BulkCreate id ticket n = refl
+place_read routes.Orders id ticket n = refl
+place_read routes.Item (b ∷ id) ticket n = ap (λ text. target_by text routes.Item) (second (codes "items") (b ∷ id) [] refl n.segment.slash)
+place_read routes.Variations (b ∷ id) ticket n = ap (λ text. target_by text routes.Variations) (second (codes "items") (b ∷ id) (codes "variations/") refl n.segment.slash)
+place_read routes.Quota (b ∷ id) ticket n = ap (λ text. target_by text routes.Quota) (second (codes "quotas") (b ∷ id) [] refl n.segment.slash)
+place_read routes.Availability (b ∷ id) ticket n = ap (λ text. target_by text routes.Availability) (second (codes "quotas") (b ∷ id) (codes "availability/") refl n.segment.slash)
+place_read routes.Voucher (b ∷ id) ticket n = ap (λ text. target_by text routes.Voucher) (second (codes "vouchers") (b ∷ id) [] refl n.segment.slash)
+place_read routes.CartPosition (b ∷ id) ticket n = ap (λ text. target_by text routes.CartPosition) (second (codes "cartpositions") (b ∷ id) [] refl n.segment.slash)
+place_read routes.Order (b ∷ id) ticket n = ap (λ text. target_by text routes.Order) (second (codes "orders") (b ∷ id) [] refl n.segment.slash)
+place_read (routes.Move names.MarkPaid) (b ∷ id) ticket n = ap (λ text. target_by text (routes.Move names.MarkPaid)) (second (codes "orders") (b ∷ id) (codes "mark_paid/") refl n.segment.slash)
+place_read (routes.Move names.MarkPending) (b ∷ id) ticket n = ap (λ text. target_by text (routes.Move names.MarkPending)) (second (codes "orders") (b ∷ id) (codes "mark_pending/") refl n.segment.slash)
+place_read (routes.Move names.MarkExpired) (b ∷ id) ticket n = ap (λ text. target_by text (routes.Move names.MarkExpired)) (second (codes "orders") (b ∷ id) (codes "mark_expired/") refl n.segment.slash)
+place_read (routes.Move names.MarkCanceled) (b ∷ id) ticket n = ap (λ text. target_by text (routes.Move names.MarkCanceled)) (second (codes "orders") (b ∷ id) (codes "mark_canceled/") refl n.segment.slash)
+place_read (routes.Move names.Extend) (b ∷ id) ticket n = ap (λ text. target_by text (routes.Move names.Extend)) (second (codes "orders") (b ∷ id) (codes "extend/") refl n.segment.slash)
+place_read routes.WaitingEntries id ticket n = refl
+place_read routes.Periodic id ticket n = refl
+place_read routes.CheckinLists id ticket n = refl
+place_read routes.WaitingEntry (b ∷ id) ticket n = ap (λ text. target_by text routes.WaitingEntry) (second (codes "waitinglistentries") (b ∷ id) [] refl n.segment.slash)
+place_read routes.SendVoucher (b ∷ id) ticket n = ap (λ text. target_by text routes.SendVoucher) (second (codes "waitinglistentries") (b ∷ id) (codes "send_voucher/") refl n.segment.slash)
+place_read routes.CheckinList (b ∷ id) ticket n = ap (λ text. target_by text routes.CheckinList) (second (codes "checkinlists") (b ∷ id) [] refl n.segment.slash)
+place_read routes.Status (b ∷ id) ticket n = ap (λ text. target_by text routes.Status) (second (codes "checkinlists") (b ∷ id) (codes "status/") refl n.segment.slash)
+place_read routes.Tickets (b ∷ id) ticket n = ap (λ text. target_by text routes.Tickets) (second (codes "checkinlists") (b ∷ id) (codes "positions/") refl n.segment.slash)
+place_read routes.Redeem (b ∷ id) ticket n = ap (λ text. target_by text routes.Redeem) (second (codes "checkinlists") (b ∷ id) (codes "positions/" ++ ticket ++ codes "/redeem/") refl n.segment.slash)
+place_read _ [] ticket n = let some : 0 < 0 = n.segment.some in absurd (omega arith)
 
 no_mark_between : (front id back : List ℕ) → has 63 front ≡ false → has 63 id ≡ false → has 63 back ≡ false → has 63 (front ++ id ++ back) ≡ false
 no_mark_between front id back f i b = has_append 63 (front ++ id) back (has_append 63 front id f i) b
 
 -- no path of the table has a question mark
-path_unmarked : (route : Route) (id : List ℕ) → has 63 id ≡ false → has 63 (path_with id route) ≡ false
-path_unmarked routes.Items id m = refl
-path_unmarked routes.Item id m = no_mark_between (codes "/items/") id (codes "/") refl m refl
-path_unmarked routes.Variations id m = no_mark_between (codes "/items/") id (codes "/variations/") refl m refl
-path_unmarked routes.Quotas id m = refl
-path_unmarked routes.Quota id m = no_mark_between (codes "/quotas/") id (codes "/") refl m refl
-path_unmarked routes.Availability id m = no_mark_between (codes "/quotas/") id (codes "/availability/") refl m refl
-path_unmarked routes.Vouchers id m = refl
-path_unmarked routes.Voucher id m = no_mark_between (codes "/vouchers/") id (codes "/") refl m refl
-path_unmarked routes.CartPositions id m = refl
-path_unmarked routes.CartPosition id m = no_mark_between (codes "/cartpositions/") id (codes "/") refl m refl
-path_unmarked routes.BulkCreate id m = refl
-path_unmarked routes.Orders id m = refl
-path_unmarked routes.Order id m = no_mark_between (codes "/orders/") id (codes "/") refl m refl
-path_unmarked (routes.Move names.MarkPaid) id m = no_mark_between (codes "/orders/") id (codes "/mark_paid/") refl m refl
-path_unmarked (routes.Move names.MarkPending) id m = no_mark_between (codes "/orders/") id (codes "/mark_pending/") refl m refl
-path_unmarked (routes.Move names.MarkExpired) id m = no_mark_between (codes "/orders/") id (codes "/mark_expired/") refl m refl
-path_unmarked (routes.Move names.MarkCanceled) id m = no_mark_between (codes "/orders/") id (codes "/mark_canceled/") refl m refl
-path_unmarked (routes.Move names.Extend) id m = no_mark_between (codes "/orders/") id (codes "/extend/") refl m refl
+path_unmarked : (route : Route) (id ticket : List ℕ) → has 63 id ≡ false → has 63 ticket ≡ false → has 63 (path_with id ticket route) ≡ false
+path_unmarked routes.Items id ticket m k = refl
+path_unmarked routes.Item id ticket m k = no_mark_between (codes "/items/") id (codes "/") refl m refl
+path_unmarked routes.Variations id ticket m k = no_mark_between (codes "/items/") id (codes "/variations/") refl m refl
+path_unmarked routes.Quotas id ticket m k = refl
+path_unmarked routes.Quota id ticket m k = no_mark_between (codes "/quotas/") id (codes "/") refl m refl
+path_unmarked routes.Availability id ticket m k = no_mark_between (codes "/quotas/") id (codes "/availability/") refl m refl
+path_unmarked routes.Vouchers id ticket m k = refl
+path_unmarked routes.Voucher id ticket m k = no_mark_between (codes "/vouchers/") id (codes "/") refl m refl
+path_unmarked routes.CartPositions id ticket m k = refl
+path_unmarked routes.CartPosition id ticket m k = no_mark_between (codes "/cartpositions/") id (codes "/") refl m refl
+path_unmarked routes.BulkCreate id ticket m k = refl
+path_unmarked routes.Orders id ticket m k = refl
+path_unmarked routes.Order id ticket m k = no_mark_between (codes "/orders/") id (codes "/") refl m refl
+path_unmarked (routes.Move names.MarkPaid) id ticket m k = no_mark_between (codes "/orders/") id (codes "/mark_paid/") refl m refl
+path_unmarked (routes.Move names.MarkPending) id ticket m k = no_mark_between (codes "/orders/") id (codes "/mark_pending/") refl m refl
+path_unmarked (routes.Move names.MarkExpired) id ticket m k = no_mark_between (codes "/orders/") id (codes "/mark_expired/") refl m refl
+path_unmarked (routes.Move names.MarkCanceled) id ticket m k = no_mark_between (codes "/orders/") id (codes "/mark_canceled/") refl m refl
+path_unmarked (routes.Move names.Extend) id ticket m k = no_mark_between (codes "/orders/") id (codes "/extend/") refl m refl
+path_unmarked routes.WaitingEntries id ticket m k = refl
+path_unmarked routes.WaitingEntry id ticket m k = no_mark_between (codes "/waitinglistentries/") id (codes "/") refl m refl
+path_unmarked routes.SendVoucher id ticket m k = no_mark_between (codes "/waitinglistentries/") id (codes "/send_voucher/") refl m refl
+path_unmarked routes.Periodic id ticket m k = refl
+path_unmarked routes.CheckinLists id ticket m k = refl
+path_unmarked routes.CheckinList id ticket m k = no_mark_between (codes "/checkinlists/") id (codes "/") refl m refl
+path_unmarked routes.Status id ticket m k = no_mark_between (codes "/checkinlists/") id (codes "/status/") refl m refl
+path_unmarked routes.Tickets id ticket m k = no_mark_between (codes "/checkinlists/") id (codes "/positions/") refl m refl
+path_unmarked routes.Redeem id ticket m k =
+    no_mark_between (codes "/checkinlists/") id (codes "/positions/" ++ ticket ++ codes "/redeem/") refl m (no_mark_between (codes "/positions/") ticket (codes "/redeem/") refl k refl)
 
 -- no target of a shop has a question mark in front of its query
 pub shop_unmarked : (organizer event path : List ℕ) → has 63 organizer ≡ false → has 63 event ≡ false → has 63 path ≡ false → has 63 (in_shop organizer event path) ≡ false
@@ -138,20 +170,49 @@ shop_unmarked organizer event path o e p =
     (has_append 63 (codes "/api/v1/organizers/" ++ organizer) (codes "/events/") (has_append 63 (codes "/api/v1/organizers/") organizer refl o) refl) e) p
 
 -- what the path of a target names is what the target names
-target_by_path : (organizer event target : List ℕ) (route : Route) (id : List ℕ) → IsName id → path_of target ≡ in_shop organizer event (path_with id route)
-    → target_of organizer event target ≡ target_by (Some id) route
+target_by_path : (organizer event target : List ℕ) (route : Route) (id ticket : List ℕ) → IsName id → IsSegment ticket
+    → path_of target ≡ in_shop organizer event (path_with id ticket route) → target_of organizer event target ≡ target_by (Some id) route
 unfolding target_of
-target_by_path organizer event target route id n p =
-    rw (p, within_shop organizer event (path_with id route), path_route route id n) (place_read route id n)
+target_by_path organizer event target route id ticket n s p =
+    rw (p, within_shop organizer event (path_with id ticket route), path_route route id ticket n s) (place_read route id ticket n)
 
-pub named_alone : (organizer event id : List ℕ) (route : Route) → IsName id → has 63 organizer ≡ false → has 63 event ≡ false
-    → target_of organizer event (in_shop organizer event (path_with id route)) ≡ target_by (Some id) route
-named_alone organizer event id route n o e =
-    target_by_path organizer event (in_shop organizer event (path_with id route)) route id n
-    (path_alone (in_shop organizer event (path_with id route)) (shop_unmarked organizer event (path_with id route) o e (path_unmarked route id n.mark)))
+ticket_by_path : (organizer event target id ticket : List ℕ) → IsName id → IsSegment ticket
+    → path_of target ≡ in_shop organizer event (path_with id ticket routes.Redeem) → ticket_named organizer event target ≡ Some ticket
+unfolding ticket_named
+ticket_by_path organizer event target id ticket n s p =
+    rw (p, within_shop organizer event (path_with id ticket routes.Redeem)) (ticket_read id ticket n s)
 
-pub named_with_query : (organizer event id query : List ℕ) (route : Route) → IsName id → has 63 organizer ≡ false → has 63 event ≡ false
-    → target_of organizer event (in_shop organizer event (path_with id route) ++ 63 ∷ query) ≡ target_by (Some id) route
-named_with_query organizer event id query route n o e =
-    target_by_path organizer event (in_shop organizer event (path_with id route) ++ 63 ∷ query) route id n
-    (path_before (in_shop organizer event (path_with id route)) query (shop_unmarked organizer event (path_with id route) o e (path_unmarked route id n.mark)))
+-- the path of a target alone, and of one with a query
+alone : (organizer event id ticket : List ℕ) (route : Route) → IsName id → IsSegment ticket → has 63 organizer ≡ false → has 63 event ≡ false
+    → path_of (in_shop organizer event (path_with id ticket route)) ≡ in_shop organizer event (path_with id ticket route)
+alone organizer event id ticket route n s o e =
+    path_alone (in_shop organizer event (path_with id ticket route))
+    (shop_unmarked organizer event (path_with id ticket route) o e (path_unmarked route id ticket n.segment.mark s.mark))
+
+with_query : (organizer event id ticket query : List ℕ) (route : Route) → IsName id → IsSegment ticket → has 63 organizer ≡ false → has 63 event ≡ false
+    → path_of (in_shop organizer event (path_with id ticket route) ++ 63 ∷ query) ≡ in_shop organizer event (path_with id ticket route)
+with_query organizer event id ticket query route n s o e =
+    path_before (in_shop organizer event (path_with id ticket route)) query
+    (shop_unmarked organizer event (path_with id ticket route) o e (path_unmarked route id ticket n.segment.mark s.mark))
+
+pub named_alone : (organizer event id ticket : List ℕ) (route : Route) → IsName id → IsSegment ticket → has 63 organizer ≡ false → has 63 event ≡ false
+    → target_of organizer event (in_shop organizer event (path_with id ticket route)) ≡ target_by (Some id) route
+named_alone organizer event id ticket route n s o e =
+    target_by_path organizer event (in_shop organizer event (path_with id ticket route)) route id ticket n s (alone organizer event id ticket route n s o e)
+
+pub named_with_query : (organizer event id ticket query : List ℕ) (route : Route) → IsName id → IsSegment ticket → has 63 organizer ≡ false → has 63 event ≡ false
+    → target_of organizer event (in_shop organizer event (path_with id ticket route) ++ 63 ∷ query) ≡ target_by (Some id) route
+named_with_query organizer event id ticket query route n s o e =
+    target_by_path organizer event (in_shop organizer event (path_with id ticket route) ++ 63 ∷ query) route id ticket n s
+    (with_query organizer event id ticket query route n s o e)
+
+pub ticket_alone : (organizer event id ticket : List ℕ) → IsName id → IsSegment ticket → has 63 organizer ≡ false → has 63 event ≡ false
+    → ticket_named organizer event (in_shop organizer event (path_with id ticket routes.Redeem)) ≡ Some ticket
+ticket_alone organizer event id ticket n s o e =
+    ticket_by_path organizer event (in_shop organizer event (path_with id ticket routes.Redeem)) id ticket n s (alone organizer event id ticket routes.Redeem n s o e)
+
+pub ticket_with_query : (organizer event id ticket query : List ℕ) → IsName id → IsSegment ticket → has 63 organizer ≡ false → has 63 event ≡ false
+    → ticket_named organizer event (in_shop organizer event (path_with id ticket routes.Redeem) ++ 63 ∷ query) ≡ Some ticket
+ticket_with_query organizer event id ticket query n s o e =
+    ticket_by_path organizer event (in_shop organizer event (path_with id ticket routes.Redeem) ++ 63 ∷ query) id ticket n s
+    (with_query organizer event id ticket query routes.Redeem n s o e)

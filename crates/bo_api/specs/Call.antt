@@ -3,7 +3,9 @@ use Rattle.std.specs.Prelude.{ℕ, Bool, true, false, List, Option, Some, None, 
 use Rattle.bo_base.specs.declared.answer.Response.{Response}
 use Rattle.bo_http.specs.Messages.{Message}
 use Rattle.bo_commands.specs.declared.requests.Command.{Command}
-use Rattle.bo_orders.specs.declared.moves.Move.{Move}
+use Rattle.bo_commands.specs.declared.requests.Command.TheVariants as commands
+use Rattle.bo_commands.specs.declared.doors.Scan.{Scan}
+use Rattle.bo_commands.specs.declared.orders.Move.{Move}
 use Rattle.bo_commands.specs.declared.requests.Query.TheVariants as queries
 use Rattle.bo_commands.specs.declared.requests.Resource.{Resource}
 use Rattle.bo_words.specs.Faults.{no_credentials, invalid_token, not_found, invalid_page, method_not_allowed, parse_error, invalid_data, field_fault}
@@ -15,11 +17,12 @@ use Rattle.bo_api.specs.declared.endpoint.Endpoint.{Endpoint}
 use Rattle.bo_api.specs.declared.endpoint.Endpoint.TheVariants as endpoints
 use Rattle.bo_api.specs.declared.path.Target.{Target}
 use Rattle.bo_api.specs.Token.{token_of}
-use Rattle.bo_api.specs.Path.{target_of}
+use Rattle.bo_api.specs.Path.{target_of, ticket_named}
+use Rattle.bo_api.specs.Tickets.{ticket_in}
 use Rattle.bo_api.specs.Page.{page_of}
 use Rattle.bo_api.specs.Verbs.{verb_of, is_write}
 use Rattle.bo_api.specs.Endpoints.{endpoint_of, methods_of}
-use Rattle.bo_bodies.specs.Body.{read_command, read_move}
+use Rattle.bo_bodies.specs.Body.{read_command, read_move, read_scan}
 
 -- the words for a body that isn't read: 400
 abbrev pub fault_response : BodyFault → Response
@@ -45,27 +48,34 @@ abbrev pub missing : Result Move BodyFault → Call
 missing (Ok move) = calls.WriteRefused not_found
 missing (Err fault) = refused_body fault
 
+-- a scan of the ticket that the path names, at a check-in list
+abbrev pub redeemed : ℕ → Option (List ℕ) → Result Scan BodyFault → Call
+redeemed door ticket (Ok scan) = calls.Write (commands.Redeem door (ticket_in ticket) scan)
+redeemed door ticket (Err fault) = refused_body fault
+
 -- a page of a list: 404 where its number can't be read
 abbrev pub listed : Resource → Option ℕ → Call
 listed resource None = calls.ReadRefused invalid_page
 listed resource (Some page) = calls.Read (queries.List resource page)
 
--- at a target: 405 where the target hasn't that method; the body of a read isn't looked at
-abbrev pub call_by : Message → Target → Option Endpoint → Call
-call_by m target None = refused_by (is_write (verb_of m.method)) (method_not_allowed m.method (methods_of target))
-call_by m target (Some (endpoints.Page resource)) = listed resource (page_of m.target)
-call_by m target (Some (endpoints.Read query)) = calls.Read query
-call_by m target (Some (endpoints.Write form)) = written (read_command form m.body)
-call_by m target (Some endpoints.ReadMissing) = calls.ReadRefused not_found
-call_by m target (Some (endpoints.MoveMissing name)) = missing (read_move name m.body)
+-- at a target, with the text in the place of a ticket: 405 where the target hasn't that method; the body of a read isn't
+-- looked at
+abbrev pub call_by : Message → Option (List ℕ) → Target → Option Endpoint → Call
+call_by m ticket target None = refused_by (is_write (verb_of m.method)) (method_not_allowed m.method (methods_of target))
+call_by m ticket target (Some (endpoints.Page resource)) = listed resource (page_of m.target)
+call_by m ticket target (Some (endpoints.Read query)) = calls.Read query
+call_by m ticket target (Some (endpoints.Write form)) = written (read_command form m.body)
+call_by m ticket target (Some endpoints.ReadMissing) = calls.ReadRefused not_found
+call_by m ticket target (Some (endpoints.MoveMissing name)) = missing (read_move name m.body)
+call_by m ticket target (Some (endpoints.Redeem door)) = redeemed door ticket (read_scan m.body)
 
-abbrev pub call_at : Message → Target → Call
-call_at m target = call_by m target (endpoint_of target (verb_of m.method))
+abbrev pub call_at : Message → Option (List ℕ) → Target → Call
+call_at m ticket target = call_by m ticket target (endpoint_of target (verb_of m.method))
 
 -- with a known token: 404 where the target names nothing
-abbrev pub call_of : Message → Option Target → Call
-call_of m None = refused_by (is_write (verb_of m.method)) not_found
-call_of m (Some target) = call_at m target
+abbrev pub call_of : Message → Option (List ℕ) → Option Target → Call
+call_of m ticket None = refused_by (is_write (verb_of m.method)) not_found
+call_of m ticket (Some target) = call_at m ticket target
 
 -- 401 where the message has no token, or one that isn't known
 abbrev pub authorized : Option (List ℕ) → Option ℕ → Call → Call
@@ -75,4 +85,4 @@ authorized (Some token) (Some known) call = call
 
 -- what a message asks for in the shop of those slugs, where known is the row of its token
 unfoldable pub call : List ℕ → List ℕ → Message → Option ℕ → Call
-call organizer event m known = authorized (token_of m) known (call_of m (target_of organizer event m.target))
+call organizer event m known = authorized (token_of m) known (call_of m (ticket_named organizer event m.target) (target_of organizer event m.target))

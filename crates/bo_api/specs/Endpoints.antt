@@ -14,26 +14,30 @@ use Rattle.bo_bodies.specs.declared.form.Form.TheVariants as forms
 use Rattle.bo_api.specs.declared.endpoint.Endpoint.{Endpoint}
 use Rattle.bo_api.specs.declared.endpoint.Endpoint.TheVariants as endpoints
 
--- the form of a new row; each kind has one
-abbrev pub new_form : Resource → Form
-new_form resources.Items = forms.Item
-new_form resources.Quotas = forms.Quota
-new_form resources.Vouchers = forms.Voucher
-new_form resources.Carts = forms.Cart
-new_form resources.Orders = forms.Order
+-- the form of a new row; positions of a check-in list are made with their orders
+abbrev pub new_form : Resource → Option Form
+new_form resources.Items = Some forms.Item
+new_form resources.Quotas = Some forms.Quota
+new_form resources.Vouchers = Some forms.Voucher
+new_form resources.Carts = Some forms.Cart
+new_form resources.Orders = Some forms.Order
+new_form resources.WaitingEntries = Some forms.Waiting
+new_form resources.CheckinLists = Some forms.CheckinList
+new_form (resources.Tickets door) = None
 
--- the form of a change; cart positions and orders have none
+-- the form of a change; cart positions, orders and check-in lists have none
 abbrev pub change_form : Resource → ℕ → Option Form
 change_form resources.Items id = Some (forms.ItemPatch id)
 change_form resources.Quotas id = Some (forms.QuotaPatch id)
 change_form resources.Vouchers id = Some (forms.VoucherPatch id)
-change_form resources.Carts id = None
-change_form resources.Orders id = None
+change_form resources.WaitingEntries id = Some (forms.WaitingPatch id)
+change_form _ id = None
 
--- the form of a deletion; items, quotas and orders have none
+-- the form of a deletion; items, quotas, orders and check-in lists have none
 abbrev pub drop_form : Resource → ℕ → Option Form
 drop_form resources.Vouchers id = Some (forms.DropVoucher id)
 drop_form resources.Carts id = Some (forms.DropCart id)
+drop_form resources.WaitingEntries id = Some (forms.DropWaiting id)
 drop_form _ id = None
 
 abbrev pub write_of : Option Form → Option Endpoint
@@ -52,7 +56,7 @@ move_order (Some number) name = endpoints.Write (forms.Move number name)
 
 abbrev pub endpoint_of : Target → Verb → Option Endpoint
 endpoint_of (targets.All resource) verbs.Get = Some (endpoints.Page resource)
-endpoint_of (targets.All resource) verbs.Post = Some (endpoints.Write (new_form resource))
+endpoint_of (targets.All resource) verbs.Post = write_of (new_form resource)
 endpoint_of (targets.One resource id) verbs.Get = Some (endpoints.Read (queries.One resource id))
 endpoint_of (targets.One resource id) verbs.Patch = write_of (change_form resource id)
 endpoint_of (targets.One resource id) verbs.Delete = write_of (drop_form resource id)
@@ -61,6 +65,10 @@ endpoint_of (targets.Availability quota) verbs.Get = Some (endpoints.Read (queri
 endpoint_of targets.Bulk verbs.Post = Some (endpoints.Write forms.Carts)
 endpoint_of (targets.Order number) verbs.Get = Some (read_order number)
 endpoint_of (targets.Moved number name) verbs.Post = Some (move_order number name)
+endpoint_of (targets.Sending id) verbs.Post = Some (endpoints.Write (forms.SendVoucher id))
+endpoint_of targets.Periodic verbs.Post = Some (endpoints.Write forms.Periodic)
+endpoint_of (targets.Status door) verbs.Get = Some (endpoints.Read (queries.Status door))
+endpoint_of (targets.Redeem door) verbs.Post = Some (endpoints.Redeem door)
 endpoint_of _ _ = None
 
 -- the methods that a target has: those that ask for something there

@@ -3,7 +3,9 @@ pub mod Routes
 pub mod Table
 pub mod Path
 pub mod Page
+pub mod Tickets
 pub mod Token
 pub mod Verbs
 pub mod Endpoints
 pub mod Call
+pub mod Fit

@@ -1,9 +1,11 @@
 -- Which page of a list a target asks for.
-use Rattle.std.specs.Prelude.{ℕ, List, [], ◌∷◌, Option, Some, None, if◌then◌else◌, codes}
+use Rattle.std.specs.Prelude.{ℕ, ◌<◌, ◌^◌, List, [], ◌∷◌, Option, Some, None, if◌then◌else◌, codes}
 use Rattle.std.specs.Str.Lossy.{utf8_lossy}
 use Rattle.form_urlencoded.specs.Form.{raw_pairs, decode}
 use Rattle.bo_base.specs.Texts.{same_text}
 use Rattle.bo_base.specs.Digits.{number_of}
+use Rattle.bo_commands.specs.declared.requests.Resource.{Resource}
+use Rattle.bo_commands.specs.declared.requests.Resource.TheVariants as resources
 use Rattle.bo_api.specs.Path.{query_of}
 
 -- the text that a name or a value of a query stands for; what is no UTF-8 in it is replaced
@@ -27,3 +29,8 @@ page_in pairs = page_from (value_named (codes "page") pairs)
 -- the page that a target asks for, if its query has none or a number
 unfoldable pub page_of : List ℕ → Option ℕ
 page_of target = page_in (raw_pairs (query_of target))
+
+-- a list that a path can name: the positions of a check-in list by a number of at most 18 digits
+abbrev pub IsNamed : Resource → Type 0
+IsNamed (resources.Tickets door) = door < 10 ^ 18
+IsNamed resource = Unit {0}

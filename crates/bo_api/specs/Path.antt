@@ -94,6 +94,15 @@ target_by name routes.BulkCreate = Some targets.Bulk
 target_by name routes.Orders = Some (targets.All resources.Orders)
 target_by name routes.Order = Some (targets.Order (order_in name))
 target_by name (routes.Move move) = Some (targets.Moved (order_in name) move)
+target_by name routes.WaitingEntries = Some (targets.All resources.WaitingEntries)
+target_by name routes.WaitingEntry = one_in name resources.WaitingEntries
+target_by name routes.SendVoucher = id_in name >>= λ id. Some (targets.Sending id)
+target_by name routes.Periodic = Some targets.Periodic
+target_by name routes.CheckinLists = Some (targets.All resources.CheckinLists)
+target_by name routes.CheckinList = one_in name resources.CheckinLists
+target_by name routes.Status = id_in name >>= λ id. Some (targets.Status id)
+target_by name routes.Tickets = id_in name >>= λ id. Some (targets.All (resources.Tickets id))
+target_by name routes.Redeem = id_in name >>= λ id. Some (targets.Redeem id)
 
 -- what a target names, in the shop of those slugs
 unfoldable pub target_of : List ℕ → List ℕ → List ℕ → Option Target
@@ -101,6 +110,10 @@ target_of organizer event target = do
   path ← within organizer event (path_of target)
   route ← route_of path
   target_by (segment 2 path) route
+
+-- the text that stands in the place of a ticket, the third of the names in a path, in the shop of those slugs
+unfoldable pub ticket_named : List ℕ → List ℕ → List ℕ → Option (List ℕ)
+ticket_named organizer event target = within organizer event (path_of target) >>= segment 4
 
 -- the target of a path in the shop of those slugs
 abbrev pub in_shop : List ℕ → List ℕ → List ℕ → List ℕ

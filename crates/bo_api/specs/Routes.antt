@@ -41,9 +41,21 @@ order_routes rows =
     (with_route (codes "/orders/{code}/mark_expired/") (routes.Move names.MarkExpired) (with_route (codes "/orders/{code}/mark_pending/") (routes.Move names.MarkPending)
     (with_route (codes "/orders/{code}/mark_paid/") (routes.Move names.MarkPaid) (with_route (codes "/orders/{code}/") routes.Order (with_route (codes "/orders/") routes.Orders rows))))))
 
+-- the rows with the routes of the waiting list and of periodic work
+unfoldable pub waiting_routes : Rows → Rows
+waiting_routes rows =
+    with_route (codes "/periodic/") routes.Periodic (with_route (codes "/waitinglistentries/{id}/send_voucher/") routes.SendVoucher
+    (with_route (codes "/waitinglistentries/{id}/") routes.WaitingEntry (with_route (codes "/waitinglistentries/") routes.WaitingEntries rows)))
+
+-- the rows with the routes of the doors
+unfoldable pub door_routes : Rows → Rows
+door_routes rows =
+    with_route (codes "/checkinlists/{id}/positions/{pos}/redeem/") routes.Redeem (with_route (codes "/checkinlists/{id}/positions/") routes.Tickets
+    (with_route (codes "/checkinlists/{id}/status/") routes.Status (with_route (codes "/checkinlists/{id}/") routes.CheckinList (with_route (codes "/checkinlists/") routes.CheckinLists rows))))
+
 -- all routes
 unfoldable pub all_routes : Rows
-all_routes = order_routes (sale_routes (catalogue_routes []))
+all_routes = door_routes (waiting_routes (order_routes (sale_routes (catalogue_routes []))))
 
 -- what stands beside a route that was found
 abbrev pub found : Option (RouteOf Route) → Option Route

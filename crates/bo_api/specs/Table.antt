@@ -20,22 +20,31 @@ move_end names.MarkExpired = codes "/mark_expired/"
 move_end names.MarkCanceled = codes "/mark_canceled/"
 move_end names.Extend = codes "/extend/"
 
--- the path of a route, with this text in the place of its id or code
-abbrev pub path_with : List ℕ → Route → List ℕ
-path_with id routes.Items = codes "/items/"
-path_with id routes.Item = codes "/items/" ++ id ++ codes "/"
-path_with id routes.Variations = codes "/items/" ++ id ++ codes "/variations/"
-path_with id routes.Quotas = codes "/quotas/"
-path_with id routes.Quota = codes "/quotas/" ++ id ++ codes "/"
-path_with id routes.Availability = codes "/quotas/" ++ id ++ codes "/availability/"
-path_with id routes.Vouchers = codes "/vouchers/"
-path_with id routes.Voucher = codes "/vouchers/" ++ id ++ codes "/"
-path_with id routes.CartPositions = codes "/cartpositions/"
-path_with id routes.CartPosition = codes "/cartpositions/" ++ id ++ codes "/"
-path_with id routes.BulkCreate = codes "/cartpositions/bulk_create/"
-path_with id routes.Orders = codes "/orders/"
-path_with id routes.Order = codes "/orders/" ++ id ++ codes "/"
-path_with id (routes.Move name) = codes "/orders/" ++ id ++ move_end name
+-- the path of a route, with the first text in the place of its id or code, and the second in the place of a ticket
+abbrev pub path_with : List ℕ → List ℕ → Route → List ℕ
+path_with id ticket routes.Items = codes "/items/"
+path_with id ticket routes.Item = codes "/items/" ++ id ++ codes "/"
+path_with id ticket routes.Variations = codes "/items/" ++ id ++ codes "/variations/"
+path_with id ticket routes.Quotas = codes "/quotas/"
+path_with id ticket routes.Quota = codes "/quotas/" ++ id ++ codes "/"
+path_with id ticket routes.Availability = codes "/quotas/" ++ id ++ codes "/availability/"
+path_with id ticket routes.Vouchers = codes "/vouchers/"
+path_with id ticket routes.Voucher = codes "/vouchers/" ++ id ++ codes "/"
+path_with id ticket routes.CartPositions = codes "/cartpositions/"
+path_with id ticket routes.CartPosition = codes "/cartpositions/" ++ id ++ codes "/"
+path_with id ticket routes.BulkCreate = codes "/cartpositions/bulk_create/"
+path_with id ticket routes.Orders = codes "/orders/"
+path_with id ticket routes.Order = codes "/orders/" ++ id ++ codes "/"
+path_with id ticket (routes.Move name) = codes "/orders/" ++ id ++ move_end name
+path_with id ticket routes.WaitingEntries = codes "/waitinglistentries/"
+path_with id ticket routes.WaitingEntry = codes "/waitinglistentries/" ++ id ++ codes "/"
+path_with id ticket routes.SendVoucher = codes "/waitinglistentries/" ++ id ++ codes "/send_voucher/"
+path_with id ticket routes.Periodic = codes "/periodic/"
+path_with id ticket routes.CheckinLists = codes "/checkinlists/"
+path_with id ticket routes.CheckinList = codes "/checkinlists/" ++ id ++ codes "/"
+path_with id ticket routes.Status = codes "/checkinlists/" ++ id ++ codes "/status/"
+path_with id ticket routes.Tickets = codes "/checkinlists/" ++ id ++ codes "/positions/"
+path_with id ticket routes.Redeem = codes "/checkinlists/" ++ id ++ (codes "/positions/" ++ ticket ++ codes "/redeem/")
 
 -- how the place of an id or code is written in a row
 abbrev pub place_word : Route → List ℕ
@@ -45,7 +54,7 @@ place_word _ = codes "{id}"
 
 -- the text of the table's row of a route
 abbrev pub row_text : Route → List ℕ
-row_text route = path_with (place_word route) route
+row_text route = path_with (place_word route) (codes "{pos}") route
 
 -- the text of the route's row is read, and the table has a row of that pattern with this route
 pub record IsInTable (route : Route) : Type 0 where
@@ -57,12 +66,15 @@ pub record IsInTable (route : Route) : Type 0 where
 abbrev pub has : ℕ → List ℕ → Bool
 has byte text = list_any (λ b. b == byte) text
 
--- a text that can stand in the place of an id or code: some bytes of UTF-8, no slash and no question mark among them,
--- and not the word that has a row of its own
+-- a text that can stand between two slashes of a path: some bytes of UTF-8, no slash and no question mark among them
+pub record IsSegment (text : List ℕ) : Type 0 where
+  pub some : 0 < length text
+  pub bytes : IsText text
+  pub utf8 : IsUtf8 text
+  pub slash : has 47 text ≡ false
+  pub mark : has 63 text ≡ false
+
+-- one that can stand in the place of an id or code: not the word that has a row of its own
 pub record IsName (id : List ℕ) : Type 0 where
-  pub some : 0 < length id
-  pub bytes : IsText id
-  pub utf8 : IsUtf8 id
-  pub slash : has 47 id ≡ false
-  pub mark : has 63 id ≡ false
+  pub segment : IsSegment id
   pub other : id ≢ codes "bulk_create"

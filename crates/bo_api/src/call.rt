@@ -1,17 +1,20 @@
 //! What a message asks for, and how it is refused where it asks for nothing.
 
-ghost use Rattle.std.specs.Prelude.{◌≡◌, IfOk};
-ghost use Rattle.bo_bodies.specs.Body.{read_command, read_move};
-ghost use Rattle.bo_api.specs.Call.{fault_response, refused_by, refused_body, written, missing, listed, call_at, call_of};
+ghost use Rattle.std.specs.Prelude.{◌≡◌, IfOk, option_map};
+ghost use Rattle.bo_bodies.specs.Body.{read_command, read_move, read_scan};
+ghost use Rattle.bo_api.specs.Call.{fault_response, refused_by, refused_body, written, missing, redeemed, listed, call_at, call_of};
+ghost use Rattle.bo_api.specs.Fit.{IsFitCall};
 ghost use Rattle.bo_api.specs.Page.{page_of};
+ghost use Rattle.bo_api.specs.Path.{bytes_of};
 ghost use Rattle.bo_api.specs.Verbs.{is_write, verb_of};
 
 use crate::endpoint::{Endpoint, endpoint_of, methods_of};
 use crate::page::page_of;
 use crate::path::Target;
+use crate::tickets::ticket_in;
 use crate::verb::{Verb, verb_of};
-use bo_base::Response;
-use bo_bodies::{Form, MoveName, read_command, read_move};
+use bo_base::{Known, Response};
+use bo_bodies::{Form, MoveName, read_command, read_move, read_scan};
 use bo_commands::{Command, Query, Resource};
 use bo_fields::{BodyFault, ReadError};
 use bo_http::Frame;
@@ -34,6 +37,16 @@ pub enum Call {
     Write(Command),
     /// 404 or 405 of a POST, PATCH or DELETE, or 400 for its body, or after that 404 for an order's code.
     WriteRefused(Response),
+}
+
+impl Known for Call {
+    ghost promise = { IsFitCall };
+
+    fn known(&self) {
+        if let Call::Write(command) = self {
+            command.known();
+        }
+    }
 }
 
 /// The words for a body that isn't read.
@@ -87,6 +100,25 @@ fn missing(alloc: Global, name: MoveName, body: &[u8]) -> Result<Call, AllocErro
     }
 }
 
+/// The scan of the ticket that the path names, at the check-in list with this id, or the refusal of its body.
+fn redeemed(
+    alloc: Global,
+    list: u64,
+    ticket: Option<&[u8]>,
+    body: &[u8],
+) -> Result<Call, AllocError>
+    ensures { IfOk result (λ call. call ≡ redeemed list (option_map bytes_of ticket.entry) (read_scan body.now)) }
+{
+    match read_scan(alloc, body) {
+        Ok(scan) => {
+            let ticket = ticket_in(alloc, ticket)?;
+            Ok(Call::Write(Command::Redeem(list, ticket, scan)))
+        }
+        Err(ReadError::Memory) => Err(AllocError),
+        Err(ReadError::Body(fault)) => refused_body(alloc, fault),
+    }
+}
+
 /// The page of a list that a target asks for, or the refusal of the page.
 fn listed(alloc: Global, resource: Resource, target: &[u8]) -> Result<Call, AllocError>
     ensures { IfOk result (λ call. call ≡ listed resource (page_of target.now)) }
@@ -97,9 +129,14 @@ fn listed(alloc: Global, resource: Resource, target: &[u8]) -> Result<Call, Allo
     }
 }
 
-/// What a message asks for at a target.
-fn call_at(alloc: Global, frame: &Frame<'_>, target: Target) -> Result<Call, AllocError>
-    ensures { IfOk result (λ call. call ≡ call_at frame.now target) }
+/// What a message asks for at a target, with the text in the place of a ticket.
+fn call_at(
+    alloc: Global,
+    frame: &Frame<'_>,
+    ticket: Option<&[u8]>,
+    target: Target,
+) -> Result<Call, AllocError>
+    ensures { IfOk result (λ call. call ≡ call_at frame.now (option_map bytes_of ticket.entry) target) }
 {
     let method = frame.method();
     let verb = verb_of(method);
@@ -113,19 +150,21 @@ fn call_at(alloc: Global, frame: &Frame<'_>, target: Target) -> Result<Call, All
         Some(Endpoint::Write(form)) => written(alloc, form, frame.body()),
         Some(Endpoint::ReadMissing) => Ok(Call::ReadRefused(not_found(alloc)?)),
         Some(Endpoint::MoveMissing(name)) => missing(alloc, name, frame.body()),
+        Some(Endpoint::Redeem(list)) => redeemed(alloc, list, ticket, frame.body()),
     }
 }
 
-/// What a message with a known token asks for, by what its target names.
+/// What a message with a known token asks for, by what its target names, and the text in the place of a ticket.
 pub(crate) fn call_of(
     alloc: Global,
     frame: &Frame<'_>,
+    ticket: Option<&[u8]>,
     target: Option<Target>,
 ) -> Result<Call, AllocError>
-    ensures { IfOk result (λ call. call ≡ call_of frame.now target) }
+    ensures { IfOk result (λ call. call ≡ call_of frame.now (option_map bytes_of ticket.entry) target) }
 {
     match target {
         None => Ok(refused(verb_of(frame.method()), not_found(alloc)?)),
-        Some(target) => call_at(alloc, frame, target),
+        Some(target) => call_at(alloc, frame, ticket, target),
     }
 }

@@ -22,18 +22,23 @@ pub enum Endpoint {
     ReadMissing,
     /// A move of an order that there isn't: its path has no order's code. The body is read first.
     MoveMissing(MoveName),
+    /// A scan at the check-in list with this id; the path has the ticket, and the body the rest.
+    Redeem(u64),
 }
 
-/// The form of a new row.
-fn new_form(resource: Resource) -> Form
+/// The form of a new row, if a request makes rows of that kind by themselves.
+fn new_form(resource: Resource) -> Option<Form>
     ensures { result ≡ new_form resource }
 {
     match resource {
-        Resource::Items => Form::Item,
-        Resource::Quotas => Form::Quota,
-        Resource::Vouchers => Form::Voucher,
-        Resource::Carts => Form::Cart,
-        Resource::Orders => Form::Order,
+        Resource::Items => Some(Form::Item),
+        Resource::Quotas => Some(Form::Quota),
+        Resource::Vouchers => Some(Form::Voucher),
+        Resource::Carts => Some(Form::Cart),
+        Resource::Orders => Some(Form::Order),
+        Resource::WaitingEntries => Some(Form::Waiting),
+        Resource::CheckinLists => Some(Form::CheckinList),
+        Resource::Tickets(_) => None,
     }
 }
 
@@ -45,7 +50,8 @@ fn change_form(resource: Resource, id: u64) -> Option<Form>
         Resource::Items => Some(Form::ItemPatch(id)),
         Resource::Quotas => Some(Form::QuotaPatch(id)),
         Resource::Vouchers => Some(Form::VoucherPatch(id)),
-        Resource::Carts | Resource::Orders => None,
+        Resource::WaitingEntries => Some(Form::WaitingPatch(id)),
+        Resource::Carts | Resource::Orders | Resource::CheckinLists | Resource::Tickets(_) => None,
     }
 }
 
@@ -56,7 +62,8 @@ fn drop_form(resource: Resource, id: u64) -> Option<Form>
     match resource {
         Resource::Vouchers => Some(Form::DropVoucher(id)),
         Resource::Carts => Some(Form::DropCart(id)),
-        Resource::Items | Resource::Quotas | Resource::Orders => None,
+        Resource::WaitingEntries => Some(Form::DropWaiting(id)),
+        _ => None,
     }
 }
 
@@ -93,7 +100,7 @@ pub fn endpoint_of(target: Target, verb: Verb) -> Option<Endpoint>
 {
     match (target, verb) {
         (Target::All(resource), Verb::Get) => Some(Endpoint::Page(resource)),
-        (Target::All(resource), Verb::Post) => Some(Endpoint::Write(new_form(resource))),
+        (Target::All(resource), Verb::Post) => write_of(new_form(resource)),
         (Target::One(resource, id), Verb::Get) => Some(Endpoint::Read(Query::One(resource, id))),
         (Target::One(resource, id), Verb::Patch) => write_of(change_form(resource, id)),
         (Target::One(resource, id), Verb::Delete) => write_of(drop_form(resource, id)),
@@ -104,6 +111,10 @@ pub fn endpoint_of(target: Target, verb: Verb) -> Option<Endpoint>
         (Target::Bulk, Verb::Post) => Some(Endpoint::Write(Form::Carts)),
         (Target::Order(number), Verb::Get) => Some(read_order(number)),
         (Target::Moved(number, name), Verb::Post) => Some(move_order(number, name)),
+        (Target::Sending(id), Verb::Post) => Some(Endpoint::Write(Form::SendVoucher(id))),
+        (Target::Periodic, Verb::Post) => Some(Endpoint::Write(Form::Periodic)),
+        (Target::Status(list), Verb::Get) => Some(Endpoint::Read(Query::Status(list))),
+        (Target::Redeem(list), Verb::Post) => Some(Endpoint::Redeem(list)),
         _ => None,
     }
 }

@@ -3,32 +3,44 @@
 ghost use Rattle.std.specs.Prelude.{◌≡◌, ◌∷◌, ◌++◌, ◌<◌, ◌^◌, false, List, [], ℕ, Some, None, codes};
 ghost use Rattle.bo_commands.specs.declared.requests.Resource.{Resource};
 ghost use Rattle.bo_words.specs.Pages.{page_path};
-ghost use Rattle.bo_api.specs.declared.routes.Route.{Route};
-ghost use Rattle.bo_api.specs.Page.{page_of};
-ghost use Rattle.bo_api.specs.Path.{in_shop, target_by, target_of};
+ghost use Rattle.bo_api.specs.Page.{IsNamed, page_of};
+ghost use Rattle.bo_api.specs.Path.{in_shop, target_by, target_of, ticket_named};
 ghost use Rattle.bo_api.specs.Routes.{route_of};
-ghost use Rattle.bo_api.specs.Table.{IsInTable, IsName, has, path_with};
+ghost use Rattle.bo_api.specs.Table.{IsInTable, IsName, IsSegment, has, path_with};
 
 use crate::path::Target;
+use crate::routes::Route;
 
 /// Each row of the table is a pattern that the router reads, and stands in the table with its route: none is dropped.
 pub fn no_route_is_dropped()
     ensures { (route : Route) → IsInTable route }
 {}
 
-/// A path made of a row's pattern, with any text in the place of its id or code, has the route of that row.
+/// A path made of a row's pattern, with any text in the place of its id or code and any in that of a ticket, has the
+/// route of that row.
 pub fn each_path_has_its_route()
-    ensures { (route : Route) (text : List ℕ) → IsName text → route_of (path_with text route) ≡ Some route }
+    ensures { (route : Route) (text ticket : List ℕ) → IsName text → IsSegment ticket →
+        route_of (path_with text ticket route) ≡ Some route }
 {}
 
 /// In the shop of these slugs such a path names what its route says with that text, whatever query follows.
 pub fn each_path_names_its_target()
-    ensures alone { (organizer event text : List ℕ) (route : Route) →
-        IsName text → has 63 organizer ≡ false → has 63 event ≡ false →
-        target_of organizer event (in_shop organizer event (path_with text route)) ≡ target_by (Some text) route }
-    ensures with_query { (organizer event text query : List ℕ) (route : Route) →
-        IsName text → has 63 organizer ≡ false → has 63 event ≡ false →
-        target_of organizer event (in_shop organizer event (path_with text route) ++ 63 ∷ query) ≡ target_by (Some text) route }
+    ensures alone { (organizer event text ticket : List ℕ) (route : Route) →
+        IsName text → IsSegment ticket → has 63 organizer ≡ false → has 63 event ≡ false →
+        target_of organizer event (in_shop organizer event (path_with text ticket route)) ≡ target_by (Some text) route }
+    ensures with_query { (organizer event text ticket query : List ℕ) (route : Route) →
+        IsName text → IsSegment ticket → has 63 organizer ≡ false → has 63 event ≡ false →
+        target_of organizer event (in_shop organizer event (path_with text ticket route) ++ 63 ∷ query) ≡ target_by (Some text) route }
+{}
+
+/// In the shop of these slugs the path of a scan names the ticket that stands in its place, whatever query follows.
+pub fn each_scan_names_its_ticket()
+    ensures alone { (organizer event text ticket : List ℕ) →
+        IsName text → IsSegment ticket → has 63 organizer ≡ false → has 63 event ≡ false →
+        ticket_named organizer event (in_shop organizer event (path_with text ticket Route.Redeem)) ≡ Some ticket }
+    ensures with_query { (organizer event text ticket query : List ℕ) →
+        IsName text → IsSegment ticket → has 63 organizer ≡ false → has 63 event ≡ false →
+        ticket_named organizer event (in_shop organizer event (path_with text ticket Route.Redeem) ++ 63 ∷ query) ≡ Some ticket }
 {}
 
 /// Paths that no row has: without a slash at the end or in front, with a name too few or too many, of other words.
@@ -47,9 +59,9 @@ pub fn other_paths_have_no_route()
 /// The path of a page, as `next` and `previous` write it, reads back as that page of that list.
 pub fn pages_read_back()
     ensures page { (organizer event : List ℕ) (resource : Resource) (number : ℕ) →
-        has 63 organizer ≡ false → has 63 event ≡ false → number < 10 ^ 18 →
+        IsNamed resource → has 63 organizer ≡ false → has 63 event ≡ false → number < 10 ^ 18 →
         page_of (page_path organizer event resource number) ≡ Some number }
     ensures list { (organizer event : List ℕ) (resource : Resource) (number : ℕ) →
-        has 63 organizer ≡ false → has 63 event ≡ false →
+        IsNamed resource → has 63 organizer ≡ false → has 63 event ≡ false →
         target_of organizer event (page_path organizer event resource number) ≡ Some (Target.All resource) }
 {}

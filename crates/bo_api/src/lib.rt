@@ -7,6 +7,7 @@ pub mod laws;
 mod page;
 mod path;
 mod routes;
+mod tickets;
 mod token;
 mod verb;
 pub mod words;

@@ -1,7 +1,7 @@
 //! What a target's path names, and its query.
 
 ghost use Rattle.std.specs.Prelude.{◌≡◌, ◌<◌, length, option_map, IfSome};
-ghost use Rattle.bo_api.specs.Path.{bytes_of, mark_of, path_of, query_of, after, within, segment, id_in, one_in, order_named, order_in, target_by, target_of};
+ghost use Rattle.bo_api.specs.Path.{bytes_of, mark_of, path_of, query_of, after, within, segment, id_in, one_in, order_named, order_in, target_by, target_of, ticket_named};
 ghost use Rattle.bo_api.specs.Routes.{all_routes, route_of};
 
 use crate::routes::{Route, route_of};
@@ -27,6 +27,14 @@ pub enum Target {
     Order(Option<u64>),
     /// A move of the order with this number; none where the path has no order's code.
     Moved(Option<u64>, MoveName),
+    /// The sending of a voucher to the entry of the waiting list with this id.
+    Sending(u64),
+    /// Periodic work.
+    Periodic,
+    /// The numbers of the check-in list with this id.
+    Status(u64),
+    /// A ticket at the check-in list with this id; which ticket it is stands in the path too.
+    Redeem(u64),
 }
 
 /// Where the first question mark stands.
@@ -132,6 +140,15 @@ fn target_by(path: &[u8], route: Route) -> Option<Target>
         Route::Orders => Some(Target::All(Resource::Orders)),
         Route::Order => Some(Target::Order(order_in(path))),
         Route::Move(name) => Some(Target::Moved(order_in(path), name)),
+        Route::WaitingEntries => Some(Target::All(Resource::WaitingEntries)),
+        Route::WaitingEntry => one_in(path, Resource::WaitingEntries),
+        Route::SendVoucher => Some(Target::Sending(id_in(path)?)),
+        Route::Periodic => Some(Target::Periodic),
+        Route::CheckinLists => Some(Target::All(Resource::CheckinLists)),
+        Route::CheckinList => one_in(path, Resource::CheckinLists),
+        Route::Status => Some(Target::Status(id_in(path)?)),
+        Route::Tickets => Some(Target::All(Resource::Tickets(id_in(path)?))),
+        Route::Redeem => Some(Target::Redeem(id_in(path)?)),
     }
 }
 
@@ -149,4 +166,12 @@ pub fn target_of(
     let path = within(organizer, event, path_of(target))?;
     let route = route_of(router, path)?;
     target_by(path, route)
+}
+
+/// The text in a path's place of a ticket, in the shop of these slugs.
+#[tactic(auto, unfolding(crate::specs::Path::ticket_named))]
+pub fn ticket_named<'p>(organizer: &str, event: &str, target: &'p [u8]) -> Option<&'p [u8]>
+    ensures { option_map bytes_of result ≡ ticket_named organizer.now event.now target.now }
+{
+    segment(4, within(organizer, event, path_of(target))?)
 }

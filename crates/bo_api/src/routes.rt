@@ -1,7 +1,7 @@
 //! The routes of the shop.
 
 ghost use Rattle.std.specs.Prelude.{◌≡◌, IfOk, OnOk};
-ghost use Rattle.bo_api.specs.Routes.{with_route, catalogue_routes, sale_routes, order_routes, all_routes, route_of, found};
+ghost use Rattle.bo_api.specs.Routes.{with_route, catalogue_routes, sale_routes, order_routes, waiting_routes, door_routes, all_routes, route_of, found};
 ghost use Rattle.matchit.specs.Seek.{first};
 
 use bo_bodies::MoveName;
@@ -25,6 +25,15 @@ pub enum Route {
     Orders,
     Order,
     Move(MoveName),
+    WaitingEntries,
+    WaitingEntry,
+    SendVoucher,
+    Periodic,
+    CheckinLists,
+    CheckinList,
+    Status,
+    Tickets,
+    Redeem,
 }
 
 /// One more route.
@@ -95,6 +104,39 @@ fn add_orders(router: &mut Router<Route>) -> Result<(), InsertError>
     Ok(())
 }
 
+/// The routes of the waiting list and of periodic work.
+#[tactic(auto, unfolding(crate::specs::Routes::waiting_routes))]
+fn add_waiting(router: &mut Router<Route>) -> Result<(), InsertError>
+    ensures { OnOk result (router.new ≡ waiting_routes router.old) }
+{
+    add(router, "/waitinglistentries/", Route::WaitingEntries)?;
+    add(router, "/waitinglistentries/{id}/", Route::WaitingEntry)?;
+    add(
+        router,
+        "/waitinglistentries/{id}/send_voucher/",
+        Route::SendVoucher,
+    )?;
+    add(router, "/periodic/", Route::Periodic)?;
+    Ok(())
+}
+
+/// The routes of the doors.
+#[tactic(auto, unfolding(crate::specs::Routes::door_routes))]
+fn add_doors(router: &mut Router<Route>) -> Result<(), InsertError>
+    ensures { OnOk result (router.new ≡ door_routes router.old) }
+{
+    add(router, "/checkinlists/", Route::CheckinLists)?;
+    add(router, "/checkinlists/{id}/", Route::CheckinList)?;
+    add(router, "/checkinlists/{id}/status/", Route::Status)?;
+    add(router, "/checkinlists/{id}/positions/", Route::Tickets)?;
+    add(
+        router,
+        "/checkinlists/{id}/positions/{pos}/redeem/",
+        Route::Redeem,
+    )?;
+    Ok(())
+}
+
 /// The router of all routes. It fails where there is no memory.
 #[tactic(auto, unfolding(crate::specs::Routes::all_routes))]
 pub fn routes(alloc: Global) -> Result<Router<Route>, InsertError>
@@ -104,6 +146,8 @@ pub fn routes(alloc: Global) -> Result<Router<Route>, InsertError>
     add_catalogue(&mut router)?;
     add_sale(&mut router)?;
     add_orders(&mut router)?;
+    add_waiting(&mut router)?;
+    add_doors(&mut router)?;
     Ok(router)
 }
 

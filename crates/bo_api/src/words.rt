@@ -7,10 +7,10 @@ ghost use Rattle.bo_api.specs.Call.{call};
 ghost use Rattle.bo_words.specs.Replies.{words};
 
 use crate::call::{Call, call_of};
-use crate::path::target_of;
+use crate::path::{target_of, ticket_named};
 use crate::routes::{Route, routes};
 use crate::token;
-use bo_base::{Response, Text};
+use bo_base::{Response, Slug};
 use bo_commands::Reply;
 use bo_http::Frame;
 use bo_words::{invalid_token, no_credentials};
@@ -21,8 +21,8 @@ use std::marker::Model;
 /// The words of the shop of an organizer's event. Contracts see the two slugs.
 #[derive(Drop)]
 pub struct Words {
-    organizer: Text,
-    event: Text,
+    organizer: Slug,
+    event: Slug,
     router: Router<Route>,
 }
 
@@ -40,15 +40,15 @@ impl Model for Words {
 
 impl Words {
     /// The words of the shop with these slugs.
-    pub fn new(alloc: Global, organizer: &str, event: &str) -> Result<Words, AllocError>
+    pub fn new(alloc: Global, organizer: &Slug, event: &Slug) -> Result<Words, AllocError>
         ensures organizer { IfOk result (λ w. w.organizer ≡ organizer.now) }
         ensures event { IfOk result (λ w. w.event ≡ event.now) }
     {
         let Ok(router) = routes(alloc) else {
             return Err(AllocError);
         };
-        let organizer = Text::copy_of(alloc, organizer)?;
-        let event = Text::copy_of(alloc, event)?;
+        let organizer = organizer.copy(alloc)?;
+        let event = event.copy(alloc)?;
         Ok(Words {
             organizer,
             event,
@@ -89,7 +89,8 @@ impl Words {
             self.event.as_str(),
             frame.target(),
         );
-        call_of(alloc, frame, target)
+        let ticket = ticket_named(self.organizer.as_str(), self.event.as_str(), frame.target());
+        call_of(alloc, frame, ticket, target)
     }
 
     /// The words of a reply.

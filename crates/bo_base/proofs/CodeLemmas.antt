@@ -5,6 +5,7 @@ use Rattle.std.proofs.lemmas.Bool.Decides.{nat_tests}
 use Rattle.std.proofs.lemmas.List.Quantifiers.{position-Some}
 use Rattle.std.specs.Str.{IsAscii}
 use Rattle.bo_base.specs.declared.refusal.ValueRefusal.TheVariants.{NotCode}
+use Rattle.bo_base.specs.Texts.{is_plain_byte, is_text, IsText}
 use Rattle.bo_base.specs.Codes.{last_order, alphabet, letter, order_code, worth, with_place, five_letters, five_places, of_an_order, number_of_code}
 
 abbrev is : ℕ → Option ℕ → Bool
@@ -18,6 +19,15 @@ is_some d (Some n) h = grind (arith, nat_tests, h)
 -- every letter is ASCII
 pub letter_ascii : (d : ℕ) → d < 28 → get_or alphabet d 0 < 128
 letter_ascii d below = grind (arith, nat_tests, agree_below_at (λ k. nat_lt (get_or alphabet k 0) 128) (λ k. true) 28 d refl below)
+
+-- so a code is a text
+letter_plain : (n : ℕ) → is_plain_byte (letter n) ≡ true
+unfolding letter
+letter_plain n = agree_below_at (λ k. is_plain_byte (get_or alphabet k 0)) (λ k. true) 28 (n % 28) refl (omega arith)
+
+pub order_code_text : (n : ℕ) → IsText (order_code n)
+unfolding order_code is_text
+order_code_text n = rw (letter_plain (n / 28 ^ 4), letter_plain (n / 28 ^ 3), letter_plain (n / 28 ^ 2), letter_plain (n / 28), letter_plain n) refl
 
 -- the letter of a number is worth its last place
 letter_worth : (n : ℕ) → worth (letter n) ≡ Some (n % 28)

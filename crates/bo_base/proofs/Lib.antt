@@ -7,3 +7,4 @@ mod TextLemmas
 mod DigitLemmas
 mod MoneyLemmas
 pub mod CodeLemmas
+pub mod Pieces

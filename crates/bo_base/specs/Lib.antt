@@ -1,5 +1,8 @@
 pub mod Tables
 pub mod Texts
+pub mod Slugs
+pub mod Counts
+pub mod Draws
 pub mod Told
 pub mod Refusals
 pub mod Digits

@@ -1,5 +1,5 @@
 -- Moments, in whole seconds since 1970-01-01T00:00:00Z.
-use Rattle.std.specs.Prelude.{ℕ, ◌/◌, ◌==◌, List, length, Result, Ok, Err, if◌then◌else◌, nat_le, ℤ, pos, negsuc, ◌+ℤ◌, ◌*ℤ◌}
+use Rattle.std.specs.Prelude.{ℕ, ◌≤◌, ◌/◌, ◌==◌, List, length, Result, Ok, Err, if◌then◌else◌, nat_le, ℤ, pos, negsuc, ◌+ℤ◌, ◌*ℤ◌}
 use Rattle.jiff_core.specs.declared.error.Error.{Error}
 use Rattle.jiff_core.specs.Calendar.{days_from_civil}
 use Rattle.jiff_fmt.specs.Temporal.{DateParts, parse_date, parse_timestamp}
@@ -9,6 +9,9 @@ use Rattle.bo_base.specs.declared.refusal.ValueRefusal.TheVariants.{NotMoment, O
 -- 9998-12-31T23:59:59Z
 abbrev pub last_moment : ℕ
 last_moment = 253370764799
+
+abbrev pub IsMoment : ℕ → Type 0
+IsMoment at = at ≤ last_moment
 
 abbrev pub in_range : ℤ → Result ℕ ValueRefusal
 in_range (pos s) = if nat_le s last_moment then Ok s else Err OutOfRange

@@ -1,5 +1,5 @@
 -- Amounts of money in cents, and their texts.
-use Rattle.std.specs.Prelude.{ℕ, ◌+◌, ◌*◌, ◌/◌, ◌%◌, ◌==◌, List, ◌∷◌, ◌++◌, length, take, drop, position, Option, Some, None, Result, Ok, Err, if◌then◌else◌, nat_lt, not}
+use Rattle.std.specs.Prelude.{ℕ, ◌≤◌, ◌+◌, ◌*◌, ◌/◌, ◌%◌, ◌==◌, List, ◌∷◌, ◌++◌, length, take, drop, position, Option, Some, None, Result, Ok, Err, if◌then◌else◌, nat_lt, not}
 use Rattle.std.specs.Fmt.{decimal}
 use Rattle.bo_base.specs.Digits.{is_digits, number_of}
 use Rattle.bo_base.specs.declared.refusal.ValueRefusal.{ValueRefusal}
@@ -8,6 +8,10 @@ use Rattle.bo_base.specs.declared.refusal.ValueRefusal.TheVariants.{NotMoney, To
 -- 99,999,999.99
 abbrev pub last_cents : ℕ
 last_cents = 9999999999
+
+-- an amount of money
+abbrev pub IsMoney : ℕ → Type 0
+IsMoney cents = cents ≤ last_cents
 
 -- one digit behind the point is tens of cents, two are cents
 abbrev pub decimals_by : ℕ → ℕ → Option ℕ

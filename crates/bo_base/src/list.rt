@@ -1,7 +1,9 @@
 //! Lists of values.
 
 ghost use Rattle.std.specs.Prelude.{◌≡◌};
+ghost use Rattle.std.specs.List.{AllByRecursion};
 
+use crate::known::Known;
 use std::marker::Model;
 
 /// Values in order, which contracts see as a list.
@@ -31,5 +33,15 @@ impl<T> List<T> {
         ensures { result.now ≡ self.now }
     {
         self.items.as_slice()
+    }
+}
+
+impl<T: Known> Known for List<T> {
+    ghost promise = { λ l. AllByRecursion T.promise l };
+
+    fn known(&self) {
+        for value in self.as_slice() {
+            value.known();
+        }
     }
 }

@@ -8,11 +8,13 @@ use Rattle.bo_commands.specs.declared.requests.Command.{Command}
 use Rattle.bo_fields.specs.declared.error.BodyFault.{BodyFault}
 use Rattle.bo_fields.specs.declared.error.BodyFault.TheVariants as faults
 use Rattle.bo_fields.specs.Reading.{◌>>=◌}
-use Rattle.bo_orders.specs.declared.moves.Move.{Move}
+use Rattle.bo_commands.specs.declared.orders.Move.{Move}
+use Rattle.bo_commands.specs.declared.doors.Scan.{Scan}
 use Rattle.bo_bodies.specs.declared.form.Form.{Form}
 use Rattle.bo_bodies.specs.declared.form.Form.TheVariants as forms
 use Rattle.bo_bodies.specs.declared.form.MoveName.{MoveName}
 use Rattle.bo_bodies.specs.Requests.{command_of, move_of}
+use Rattle.bo_bodies.specs.DoorBodies.{scan_of}
 
 -- the text of a body: `{}` for an empty one
 abbrev pub body_text : List ℕ → List ℕ
@@ -48,3 +50,10 @@ read_move name bytes = do
   d ← json_of (body_text bytes)
   is ← object_of d
   move_of name d
+
+-- what a body says of a scan
+unfoldable pub read_scan : List ℕ → Result Scan BodyFault
+read_scan bytes = do
+  d ← json_of (body_text bytes)
+  is ← object_of d
+  scan_of d

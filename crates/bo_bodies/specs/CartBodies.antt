@@ -1,7 +1,7 @@
 -- The body of a cart position, field by field in the order of their tests.
 use Rattle.std.specs.Prelude.{Result, Ok}
 use Rattle.serde_json.specs.Data.{Data}
-use Rattle.bo_orders.specs.declared.new_cart.NewCart.{NewCart}
+use Rattle.bo_commands.specs.declared.carts.NewCart.{NewCart}
 use Rattle.bo_faults.specs.declared.fields.Field.TheVariants as fields
 use Rattle.bo_fields.specs.declared.error.BodyFault.{BodyFault}
 use Rattle.bo_fields.specs.Reading.{◌>>=◌}

@@ -3,13 +3,13 @@ use Rattle.std.specs.Prelude.{ℕ, List, Option, Some, None, Result, Ok, Err, if
 use Rattle.serde_json.specs.Data.{Data, Items}
 use Rattle.serde_json.specs.Find.{as_object, as_str}
 use Rattle.bo_base.specs.Texts.{same_text}
-use Rattle.bo_orders.specs.declared.bulk.Entry.{Entry}
-use Rattle.bo_orders.specs.declared.bulk.Entry.TheVariants as entries
-use Rattle.bo_orders.specs.declared.new_cart.NewCart.{NewCart}
-use Rattle.bo_orders.specs.declared.new_order.NewOrder.{NewOrder}
-use Rattle.bo_orders.specs.declared.new_order.Start.{Start}
-use Rattle.bo_orders.specs.declared.new_order.Start.TheVariants as starts
-use Rattle.bo_orders.specs.declared.sold.Asked.{Asked}
+use Rattle.bo_commands.specs.declared.carts.Entry.{Entry}
+use Rattle.bo_commands.specs.declared.carts.Entry.TheVariants as entries
+use Rattle.bo_commands.specs.declared.carts.NewCart.{NewCart}
+use Rattle.bo_commands.specs.declared.orders.NewOrder.{NewOrder}
+use Rattle.bo_commands.specs.declared.orders.Start.{Start}
+use Rattle.bo_commands.specs.declared.orders.Start.TheVariants as starts
+use Rattle.bo_commands.specs.declared.carts.Asked.{Asked}
 use Rattle.bo_faults.specs.declared.fields.EntryFault.TheVariants as entry_faults
 use Rattle.bo_faults.specs.declared.fields.Field.TheVariants as fields
 use Rattle.bo_faults.specs.declared.fields.Problem.TheVariants as problems

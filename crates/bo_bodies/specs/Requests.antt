@@ -2,9 +2,9 @@
 use Rattle.std.specs.Prelude.{List, Option, Some, None, Result, Ok, Err}
 use Rattle.serde_json.specs.Data.{Data, Items}
 use Rattle.serde_json.specs.Find.{as_array}
-use Rattle.bo_orders.specs.declared.bulk.Entry.{Entry}
-use Rattle.bo_orders.specs.declared.moves.Move.{Move}
-use Rattle.bo_orders.specs.declared.moves.Move.TheVariants as moves
+use Rattle.bo_commands.specs.declared.carts.Entry.{Entry}
+use Rattle.bo_commands.specs.declared.orders.Move.{Move}
+use Rattle.bo_commands.specs.declared.orders.Move.TheVariants as moves
 use Rattle.bo_commands.specs.declared.requests.Command.{Command}
 use Rattle.bo_commands.specs.declared.requests.Command.TheVariants as commands
 use Rattle.bo_fields.specs.declared.error.BodyFault.{BodyFault}
@@ -14,6 +14,8 @@ use Rattle.bo_bodies.specs.CartBodies.{cart_of}
 use Rattle.bo_bodies.specs.CatalogueBodies.{item_of, item_patch_of, variation_of, quota_of, quota_patch_of}
 use Rattle.bo_bodies.specs.VoucherBodies.{voucher_of, voucher_patch_of}
 use Rattle.bo_bodies.specs.OrderBodies.{order_of, end_of, entries_of}
+use Rattle.bo_bodies.specs.WaitingBodies.{waiting_of, waiting_patch_of}
+use Rattle.bo_bodies.specs.DoorBodies.{checkin_list_of}
 use Rattle.bo_bodies.specs.declared.form.MoveName.{MoveName}
 use Rattle.bo_bodies.specs.declared.form.MoveName.TheVariants as names
 use Rattle.bo_bodies.specs.declared.form.Form.{Form}
@@ -54,3 +56,9 @@ command_of forms.Carts d = carts_of d >>= λ entries. Ok (commands.AddCarts entr
 command_of (forms.DropCart id) d = Ok (commands.DropCart id)
 command_of forms.Order d = order_of d >>= λ new. Ok (commands.AddOrder new)
 command_of (forms.Move number name) d = move_of name d >>= λ move. Ok (commands.MoveOrder number move)
+command_of forms.Waiting d = waiting_of d >>= λ new. Ok (commands.AddWaiting new)
+command_of (forms.WaitingPatch id) d = waiting_patch_of d >>= λ patch. Ok (commands.ChangeWaiting id patch)
+command_of (forms.DropWaiting id) d = Ok (commands.DropWaiting id)
+command_of (forms.SendVoucher id) d = Ok (commands.SendVoucher id)
+command_of forms.Periodic d = Ok commands.Periodic
+command_of forms.CheckinList d = checkin_list_of d >>= λ new. Ok (commands.AddCheckinList new)

@@ -2,8 +2,8 @@
 use Rattle.std.specs.Prelude.{ℕ, false, Option, Result, Ok}
 use Rattle.serde_json.specs.Data.{Data}
 use Rattle.bo_base.specs.declared.price_mode.PriceMode.TheVariants as modes
-use Rattle.bo_vouchers.specs.declared.requests.NewVoucher.{NewVoucher}
-use Rattle.bo_vouchers.specs.declared.requests.VoucherPatch.{VoucherPatch}
+use Rattle.bo_commands.specs.declared.vouchers.NewVoucher.{NewVoucher}
+use Rattle.bo_commands.specs.declared.vouchers.VoucherPatch.{VoucherPatch}
 use Rattle.bo_faults.specs.declared.fields.Field.TheVariants as fields
 use Rattle.bo_fields.specs.declared.error.BodyFault.{BodyFault}
 use Rattle.bo_fields.specs.Reading.{◌>>=◌}

@@ -3,13 +3,13 @@
 ghost use Rattle.std.specs.Prelude.{◌≡◌};
 ghost use Rattle.serde_json.specs.View.{view};
 ghost use Rattle.bo_fields.specs.Reading.{Gives, Reads};
-ghost use Rattle.bo_bodies.specs.Body.{body_text, json_of, object_of, shape_of, read_command, read_move};
+ghost use Rattle.bo_bodies.specs.Body.{body_text, json_of, object_of, shape_of, read_command, read_move, read_scan};
 
+use crate::door_bodies::scan_of;
 use crate::form::{Form, MoveName};
 use crate::requests::{command_of, move_of};
-use bo_commands::Command;
+use bo_commands::{Command, Move, Scan};
 use bo_fields::{BodyFault, ReadError};
-use bo_orders::Move;
 use serde_json::Value;
 use std::alloc::Global;
 
@@ -76,4 +76,14 @@ pub fn read_move(alloc: Global, name: MoveName, body: &[u8]) -> Result<Move, Rea
     let value = json_of(alloc, body_text(body))?;
     check_object(&value)?;
     Ok(move_of(name, &value)?)
+}
+
+/// What a body says of a scan.
+#[tactic(auto, unfolding(crate::specs::Body::read_scan))]
+pub fn read_scan(alloc: Global, body: &[u8]) -> Result<Scan, ReadError>
+    ensures { Reads result (read_scan body.now) }
+{
+    let scan = json_of(alloc, body_text(body))?;
+    check_object(&scan)?;
+    scan_of(alloc, &scan)
 }

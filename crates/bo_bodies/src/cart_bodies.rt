@@ -5,12 +5,12 @@ ghost use Rattle.bo_bodies.specs.CartBodies.{cart_of};
 ghost use Rattle.serde_json.specs.View.{view};
 
 use crate::copies::copied;
+use bo_commands::{Asked, NewCart};
 use bo_faults::Field;
 use bo_fields::{
     ReadError, id, optional_id, optional_loose_text, optional_moment, optional_money,
     optional_text, required,
 };
-use bo_orders::{Asked, NewCart};
 use serde_json::Value;
 use std::alloc::Global;
 

@@ -6,7 +6,7 @@ ghost use Rattle.bo_bodies.specs.CatalogueBodies.{variation_of, variation_entry,
 ghost use Rattle.serde_json.specs.View.{view};
 
 use crate::copies::copied;
-use bo_base::{List, Text};
+use bo_base::{List, Size, Text};
 use bo_catalogue::{ItemPatch, NewItem, NewQuota, NewVariation, QuotaPatch};
 use bo_faults::Field;
 use bo_fields::{
@@ -100,12 +100,15 @@ pub fn item_patch_of(alloc: Global, body: &Value) -> Result<ItemPatch, ReadError
 }
 
 /// The size of a quota: none where it is null.
-fn size_of(body: &Value) -> Result<Option<u32>, BodyFault>
+fn size_of(body: &Value) -> Result<Option<Size>, BodyFault>
     ensures { result ≡ size_of (view body.now) }
 {
     match nullable(Field::Size, body)? {
         None => Ok(None),
-        Some(value) => Ok(Some(whole(Field::Size, 0, 1_000_000, value)? as u32)),
+        Some(value) => {
+            let places = whole(Field::Size, 0, 1_000_000, value)?;
+            Ok(Some(Size::new(places as u32)))
+        }
     }
 }
 
@@ -127,13 +130,13 @@ pub fn quota_of(alloc: Global, body: &Value) -> Result<NewQuota, ReadError>
 }
 
 /// The new size of a quota, where it is given: none where it is null.
-fn new_size(body: &Value) -> Result<Option<Option<u32>>, BodyFault>
+fn new_size(body: &Value) -> Result<Option<Option<Size>>, BodyFault>
     ensures { result ≡ new_size (view body.now) }
 {
     match patched_whole_or_null(Field::Size, 0, 1_000_000, body)? {
         None => Ok(None),
         Some(None) => Ok(Some(None)),
-        Some(Some(size)) => Ok(Some(Some(size as u32))),
+        Some(Some(places)) => Ok(Some(Some(Size::new(places as u32)))),
     }
 }
 

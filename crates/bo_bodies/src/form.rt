@@ -31,4 +31,15 @@ pub enum Form {
     Order,
     /// A move of the order with this number. The moment of `Extend` is the one field that a move has.
     Move(u64, MoveName),
+    /// A new entry of the waiting list.
+    Waiting,
+    /// The priority is the one field that is read.
+    WaitingPatch(u64),
+    /// No field is read.
+    DropWaiting(u64),
+    /// No field is read: a voucher for the entry of the waiting list with this id.
+    SendVoucher(u64),
+    /// No field is read: periodic work.
+    Periodic,
+    CheckinList,
 }

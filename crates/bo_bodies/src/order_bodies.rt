@@ -1,22 +1,22 @@
 //! The bodies of orders and of bulk calls, field by field. Only the first fault is answered.
 
 ghost use Rattle.std.specs.Prelude.{◌≡◌, Ok};
-ghost use Rattle.bo_base.specs.Texts.{same_text};
 ghost use Rattle.bo_fields.specs.Reading.{Gives, Reads};
 ghost use Rattle.bo_bodies.specs.CartBodies.{cart_of};
 ghost use Rattle.bo_bodies.specs.OrderBodies.{asked_of, position_entry, positions_of, start_named, start, start_of, order_of, end_of, entry_from, bulk_entry, entries_of};
 ghost use Rattle.serde_json.specs.View.{view, items_view};
 
 use crate::cart_bodies::cart_of;
+use crate::choices::is;
 use crate::copies::copied;
 use bo_base::{List, Moment};
+use bo_commands::{Asked, Entry, NewOrder, Start};
 use bo_faults::{EntryFault, Fault, Field, Problem};
 use bo_fields::{
     BodyFault, ReadError, Reading, end, entries, entry_object, first_entries, id, list,
     optional_id, optional_loose_text, optional_moment, optional_money, optional_text, present,
     required, texts_or_none,
 };
-use bo_orders::{Asked, Entry, NewOrder, Start};
 use serde_json::Value;
 use std::alloc::Global;
 
@@ -66,13 +66,6 @@ fn positions_of(alloc: Global, body: &Value) -> Result<List<Asked>, ReadError>
     let asked = list(Field::Positions, value)?;
     let found = first_entries(alloc, &ArePositions, ENOUGH, asked)?;
     Ok(List::new(found))
-}
-
-/// Whether two texts are the same.
-fn is(text: &str, word: &str) -> bool
-    ensures { result ≡ same_text text.now word.now }
-{
-    text == word
 }
 
 /// What an order starts as, by its word.

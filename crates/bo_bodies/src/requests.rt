@@ -7,13 +7,14 @@ ghost use Rattle.serde_json.specs.View.{view};
 
 use crate::cart_bodies::cart_of;
 use crate::catalogue_bodies::{item_of, item_patch_of, quota_of, quota_patch_of, variation_of};
+use crate::door_bodies::checkin_list_of;
 use crate::form::{Form, MoveName};
 use crate::order_bodies::{end_of, entries_of, order_of};
 use crate::voucher_bodies::{voucher_of, voucher_patch_of};
+use crate::waiting_bodies::{waiting_of, waiting_patch_of};
 use bo_base::List;
-use bo_commands::Command;
+use bo_commands::{Command, Entry, Move};
 use bo_fields::{BodyFault, ReadError};
-use bo_orders::{Entry, Move};
 use serde_json::Value;
 use std::alloc::Global;
 
@@ -65,5 +66,11 @@ pub fn command_of(alloc: Global, form: Form, body: &Value) -> Result<Command, Re
         Form::DropCart(id) => Ok(Command::DropCart(id)),
         Form::Order => Ok(Command::AddOrder(order_of(alloc, body)?)),
         Form::Move(number, name) => Ok(Command::MoveOrder(number, move_of(name, body)?)),
+        Form::Waiting => Ok(Command::AddWaiting(waiting_of(alloc, body)?)),
+        Form::WaitingPatch(id) => Ok(Command::ChangeWaiting(id, waiting_patch_of(body)?)),
+        Form::DropWaiting(id) => Ok(Command::DropWaiting(id)),
+        Form::SendVoucher(id) => Ok(Command::SendVoucher(id)),
+        Form::Periodic => Ok(Command::Periodic),
+        Form::CheckinList => Ok(Command::AddCheckinList(checkin_list_of(alloc, body)?)),
     }
 }

@@ -6,7 +6,8 @@ ghost use Rattle.bo_bodies.specs.VoucherBodies.{max_usages, voucher_of, new_max_
 ghost use Rattle.serde_json.specs.View.{view};
 
 use crate::copies::copied;
-use bo_base::{PriceMode, Text};
+use bo_base::{PriceMode, Text, Uses};
+use bo_commands::{NewVoucher, VoucherPatch};
 use bo_faults::Field;
 use bo_fields::{
     BodyFault, ReadError, optional_id, optional_moment, optional_money, optional_text,
@@ -14,15 +15,15 @@ use bo_fields::{
     patched_price_mode, patched_text, patched_truth, patched_whole, price_mode_or, text_or_empty,
     truth_or, whole_or,
 };
-use bo_vouchers::{NewVoucher, VoucherPatch};
 use serde_json::Value;
 use std::alloc::Global;
 
 /// How often a voucher may be used.
-fn max_usages(body: &Value) -> Result<u32, BodyFault>
+fn max_usages(body: &Value) -> Result<Uses, BodyFault>
     ensures { result ≡ max_usages (view body.now) }
 {
-    Ok(whole_or(Field::MaxUsages, 1, 1, 1_000_000, body)? as u32)
+    let usages = whole_or(Field::MaxUsages, 1, 1, 1_000_000, body)?;
+    Ok(Uses::new(usages as u32))
 }
 
 /// A new voucher.
@@ -59,12 +60,12 @@ pub fn voucher_of(alloc: Global, body: &Value) -> Result<NewVoucher, ReadError>
 }
 
 /// The new number of uses, where it is given.
-fn new_max_usages(body: &Value) -> Result<Option<u32>, BodyFault>
+fn new_max_usages(body: &Value) -> Result<Option<Uses>, BodyFault>
     ensures { result ≡ new_max_usages (view body.now) }
 {
     match patched_whole(Field::MaxUsages, 1, 1_000_000, body)? {
         None => Ok(None),
-        Some(usages) => Ok(Some(usages as u32)),
+        Some(usages) => Ok(Some(Uses::new(usages as u32))),
     }
 }
 

@@ -7,4 +7,5 @@ pub mod ItemAdded
 pub mod ItemChanged
 pub mod Resized
 pub mod QuotaAdded
+pub mod FitRequests
 pub mod Refusals

@@ -6,10 +6,11 @@ ghost use Rattle.bo_catalogue.specs.ItemChanged.{patched_item};
 ghost use Rattle.bo_catalogue.specs.VariationAdded.{variation_row};
 ghost use Rattle.bo_catalogue.specs.QuotaAdded.{quota_row};
 ghost use Rattle.bo_catalogue.specs.Resized.{patched_quota};
+ghost use Rattle.bo_catalogue.specs.FitRequests.{IsFitVariation, IsFitItem, IsFitItemPatch, IsFitQuota, IsFitQuotaPatch};
 ghost use Rattle.bo_catalogue.specs.Limits.{last_id};
 
 use crate::rows::{Item, Quota, Variation};
-use bo_base::{Cents, Ids, List, Text};
+use bo_base::{Cents, Ids, Known, List, Size, Text};
 use std::alloc::{AllocError, Global};
 
 /// A new variation of an item. Where it has no price, the item's price holds.
@@ -37,17 +38,17 @@ pub struct ItemPatch {
     pub active: Option<bool>,
 }
 
-/// What is to change of a quota: its size, where one is given, 0 to 1,000,000; a size that is none is unlimited.
+/// What is to change of a quota: its size, where one is given; a size that is none is unlimited.
 #[derive(Clone, Copy, Debug, PartialEq, Eq)]
 pub struct QuotaPatch {
-    pub size: Option<Option<u32>>,
+    pub size: Option<Option<Size>>,
 }
 
-/// A new quota, with the ids as they are given. Its size is 0 to 1,000,000; without a size it is unlimited.
+/// A new quota, with the ids as they are given. Without a size it is unlimited.
 #[derive(Debug, Drop)]
 pub struct NewQuota {
     pub name: Text,
-    pub size: Option<u32>,
+    pub size: Option<Size>,
     pub items: List<u64>,
     pub variations: List<u64>,
 }
@@ -144,5 +145,50 @@ impl QuotaPatch {
         let mut changed = row.copy(alloc)?;
         changed.size = self.size.unwrap_or(row.size);
         Ok(changed)
+    }
+}
+
+impl Known for NewVariation {
+    ghost promise = { IsFitVariation };
+
+    fn known(&self) {
+        self.name.known();
+        self.default_price.known();
+    }
+}
+
+impl Known for NewItem {
+    ghost promise = { IsFitItem };
+
+    fn known(&self) {
+        self.name.known();
+        self.default_price.known();
+        self.variations.known();
+    }
+}
+
+impl Known for ItemPatch {
+    ghost promise = { IsFitItemPatch };
+
+    fn known(&self) {
+        self.name.known();
+        self.default_price.known();
+    }
+}
+
+impl Known for NewQuota {
+    ghost promise = { IsFitQuota };
+
+    fn known(&self) {
+        self.name.known();
+        self.size.known();
+    }
+}
+
+impl Known for QuotaPatch {
+    ghost promise = { IsFitQuotaPatch };
+
+    fn known(&self) {
+        self.size.known();
     }
 }

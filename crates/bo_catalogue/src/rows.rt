@@ -4,10 +4,10 @@ ghost use Rattle.std.specs.Prelude.{◌≡◌, IfOk};
 ghost use Rattle.bo_catalogue.specs.Member.{is_in};
 ghost use Rattle.bo_catalogue.specs.Members.{quota_weight};
 
-use bo_base::{Cents, Ids, List, Row, Text};
+use bo_base::{Cents, Ids, List, Row, Size, Text};
 use std::alloc::{AllocError, Global};
 
-/// What is sold: by itself, or, where it is varied, by its variations alone. Its name has at most 254 bytes.
+/// What is sold: by itself, or, where it is varied, by its variations alone.
 #[derive(Debug, Drop)]
 pub struct Item {
     pub id: u64,
@@ -40,7 +40,7 @@ impl Item {
     }
 }
 
-/// One kind of an item. Where it has no price, the item's price holds. Its name has at most 254 bytes.
+/// One kind of an item. Where it has no price, the item's price holds.
 #[derive(Debug, Drop)]
 pub struct Variation {
     pub id: u64,
@@ -87,13 +87,12 @@ pub struct PricedVariation {
     pub price: Cents,
 }
 
-/// So many places, 0 to 1,000,000, shared by some products. Where it has no size, it is unlimited.
-/// Its name has at most 254 bytes.
+/// So many places, shared by some products. Where it has no size, it is unlimited.
 #[derive(Debug, Drop)]
 pub struct Quota {
     pub id: u64,
     pub name: Text,
-    pub size: Option<u32>,
+    pub size: Option<Size>,
     pub items: Ids,
     pub variations: Ids,
 }

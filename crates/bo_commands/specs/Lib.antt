@@ -1,1 +1,4 @@
+pub mod Starts
 pub mod Refusals
+pub mod FitRequests
+pub mod Fit

@@ -1,13 +1,65 @@
 -- The number of each refusal.
 use Rattle.std.specs.Prelude.{ℕ}
 use Rattle.bo_catalogue.specs.Refusals.{number_of_refusal as number_of_catalogue_refusal}
-use Rattle.bo_vouchers.specs.Refusals.{number_of_refusal as number_of_voucher_refusal}
-use Rattle.bo_orders.specs.Refusals.{number_of_refusal as number_of_order_refusal}
+use Rattle.bo_commands.specs.declared.vouchers.VoucherRefusal.{VoucherRefusal}
+use Rattle.bo_commands.specs.declared.vouchers.VoucherRefusal.TheVariants as voucher
+use Rattle.bo_commands.specs.declared.orders.OrderRefusal.{OrderRefusal}
+use Rattle.bo_commands.specs.declared.orders.OrderRefusal.TheVariants as order
+use Rattle.bo_commands.specs.declared.waiting.WaitingRefusal.{WaitingRefusal}
+use Rattle.bo_commands.specs.declared.waiting.WaitingRefusal.TheVariants as waiting
+use Rattle.bo_commands.specs.declared.doors.DoorRefusal.{DoorRefusal}
+use Rattle.bo_commands.specs.declared.doors.DoorRefusal.TheVariants as door
 use Rattle.bo_commands.specs.declared.replies.Refusal.{Refusal}
-use Rattle.bo_commands.specs.declared.replies.Refusal.TheVariants.{Catalogue, Voucher, Order, NoPage}
+use Rattle.bo_commands.specs.declared.replies.Refusal.TheVariants.{Catalogue, Voucher, Order, Waiting, Door, NoPage}
+
+abbrev pub number_of_voucher_refusal : VoucherRefusal → ℕ
+number_of_voucher_refusal voucher.Memory = 6
+number_of_voucher_refusal (voucher.Catalogue refusal) = number_of_catalogue_refusal refusal
+number_of_voucher_refusal voucher.TooLarge = 2
+number_of_voucher_refusal voucher.CodeTaken = 20
+number_of_voucher_refusal voucher.BadTarget = 21
+number_of_voucher_refusal voucher.CannotBlock = 22
+number_of_voucher_refusal voucher.NoVoucher = 23
+number_of_voucher_refusal voucher.VoucherExpired = 24
+number_of_voucher_refusal voucher.NoHeadroom = 25
+number_of_voucher_refusal voucher.WrongProduct = 26
+number_of_voucher_refusal voucher.InUse = 27
+number_of_voucher_refusal (voucher.SoldOut quota) = 28
+number_of_voucher_refusal voucher.ReservedCode = 33
+
+abbrev pub number_of_order_refusal : OrderRefusal → ℕ
+number_of_order_refusal order.Memory = 6
+number_of_order_refusal (order.Voucher refusal) = number_of_voucher_refusal refusal
+number_of_order_refusal order.NoPosition = 40
+number_of_order_refusal order.NoOrder = 41
+number_of_order_refusal (order.WrongStatus status) = 42
+number_of_order_refusal order.Empty = 43
+number_of_order_refusal order.TooMany = 44
+number_of_order_refusal order.BadCart = 45
+
+abbrev pub number_of_waiting_refusal : WaitingRefusal → ℕ
+number_of_waiting_refusal waiting.Memory = 6
+number_of_waiting_refusal (waiting.Catalogue refusal) = number_of_catalogue_refusal refusal
+number_of_waiting_refusal (waiting.SoldOut quota) = 28
+number_of_waiting_refusal waiting.StillAvailable = 29
+number_of_waiting_refusal waiting.AlreadyWaiting = 30
+number_of_waiting_refusal waiting.AlreadySent = 31
+number_of_waiting_refusal waiting.NoEntry = 32
+
+abbrev pub number_of_door_refusal : DoorRefusal → ℕ
+number_of_door_refusal door.Memory = 6
+number_of_door_refusal (door.Catalogue refusal) = number_of_catalogue_refusal refusal
+number_of_door_refusal door.NoList = 50
+number_of_door_refusal door.Invalid = 51
+number_of_door_refusal door.Canceled = 52
+number_of_door_refusal door.Product = 53
+number_of_door_refusal door.Unpaid = 54
+number_of_door_refusal door.AlreadyRedeemed = 55
 
 abbrev pub number_of_refusal : Refusal → ℕ
 number_of_refusal (Catalogue refusal) = number_of_catalogue_refusal refusal
 number_of_refusal (Voucher refusal) = number_of_voucher_refusal refusal
 number_of_refusal (Order refusal) = number_of_order_refusal refusal
+number_of_refusal (Waiting refusal) = number_of_waiting_refusal refusal
+number_of_refusal (Door refusal) = number_of_door_refusal refusal
 number_of_refusal NoPage = 59

@@ -3,12 +3,15 @@
 ghost use Rattle.std.specs.Prelude.{◌≡◌};
 ghost use Rattle.bo_commands.specs.Refusals.{number_of_refusal};
 
+use crate::carts::Outcome;
+use crate::doors::{DoorRefusal, DoorStatus, ListedTicket};
+use crate::orders::OrderRefusal;
 use crate::requests::{Kind, Resource};
+use crate::vouchers::VoucherRefusal;
+use crate::waiting::{PeriodicCounts, WaitingRefusal};
 use bo_base::List;
 use bo_catalogue::{CatalogueRefusal, ItemRows, PricedVariation, Quota};
-use bo_lists::{Availability, CartPos, OrderRows, Voucher};
-use bo_orders::{OrderRefusal, Outcome};
-use bo_vouchers::VoucherRefusal;
+use bo_lists::{Availability, CartPos, CheckinList, OrderPos, OrderRows, Voucher, Waiting};
 
 /// Why a request is refused.
 #[derive(Clone, Copy, Debug, PartialEq, Eq)]
@@ -19,6 +22,10 @@ pub enum Refusal {
     Voucher(VoucherRefusal),
     /// The refusal of a call on carts and orders, with its number.
     Order(OrderRefusal),
+    /// The refusal of a call on the waiting list, with its number.
+    Waiting(WaitingRefusal),
+    /// The refusal of a call of the doors, with its number.
+    Door(DoorRefusal),
     /// 59: the list has no such page.
     NoPage,
 }
@@ -32,6 +39,8 @@ impl Refusal {
             Refusal::Catalogue(refusal) => refusal.number(),
             Refusal::Voucher(refusal) => refusal.number(),
             Refusal::Order(refusal) => refusal.number(),
+            Refusal::Waiting(refusal) => refusal.number(),
+            Refusal::Door(refusal) => refusal.number(),
             Refusal::NoPage => 59,
         }
     }
@@ -50,6 +59,11 @@ pub enum Shown {
     Cart(CartPos),
     /// An order with its positions.
     Order(OrderRows),
+    /// An entry of the waiting list.
+    Waiting(Waiting),
+    CheckinList(CheckinList),
+    /// A position that belongs to a check-in list, with its check-ins of it.
+    Ticket(ListedTicket),
 }
 
 /// A page of a list: how many rows the whole list has, and those of the page, at most 50.
@@ -76,6 +90,12 @@ pub enum Reply {
     Gone,
     /// What is left of a quota.
     Availability(Availability),
+    /// What periodic work did.
+    Periodic(PeriodicCounts),
+    /// A ticket was checked in or out; this is a copy of its position.
+    Admitted(OrderPos),
+    /// The numbers of a check-in list.
+    Status(DoorStatus),
     /// The kind of the request, and why it is refused.
     Refused(Kind, Refusal),
 }

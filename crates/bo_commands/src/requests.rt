@@ -1,9 +1,14 @@
 //! What a request asks for.
 
-use bo_base::List;
+ghost use Rattle.bo_commands.specs.Fit.{IsFit};
+
+use crate::carts::{Entry, NewCart};
+use crate::doors::{NewCheckinList, Scan, Ticket};
+use crate::orders::{Move, NewOrder};
+use crate::vouchers::{NewVoucher, VoucherPatch};
+use crate::waiting::{NewWaiting, WaitingPatch};
+use bo_base::{Known, List};
 use bo_catalogue::{ItemPatch, NewItem, NewQuota, NewVariation, QuotaPatch};
-use bo_orders::{Entry, Move, NewCart, NewOrder};
-use bo_vouchers::{NewVoucher, VoucherPatch};
 
 /// A request that may change the box office.
 #[derive(Debug, Drop)]
@@ -34,6 +39,20 @@ pub enum Command {
     AddOrder(NewOrder),
     /// Moves the order with this number.
     MoveOrder(u64, Move),
+    /// Adds an entry to the waiting list.
+    AddWaiting(NewWaiting),
+    /// Changes the entry of the waiting list with this id.
+    ChangeWaiting(u64, WaitingPatch),
+    /// Deletes the entry of the waiting list with this id.
+    DropWaiting(u64),
+    /// Sends a voucher to the entry of the waiting list with this id.
+    SendVoucher(u64),
+    /// Periodic work: ends what is overdue, then serves the waiting list.
+    Periodic,
+    /// Adds a check-in list.
+    AddCheckinList(NewCheckinList),
+    /// Checks a ticket in, or out, by the check-in list with this id.
+    Redeem(u64, Ticket, Scan),
 }
 
 /// Rows of one kind, which are listed by id, 50 a page. The id of an order is its number.
@@ -49,6 +68,12 @@ pub enum Resource {
     Carts,
     /// Orders, with their positions.
     Orders,
+    /// Entries of the waiting list.
+    WaitingEntries,
+    /// Check-in lists.
+    CheckinLists,
+    /// The positions that belong to the check-in list with this id, with their check-ins of it.
+    Tickets(u64),
 }
 
 /// A request that only reads.
@@ -60,6 +85,8 @@ pub enum Query {
     One(Resource, u64),
     /// What is left of the quota with this id.
     Availability(u64),
+    /// How many positions belong to the check-in list with this id, have an entry, and are inside.
+    Status(u64),
 }
 
 /// Which kind of request it is.
@@ -91,10 +118,55 @@ pub enum Kind {
     AddOrder,
     /// A command that moves an order.
     MoveOrder,
+    /// A command that adds an entry to the waiting list.
+    AddWaiting,
+    /// A command that changes an entry of the waiting list.
+    ChangeWaiting,
+    /// A command that deletes an entry of the waiting list.
+    DropWaiting,
+    /// A command that sends a voucher to an entry of the waiting list.
+    SendVoucher,
+    /// A command for periodic work.
+    Periodic,
+    /// A command that adds a check-in list.
+    AddCheckinList,
+    /// A command that checks a ticket in or out.
+    Redeem,
     /// A query for a page of a list.
     List,
     /// A query for a row.
     One,
     /// A query for what is left of a quota.
     Availability,
+    /// A query for the numbers of a check-in list.
+    Status,
+}
+
+impl Known for Command {
+    ghost promise = { IsFit };
+
+    fn known(&self) {
+        match self {
+            Command::AddItem(new) => new.known(),
+            Command::ChangeItem(_, patch) => patch.known(),
+            Command::AddVariation(_, new) => new.known(),
+            Command::AddQuota(new) => new.known(),
+            Command::ResizeQuota(_, patch) => patch.known(),
+            Command::AddVoucher(new) => new.known(),
+            Command::ChangeVoucher(_, patch) => patch.known(),
+            Command::AddCart(new) => new.known(),
+            Command::AddCarts(entries) => entries.known(),
+            Command::AddOrder(new) => new.known(),
+            Command::MoveOrder(_, change) => change.known(),
+            Command::AddWaiting(new) => new.known(),
+            Command::ChangeWaiting(_, patch) => patch.known(),
+            Command::AddCheckinList(new) => new.known(),
+            Command::Redeem(_, _, scan) => scan.known(),
+            Command::DropVoucher(_)
+            | Command::DropCart(_)
+            | Command::DropWaiting(_)
+            | Command::SendVoucher(_)
+            | Command::Periodic => {}
+        }
+    }
 }

@@ -226,6 +226,22 @@ impl<'a, B: Book> Draft<'a, B> {
         self.overlay.carts()
     }
 
+    /// All order positions, by id, in a draft that has changed none of them.
+    pub fn positions(&self) -> &[OrderPos]
+        requires { (now self.now).lists.positions ≡ self.now.log.base.positions }
+        ensures { result.now ≡ (now self.now).lists.positions }
+    {
+        self.overlay.positions()
+    }
+
+    /// All check-ins, by id, in a draft that has changed none of them.
+    pub fn checkins(&self) -> &[Checkin]
+        requires { (now self.now).lists.checkins ≡ self.now.log.base.checkins }
+        ensures { result.now ≡ (now self.now).lists.checkins }
+    {
+        self.overlay.checkins()
+    }
+
     /// The whole waiting list, by id, in a draft that has changed none of it.
     pub fn waiting_list(&self) -> &[Waiting]
         requires { (now self.now).lists.waiting ≡ self.now.log.base.waiting }
@@ -296,7 +312,7 @@ impl<'a, B: Book> Draft<'a, B> {
         };
         match self.overlay.voucher(id) {
             None => true,
-            Some(row) => self.uses(row.id) < u128::from(row.max_usages),
+            Some(row) => self.uses(row.id) < u128::from(row.max_usages.get()),
         }
     }
 

@@ -378,7 +378,7 @@ fn left_of(redeemed: u64, voucher: Option<&Voucher>) -> u64
 {
     match voucher {
         None => 0,
-        Some(voucher) => u64::from(voucher.max_usages).saturating_sub(redeemed),
+        Some(voucher) => u64::from(voucher.max_usages.get()).saturating_sub(redeemed),
     }
 }
 

@@ -32,6 +32,17 @@ pub enum Field {
     Status,
     ConsumeCarts,
     Positions,
+    Priority,
+    AllProducts,
+    LimitProducts,
+    IncludePending,
+    AllowMultipleEntries,
+    AllowEntryAfterExit,
+    Type,
+    Nonce,
+    Datetime,
+    Force,
+    IgnoreUnpaid,
 }
 
 /// What is wrong with a field.
@@ -100,6 +111,17 @@ impl Field {
             Field::Status => "status",
             Field::ConsumeCarts => "consume_carts",
             Field::Positions => "positions",
+            Field::Priority => "priority",
+            Field::AllProducts => "all_products",
+            Field::LimitProducts => "limit_products",
+            Field::IncludePending => "include_pending",
+            Field::AllowMultipleEntries => "allow_multiple_entries",
+            Field::AllowEntryAfterExit => "allow_entry_after_exit",
+            Field::Type => "type",
+            Field::Nonce => "nonce",
+            Field::Datetime => "datetime",
+            Field::Force => "force",
+            Field::IgnoreUnpaid => "ignore_unpaid",
         }
     }
 }

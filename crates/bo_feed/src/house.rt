@@ -6,7 +6,7 @@ ghost use Rattle.bo_serve.specs.Run.{RunLeads, CountedAll};
 ghost use Rattle.bo_serve.specs.Served.{Serves};
 ghost use Rattle.bo_feed.specs.House.{fresh_house};
 
-use bo_base::{Drain, Source, Text, Ticks};
+use bo_base::{Drain, Slug, Source, Ticks};
 use bo_office::Office;
 use bo_serve::{BoxOffice, Failure, Room, run_stream};
 use bo_usage::Recount;
@@ -14,12 +14,12 @@ use sha2::{Digest, Sha256};
 use std::alloc::{AllocError, Global};
 
 /// The box office that `feed` begins with: organizer `house`, event `hall`, the token `feed`, and no rows.
-#[tactic(auto, unfolding(crate::specs::House::fresh_house))]
+#[tactic(auto, unfolding(crate::specs::House::fresh_house, bo_base::specs::Slugs::is_slug))]
 pub fn open_house(alloc: Global) -> Result<BoxOffice<Recount>, AllocError>
     ensures { IfOk result (λ house. house ≡ fresh_house) }
 {
-    let organizer = Text::copy_of(alloc, "house")?;
-    let event = Text::copy_of(alloc, "hall")?;
+    let organizer = Slug::copy_of(alloc, "house")?;
+    let event = Slug::copy_of(alloc, "hall")?;
     let office = Office::over(organizer, event, Recount::new(alloc));
     BoxOffice::over(alloc, office, Sha256::digest(b"feed"))
 }

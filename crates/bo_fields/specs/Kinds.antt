@@ -1,11 +1,10 @@
 -- What a field's value is: a truth value, a number, a text, an amount of money, a moment, a word of a choice.
-use Rattle.std.specs.Prelude.{ℕ, ◌*◌, ◌==◌, ◌&&◌, ◌||◌, Bool, true, false, List, length, Option, Some, None, Result, Ok, Err, if◌then◌else◌, nat_lt, nat_le, is_some, option_and_then, codes}
-use Rattle.std.specs.List.{list_any}
+use Rattle.std.specs.Prelude.{ℕ, ◌*◌, ◌==◌, ◌&&◌, ℤ, int_le, Bool, true, false, List, length, Option, Some, None, Result, Ok, Err, if◌then◌else◌, nat_le, is_some, option_and_then, codes}
 use Rattle.serde_json.specs.Data.{Data, Members, no_members, member}
-use Rattle.serde_json.specs.Find.{as_bool, as_str, as_number, as_u64, as_i64, as_object}
+use Rattle.serde_json.specs.Find.{as_bool, as_str, as_number, as_u64, as_i64, as_integer, as_object}
 use Rattle.bo_base.specs.Money.{money_of}
 use Rattle.bo_base.specs.Moments.{moment_of, day_of}
-use Rattle.bo_base.specs.Texts.{same_text}
+use Rattle.bo_base.specs.Texts.{same_text, is_text}
 use Rattle.bo_base.specs.declared.price_mode.PriceMode.{PriceMode}
 use Rattle.bo_base.specs.declared.price_mode.PriceMode.TheVariants as modes
 use Rattle.bo_base.specs.declared.refusal.ValueRefusal.{ValueRefusal}
@@ -40,21 +39,21 @@ is_signed v = is_some (option_and_then as_i64 (as_number v))
 abbrev pub whole : Field → ℕ → ℕ → Data → Result ℕ BodyFault
 whole f low high v = whole_of f low high (count_in v) (is_signed v)
 
+-- a whole number between two bounds that may have a sign; any other number is another kind
+abbrev pub signed_of : Field → ℤ → ℤ → Option ℤ → Result ℤ BodyFault
+signed_of f low high None = Err (fault f problems.Invalid)
+signed_of f low high (Some n) = if int_le low n && int_le n high then Ok n else Err (fault f problems.OutOfRange)
+
+abbrev pub signed : Field → ℤ → ℤ → Data → Result ℤ BodyFault
+signed f low high v = signed_of f low high (option_and_then as_integer (as_number v))
+
 -- an id
 abbrev pub id : Field → Data → Result ℕ BodyFault
 id f v = whole f 1 9007199254740991 v
 
--- a byte below 32, or 127
-abbrev pub is_control : ℕ → Bool
-is_control b = nat_lt b 32 || (b == 127)
-
--- more than 254 bytes, or a control byte
-abbrev pub is_unfit : List ℕ → Bool
-is_unfit s = nat_lt 254 (length s) || list_any is_control s
-
--- at most 254 bytes, and no control byte
+-- a text as a row has it: at most 254 bytes, and no control byte
 abbrev pub fit : Field → List ℕ → Result (List ℕ) BodyFault
-fit f s = if is_unfit s then Err (fault f problems.NotAllowed) else Ok s
+fit f s = if is_text s then Ok s else Err (fault f problems.NotAllowed)
 
 -- a text of at most 254 bytes and with no control byte, which may be empty
 abbrev pub loose_text_from : Field → Option (List ℕ) → Result (List ℕ) BodyFault

@@ -1,12 +1,12 @@
 -- Fields that may be absent, by their kinds.
-use Rattle.std.specs.Prelude.{ℕ, Bool, List, [], Option, Some, None, Result, Ok}
+use Rattle.std.specs.Prelude.{ℕ, ℤ, Bool, List, [], Option, Some, None, Result, Ok}
 use Rattle.serde_json.specs.Data.{Data}
 use Rattle.bo_base.specs.declared.price_mode.PriceMode.{PriceMode}
 use Rattle.bo_faults.specs.declared.fields.Field.{Field}
 use Rattle.bo_fields.specs.declared.error.BodyFault.{BodyFault}
 use Rattle.bo_fields.specs.Reading.{◌>>=◌}
 use Rattle.bo_fields.specs.Modes.{optional, present}
-use Rattle.bo_fields.specs.Kinds.{truth, whole, id, loose_text, text, money, moment, price_mode}
+use Rattle.bo_fields.specs.Kinds.{truth, whole, signed, id, loose_text, text, money, moment, price_mode}
 use Rattle.bo_fields.specs.Lists.{ids, texts}
 
 -- the reading of a value that may be lacking
@@ -26,6 +26,10 @@ truth_or f x d = present f d >>= or_else (truth f) x
 -- a whole number between two bounds that may be absent, and then is x
 abbrev pub whole_or : Field → ℕ → ℕ → ℕ → Data → Result ℕ BodyFault
 whole_or f x low high d = present f d >>= or_else (whole f low high) x
+
+-- a whole number between two bounds with a sign that may be absent, and then is x
+abbrev pub signed_or : Field → ℤ → ℤ → ℤ → Data → Result ℤ BodyFault
+signed_or f x low high d = present f d >>= or_else (signed f low high) x
 
 -- a text that may be empty, and may be absent, and then is empty
 abbrev pub text_or_empty : Field → Data → Result (List ℕ) BodyFault

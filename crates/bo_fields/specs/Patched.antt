@@ -1,12 +1,12 @@
 -- Fields of a change: what is absent stays as it is, and is none here.
-use Rattle.std.specs.Prelude.{ℕ, Bool, List, Option, Some, None, Result, Ok}
+use Rattle.std.specs.Prelude.{ℕ, ℤ, Bool, List, Option, Some, None, Result, Ok}
 use Rattle.serde_json.specs.Data.{Data}
 use Rattle.bo_base.specs.declared.price_mode.PriceMode.{PriceMode}
 use Rattle.bo_faults.specs.declared.fields.Field.{Field}
 use Rattle.bo_fields.specs.declared.error.BodyFault.{BodyFault}
 use Rattle.bo_fields.specs.Reading.{◌>>=◌}
 use Rattle.bo_fields.specs.Modes.{present, maybe}
-use Rattle.bo_fields.specs.Kinds.{truth, whole, id, loose_text, text, name, money, moment, price_mode}
+use Rattle.bo_fields.specs.Kinds.{truth, whole, signed, id, loose_text, text, name, money, moment, price_mode}
 use Rattle.bo_fields.specs.Lacking.{each}
 
 -- a field that may not be null
@@ -26,6 +26,9 @@ patched_truth f = patched (truth f) f
 
 abbrev pub patched_whole : Field → ℕ → ℕ → Data → Result (Option ℕ) BodyFault
 patched_whole f low high = patched (whole f low high) f
+
+abbrev pub patched_signed : Field → ℤ → ℤ → Data → Result (Option ℤ) BodyFault
+patched_signed f low high = patched (signed f low high) f
 
 abbrev pub patched_text : Field → Data → Result (Option (List ℕ)) BodyFault
 patched_text f = patched (text f) f

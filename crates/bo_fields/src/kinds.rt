@@ -1,18 +1,17 @@
 //! What a field's value is: a truth value, a number, a text, an amount of money, a moment,
 //! a word of a choice.
 
-ghost use Rattle.std.specs.Prelude.{◌≡◌, ◌≤◌, IfOk, option_map};
-ghost use Rattle.std.specs.List.{list_any};
+ghost use Rattle.std.specs.Prelude.{◌≡◌, ◌≤◌, ◌≤ℤ◌, IfOk, option_map};
 ghost use Rattle.bo_base.specs.Money.{money_of};
 ghost use Rattle.bo_fields.specs.Reading.{Shows, text_of, view_of};
-ghost use Rattle.bo_base.specs.Texts.{same_text};
-ghost use Rattle.bo_fields.specs.Kinds.{truth, whole, id, is_control, is_unfit, fit, loose_text, text, first_member, first_name, name, money_read, units_from, count_in, money, moment_read, moment, end_in, end, mode_named, price_mode};
+ghost use Rattle.bo_base.specs.Texts.{same_text, IsText};
+ghost use Rattle.bo_fields.specs.Kinds.{truth, whole, signed, id, fit, loose_text, text, first_member, first_name, name, money_read, units_from, count_in, money, moment_read, moment, end_in, end, mode_named, price_mode};
 ghost use Rattle.serde_json.specs.View.{view, members_view};
 
 use crate::error::{BodyFault, fault};
-use bo_base::{Cents, Moment, PriceMode, ValueRefusal, read_cents, read_day, read_moment};
+use bo_base::{Cents, Moment, PriceMode, ValueRefusal, is_text, read_cents, read_day, read_moment};
 use bo_faults::{Field, Problem};
-use serde_json::{Map, Value};
+use serde_json::{Map, Number, Value};
 
 /// A truth value.
 pub fn truth(field: Field, value: &Value) -> Result<bool, BodyFault>
@@ -27,6 +26,7 @@ pub fn truth(field: Field, value: &Value) -> Result<bool, BodyFault>
 /// A whole number between two bounds.
 pub fn whole(field: Field, low: u64, high: u64, value: &Value) -> Result<u64, BodyFault>
     ensures value { result ≡ whole field low high (view value.now) }
+    ensures from { IfOk result (λ n. low ≤ n) }
     ensures within { IfOk result (λ n. n ≤ high) }
 {
     match value.as_u64() {
@@ -47,6 +47,24 @@ pub fn whole(field: Field, low: u64, high: u64, value: &Value) -> Result<u64, Bo
     }
 }
 
+/// A whole number between two bounds, which may have a sign.
+pub fn signed(field: Field, low: i32, high: i32, value: &Value) -> Result<i32, BodyFault>
+    ensures value { result ≡ signed field low high (view value.now) }
+    ensures above { IfOk result (λ n. low ≤ℤ n) }
+    ensures below { IfOk result (λ n. n ≤ℤ high) }
+{
+    match value.as_number().and_then(Number::as_i128) {
+        Some(n) => {
+            if i128::from(low) <= n && n <= i128::from(high) {
+                Ok(n as i32)
+            } else {
+                fault(field, Problem::OutOfRange)
+            }
+        }
+        None => fault(field, Problem::Invalid),
+    }
+}
+
 /// An id: 1 to 9,007,199,254,740,991.
 pub fn id(field: Field, value: &Value) -> Result<u64, BodyFault>
     ensures { result ≡ id field (view value.now) }
@@ -54,41 +72,22 @@ pub fn id(field: Field, value: &Value) -> Result<u64, BodyFault>
     whole(field, 1, 9_007_199_254_740_991, value)
 }
 
-/// Whether a byte is a control byte.
-fn is_control(byte: u8) -> bool
-    ensures { result ≡ is_control byte }
-{
-    byte < 32 || byte == 127
-}
-
-/// Whether a text has a control byte.
-fn has_control(text: &[u8]) -> bool
-    ensures { result ≡ list_any is_control text.now }
-{
-    text.iter().any(|b| is_control(*b))
-}
-
-/// Whether a text has more than 254 bytes, or a control byte.
-fn is_unfit(text: &[u8]) -> bool
-    ensures { result ≡ is_unfit text.now }
-{
-    text.len() > 254 || has_control(text)
-}
-
 /// The text, where it has at most 254 bytes and no control byte.
 fn fit(field: Field, text: &str) -> Result<&str, BodyFault>
-    ensures { Shows text_of result (fit field text.now) }
+    ensures value { Shows text_of result (fit field text.now) }
+    ensures text { IfOk result (λ s. IsText s.now) }
 {
-    if is_unfit(text.as_bytes()) {
-        fault(field, Problem::NotAllowed)
-    } else {
+    if is_text(text) {
         Ok(text)
+    } else {
+        fault(field, Problem::NotAllowed)
     }
 }
 
 /// A text of at most 254 bytes and with no control byte, which may be empty.
 pub fn loose_text<'v>(field: Field, value: &'v Value) -> Result<&'v str, BodyFault>
-    ensures { Shows text_of result (loose_text field (view value.now)) }
+    ensures value { Shows text_of result (loose_text field (view value.now)) }
+    ensures text { IfOk result (λ s. IsText s.now) }
 {
     match value.as_str() {
         None => fault(field, Problem::Invalid),
@@ -98,7 +97,8 @@ pub fn loose_text<'v>(field: Field, value: &'v Value) -> Result<&'v str, BodyFau
 
 /// A text that is not blank, of at most 254 bytes and with no control byte.
 pub fn text<'v>(field: Field, value: &'v Value) -> Result<&'v str, BodyFault>
-    ensures { Shows text_of result (text field (view value.now)) }
+    ensures value { Shows text_of result (text field (view value.now)) }
+    ensures text { IfOk result (λ s. IsText s.now) }
 {
     let Some(text) = value.as_str() else {
         return fault(field, Problem::Invalid);
@@ -121,7 +121,8 @@ fn first_member<'v>(languages: &'v Map<String, Value>) -> Option<&'v Value>
 
 /// The name in the first of its languages.
 fn first_name<'v>(field: Field, languages: &'v Map<String, Value>) -> Result<&'v str, BodyFault>
-    ensures { Shows text_of result (first_name field (first_member (members_view languages.now.entries))) }
+    ensures value { Shows text_of result (first_name field (first_member (members_view languages.now.entries))) }
+    ensures text { IfOk result (λ s. IsText s.now) }
 {
     match first_member(languages) {
         None => fault(field, Problem::Blank),
@@ -131,7 +132,8 @@ fn first_name<'v>(field: Field, languages: &'v Map<String, Value>) -> Result<&'v
 
 /// A name: a text, or an object of languages, of which the first by byte order counts.
 pub fn name<'v>(field: Field, value: &'v Value) -> Result<&'v str, BodyFault>
-    ensures { Shows text_of result (name field (view value.now)) }
+    ensures value { Shows text_of result (name field (view value.now)) }
+    ensures text { IfOk result (λ s. IsText s.now) }
 {
     match value.as_object() {
         None => text(field, value),

@@ -1,12 +1,13 @@
 //! Fields that may be absent, by their kinds.
 
-ghost use Rattle.std.specs.Prelude.{◌≡◌, ◌≤◌, IfOk, option_map};
+ghost use Rattle.std.specs.Prelude.{◌≡◌, ◌≤◌, ◌≤ℤ◌, IfOk, IfSome, option_map};
+ghost use Rattle.bo_base.specs.Texts.{IsText};
 ghost use Rattle.bo_fields.specs.Reading.{Reads, Shows, text_of};
-ghost use Rattle.bo_fields.specs.Lacking.{truth_or, whole_or, text_or_empty, price_mode_or, optional_id, optional_text, optional_loose_text, optional_money, optional_moment, ids_or_none, texts_or_none};
+ghost use Rattle.bo_fields.specs.Lacking.{truth_or, whole_or, signed_or, text_or_empty, price_mode_or, optional_id, optional_text, optional_loose_text, optional_money, optional_moment, ids_or_none, texts_or_none};
 ghost use Rattle.serde_json.specs.View.{view};
 
 use crate::error::{BodyFault, ReadError};
-use crate::kinds::{id, loose_text, moment, money, price_mode, text, truth, whole};
+use crate::kinds::{id, loose_text, moment, money, price_mode, signed, text, truth, whole};
 use crate::lists::{ids, texts};
 use crate::modes::{optional, present};
 use bo_base::{Cents, List, Moment, PriceMode, Text};
@@ -33,6 +34,7 @@ pub fn whole_or(
     body: &Value,
 ) -> Result<u64, BodyFault>
     ensures value { result ≡ whole_or field default low high (view body.now) }
+    ensures from { low ≤ default → IfOk result (λ n. low ≤ n) }
     ensures within { default ≤ high → IfOk result (λ n. n ≤ high) }
 {
     match present(field, body)? {
@@ -41,9 +43,29 @@ pub fn whole_or(
     }
 }
 
+/// A whole number between two bounds, which may have a sign, that may be absent.
+pub fn signed_or(
+    field: Field,
+    default: i32,
+    low: i32,
+    high: i32,
+    body: &Value,
+) -> Result<i32, BodyFault>
+    ensures value { result ≡ signed_or field default low high (view body.now) }
+    ensures above { low ≤ℤ default → IfOk result (λ n. low ≤ℤ n) }
+    ensures below { default ≤ℤ high → IfOk result (λ n. n ≤ℤ high) }
+{
+    match present(field, body)? {
+        None => Ok(default),
+        Some(value) => signed(field, low, high, value),
+    }
+}
+
 /// A text of at most 254 bytes and with no control byte that may be empty, and may be absent: then it is empty.
+#[tactic(auto, unfolding(bo_base::specs::Texts::is_text))]
 pub fn text_or_empty<'v>(field: Field, body: &'v Value) -> Result<&'v str, BodyFault>
-    ensures { Shows text_of result (text_or_empty field (view body.now)) }
+    ensures value { Shows text_of result (text_or_empty field (view body.now)) }
+    ensures text { IfOk result (λ s. IsText s.now) }
 {
     match present(field, body)? {
         None => Ok(""),
@@ -73,7 +95,8 @@ pub fn optional_id(field: Field, body: &Value) -> Result<Option<u64>, BodyFault>
 
 /// A text that is not blank, of at most 254 bytes and with no control byte, that may be absent or null.
 pub fn optional_text<'v>(field: Field, body: &'v Value) -> Result<Option<&'v str>, BodyFault>
-    ensures { Shows (option_map text_of) result (optional_text field (view body.now)) }
+    ensures value { Shows (option_map text_of) result (optional_text field (view body.now)) }
+    ensures text { IfOk result (λ given. IfSome given (λ s. IsText s.now)) }
 {
     match optional(field, body) {
         None => Ok(None),
@@ -83,7 +106,8 @@ pub fn optional_text<'v>(field: Field, body: &'v Value) -> Result<Option<&'v str
 
 /// A text of at most 254 bytes and with no control byte that may be absent or null, and may be empty.
 pub fn optional_loose_text<'v>(field: Field, body: &'v Value) -> Result<Option<&'v str>, BodyFault>
-    ensures { Shows (option_map text_of) result (optional_loose_text field (view body.now)) }
+    ensures value { Shows (option_map text_of) result (optional_loose_text field (view body.now)) }
+    ensures text { IfOk result (λ given. IfSome given (λ s. IsText s.now)) }
 {
     match optional(field, body) {
         None => Ok(None),

@@ -1,6 +1,7 @@
 //! Lists in a body.
 
-ghost use Rattle.std.specs.Prelude.{◌≡◌, Result};
+ghost use Rattle.std.specs.Prelude.{◌≡◌, Result, IfOk};
+ghost use Rattle.bo_base.specs.Texts.{IsText};
 ghost use Rattle.bo_fields.specs.declared.error.BodyFault.{BodyFault};
 ghost use Rattle.serde_json.specs.Data.{Data};
 ghost use Rattle.bo_fields.specs.Reading.{Gives, Reads, Shows, items_of_slice, text_of, view_of};
@@ -108,7 +109,8 @@ pub fn ids(alloc: Global, field: Field, value: &Value) -> Result<List<u64>, Read
 
 /// An entry that is a text, which isn't empty.
 fn entry_text<'v>(field: Field, entry: &'v Value) -> Result<&'v str, BodyFault>
-    ensures { Shows text_of result (entry_text field (view entry.now)) }
+    ensures value { Shows text_of result (entry_text field (view entry.now)) }
+    ensures text { IfOk result (λ s. IsText s.now) }
 {
     text(field, not_null(field, entry)?)
 }

@@ -1,13 +1,14 @@
 //! Fields of a change, which may be absent: what isn't given is none. Where null is a value,
 //! the outer option tells whether the field is given.
 
-ghost use Rattle.std.specs.Prelude.{◌≡◌, ◌≤◌, IfOk, IfSome, option_map};
+ghost use Rattle.std.specs.Prelude.{◌≡◌, ◌≤◌, ◌≤ℤ◌, IfOk, IfSome, option_map};
+ghost use Rattle.bo_base.specs.Texts.{IsText};
 ghost use Rattle.bo_fields.specs.Reading.{Shows, text_of};
-ghost use Rattle.bo_fields.specs.Patched.{patched_truth, patched_whole, patched_text, patched_loose_text, patched_name, patched_money, patched_price_mode, patched_whole_or_null, patched_id_or_null, patched_money_or_null, patched_moment_or_null};
+ghost use Rattle.bo_fields.specs.Patched.{patched_truth, patched_whole, patched_signed, patched_text, patched_loose_text, patched_name, patched_money, patched_price_mode, patched_whole_or_null, patched_id_or_null, patched_money_or_null, patched_moment_or_null};
 ghost use Rattle.serde_json.specs.View.{view};
 
 use crate::error::BodyFault;
-use crate::kinds::{id, loose_text, moment, money, name, price_mode, text, truth, whole};
+use crate::kinds::{id, loose_text, moment, money, name, price_mode, signed, text, truth, whole};
 use crate::modes::{maybe, present};
 use bo_base::{Cents, Moment, PriceMode};
 use bo_faults::Field;
@@ -31,6 +32,7 @@ pub fn patched_whole(
     body: &Value,
 ) -> Result<Option<u64>, BodyFault>
     ensures value { result ≡ patched_whole field low high (view body.now) }
+    ensures from { IfOk result (λ given. IfSome given (λ n. low ≤ n)) }
     ensures within { IfOk result (λ given. IfSome given (λ n. n ≤ high)) }
 {
     match present(field, body)? {
@@ -39,9 +41,27 @@ pub fn patched_whole(
     }
 }
 
+/// A whole number between two bounds, which may have a sign.
+pub fn patched_signed(
+    field: Field,
+    low: i32,
+    high: i32,
+    body: &Value,
+) -> Result<Option<i32>, BodyFault>
+    ensures value { result ≡ patched_signed field low high (view body.now) }
+    ensures above { IfOk result (λ given. IfSome given (λ n. low ≤ℤ n)) }
+    ensures below { IfOk result (λ given. IfSome given (λ n. n ≤ℤ high)) }
+{
+    match present(field, body)? {
+        None => Ok(None),
+        Some(value) => Ok(Some(signed(field, low, high, value)?)),
+    }
+}
+
 /// A text that is not blank, of at most 254 bytes and with no control byte.
 pub fn patched_text<'v>(field: Field, body: &'v Value) -> Result<Option<&'v str>, BodyFault>
-    ensures { Shows (option_map text_of) result (patched_text field (view body.now)) }
+    ensures value { Shows (option_map text_of) result (patched_text field (view body.now)) }
+    ensures text { IfOk result (λ given. IfSome given (λ s. IsText s.now)) }
 {
     match present(field, body)? {
         None => Ok(None),
@@ -51,7 +71,8 @@ pub fn patched_text<'v>(field: Field, body: &'v Value) -> Result<Option<&'v str>
 
 /// A text of at most 254 bytes and with no control byte, which may be empty.
 pub fn patched_loose_text<'v>(field: Field, body: &'v Value) -> Result<Option<&'v str>, BodyFault>
-    ensures { Shows (option_map text_of) result (patched_loose_text field (view body.now)) }
+    ensures value { Shows (option_map text_of) result (patched_loose_text field (view body.now)) }
+    ensures text { IfOk result (λ given. IfSome given (λ s. IsText s.now)) }
 {
     match present(field, body)? {
         None => Ok(None),
@@ -61,7 +82,8 @@ pub fn patched_loose_text<'v>(field: Field, body: &'v Value) -> Result<Option<&'
 
 /// A name: a text, or an object of languages.
 pub fn patched_name<'v>(field: Field, body: &'v Value) -> Result<Option<&'v str>, BodyFault>
-    ensures { Shows (option_map text_of) result (patched_name field (view body.now)) }
+    ensures value { Shows (option_map text_of) result (patched_name field (view body.now)) }
+    ensures text { IfOk result (λ given. IfSome given (λ s. IsText s.now)) }
 {
     match present(field, body)? {
         None => Ok(None),

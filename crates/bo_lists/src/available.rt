@@ -4,34 +4,35 @@ ghost use Rattle.std.specs.Prelude.{◌≡◌};
 ghost use Rattle.bo_lists.specs.Available.{available, available_number, availability_by};
 
 use crate::rows::{Availability, Usage};
+use bo_base::Size;
 
 impl Availability {
     /// What is left of a quota of this size (`None` is unlimited) of which so much is used.
-    pub fn of(size: Option<u32>, usage: Usage) -> Self
+    pub fn of(size: Option<Size>, usage: Usage) -> Self
         ensures { result ≡ availability_by size usage }
     {
         let used = usage.total();
         Availability {
             size,
             usage,
-            available: is_available(size, used),
-            available_number: number_left(size, used),
+            available: is_available(&size, used),
+            available_number: number_left(&size, used),
         }
     }
 }
 
-fn is_available(size: Option<u32>, used: u128) -> bool
-    ensures { result ≡ available size used }
+fn is_available(size: &Option<Size>, used: u128) -> bool
+    ensures { result ≡ available size.now used }
 {
     match size {
         None => true,
-        Some(size) => used < u128::from(size),
+        Some(size) => used < u128::from(size.get()),
     }
 }
 
-fn number_left(size: Option<u32>, used: u128) -> Option<u64>
-    ensures { result ≡ available_number size used }
+fn number_left(size: &Option<Size>, used: u128) -> Option<u64>
+    ensures { result ≡ available_number size.now used }
 {
-    let size = size?;
-    Some(u128::from(size).saturating_sub(used) as u64)
+    let size = (*size)?;
+    Some(u128::from(size.get()).saturating_sub(used) as u64)
 }

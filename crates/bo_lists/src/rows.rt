@@ -8,18 +8,17 @@ ghost use Rattle.bo_lists.specs.Consumed.{is_consumed};
 ghost use Rattle.bo_lists.specs.Usage.{waits_for};
 ghost use Rattle.bo_lists.specs.Fits.{has_variation, fits_item, fits_by, fits};
 
-use bo_base::{Cents, Ids, List, Moment, PriceMode, Row, Text};
+use bo_base::{Cents, Ids, List, Moment, PriceMode, Priority, Row, Size, Text, Uses};
 use bo_catalogue::{Catalogue, Product, Quota};
 use std::alloc::{AllocError, Global};
 
 /// A voucher. Its `value` is in cents, or in hundredths of a percent where the mode is percent.
-/// It may be used `max_usages` times, 1 to 1,000,000. It is live up to and at `valid_until`.
-/// Its texts have at most 254 bytes each; tag and comment may be empty.
+/// It is live up to and at `valid_until`. Tag and comment may be empty.
 #[derive(Debug, Drop)]
 pub struct Voucher {
     pub id: u64,
     pub code: Text,
-    pub max_usages: u32,
+    pub max_usages: Uses,
     pub valid_until: Option<Moment>,
     pub block_quota: bool,
     pub allow_ignore_quota: bool,
@@ -32,7 +31,7 @@ pub struct Voucher {
     pub comment: Text,
 }
 
-/// A place that is held in a cart, up to and at the moment `expires`. The cart's id has at most 254 bytes.
+/// A place that is held in a cart, up to and at the moment `expires`.
 #[derive(Debug, Drop)]
 pub struct CartPos {
     pub id: u64,
@@ -54,7 +53,6 @@ pub enum Status {
 }
 
 /// An order; its positions are rows of their own. Its `id` is its number, 1 to 17,210,367.
-/// Its email has at most 254 bytes.
 #[derive(Debug, Drop)]
 pub struct Order {
     pub id: u64,
@@ -84,18 +82,17 @@ pub struct OrderRows {
 }
 
 /// An entry of the waiting list. It waits as long as it has no voucher.
-/// Its `priority` is -1,000,000 to 1,000,000, higher first.
 #[derive(Debug, Drop)]
 pub struct Waiting {
     pub id: u64,
     pub email: Text,
     pub product: Product,
-    pub priority: i32,
+    pub priority: Priority,
     pub created: Moment,
     pub voucher: Option<u64>,
 }
 
-/// A list by which a door checks tickets in. Its name has 1 to 254 bytes.
+/// A list by which a door checks tickets in.
 /// It is for all products, or else for the items of `limit_products`, whose ids rise.
 #[derive(Debug, Drop)]
 pub struct CheckinList {
@@ -116,7 +113,7 @@ pub enum CheckinKind {
 }
 
 /// One check-in of an order position by a list, at the moment `datetime`.
-/// A nonce has 1 to 254 bytes, and a list has it once for a position.
+/// A list has a nonce once for a position.
 #[derive(Debug, Drop)]
 pub struct Checkin {
     pub id: u64,
@@ -163,7 +160,7 @@ pub struct NextIds {
 /// Whether places of a quota are left, and how many: `available_number` is none where the quota is unlimited.
 #[derive(Clone, Copy, Debug, PartialEq, Eq)]
 pub struct Availability {
-    pub size: Option<u32>,
+    pub size: Option<Size>,
     pub usage: Usage,
     pub available: bool,
     pub available_number: Option<u64>,

@@ -7,18 +7,18 @@ use Rattle.bo_base.specs.declared.draw.Draw.{Draw}
 use Rattle.bo_base.specs.Moments.{last_moment}
 use Rattle.bo_lists.specs.declared.rows.CartPos.{CartPos}
 use Rattle.bo_lists.specs.Lists.{State}
-use Rattle.bo_orders.specs.declared.bulk.Entry.{Entry}
-use Rattle.bo_orders.specs.declared.bulk.Entry.TheVariants.{New, Faulty}
-use Rattle.bo_orders.specs.declared.bulk.Outcome.{Outcome}
-use Rattle.bo_orders.specs.declared.bulk.Outcome.TheVariants as outcomes
-use Rattle.bo_orders.specs.declared.new_cart.NewCart.{NewCart}
-use Rattle.bo_orders.specs.declared.refusal.OrderRefusal.{OrderRefusal}
-use Rattle.bo_orders.specs.declared.refusal.OrderRefusal.TheVariants.{TooMany}
+use Rattle.bo_commands.specs.declared.carts.Entry.{Entry}
+use Rattle.bo_commands.specs.declared.carts.Entry.TheVariants.{New, Faulty}
+use Rattle.bo_commands.specs.declared.carts.Outcome.{Outcome}
+use Rattle.bo_commands.specs.declared.carts.Outcome.TheVariants as outcomes
+use Rattle.bo_commands.specs.declared.carts.NewCart.{NewCart}
+use Rattle.bo_commands.specs.declared.orders.OrderRefusal.{OrderRefusal}
+use Rattle.bo_commands.specs.declared.orders.OrderRefusal.TheVariants.{TooMany}
 use Rattle.bo_orders.specs.Bulk.{outcome_of, entry_added, all_added, most_entries, many_added}
 use Rattle.bo_orders.specs.Carts.{position_added}
 use Rattle.bo_orders.proofs.BulkSound.{entry_moment}
 use Rattle.bo_commands.specs.declared.requests.Command.{Command}
-use Rattle.bo_commands.specs.declared.requests.Command.TheVariants.{AddItem, ChangeItem, AddVariation, AddQuota, ResizeQuota, AddVoucher, ChangeVoucher, DropVoucher, AddCart, AddCarts, DropCart, AddOrder, MoveOrder}
+use Rattle.bo_commands.specs.declared.requests.Command.TheVariants.{AddItem, ChangeItem, AddVariation, AddQuota, ResizeQuota, AddVoucher, ChangeVoucher, DropVoucher, AddCart, AddCarts, DropCart, AddOrder, MoveOrder, AddWaiting, ChangeWaiting, DropWaiting, SendVoucher, Periodic, AddCheckinList, Redeem}
 use Rattle.bo_commands.specs.declared.replies.Reply.{Reply}
 use Rattle.bo_office.specs.Step.{cart_step, bulk_step, step}
 use Rattle.bo_office.specs.Runs.{Arrival, moment_at, stepped, trace, alone, after_run, outcome_told, outcomes_alone, RunsEntries, RunsItsEntries}
@@ -93,6 +93,13 @@ runs_entries (AddCart new) clock draw state = tt
 runs_entries (DropCart id) clock draw state = tt
 runs_entries (AddOrder new) clock draw state = tt
 runs_entries (MoveOrder number change) clock draw state = tt
+runs_entries (AddWaiting new) clock draw state = tt
+runs_entries (ChangeWaiting id patch) clock draw state = tt
+runs_entries (DropWaiting id) clock draw state = tt
+runs_entries (SendVoucher id) clock draw state = tt
+runs_entries Periodic clock draw state = tt
+runs_entries (AddCheckinList new) clock draw state = tt
+runs_entries (Redeem list ticket scan) clock draw state = tt
 runs_entries (AddCarts entries) clock draw state = λ few.
     let at = moment_at clock state in
     let now : State = record state { moment = at } in

@@ -1,6 +1,6 @@
 -- No step lowers a next id, and the ids of its new rows are new.
-use Rattle.std.proofs.Common.{◌≡◌, ℕ, ◌+◌, ◌≤◌, ◌<◌, ◌≢◌, ◌⊎◌, inl, inr, Bool, true, false, eqb, List, [], ◌∷◌, length, map, Some, None, Result, Ok, Err, refl, sym, ap, ◌∙◌, subst, arith}
-use Rattle.std.specs.Prelude.{is_some, if◌then◌else◌}
+use Rattle.std.proofs.Common.{◌≡◌, ℕ, ◌+◌, ◌≤◌, ◌<◌, ◌≢◌, ◌⊎◌, inl, inr, Bool, true, false, eqb, List, [], ◌∷◌, length, map, Option, Some, None, Result, Ok, Err, refl, sym, ap, ◌∙◌, subst, arith}
+use Rattle.std.specs.Prelude.{is_some, filter, if◌then◌else◌}
 use Rattle.std.proofs.lemmas.Bool.Decides.{eqb_tells}
 use Rattle.bo_base.specs.Tables.{row_at, with_row, without_row}
 use Rattle.bo_base.specs.declared.draw.Draw.{Draw}
@@ -22,33 +22,38 @@ use Rattle.bo_catalogue.specs.VariationAdded.{variation_added}
 use Rattle.bo_catalogue.specs.QuotaAdded.{quota_added}
 use Rattle.bo_catalogue.specs.Resized.{resized}
 use Rattle.bo_catalogue.proofs.Added.{item_added_is, item_changed_is, variation_added_is, quota_added_is, resized_is}
-use Rattle.bo_lists.specs.declared.changes.Change.TheVariants.{PutItem, PutVariation, PutQuota, PutVoucher, PutOrder, PutPosition, DropVoucher, DropCart}
+use Rattle.bo_lists.specs.declared.changes.Change.TheVariants.{PutItem, PutVariation, PutQuota, PutVoucher, PutOrder, PutPosition, DropVoucher, DropCart, PutWaiting, DropWaiting}
 use Rattle.bo_lists.specs.declared.rows.CartPos.{CartPos}
 use Rattle.bo_lists.specs.declared.rows.NextIds.{NextIds}
 use Rattle.bo_lists.specs.declared.rows.Order.{Order}
 use Rattle.bo_lists.specs.declared.rows.OrderPos.{OrderPos}
 use Rattle.bo_lists.specs.declared.rows.OrderRows.{OrderRows}
 use Rattle.bo_lists.specs.declared.rows.Voucher.{Voucher}
+use Rattle.bo_lists.specs.declared.rows.Waiting.{Waiting}
+use Rattle.bo_lists.specs.declared.rows.CheckinList.{CheckinList}
+use Rattle.bo_lists.specs.declared.rows.Checkin.{Checkin}
+use Rattle.bo_lists.specs.Conditions.{is_live_cart}
 use Rattle.bo_lists.specs.Change.{after_change, after_all, changed, without_carts}
 use Rattle.bo_lists.specs.Consumed.{consumed}
-use Rattle.bo_lists.specs.Lists.{State, voucher_at, order_at}
-use Rattle.bo_lists.specs.Numbered.{AreFrom, with_item, with_variation, with_quota, with_voucher, with_cart}
-use Rattle.bo_lists.proofs.EachRow.{key-row_at}
+use Rattle.bo_lists.specs.Lists.{State, voucher_at, order_at, waiting_at}
+use Rattle.bo_lists.specs.Numbered.{AreFrom, with_item, with_variation, with_quota, with_voucher, with_cart, with_waiting, with_checkin_list, with_checkin}
+use Rattle.std.specs.List.{AllByRecursion}
+use Rattle.bo_lists.proofs.EachRow.{key-row_at, all_weaker}
 use Rattle.bo_sound.proofs.Sound.{variation_rows_count}
-use Rattle.bo_vouchers.specs.declared.requests.NewVoucher.{NewVoucher}
-use Rattle.bo_vouchers.specs.declared.requests.VoucherPatch.{VoucherPatch}
+use Rattle.bo_commands.specs.declared.vouchers.NewVoucher.{NewVoucher}
+use Rattle.bo_commands.specs.declared.vouchers.VoucherPatch.{VoucherPatch}
 use Rattle.bo_vouchers.specs.Made.{voucher_made}
 use Rattle.bo_vouchers.specs.Changed.{voucher_changed}
 use Rattle.bo_vouchers.specs.Deleted.{voucher_deleted}
 use Rattle.bo_vouchers.proofs.Made.{made_is, made_id}
 use Rattle.bo_vouchers.proofs.Changed.{changed_is}
 use Rattle.bo_vouchers.proofs.Deleted.{deleted_is}
-use Rattle.bo_orders.specs.declared.bulk.Entry.{Entry}
-use Rattle.bo_orders.specs.declared.bulk.Entry.TheVariants.{New, Faulty}
-use Rattle.bo_orders.specs.declared.moves.Move.{Move}
-use Rattle.bo_orders.specs.declared.new_cart.NewCart.{NewCart}
-use Rattle.bo_orders.specs.declared.new_order.NewOrder.{NewOrder}
-use Rattle.bo_orders.specs.declared.refusal.OrderRefusal.{OrderRefusal}
+use Rattle.bo_commands.specs.declared.carts.Entry.{Entry}
+use Rattle.bo_commands.specs.declared.carts.Entry.TheVariants.{New, Faulty}
+use Rattle.bo_commands.specs.declared.orders.Move.{Move}
+use Rattle.bo_commands.specs.declared.carts.NewCart.{NewCart}
+use Rattle.bo_commands.specs.declared.orders.NewOrder.{NewOrder}
+use Rattle.bo_commands.specs.declared.orders.OrderRefusal.{OrderRefusal}
 use Rattle.bo_orders.specs.Bulk.{outcome_of, entry_added, all_added}
 use Rattle.bo_orders.specs.Carts.{cart_row, position_added, row_in_cart, row_of_sold}
 use Rattle.bo_orders.specs.Created.{AreCounted, position_put, with_positions, with_order_row, order_created}
@@ -64,8 +69,28 @@ use Rattle.bo_orders.proofs.Rows.{counted, puts_next}
 use Rattle.bo_orders.specs.CartId.{cart_id_test}
 use Rattle.bo_orders.specs.Sold.{sold_for}
 use Rattle.bo_orders.specs.declared.sold.Sold.{Sold}
-use Rattle.bo_vouchers.specs.declared.refusal.VoucherRefusal.{VoucherRefusal}
+use Rattle.bo_commands.specs.declared.vouchers.VoucherRefusal.{VoucherRefusal}
+use Rattle.bo_overlay.specs.Due.{is_due}
+use Rattle.bo_orders.specs.Expired.{expired_row, expired_if_due, orders_expired, carts_dropped}
+use Rattle.bo_commands.specs.declared.waiting.NewWaiting.{NewWaiting}
+use Rattle.bo_commands.specs.declared.waiting.WaitingPatch.{WaitingPatch}
+use Rattle.bo_waiting.specs.Joined.{entry_joined}
+use Rattle.bo_waiting.specs.Changed.{entry_changed}
+use Rattle.bo_waiting.specs.Left.{entry_left}
+use Rattle.bo_waiting.proofs.Joins.{joined_is, joined_id}
+use Rattle.bo_waiting.proofs.Leaves.{own_place, changed_is as changed_entry_is, changed_stood, left_is}
+use Rattle.bo_waiting.proofs.Sent.{sent_is}
+use Rattle.bo_waiting.specs.Sending.{with_sent, with_its_voucher, sent_voucher, voucher_sent}
+use Rattle.bo_waiting.specs.Serving.{all_sent}
 use Rattle.bo_office.specs.NewIds.{IdsGoOn, AllIdsGoOn}
+use Rattle.bo_office.specs.PeriodicWork.{ended}
+
+expired_id : (at : ℕ) (order : Order) → (expired_if_due at order).id ≡ order.id
+expired_id at order = by_due (is_due at order)
+  where
+    by_due : (due : Bool) → (if due then expired_row order else order).id ≡ order.id
+    by_due true = refl
+    by_due false = refl
 
 no_less : (n : ℕ) → n ≤ n
 no_less n = omega arith
@@ -104,6 +129,39 @@ module _ {T : Type 0} (key : T → ℕ) where
       by_id : (id : ℕ) (b : Bool) → is_some (if b then None else row_at key id rows) ≡ true → is_some (row_at key id rows) ≡ true
       by_id id true e = absurd (cc (e))
       by_id id false e = e
+
+  -- rows that a test keeps, or that stay under their ids
+  by_head : (id : ℕ) (r : T) (own : Bool) (some more : Option T) → is_some (if own then Some r else some) ≡ true → (is_some some ≡ true → is_some more ≡ true) → is_some (if own then Some r else more) ≡ true
+  by_head id r true some more e on = refl
+  by_head id r false some more e on = on e
+
+  or_later : (r : T) (own : Bool) (more : Option T) → is_some more ≡ true → is_some (if own then Some r else more) ≡ true
+  or_later r true more e = refl
+  or_later r false more e = e
+
+  stood_kept : (test : T → Bool) (id : ℕ) (rows : List T) → is_some (row_at key id (filter test rows)) ≡ true → is_some (row_at key id rows) ≡ true
+  stood_kept test id [] e = e
+  stood_kept test id (r ∷ rs) e = by_test (test r) e (stood_kept test id rs)
+    where
+      by_test : (passes : Bool) → is_some (row_at key id (if passes then r ∷ filter test rs else filter test rs)) ≡ true → (is_some (row_at key id (filter test rs)) ≡ true → is_some (row_at key id rs) ≡ true) → is_some (row_at key id (r ∷ rs)) ≡ true
+      by_test true e more = by_head id r (eqb (key r) id) (row_at key id (filter test rs)) (row_at key id rs) e more
+      by_test false e more = or_later r (eqb (key r) id) (row_at key id rs) (more e)
+
+  kept : (test : T → Bool) (next : ℕ) (rows : List T) → IdsGoOn key next next rows (filter test rows)
+  kept test next rows = record { rises = no_less next; new = λ id stands. inl (stood_kept test id rows stands) }
+
+  stood_mapped : (change : T → T) → ((r : T) → key (change r) ≡ key r) → (id : ℕ) (rows : List T) → is_some (row_at key id (map change rows)) ≡ true → is_some (row_at key id rows) ≡ true
+  stood_mapped change same id [] e = e
+  stood_mapped change same id (r ∷ rs) e =
+      by_own (eqb (key (change r)) id) (eqb (key r) id) (ap (λ n. eqb n id) (same r)) e (stood_mapped change same id rs)
+    where
+      by_own : (now own : Bool) → now ≡ own → is_some (if now then Some (change r) else row_at key id (map change rs)) ≡ true → (is_some (row_at key id (map change rs)) ≡ true → is_some (row_at key id rs) ≡ true) → is_some (if own then Some r else row_at key id rs) ≡ true
+      by_own now true is e more = refl
+      by_own true false is e more = absurd (cc (is))
+      by_own false false is e more = more e
+
+  mapped : (change : T → T) → ((r : T) → key (change r) ≡ key r) → (next : ℕ) (rows : List T) → IdsGoOn key next next rows (map change rows)
+  mapped change same next rows = record { rises = no_less next; new = λ id stands. inl (stood_mapped change same id rows stands) }
 
   one_more : (a b c : ℕ) (xs ys zs : List T) → IdsGoOn key a b xs ys → IdsGoOn key b c ys zs → IdsGoOn key a c xs zs
   one_more a b c xs ys zs first second = record { rises = omega (arith, first.rises, second.rises); new = λ id stands. by_second id (second.new id stands) }
@@ -302,6 +360,92 @@ module _ (s : State) where
     checkins = same (λ r. r.id) s.next.checkin s.lists.checkins;
   }
 
+  new_waiting : (row : Waiting) → row.id ≡ s.next.waiting → AllIdsGoOn s (with_waiting row s)
+  new_waiting row own = record {
+    items = same (λ r. r.id) s.next.item s.lists.catalogue.items;
+    variations = same (λ r. r.id) s.next.variation s.lists.catalogue.variations;
+    quotas = same (λ r. r.id) s.next.quota s.lists.catalogue.quotas;
+    vouchers = same (λ r. r.id) s.next.voucher s.lists.vouchers;
+    carts = same (λ r. r.id) s.next.cart s.lists.carts;
+    orders = same (λ r. r.id) s.next.order s.lists.orders;
+    positions = same (λ r. r.id) s.next.position s.lists.positions;
+    waiting = put_new (λ r. r.id) row s.next.waiting s.lists.waiting own;
+    checkin_lists = same (λ r. r.id) s.next.list s.lists.checkin_lists;
+    checkins = same (λ r. r.id) s.next.checkin s.lists.checkins;
+  }
+
+  old_waiting : (row old : Waiting) → waiting_at row.id s.lists ≡ Some old → AllIdsGoOn s (changed (PutWaiting row) s)
+  old_waiting row old stood = record {
+    items = same (λ r. r.id) s.next.item s.lists.catalogue.items;
+    variations = same (λ r. r.id) s.next.variation s.lists.catalogue.variations;
+    quotas = same (λ r. r.id) s.next.quota s.lists.catalogue.quotas;
+    vouchers = same (λ r. r.id) s.next.voucher s.lists.vouchers;
+    carts = same (λ r. r.id) s.next.cart s.lists.carts;
+    orders = same (λ r. r.id) s.next.order s.lists.orders;
+    positions = same (λ r. r.id) s.next.position s.lists.positions;
+    waiting = put_old (λ r. r.id) row old s.next.waiting s.lists.waiting stood;
+    checkin_lists = same (λ r. r.id) s.next.list s.lists.checkin_lists;
+    checkins = same (λ r. r.id) s.next.checkin s.lists.checkins;
+  }
+
+  drop_waiting : (id : ℕ) → AllIdsGoOn s (changed (DropWaiting id) s)
+  drop_waiting id = record {
+    items = same (λ r. r.id) s.next.item s.lists.catalogue.items;
+    variations = same (λ r. r.id) s.next.variation s.lists.catalogue.variations;
+    quotas = same (λ r. r.id) s.next.quota s.lists.catalogue.quotas;
+    vouchers = same (λ r. r.id) s.next.voucher s.lists.vouchers;
+    carts = same (λ r. r.id) s.next.cart s.lists.carts;
+    orders = same (λ r. r.id) s.next.order s.lists.orders;
+    positions = same (λ r. r.id) s.next.position s.lists.positions;
+    waiting = dropped (λ r. r.id) id s.next.waiting s.lists.waiting;
+    checkin_lists = same (λ r. r.id) s.next.list s.lists.checkin_lists;
+    checkins = same (λ r. r.id) s.next.checkin s.lists.checkins;
+  }
+
+  pub new_checkin_list : (row : CheckinList) → row.id ≡ s.next.list → AllIdsGoOn s (with_checkin_list row s)
+  new_checkin_list row own = record {
+    items = same (λ r. r.id) s.next.item s.lists.catalogue.items;
+    variations = same (λ r. r.id) s.next.variation s.lists.catalogue.variations;
+    quotas = same (λ r. r.id) s.next.quota s.lists.catalogue.quotas;
+    vouchers = same (λ r. r.id) s.next.voucher s.lists.vouchers;
+    carts = same (λ r. r.id) s.next.cart s.lists.carts;
+    orders = same (λ r. r.id) s.next.order s.lists.orders;
+    positions = same (λ r. r.id) s.next.position s.lists.positions;
+    waiting = same (λ r. r.id) s.next.waiting s.lists.waiting;
+    checkin_lists = put_new (λ r. r.id) row s.next.list s.lists.checkin_lists own;
+    checkins = same (λ r. r.id) s.next.checkin s.lists.checkins;
+  }
+
+  pub new_checkin : (row : Checkin) → row.id ≡ s.next.checkin → AllIdsGoOn s (with_checkin row s)
+  new_checkin row own = record {
+    items = same (λ r. r.id) s.next.item s.lists.catalogue.items;
+    variations = same (λ r. r.id) s.next.variation s.lists.catalogue.variations;
+    quotas = same (λ r. r.id) s.next.quota s.lists.catalogue.quotas;
+    vouchers = same (λ r. r.id) s.next.voucher s.lists.vouchers;
+    carts = same (λ r. r.id) s.next.cart s.lists.carts;
+    orders = same (λ r. r.id) s.next.order s.lists.orders;
+    positions = same (λ r. r.id) s.next.position s.lists.positions;
+    waiting = same (λ r. r.id) s.next.waiting s.lists.waiting;
+    checkin_lists = same (λ r. r.id) s.next.list s.lists.checkin_lists;
+    checkins = put_new (λ r. r.id) row s.next.checkin s.lists.checkins own;
+  }
+
+  -- what is overdue ends
+  pub ended_ids : AllIdsGoOn s (ended s)
+  unfolding orders_expired carts_dropped
+  ended_ids = record {
+    items = same (λ r. r.id) s.next.item s.lists.catalogue.items;
+    variations = same (λ r. r.id) s.next.variation s.lists.catalogue.variations;
+    quotas = same (λ r. r.id) s.next.quota s.lists.catalogue.quotas;
+    vouchers = same (λ r. r.id) s.next.voucher s.lists.vouchers;
+    carts = kept (λ r. r.id) (is_live_cart s.moment) s.next.cart s.lists.carts;
+    orders = mapped (λ r. r.id) (expired_if_due s.moment) (expired_id s.moment) s.next.order s.lists.orders;
+    positions = same (λ r. r.id) s.next.position s.lists.positions;
+    waiting = same (λ r. r.id) s.next.waiting s.lists.waiting;
+    checkin_lists = same (λ r. r.id) s.next.list s.lists.checkin_lists;
+    checkins = same (λ r. r.id) s.next.checkin s.lists.checkins;
+  }
+
 -- the order's id is used, and the next position gets this one
 abbrev numbered : ℕ → State → State
 numbered id s = record s { next = record s.next { order = s.next.order + 1; position = id } }
@@ -468,3 +612,55 @@ moved_ids number change s after rows h =
     let id : m.old.id ≡ number = found_id number s.lists.orders m.old m.stood in
     let row : rows.order.id ≡ m.old.id = sym (ap (λ (o : Order). o.id) m.is_row) in
     subst (λ (t : State). AllIdsGoOn s t) m.is_after (old_order s rows.order m.old (ap (λ n. order_at n s.lists) (row ∙ id) ∙ m.stood))
+
+-- each row stands under its id
+pub each_stands : {T : Type 0} (key : T → ℕ) (rows : List T) → AllByRecursion (λ r. is_some (row_at key (key r) rows) ≡ true) rows
+each_stands key [] = tt
+each_stands {T} key (r ∷ rs) =
+    (by_own (eqb_tells (key r) (key r)), all_weaker (λ x. is_some (row_at key (key x) rs) ≡ true) (λ x. is_some (row_at key (key x) (r ∷ rs)) ≡ true) (λ x is. or_later key r (eqb (key r) (key x)) (row_at key (key x) rs) is) rs (each_stands key rs))
+  where
+    by_own : ((eqb (key r) (key r) ≡ true) × (key r ≡ key r)) ⊎ ((eqb (key r) (key r) ≡ false) × (key r ≢ key r)) → is_some (row_at key (key r) (r ∷ rs)) ≡ true
+    by_own (inl t) = ap (λ (b : Bool). is_some (if b then Some r else row_at key (key r) rs)) t.0
+    by_own (inr t) = absurd (t.1 refl)
+
+-- the entry of this id stands
+abbrev pub stands_in : State → ℕ → Bool
+stands_in s id = is_some (waiting_at id s.lists)
+
+-- an entry that stands gets a voucher
+pub sent_ids : (draw : Draw) (e : Waiting) (s : State) → stands_in s e.id ≡ true → AllIdsGoOn s (with_sent draw e s)
+sent_ids draw e s stands = by_found (waiting_at e.id s.lists) refl stands
+  where
+    by_found : (found : Option Waiting) → waiting_at e.id s.lists ≡ found → is_some found ≡ true → AllIdsGoOn s (with_sent draw e s)
+    by_found None is none = absurd (cc (none))
+    by_found (Some old) is some =
+        let one = with_voucher (sent_voucher draw s e.product) s in
+        all_more s one (with_sent draw e s) (new_voucher s (sent_voucher draw s e.product) refl) (old_waiting one (with_its_voucher s e) old is)
+
+-- and those that stood stand still
+still_waits : (draw : Draw) (e : Waiting) (s : State) (id : ℕ) → stands_in s id ≡ true → stands_in (with_sent draw e s) id ≡ true
+still_waits draw e s id stands = ap is_some (row_at-with_row (λ (r : Waiting). r.id) id (with_its_voucher s e) s.lists.waiting) ∙ or_later (λ (r : Waiting). r.id) (with_its_voucher s e) (eqb e.id id) (waiting_at id s.lists) stands
+
+pub all_sent_ids : (draw : Draw) (es : List Waiting) (s : State) → AllByRecursion (λ e. stands_in s e.id ≡ true) es → AllIdsGoOn s (all_sent draw es s)
+all_sent_ids draw [] s stand = all_same s
+all_sent_ids draw (e ∷ es) s stand =
+    let next = with_sent draw e s in
+    all_more s next (all_sent draw es next) (sent_ids draw e s stand.0) (all_sent_ids draw es next (all_weaker (λ e. stands_in s e.id ≡ true) (λ e. stands_in next e.id ≡ true) (λ one is. still_waits draw e s one.id is) es stand.1))
+
+pub joined_ids : (new : NewWaiting) (s after : State) (row : Waiting) → entry_joined new s ≡ Ok (after, row) → AllIdsGoOn s after
+joined_ids new s after row h =
+    let j = joined_is new s after row h in
+    subst (λ (t : State). AllIdsGoOn s t) j.is_after (new_waiting s row (joined_id new s after row j))
+
+pub changed_entry_ids : (id : ℕ) (patch : WaitingPatch) (s after : State) (row : Waiting) → entry_changed id patch s ≡ Ok (after, row) → AllIdsGoOn s after
+changed_entry_ids id patch s after row h =
+    let c = changed_entry_is id patch s after row h in
+    subst (λ (t : State). AllIdsGoOn s t) c.is_after (old_waiting s row c.old (changed_stood id patch s after row c))
+
+pub left_ids : (id : ℕ) (s after : State) → entry_left id s ≡ Ok after → AllIdsGoOn s after
+left_ids id s after h = subst (λ (t : State). AllIdsGoOn s t) (left_is id s after h).is_after (drop_waiting s id)
+
+pub sending_ids : (id : ℕ) (draw : Draw) (s after : State) (row : Waiting) → voucher_sent id draw s ≡ Ok (after, row) → AllIdsGoOn s after
+sending_ids id draw s after row h =
+    let v = sent_is id draw s after row h in
+    subst (λ (t : State). AllIdsGoOn s t) v.is_after (sent_ids draw v.old s (ap is_some (own_place id s v.old v.stands)))

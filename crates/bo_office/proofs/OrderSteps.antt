@@ -1,6 +1,7 @@
 -- What is known of a step that made an order, or moved one.
 use Rattle.std.proofs.Common.{◌≡◌, ℕ, ◌≤◌, ◌⊎◌, inl, inr, Bool, true, false, map, Option, Some, None, Ok, refl, sym, ap, ◌∙◌, subst}
 use Rattle.std.specs.List.{AllByRecursion}
+use Rattle.bo_base.specs.Draws.{IsDraw}
 use Rattle.bo_base.specs.declared.draw.Draw.{Draw}
 use Rattle.bo_catalogue.specs.declared.rows.Quota.{Quota}
 use Rattle.bo_catalogue.specs.CatalogueLists.{quota_at}
@@ -14,10 +15,11 @@ use Rattle.bo_lists.specs.Over.{first_over, ignores}
 use Rattle.bo_sound.specs.Sound.{IsSound}
 use Rattle.bo_lists.specs.Takes.{used, TakesNoMore}
 use Rattle.bo_lists.specs.Conditions.{is_in_force}
-use Rattle.bo_orders.specs.declared.moves.Move.{Move}
-use Rattle.bo_orders.specs.declared.moves.Move.TheVariants.{MarkPaid, MarkPending, MarkExpired, MarkCanceled, Extend}
+use Rattle.bo_commands.specs.FitRequests.{IsFitOrder, IsFitMove}
+use Rattle.bo_commands.specs.declared.orders.Move.{Move}
+use Rattle.bo_commands.specs.declared.orders.Move.TheVariants.{MarkPaid, MarkPending, MarkExpired, MarkCanceled, Extend}
 use Rattle.bo_orders.specs.declared.moves.Turn.{Turn}
-use Rattle.bo_orders.specs.declared.new_order.NewOrder.{NewOrder}
+use Rattle.bo_commands.specs.declared.orders.NewOrder.{NewOrder}
 use Rattle.bo_orders.specs.Created.{order_created}
 use Rattle.bo_orders.specs.Moves.{turned, order_moved}
 use Rattle.bo_orders.proofs.Created.{created_none_over, created_moment, created_sound}
@@ -28,17 +30,17 @@ use Rattle.bo_office.specs.Takings.{revives, revives_found, brings_back}
 use Rattle.bo_office.proofs.NewIds.{created_ids, moved_ids}
 
 -- where an order was made or moved, and whether it took places
-pub record IsOrderFine (state after : State) (rows : OrderRows) (takes : Bool) : Type 0 where
-  pub sound : IsSound state → IsSound after
+pub record IsOrderFine (fit : Type 0) (state after : State) (rows : OrderRows) (takes : Bool) : Type 0 where
+  pub sound : fit → IsSound state → IsSound after
   pub moment : after.moment ≡ state.moment
   pub ids : AllIdsGoOn state after
   pub not_over : takes ≡ true → first_over state.lists after.lists state.moment (map (λ p. Position p.id) rows.positions) ≡ None
   pub within : takes ≡ true → IsSound state → AllByRecursion (λ p. ignores after.lists p.voucher ≡ false) rows.positions → TakesNoMore state after
   pub lowers : takes ≡ false → IsSound state → (quota : Quota) → quota_at quota.id state.lists.catalogue ≡ Some quota → used after quota ≤ used state quota
 
-pub made_fine : (new : NewOrder) (draw : Draw) (state after : State) (rows : OrderRows) → order_created new draw state ≡ Ok (after, rows) → IsOrderFine state after rows true
+pub made_fine : (new : NewOrder) (draw : Draw) (state after : State) (rows : OrderRows) → order_created new draw state ≡ Ok (after, rows) → IsOrderFine (IsFitOrder new × IsDraw draw) state after rows true
 made_fine new draw state after rows h = record {
-  sound = λ sound. created_sound new draw state after rows sound h;
+  sound = λ fit sound. created_sound new draw state after rows fit.0 fit.1 sound h;
   moment = created_moment new draw state after rows h;
   ids = created_ids new draw state after rows h;
   not_over = λ takes. created_none_over new draw state after rows h;
@@ -94,9 +96,9 @@ module _ (number : ℕ) (change : Move) (state after : State) (rows : OrderRows)
   stays : takes ≡ false → (is_in_force m.old.status ≡ true) ⊎ (is_in_force rows.order.status ≡ false)
   stays plain = subst (λ s. (is_in_force m.old.status ≡ true) ⊎ (is_in_force s ≡ false)) (sym status_is) (stayed m.old.status change m.turn m.turns (sym by_status ∙ plain))
 
-  pub moved_fine : IsOrderFine state after rows (brings_back number change state.lists)
-  moved_fine = record {
-    sound = λ sound. moved_sound number change state after rows sound h;
+  pub moved_fine : (draw : Draw) → IsOrderFine (IsFitMove change × IsDraw draw) state after rows (brings_back number change state.lists)
+  moved_fine draw = record {
+    sound = λ fit sound. moved_sound number change state after rows fit.0 sound h;
     moment = moved_moment number change state after rows h;
     ids = moved_ids number change state after rows h;
     not_over = λ back. revived_none_over number change state after rows m.old m.stood (forces back).1 (forces back).0 h;

@@ -1,14 +1,15 @@
 -- A voucher that is made or changed is shown by the orders as they were before: they stay.
-use Rattle.std.proofs.Common.{◌≡◌, ℕ, List, Ok, sym, ap, ◌∙◌}
+use Rattle.std.proofs.Common.{◌≡◌, ℕ, List, [], ◌∷◌, Ok, refl, sym, ap, ◌∙◌}
 use Rattle.bo_base.specs.declared.draw.Draw.{Draw}
 use Rattle.bo_lists.specs.declared.rows.Voucher.{Voucher}
 use Rattle.bo_lists.specs.declared.rows.NextIds.{NextIds}
 use Rattle.bo_lists.specs.declared.changes.Change.{Change}
+use Rattle.bo_lists.specs.declared.changes.Change.TheVariants.{PutVoucher}
 use Rattle.bo_lists.specs.Lists.{Lists, State}
 use Rattle.bo_lists.specs.Change.{Changed, applied, after_all}
 use Rattle.bo_draft.specs.DraftState.{DraftState, now}
-use Rattle.bo_vouchers.specs.declared.requests.NewVoucher.{NewVoucher}
-use Rattle.bo_vouchers.specs.declared.requests.VoucherPatch.{VoucherPatch}
+use Rattle.bo_commands.specs.declared.vouchers.NewVoucher.{NewVoucher}
+use Rattle.bo_commands.specs.declared.vouchers.VoucherPatch.{VoucherPatch}
 use Rattle.bo_vouchers.specs.Made.{voucher_made}
 use Rattle.bo_vouchers.specs.Changed.{voucher_changed}
 use Rattle.bo_vouchers.proofs.Made.{made_is}
@@ -16,6 +17,7 @@ use Rattle.bo_vouchers.proofs.Changed.{changed_is}
 use Rattle.bo_commands.specs.declared.requests.Command.TheVariants.{AddVoucher, ChangeVoucher}
 use Rattle.bo_commands.specs.declared.replies.Reply.{Reply}
 use Rattle.bo_commands.specs.declared.replies.Reply.TheVariants.{Made, Found}
+use Rattle.bo_office.specs.Changes.{changes_of}
 use Rattle.bo_office.specs.ShownRows.{show_voucher}
 use Rattle.bo_office.specs.Step.{step, voucher_step, voucher_change_step}
 
@@ -42,3 +44,12 @@ office_of changes next lists at = record { lists = after_all changes lists; next
 pub finished : (state : State) (at : ℕ) (draft : DraftState) (made : Changed) → made.list ≡ draft.log.changes → made.next ≡ draft.next → draft.log.base ≡ state.lists → draft.moment ≡ at → applied made at state ≡ now draft
 finished state at draft made list next base moment =
     ap (λ (l : List Change). office_of l made.next state.lists at) list ∙ (ap (λ (n : NextIds). office_of draft.log.changes n state.lists at) next ∙ (ap (λ (b : Lists). office_of draft.log.changes draft.next b at) (sym base) ∙ ap (λ (m : ℕ). office_of draft.log.changes draft.next draft.log.base m) (sym moment)))
+
+-- a voucher that is made or changed is put
+pub made_changes : (new : NewVoucher) (draw : Draw) (state : State) (lists : Lists) (row : Voucher) → changes_of (AddVoucher new) draw state (Made (show_voucher lists row)) ≡ PutVoucher row ∷ []
+unfolding show_voucher
+made_changes new draw state lists row = refl
+
+pub changed_changes : (id : ℕ) (patch : VoucherPatch) (draw : Draw) (state : State) (lists : Lists) (row : Voucher) → changes_of (ChangeVoucher id patch) draw state (Found (show_voucher lists row)) ≡ PutVoucher row ∷ []
+unfolding show_voucher
+changed_changes id patch draw state lists row = refl

@@ -1,6 +1,7 @@
 -- Runs of commands, and what holds of each step of a run.
 use Rattle.std.specs.Prelude.{◌≡◌, ℕ, ◌≤◌, max, min, false, nat_lt, List, [], ◌∷◌, length, map, Option, Some, None, if◌then◌else◌}
 use Rattle.std.specs.List.{AllByRecursion, list_any}
+use Rattle.bo_base.specs.Draws.{IsDraw}
 use Rattle.bo_base.specs.declared.draw.Draw.{Draw}
 use Rattle.bo_base.specs.Moments.{last_moment}
 use Rattle.bo_catalogue.specs.declared.rows.Quota.{Quota}
@@ -9,11 +10,12 @@ use Rattle.bo_lists.specs.Lists.{State}
 use Rattle.bo_lists.specs.Over.{first_over, ignores}
 use Rattle.bo_sound.specs.Sound.{IsSound}
 use Rattle.bo_lists.specs.Takes.{used, TakesNoMore}
-use Rattle.bo_orders.specs.declared.bulk.Entry.{Entry}
-use Rattle.bo_orders.specs.declared.bulk.Entry.TheVariants.{New, Faulty}
-use Rattle.bo_orders.specs.declared.bulk.Outcome.{Outcome}
-use Rattle.bo_orders.specs.declared.bulk.Outcome.TheVariants as outcomes
+use Rattle.bo_commands.specs.declared.carts.Entry.{Entry}
+use Rattle.bo_commands.specs.declared.carts.Entry.TheVariants.{New, Faulty}
+use Rattle.bo_commands.specs.declared.carts.Outcome.{Outcome}
+use Rattle.bo_commands.specs.declared.carts.Outcome.TheVariants as outcomes
 use Rattle.bo_orders.specs.Bulk.{most_entries}
+use Rattle.bo_commands.specs.Fit.{IsFit}
 use Rattle.bo_commands.specs.declared.requests.Command.{Command}
 use Rattle.bo_commands.specs.declared.requests.Command.TheVariants.{AddCart, AddCarts}
 use Rattle.bo_commands.specs.declared.requests.Kind.{Kind}
@@ -31,6 +33,11 @@ pub record Arrival : Type 0 where
   pub clock : ℕ
   pub draw : Draw
   pub command : Command
+
+-- what holds of every command that comes: what it asks is within its limits, and its draw is sixteen bytes
+pub record IsFitArrival (arrival : Arrival) : Type 0 where
+  pub command : IsFit arrival.command
+  pub draw : IsDraw arrival.draw
 
 -- a command's moment is the clock's, but never before the office's; a clock beyond the last moment counts as that one
 abbrev pub moment_at : ℕ → State → ℕ

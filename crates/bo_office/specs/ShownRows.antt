@@ -5,8 +5,12 @@ use Rattle.bo_catalogue.specs.CatalogueLists.{with_variations}
 use Rattle.bo_lists.specs.declared.rows.CartPos.{CartPos}
 use Rattle.bo_lists.specs.declared.rows.Voucher.{Voucher}
 use Rattle.bo_lists.specs.declared.rows.Order.{Order}
+use Rattle.bo_lists.specs.declared.rows.OrderPos.{OrderPos}
+use Rattle.bo_lists.specs.declared.rows.Waiting.{Waiting}
+use Rattle.bo_lists.specs.declared.rows.CheckinList.{CheckinList}
 use Rattle.bo_lists.specs.Lists.{Lists, positions_of}
 use Rattle.bo_lists.specs.Usage.{redeemed}
+use Rattle.bo_door.specs.Status.{ticket_of}
 use Rattle.bo_commands.specs.declared.replies.Shown.{Shown}
 use Rattle.bo_commands.specs.declared.replies.Shown.TheVariants as rows
 
@@ -27,3 +31,13 @@ show_cart cart = rows.Cart cart
 -- an order with its positions
 abbrev pub show_order : Lists → Order → Shown
 show_order lists order = rows.Order (record { order = order; positions = positions_of order.id lists })
+
+abbrev pub show_waiting : Waiting → Shown
+show_waiting entry = rows.Waiting entry
+
+abbrev pub show_checkin_list : CheckinList → Shown
+show_checkin_list list = rows.CheckinList list
+
+-- a position that belongs to the check-in list, with its check-ins of it
+abbrev pub show_ticket : CheckinList → Lists → OrderPos → Shown
+show_ticket list lists position = rows.Ticket (ticket_of list lists position)

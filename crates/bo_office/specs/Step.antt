@@ -14,21 +14,33 @@ use Rattle.bo_catalogue.specs.Resized.{resized}
 use Rattle.bo_lists.specs.declared.rows.CartPos.{CartPos}
 use Rattle.bo_lists.specs.declared.rows.OrderRows.{OrderRows}
 use Rattle.bo_lists.specs.declared.rows.Voucher.{Voucher}
+use Rattle.bo_lists.specs.declared.rows.Waiting.{Waiting}
+use Rattle.bo_lists.specs.declared.rows.CheckinList.{CheckinList}
+use Rattle.bo_lists.specs.declared.rows.OrderPos.{OrderPos}
 use Rattle.bo_lists.specs.declared.changes.Change.TheVariants.{PutItem, PutQuota}
 use Rattle.bo_lists.specs.Lists.{State}
 use Rattle.bo_lists.specs.Change.{Changed, changed}
 use Rattle.bo_lists.specs.Numbered.{with_item, with_variation, with_quota}
-use Rattle.bo_vouchers.specs.declared.refusal.VoucherRefusal.{VoucherRefusal}
+use Rattle.bo_commands.specs.declared.vouchers.VoucherRefusal.{VoucherRefusal}
 use Rattle.bo_vouchers.specs.Made.{voucher_made}
 use Rattle.bo_vouchers.specs.Changed.{voucher_changed}
 use Rattle.bo_vouchers.specs.Deleted.{voucher_deleted}
-use Rattle.bo_orders.specs.declared.refusal.OrderRefusal.{OrderRefusal}
-use Rattle.bo_orders.specs.declared.bulk.Outcome.{Outcome}
+use Rattle.bo_commands.specs.declared.orders.OrderRefusal.{OrderRefusal}
+use Rattle.bo_commands.specs.declared.carts.Outcome.{Outcome}
 use Rattle.bo_orders.specs.Bulk.{many_added}
 use Rattle.bo_orders.specs.Carts.{position_added}
 use Rattle.bo_orders.specs.Created.{order_created}
 use Rattle.bo_orders.specs.Dropped.{position_dropped}
 use Rattle.bo_orders.specs.Moves.{order_moved}
+use Rattle.bo_commands.specs.declared.doors.DoorRefusal.{DoorRefusal}
+use Rattle.bo_commands.specs.declared.waiting.WaitingRefusal.{WaitingRefusal}
+use Rattle.bo_commands.specs.declared.waiting.PeriodicCounts.{PeriodicCounts}
+use Rattle.bo_waiting.specs.Joined.{entry_joined}
+use Rattle.bo_waiting.specs.Changed.{entry_changed}
+use Rattle.bo_waiting.specs.Left.{entry_left}
+use Rattle.bo_waiting.specs.Sending.{voucher_sent}
+use Rattle.bo_door.specs.ListAdded.{list_added}
+use Rattle.bo_door.specs.Scanned.{scanned}
 use Rattle.bo_commands.specs.declared.requests.Command.{Command}
 use Rattle.bo_commands.specs.declared.requests.Command.TheVariants as commands
 use Rattle.bo_commands.specs.declared.requests.Kind.{Kind}
@@ -36,8 +48,9 @@ use Rattle.bo_commands.specs.declared.requests.Kind.TheVariants as kinds
 use Rattle.bo_commands.specs.declared.replies.Refusal.{Refusal}
 use Rattle.bo_commands.specs.declared.replies.Refusal.TheVariants as refusals
 use Rattle.bo_commands.specs.declared.replies.Reply.{Reply}
-use Rattle.bo_commands.specs.declared.replies.Reply.TheVariants.{Made, Found, Results, Gone, Refused}
+use Rattle.bo_commands.specs.declared.replies.Reply.TheVariants.{Made, Found, Results, Gone, Periodic as TheCounts, Admitted, Refused}
 use Rattle.bo_commands.specs.declared.replies.Shown.TheVariants as rows
+use Rattle.bo_office.specs.PeriodicWork.{periodic_done}
 use Rattle.bo_office.specs.ShownRows.{show_item, show_voucher}
 
 -- no row is put, and the next ids stay
@@ -100,6 +113,33 @@ abbrev pub move_step : State → Result (State × OrderRows) OrderRefusal → St
 move_step state (Ok (new, moved)) = (new, Found (rows.Order moved))
 move_step state (Err refusal) = (state, Refused kinds.MoveOrder (refusals.Order refusal))
 
+abbrev pub join_step : State → Result (State × Waiting) WaitingRefusal → State × Reply
+join_step state (Ok (new, row)) = (new, Made (rows.Waiting row))
+join_step state (Err refusal) = (state, Refused kinds.AddWaiting (refusals.Waiting refusal))
+
+abbrev pub priority_step : State → Result (State × Waiting) WaitingRefusal → State × Reply
+priority_step state (Ok (new, row)) = (new, Found (rows.Waiting row))
+priority_step state (Err refusal) = (state, Refused kinds.ChangeWaiting (refusals.Waiting refusal))
+
+abbrev pub leave_step : State → Result State WaitingRefusal → State × Reply
+leave_step state (Ok new) = (new, Gone)
+leave_step state (Err refusal) = (state, Refused kinds.DropWaiting (refusals.Waiting refusal))
+
+abbrev pub send_step : State → Result (State × Waiting) WaitingRefusal → State × Reply
+send_step state (Ok (new, row)) = (new, Gone)
+send_step state (Err refusal) = (state, Refused kinds.SendVoucher (refusals.Waiting refusal))
+
+abbrev pub periodic_step : State × PeriodicCounts → State × Reply
+periodic_step (new, counts) = (new, TheCounts counts)
+
+abbrev pub checkin_list_step : State → Result (State × CheckinList) DoorRefusal → State × Reply
+checkin_list_step state (Ok (new, row)) = (new, Made (rows.CheckinList row))
+checkin_list_step state (Err refusal) = (state, Refused kinds.AddCheckinList (refusals.Door refusal))
+
+abbrev pub redeem_step : State → Result (State × OrderPos) DoorRefusal → State × Reply
+redeem_step state (Ok (new, position)) = (new, Admitted position)
+redeem_step state (Err refusal) = (state, Refused kinds.Redeem (refusals.Door refusal))
+
 -- one command, in the office at its moment; a refusal changes nothing
 abbrev pub step_now : Command → Draw → State → State × Reply
 step_now (commands.AddItem new) draw state = item_step state (item_added new state.next.item state.next.variation state.lists.catalogue)
@@ -115,6 +155,13 @@ step_now (commands.AddCarts entries) draw state = bulk_step state (many_added en
 step_now (commands.DropCart id) draw state = cart_drop_step state (position_dropped id state)
 step_now (commands.AddOrder new) draw state = order_step state (order_created new draw state)
 step_now (commands.MoveOrder number change) draw state = move_step state (order_moved number change state)
+step_now (commands.AddWaiting new) draw state = join_step state (entry_joined new state)
+step_now (commands.ChangeWaiting id patch) draw state = priority_step state (entry_changed id patch state)
+step_now (commands.DropWaiting id) draw state = leave_step state (entry_left id state)
+step_now (commands.SendVoucher id) draw state = send_step state (voucher_sent id draw state)
+step_now commands.Periodic draw state = periodic_step (periodic_done draw state)
+step_now (commands.AddCheckinList new) draw state = checkin_list_step state (list_added new state)
+step_now (commands.Redeem list ticket scan) draw state = redeem_step state (scanned list ticket scan state)
 
 -- one command at a moment, with a draw: the office after it, and its reply; the moment is stored in any case
 abbrev pub step : Command → ℕ → Draw → State → State × Reply

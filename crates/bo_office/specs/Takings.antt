@@ -10,18 +10,21 @@ use Rattle.bo_lists.specs.declared.rows.Own.TheVariants.{Cart as OwnCart, Positi
 use Rattle.bo_lists.specs.declared.rows.Status.{Status}
 use Rattle.bo_lists.specs.declared.rows.Status.TheVariants.{Expired}
 use Rattle.bo_lists.specs.declared.rows.Voucher.{Voucher}
+use Rattle.bo_lists.specs.declared.rows.Waiting.{Waiting}
 use Rattle.bo_lists.specs.Lists.{Lists, State, order_at}
-use Rattle.bo_vouchers.specs.declared.refusal.VoucherRefusal.{VoucherRefusal}
+use Rattle.bo_commands.specs.declared.vouchers.VoucherRefusal.{VoucherRefusal}
 use Rattle.bo_vouchers.specs.Made.{voucher_made}
 use Rattle.bo_vouchers.specs.Changed.{voucher_changed}
-use Rattle.bo_orders.specs.declared.moves.Move.{Move}
-use Rattle.bo_orders.specs.declared.moves.Move.TheVariants.{MarkPaid, Extend}
-use Rattle.bo_orders.specs.declared.refusal.OrderRefusal.{OrderRefusal}
+use Rattle.bo_commands.specs.declared.orders.Move.{Move}
+use Rattle.bo_commands.specs.declared.orders.Move.TheVariants.{MarkPaid, Extend}
+use Rattle.bo_commands.specs.declared.orders.OrderRefusal.{OrderRefusal}
 use Rattle.bo_orders.specs.Carts.{position_added}
 use Rattle.bo_orders.specs.Created.{order_created}
 use Rattle.bo_orders.specs.Moves.{order_moved}
+use Rattle.bo_commands.specs.declared.waiting.WaitingRefusal.{WaitingRefusal}
+use Rattle.bo_waiting.specs.Joined.{entry_joined}
 use Rattle.bo_commands.specs.declared.requests.Command.{Command}
-use Rattle.bo_commands.specs.declared.requests.Command.TheVariants.{AddVoucher, ChangeVoucher, AddCart, AddOrder, MoveOrder}
+use Rattle.bo_commands.specs.declared.requests.Command.TheVariants.{AddVoucher, ChangeVoucher, AddCart, AddOrder, MoveOrder, AddWaiting}
 
 -- a row of a request's own, and the voucher that it names
 pub record OwnRow : Type 0 where
@@ -79,9 +82,15 @@ abbrev pub voucher_ignores : Result (State × Voucher) VoucherRefusal → Bool
 voucher_ignores (Ok (after, row)) = row.allow_ignore_quota
 voucher_ignores (Err refusal) = false
 
+-- an entry of the waiting list that was added
+abbrev pub is_joined : Result (State × Waiting) WaitingRefusal → Bool
+is_joined (Ok (after, row)) = true
+is_joined (Err refusal) = false
+
 -- what may raise usage though it is no taking, a line for each command: making or changing a voucher that then ignores
--- quotas
+-- quotas, and joining the waiting list
 abbrev pub may_raise : Command → Draw → State → Bool
 may_raise (AddVoucher new) draw state = voucher_ignores (voucher_made new draw state)
 may_raise (ChangeVoucher id patch) draw state = voucher_ignores (voucher_changed id patch state)
+may_raise (AddWaiting new) draw state = is_joined (entry_joined new state)
 may_raise other draw state = false

@@ -4,6 +4,7 @@ ghost use Rattle.std.specs.Prelude.{◌≡◌, ℕ, IfOk};
 ghost use Rattle.bo_base.specs.declared.draw.Draw.{Draw};
 ghost use Rattle.bo_lists.specs.Change.{applied};
 ghost use Rattle.bo_lists.specs.Numbered.{puts_of};
+ghost use Rattle.bo_office.specs.Changes.{changes_of};
 ghost use Rattle.bo_office.specs.Step.{RefusesWithoutChange, step};
 ghost use Rattle.bo_commands.specs.declared.requests.Command.{Command};
 
@@ -24,6 +25,7 @@ impl<B: Book> Office<B> {
         new: &NewItem,
     ) -> Result<(Changes, Reply), AllocError>
         ensures step { IfOk result (λ r. (at : ℕ) (draw : Draw) → (applied r.0 at self.now.state, r.1) ≡ step (Command.AddItem new.now) at draw self.now.state) }
+        ensures changes { IfOk result (λ r. (at : ℕ) (draw : Draw) → r.0.list ≡ changes_of (Command.AddItem new.now) draw (record self.now.state { moment = at }) r.1) }
         ensures refused { IfOk result (RefusesWithoutChange self.now.state) }
     {
         let next = self.book().next_ids();
@@ -54,6 +56,7 @@ impl<B: Book> Office<B> {
         patch: &ItemPatch,
     ) -> Result<(Changes, Reply), AllocError>
         ensures step { IfOk result (λ r. (at : ℕ) (draw : Draw) → (applied r.0 at self.now.state, r.1) ≡ step (Command.ChangeItem id patch.now) at draw self.now.state) }
+        ensures changes { IfOk result (λ r. (at : ℕ) (draw : Draw) → r.0.list ≡ changes_of (Command.ChangeItem id patch.now) draw (record self.now.state { moment = at }) r.1) }
         ensures refused { IfOk result (RefusesWithoutChange self.now.state) }
     {
         let catalogue = self.book().catalogue();
@@ -77,6 +80,7 @@ impl<B: Book> Office<B> {
         new: &NewVariation,
     ) -> Result<(Changes, Reply), AllocError>
         ensures step { IfOk result (λ r. (at : ℕ) (draw : Draw) → (applied r.0 at self.now.state, r.1) ≡ step (Command.AddVariation item new.now) at draw self.now.state) }
+        ensures changes { IfOk result (λ r. (at : ℕ) (draw : Draw) → r.0.list ≡ changes_of (Command.AddVariation item new.now) draw (record self.now.state { moment = at }) r.1) }
         ensures refused { IfOk result (RefusesWithoutChange self.now.state) }
     {
         let next = self.book().next_ids();
@@ -109,6 +113,7 @@ impl<B: Book> Office<B> {
         new: &NewQuota,
     ) -> Result<(Changes, Reply), AllocError>
         ensures step { IfOk result (λ r. (at : ℕ) (draw : Draw) → (applied r.0 at self.now.state, r.1) ≡ step (Command.AddQuota new.now) at draw self.now.state) }
+        ensures changes { IfOk result (λ r. (at : ℕ) (draw : Draw) → r.0.list ≡ changes_of (Command.AddQuota new.now) draw (record self.now.state { moment = at }) r.1) }
         ensures refused { IfOk result (RefusesWithoutChange self.now.state) }
     {
         let next = self.book().next_ids();
@@ -135,6 +140,7 @@ impl<B: Book> Office<B> {
         patch: QuotaPatch,
     ) -> Result<(Changes, Reply), AllocError>
         ensures step { IfOk result (λ r. (at : ℕ) (draw : Draw) → (applied r.0 at self.now.state, r.1) ≡ step (Command.ResizeQuota id patch) at draw self.now.state) }
+        ensures changes { IfOk result (λ r. (at : ℕ) (draw : Draw) → r.0.list ≡ changes_of (Command.ResizeQuota id patch) draw (record self.now.state { moment = at }) r.1) }
         ensures refused { IfOk result (RefusesWithoutChange self.now.state) }
     {
         match self.book().catalogue().resize(alloc, id, patch) {

@@ -2,11 +2,14 @@
 #![tactic(auto)]
 
 mod catalogue_commands;
+mod door_commands;
+mod door_queries;
 pub mod laws;
 mod lists;
 pub mod office;
 mod pages;
 mod queries;
 mod sales_commands;
+mod waiting_commands;
 
 pub use office::Office;

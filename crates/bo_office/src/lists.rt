@@ -2,15 +2,16 @@
 
 ghost use Rattle.std.specs.Prelude.{◌≡◌, IfOk, map};
 ghost use Rattle.bo_office.specs.Answer.{list_of};
-ghost use Rattle.bo_office.specs.ShownRows.{show_item, show_quota, show_voucher, show_cart, show_order};
+ghost use Rattle.bo_office.specs.ShownRows.{show_item, show_quota, show_voucher, show_cart, show_order, show_waiting};
 
 use crate::office::Office;
 use crate::pages::{is_page, page_rows};
 use bo_base::List;
 use bo_catalogue::{Item, Quota};
 use bo_commands::{Kind, Page, Refusal, Reply, Resource, Shown};
-use bo_lists::{CartPos, Order, Voucher};
+use bo_lists::{CartPos, Order, Voucher, Waiting};
 use bo_usage::Book;
+use bo_waiting::rows::copy;
 use std::alloc::{AllocError, Global};
 
 impl<B: Book> Office<B> {
@@ -29,6 +30,9 @@ impl<B: Book> Office<B> {
             Resource::Vouchers => self.vouchers_page(alloc, number),
             Resource::Carts => self.carts_page(alloc, number),
             Resource::Orders => self.orders_page(alloc, number),
+            Resource::WaitingEntries => self.waiting_page(alloc, number),
+            Resource::CheckinLists => self.checkin_lists_page(alloc, number),
+            Resource::Tickets(list) => self.tickets_page(alloc, list, number),
         }
     }
 
@@ -141,6 +145,22 @@ impl<B: Book> Office<B> {
         }
         Ok(List::new(rows))
     }
+
+    fn waiting_page(&self, alloc: Global, number: u64) -> Result<Reply, AllocError>
+        ensures { IfOk result (λ reply. reply ≡ list_of Resource.WaitingEntries number self.now.state.lists) }
+    {
+        let waiting = self.book().waiting();
+        if !is_page(number, waiting.len()) {
+            return Ok(no_page());
+        }
+        let rows = shown_waiting(alloc, page_rows(waiting, number))?;
+        Ok(Reply::Listed(Page {
+            resource: Resource::WaitingEntries,
+            number,
+            count: waiting.len() as u64,
+            rows,
+        }))
+    }
 }
 
 fn shown_quotas(alloc: Global, quotas: &[Quota]) -> Result<List<Shown>, AllocError>
@@ -163,8 +183,18 @@ fn shown_carts(alloc: Global, carts: &[CartPos]) -> Result<List<Shown>, AllocErr
     Ok(List::new(rows))
 }
 
+fn shown_waiting(alloc: Global, waiting: &[Waiting]) -> Result<List<Shown>, AllocError>
+    ensures { IfOk result (λ rows. rows ≡ map show_waiting waiting.now) }
+{
+    let mut rows = Vec::new(alloc);
+    for entry in waiting {
+        rows.push(Shown::Waiting(copy(alloc, entry)?))?;
+    }
+    Ok(List::new(rows))
+}
+
 // There is no such page.
-fn no_page() -> Reply
+pub(crate) fn no_page() -> Reply
     ensures { result ≡ Reply.Refused Kind.List Refusal.NoPage }
 {
     Reply::Refused(Kind::List, Refusal::NoPage)

@@ -7,8 +7,9 @@ ghost use Rattle.bo_lists.specs.Weight.{weight};
 ghost use Rattle.bo_sound.specs.Sound.{IsSound};
 ghost use Rattle.bo_office.specs.Step.{RefusesWithoutChange, step, no_change};
 ghost use Rattle.bo_office.specs.Answer.{answer};
+ghost use Rattle.bo_office.specs.Changes.{changes_of};
 
-use bo_base::{Draw, Moment, Text};
+use bo_base::{Draw, Known, Moment, Slug};
 use bo_commands::{Command, Kind, Query, Refusal, Reply};
 use bo_lists::Changes;
 use bo_usage::Book;
@@ -19,8 +20,8 @@ use std::marker::Model;
 /// changes that it has room for.
 #[derive(Drop)]
 pub struct Office<B: Book> {
-    organizer: Text,
-    event: Text,
+    organizer: Slug,
+    event: Slug,
     book: B,
 }
 
@@ -42,7 +43,7 @@ impl<B: Book> Model for Office<B> {
 
 impl<B: Book> Office<B> {
     /// The office of an event, over a book that is sound.
-    pub fn over(organizer: Text, event: Text, book: B) -> Self
+    pub fn over(organizer: Slug, event: Slug, book: B) -> Self
         requires { IsSound (B.state book) }
         ensures organizer { result.organizer ≡ organizer }
         ensures event { result.event ≡ event }
@@ -66,17 +67,17 @@ impl<B: Book> Office<B> {
     }
 
     /// The organizer's short name.
-    pub fn organizer(&self) -> &str
+    pub fn organizer(&self) -> &Slug
         ensures { result.now ≡ self.now.organizer }
     {
-        self.organizer.as_str()
+        &self.organizer
     }
 
     /// The event's short name.
-    pub fn event(&self) -> &str
+    pub fn event(&self) -> &Slug
         ensures { result.now ≡ self.now.event }
     {
-        self.event.as_str()
+        &self.event
     }
 
     /// The moment of the last command.
@@ -87,8 +88,9 @@ impl<B: Book> Office<B> {
     }
 
     /// What a command that comes at a moment, with a draw, is answered, and the changes that it makes.
-    /// The moment isn't before the office's. A refused command makes no change. Each decision lists its refusals:
-    /// see `Catalogue` of bo_catalogue, and the functions of bo_vouchers and bo_orders.
+    /// The moment isn't before the office's. The changes are those of the command and no others, in an order in which each
+    /// can be made at once; a refused command makes none. Each decision lists its refusals:
+    /// see `Catalogue` of bo_catalogue, and the functions of bo_vouchers, bo_orders, bo_waiting and bo_door.
     pub fn decide(
         &self,
         alloc: Global,
@@ -98,10 +100,13 @@ impl<B: Book> Office<B> {
     ) -> Result<(Changes, Reply), AllocError>
         requires { self.now.state.moment ≤ at }
         ensures step { IfOk result (λ r. (applied r.0 at self.now.state, r.1) ≡ step command.now at draw self.now.state) }
+        ensures changes { IfOk result (λ r. r.0.list ≡ changes_of command.now draw (record self.now.state { moment = at }) r.1) }
         ensures sound { IfOk result (λ r. IsSound (applied r.0 at self.now.state)) }
         ensures refused { IfOk result (RefusesWithoutChange self.now.state) }
     {
         let _ = &self.book;
+        command.known();
+        draw.known();
         self.decided(alloc, at, draw, command)
     }
 
@@ -114,6 +119,7 @@ impl<B: Book> Office<B> {
     ) -> Result<(Changes, Reply), AllocError>
         requires { self.now.state.moment ≤ at }
         ensures step { IfOk result (λ r. (applied r.0 at self.now.state, r.1) ≡ step command.now at draw self.now.state) }
+        ensures changes { IfOk result (λ r. r.0.list ≡ changes_of command.now draw (record self.now.state { moment = at }) r.1) }
         ensures refused { IfOk result (RefusesWithoutChange self.now.state) }
     {
         match command {
@@ -130,6 +136,13 @@ impl<B: Book> Office<B> {
             Command::DropCart(id) => self.drop_cart(alloc, at, *id),
             Command::AddOrder(new) => self.add_order(alloc, at, draw, new),
             Command::MoveOrder(number, change) => self.move_order(alloc, at, *number, *change),
+            Command::AddWaiting(new) => self.add_waiting(alloc, at, new),
+            Command::ChangeWaiting(id, patch) => self.change_waiting(alloc, at, *id, *patch),
+            Command::DropWaiting(id) => self.drop_waiting(alloc, at, *id),
+            Command::SendVoucher(id) => self.send_voucher(alloc, at, draw, *id),
+            Command::Periodic => self.work(alloc, at, draw),
+            Command::AddCheckinList(new) => self.add_checkin_list(alloc, at, new),
+            Command::Redeem(list, ticket, scan) => self.redeem(alloc, at, *list, ticket, scan),
         }
     }
 
@@ -144,7 +157,8 @@ impl<B: Book> Office<B> {
     }
 
     /// What a query is answered at a moment that isn't before the office's.
-    /// Refusals: 10 `NoItem`, 13 `NoQuota`, 23 `NoVoucher`, 40 `NoPosition`, 41 `NoOrder` where no row has the id;
+    /// Refusals: 10 `NoItem`, 13 `NoQuota`, 23 `NoVoucher`, 32 `NoEntry`, 40 `NoPosition`, 41 `NoOrder`, 50 `NoList` where
+    /// no row has the id; 51 `Invalid` where the position doesn't belong to the check-in list;
     /// 59 `NoPage` where the list has no such page.
     pub fn ask(&self, alloc: Global, at: Moment, query: &Query) -> Result<Reply, AllocError>
         requires { self.now.state.moment ≤ at }
@@ -154,6 +168,7 @@ impl<B: Book> Office<B> {
             Query::List(resource, number) => self.list(alloc, *resource, *number),
             Query::One(resource, id) => self.one(alloc, *resource, *id),
             Query::Availability(id) => Ok(self.availability(at, *id)),
+            Query::Status(id) => self.status(alloc, *id),
         }
     }
 

@@ -1,6 +1,6 @@
 //! Pages of lists: 50 rows each, and pages count from 1.
 
-ghost use Rattle.std.specs.Prelude.{◌≡◌, length, IsTrue};
+ghost use Rattle.std.specs.Prelude.{◌≡◌, ◌-◌, ◌*◌, length, IsTrue};
 ghost use Rattle.bo_office.specs.Pages.{is_page, page_rows};
 
 /// Whether a list with so many rows has a page of this number. An empty list has page 1 alone.
@@ -8,6 +8,15 @@ pub(crate) fn is_page(number: u64, count: usize) -> bool
     ensures { result ≡ is_page number count }
 {
     1 <= number && number <= (count.div_ceil(50) as u64).max(1)
+}
+
+/// How many rows stand before those of a page.
+pub(crate) fn rows_before(number: u64, count: usize) -> usize
+    requires { IsTrue (is_page number count) }
+    ensures { result ≡ (number - 1) * 50 }
+{
+    let _ = count;
+    (number as usize - 1) * 50
 }
 
 /// The rows of a page.

@@ -8,11 +8,12 @@ ghost use Rattle.bo_office.specs.ShownRows.{show_item, show_voucher, show_order}
 use crate::office::Office;
 use bo_base::Moment;
 use bo_catalogue::{CatalogueRefusal, Item};
-use bo_commands::{Kind, Refusal, Reply, Resource, Shown};
+use bo_commands::{
+    Kind, OrderRefusal, Refusal, Reply, Resource, Shown, VoucherRefusal, WaitingRefusal,
+};
 use bo_lists::{Order, OrderRows, Voucher};
-use bo_orders::OrderRefusal;
 use bo_usage::{Book, availability};
-use bo_vouchers::VoucherRefusal;
+use bo_waiting::rows::copy;
 use std::alloc::{AllocError, Global};
 
 impl<B: Book> Office<B> {
@@ -68,6 +69,9 @@ impl<B: Book> Office<B> {
             Resource::Vouchers => self.one_voucher(alloc, id),
             Resource::Carts => self.one_cart(alloc, id),
             Resource::Orders => self.one_order(alloc, id),
+            Resource::WaitingEntries => self.one_waiting(alloc, id),
+            Resource::CheckinLists => self.one_checkin_list(alloc, id),
+            Resource::Tickets(list) => self.one_ticket(alloc, list, id),
         }
     }
 
@@ -113,6 +117,15 @@ impl<B: Book> Office<B> {
         match self.book().order(number) {
             None => Ok(none(Refusal::Order(OrderRefusal::NoOrder))),
             Some(order) => Ok(Reply::Found(self.shown_order(alloc, order)?)),
+        }
+    }
+
+    fn one_waiting(&self, alloc: Global, id: u64) -> Result<Reply, AllocError>
+        ensures { IfOk result (λ reply. reply ≡ one_of Resource.WaitingEntries id self.now.state.lists) }
+    {
+        match self.book().entry(id) {
+            None => Ok(none(Refusal::Waiting(WaitingRefusal::NoEntry))),
+            Some(entry) => Ok(Reply::Found(Shown::Waiting(copy(alloc, entry)?))),
         }
     }
 

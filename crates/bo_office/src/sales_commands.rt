@@ -5,25 +5,26 @@ ghost use Rattle.bo_base.specs.declared.draw.Draw.{Draw};
 ghost use Rattle.bo_draft.specs.DraftState.{now};
 ghost use Rattle.bo_lists.specs.Change.{applied};
 ghost use Rattle.bo_sound.specs.Sound.{IsSound};
+ghost use Rattle.bo_office.specs.Changes.{changes_of};
 ghost use Rattle.bo_office.specs.Step.{RefusesWithoutChange, step};
 ghost use Rattle.bo_commands.specs.declared.requests.Command.{Command};
 
 use crate::office::Office;
 use bo_base::{Draw, Moment};
-use bo_commands::{Kind, Refusal, Reply, Shown};
+use bo_commands::{
+    Entry, Kind, Move, NewCart, NewOrder, NewVoucher, OrderRefusal, Refusal, Reply, Shown,
+    VoucherPatch, VoucherRefusal,
+};
 use bo_draft::Draft;
 use bo_lists::Changes;
-use bo_orders::{
-    Entry, Move, NewCart, NewOrder, OrderRefusal, add_many, add_position, create, drop_position,
-    move_order,
-};
+use bo_orders::{add_many, add_position, create, drop_position, move_order};
 use bo_usage::Book;
-use bo_vouchers::{NewVoucher, VoucherPatch, VoucherRefusal, decide_voucher};
+use bo_vouchers::decide_voucher;
 use std::alloc::{AllocError, Global};
 
 impl<B: Book> Office<B> {
     // A draft of the book at a moment.
-    fn open(&self, alloc: Global, at: Moment) -> Result<Draft<'_, B>, AllocError>
+    pub(crate) fn open(&self, alloc: Global, at: Moment) -> Result<Draft<'_, B>, AllocError>
         requires { self.now.state.moment ≤ at }
         ensures draft { IfOk result (λ d. d ≡ record {
           log = record { base = self.now.state.lists; changes = [] };
@@ -45,6 +46,7 @@ impl<B: Book> Office<B> {
     ) -> Result<(Changes, Reply), AllocError>
         requires { self.now.state.moment ≤ at }
         ensures step { IfOk result (λ r. (applied r.0 at self.now.state, r.1) ≡ step (Command.AddVoucher new.now) at draw self.now.state) }
+        ensures changes { IfOk result (λ r. r.0.list ≡ changes_of (Command.AddVoucher new.now) draw (record self.now.state { moment = at }) r.1) }
         ensures refused { IfOk result (RefusesWithoutChange self.now.state) }
     {
         let mut draft = self.open(alloc, at)?;
@@ -66,6 +68,7 @@ impl<B: Book> Office<B> {
     ) -> Result<(Changes, Reply), AllocError>
         requires { self.now.state.moment ≤ at }
         ensures step { IfOk result (λ r. (draw : Draw) → (applied r.0 at self.now.state, r.1) ≡ step (Command.ChangeVoucher id patch.now) at draw self.now.state) }
+        ensures changes { IfOk result (λ r. (draw : Draw) → r.0.list ≡ changes_of (Command.ChangeVoucher id patch.now) draw (record self.now.state { moment = at }) r.1) }
         ensures refused { IfOk result (RefusesWithoutChange self.now.state) }
     {
         let mut draft = self.open(alloc, at)?;
@@ -86,6 +89,7 @@ impl<B: Book> Office<B> {
     ) -> Result<(Changes, Reply), AllocError>
         requires { self.now.state.moment ≤ at }
         ensures step { IfOk result (λ r. (draw : Draw) → (applied r.0 at self.now.state, r.1) ≡ step (Command.DropVoucher id) at draw self.now.state) }
+        ensures changes { IfOk result (λ r. (draw : Draw) → r.0.list ≡ changes_of (Command.DropVoucher id) draw (record self.now.state { moment = at }) r.1) }
         ensures refused { IfOk result (RefusesWithoutChange self.now.state) }
     {
         let mut draft = self.open(alloc, at)?;
@@ -107,6 +111,7 @@ impl<B: Book> Office<B> {
     ) -> Result<(Changes, Reply), AllocError>
         requires { self.now.state.moment ≤ at }
         ensures step { IfOk result (λ r. (applied r.0 at self.now.state, r.1) ≡ step (Command.AddCart new.now) at draw self.now.state) }
+        ensures changes { IfOk result (λ r. r.0.list ≡ changes_of (Command.AddCart new.now) draw (record self.now.state { moment = at }) r.1) }
         ensures refused { IfOk result (RefusesWithoutChange self.now.state) }
     {
         let mut draft = self.open(alloc, at)?;
@@ -128,6 +133,7 @@ impl<B: Book> Office<B> {
     ) -> Result<(Changes, Reply), AllocError>
         requires { self.now.state.moment ≤ at }
         ensures step { IfOk result (λ r. (applied r.0 at self.now.state, r.1) ≡ step (Command.AddCarts entries.now) at draw self.now.state) }
+        ensures changes { IfOk result (λ r. r.0.list ≡ changes_of (Command.AddCarts entries.now) draw (record self.now.state { moment = at }) r.1) }
         ensures refused { IfOk result (RefusesWithoutChange self.now.state) }
     {
         let mut draft = self.open(alloc, at)?;
@@ -149,6 +155,7 @@ impl<B: Book> Office<B> {
     ) -> Result<(Changes, Reply), AllocError>
         requires { self.now.state.moment ≤ at }
         ensures step { IfOk result (λ r. (applied r.0 at self.now.state, r.1) ≡ step (Command.AddOrder new.now) at draw self.now.state) }
+        ensures changes { IfOk result (λ r. r.0.list ≡ changes_of (Command.AddOrder new.now) draw (record self.now.state { moment = at }) r.1) }
         ensures refused { IfOk result (RefusesWithoutChange self.now.state) }
     {
         let mut draft = self.open(alloc, at)?;
@@ -170,6 +177,7 @@ impl<B: Book> Office<B> {
     ) -> Result<(Changes, Reply), AllocError>
         requires { self.now.state.moment ≤ at }
         ensures step { IfOk result (λ r. (draw : Draw) → (applied r.0 at self.now.state, r.1) ≡ step (Command.MoveOrder number change) at draw self.now.state) }
+        ensures changes { IfOk result (λ r. (draw : Draw) → r.0.list ≡ changes_of (Command.MoveOrder number change) draw (record self.now.state { moment = at }) r.1) }
         ensures refused { IfOk result (RefusesWithoutChange self.now.state) }
     {
         let mut draft = self.open(alloc, at)?;
@@ -190,6 +198,7 @@ impl<B: Book> Office<B> {
     ) -> Result<(Changes, Reply), AllocError>
         requires { self.now.state.moment ≤ at }
         ensures step { IfOk result (λ r. (draw : Draw) → (applied r.0 at self.now.state, r.1) ≡ step (Command.DropCart id) at draw self.now.state) }
+        ensures changes { IfOk result (λ r. (draw : Draw) → r.0.list ≡ changes_of (Command.DropCart id) draw (record self.now.state { moment = at }) r.1) }
         ensures refused { IfOk result (RefusesWithoutChange self.now.state) }
     {
         let mut draft = self.open(alloc, at)?;

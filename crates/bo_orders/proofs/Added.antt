@@ -2,6 +2,7 @@
 use Rattle.std.proofs.Common.{◌≡◌, ℕ, Bool, true, false, [], ◌∷◌, Option, Some, None, Result, Ok, Err, refl, sym, ap, ◌∙◌, subst}
 use Rattle.std.specs.Prelude.{if◌then◌else◌}
 use Rattle.bo_base.specs.Tables.{AreInOrder}
+use Rattle.bo_base.specs.Draws.{IsDraw}
 use Rattle.bo_base.specs.declared.draw.Draw.{Draw}
 use Rattle.bo_catalogue.specs.declared.refusal.CatalogueRefusal.TheVariants.{Full}
 use Rattle.bo_lists.specs.declared.rows.CartPos.{CartPos}
@@ -17,17 +18,19 @@ use Rattle.bo_sound.specs.Sound.{IsSound}
 use Rattle.bo_sound.specs.Varied.{AllVaried, IsProduct}
 use Rattle.bo_sound.proofs.Numbered.{takes_it}
 use Rattle.bo_sound.proofs.Sound.{sound_cart}
-use Rattle.bo_vouchers.specs.declared.refusal.VoucherRefusal.{VoucherRefusal}
-use Rattle.bo_vouchers.specs.declared.refusal.VoucherRefusal.TheVariants.{Catalogue, NoHeadroom}
+use Rattle.bo_commands.specs.declared.vouchers.VoucherRefusal.{VoucherRefusal}
+use Rattle.bo_commands.specs.declared.vouchers.VoucherRefusal.TheVariants.{Catalogue, NoHeadroom}
 use Rattle.bo_orders.specs.CartId.{cart_id_test}
 use Rattle.bo_lists.specs.Takes.{TakesNoMore}
 use Rattle.bo_orders.proofs.Takes.{takes_no_more}
-use Rattle.bo_orders.specs.declared.new_cart.NewCart.{NewCart}
-use Rattle.bo_orders.specs.declared.refusal.OrderRefusal.{OrderRefusal}
-use Rattle.bo_orders.specs.declared.refusal.OrderRefusal.TheVariants.{Voucher as OfVoucher}
+use Rattle.bo_commands.specs.FitRequests.{IsFitCart}
+use Rattle.bo_commands.specs.declared.carts.NewCart.{NewCart}
+use Rattle.bo_commands.specs.declared.orders.OrderRefusal.{OrderRefusal}
+use Rattle.bo_commands.specs.declared.orders.OrderRefusal.TheVariants.{Voucher as OfVoucher}
 use Rattle.bo_orders.specs.Carts.{position_added, placed, placed_by, placed_if, has_use_for, cart_row, row_in_cart, row_of_sold}
 use Rattle.bo_orders.specs.Sold.{sold_for}
 use Rattle.bo_orders.specs.declared.sold.Sold.{Sold}
+use Rattle.bo_orders.proofs.Limited.{cart_limited}
 use Rattle.bo_orders.proofs.SoldLemmas.{sold_fits, sold_is_product}
 
 -- the row has the next id and a product, and names no voucher, or one that stands and is for the product
@@ -116,8 +119,8 @@ module _ (new : NewCart) (draw : Draw) (before after : State) (row : CartPos) wh
       sym (ap (λ (s : State). s.moment) a.is_after)
 
   -- the box office stays sound
-  pub added_sound : IsSound before → position_added new draw before ≡ Ok (after, row) → IsSound after
-  added_sound sound h =
+  pub added_sound : IsFitCart new → IsDraw draw → IsSound before → position_added new draw before ≡ Ok (after, row) → IsSound after
+  added_sound fit sixteen sound h =
       let a = added_is h in
       let n = row_is_new new draw before sound.ids.vouchers.in_order sound.varied row a.is_row in
-      subst IsSound a.is_after (sound_cart before row n.id (takes_it before.next.cart before.lists.carts a.takes) n.product a.has_use n.fit sound)
+      subst IsSound a.is_after (sound_cart before row n.id (takes_it before.next.cart before.lists.carts a.takes) n.product a.has_use n.fit (cart_limited new draw before fit sixteen sound row a.is_row) sound)

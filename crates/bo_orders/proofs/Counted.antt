@@ -17,20 +17,20 @@ use Rattle.bo_sound.specs.Positions.{most_positions, CountFrom, AreWhole, AllHav
 use Rattle.bo_sound.specs.Secrets.{has_own_secret}
 use Rattle.bo_sound.proofs.Positions.{last_put, whole_created}
 use Rattle.bo_sound.proofs.Secrets.{made_ends}
-use Rattle.bo_vouchers.specs.declared.refusal.VoucherRefusal.{VoucherRefusal}
-use Rattle.bo_orders.specs.declared.new_order.NewOrder.{NewOrder}
-use Rattle.bo_orders.specs.declared.sold.Asked.{Asked}
+use Rattle.bo_commands.specs.declared.vouchers.VoucherRefusal.{VoucherRefusal}
+use Rattle.bo_commands.specs.declared.orders.NewOrder.{NewOrder}
+use Rattle.bo_commands.specs.declared.carts.Asked.{Asked}
 use Rattle.bo_orders.specs.declared.sold.Sold.{Sold}
-use Rattle.bo_orders.specs.declared.refusal.OrderRefusal.{OrderRefusal}
-use Rattle.bo_orders.specs.declared.refusal.OrderRefusal.TheVariants.{Empty, TooMany}
+use Rattle.bo_commands.specs.declared.orders.OrderRefusal.{OrderRefusal}
+use Rattle.bo_commands.specs.declared.orders.OrderRefusal.TheVariants.{Empty, TooMany}
 use Rattle.bo_orders.specs.Sold.{sold_for}
 use Rattle.bo_orders.specs.Created.{position_row, position_of_sold, position_for, and_rows, rows_for, position_put, with_positions, AreCounted, counts_test, created_if, order_created}
 use Rattle.bo_orders.proofs.Puts.{put_is, carts_keep_orders, carts_keep_positions}
 
 -- an order that is made asks for 1 to 500 positions
-record AreFew (new : NewOrder) : Type 0 where
-  some : 0 < length new.positions
-  few : length new.positions ≤ most_positions
+pub record AreFew (new : NewOrder) : Type 0 where
+  pub some : 0 < length new.positions
+  pub few : length new.positions ≤ most_positions
 
 module _ (new : NewOrder) where
   abbrev Passes : Result (Unit {0}) OrderRefusal → Type 0
@@ -55,7 +55,7 @@ module _ (new : NewOrder) where
     by_counts (Err refusal) e h = absurd (cc)
     by_counts (Ok u) e h = are_few e
 
-    created_few : order_created new draw before ≡ Ok made → AreFew new
+    pub created_few : order_created new draw before ≡ Ok made → AreFew new
     unfolding order_created
     created_few h = by_counts (counts_test new) refl h
 
@@ -90,11 +90,11 @@ module _ (draw : Draw) (state : State) where
   are_rows id number (entry ∷ more) rows h = both id number entry more (position_for draw state id number entry) refl (rows_for draw state (id + 1) (number + 1) more) (are_rows (id + 1) (number + 1) more) rows h
 
 -- puts leave the orders, and put the positions behind those that stand
-record StandBehind (rows : List OrderPos) (state put : State) : Type 0 where
-  orders : put.lists.orders ≡ state.lists.orders
-  positions : put.lists.positions ≡ state.lists.positions ++ rows
+pub record StandBehind (rows : List OrderPos) (state put : State) : Type 0 where
+  pub orders : put.lists.orders ≡ state.lists.orders
+  pub positions : put.lists.positions ≡ state.lists.positions ++ rows
 
-stand_behind : (rows : List OrderPos) (id : ℕ) (state put : State) → AreCounted id rows → AllByRecursion (λ r. r.id < id) state.lists.positions → with_positions rows (Ok state) ≡ Ok put → StandBehind rows state put
+pub stand_behind : (rows : List OrderPos) (id : ℕ) (state put : State) → AreCounted id rows → AllByRecursion (λ r. r.id < id) state.lists.positions → with_positions rows (Ok state) ≡ Ok put → StandBehind rows state put
 stand_behind [] id state put counted below h =
     let same : state ≡ put = cc (h) in
     record { orders = ap (λ (s : State). s.lists.orders) (sym same); positions = ap (λ (s : State). s.lists.positions) (sym same) ∙ sym (append-nil state.lists.positions) }

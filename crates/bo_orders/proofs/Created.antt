@@ -5,6 +5,7 @@ use Rattle.std.specs.List.{AllByRecursion}
 use Rattle.std.proofs.lemmas.Bool.Decides.{nat_tests}
 use Rattle.bo_base.specs.Codes.{last_order}
 use Rattle.bo_base.specs.Tables.{AreInOrder}
+use Rattle.bo_base.specs.Draws.{IsDraw}
 use Rattle.bo_base.specs.declared.draw.Draw.{Draw}
 use Rattle.bo_base.proofs.Edits.{row_at-with_row}
 use Rattle.bo_catalogue.specs.CatalogueLists.{CatalogueLists}
@@ -25,22 +26,25 @@ use Rattle.bo_lists.specs.Full.{takes_order, takes_positions}
 use Rattle.bo_lists.specs.Headroom.{has_use}
 use Rattle.bo_lists.specs.Over.{first_over}
 use Rattle.bo_lists.proofs.EachRow.{all_weaker}
+use Rattle.bo_sound.specs.Limits.{IsLimitedOrder, IsLimitedPosition}
 use Rattle.bo_sound.specs.Secrets.{has_own_secret}
 use Rattle.bo_sound.specs.Sound.{IsSound, IsSoundSoFar}
 use Rattle.bo_sound.specs.Varied.{AllVaried, IsProduct}
 use Rattle.bo_sound.proofs.Fit.{fit_same}
 use Rattle.bo_sound.proofs.Numbered.{Takes, TakesSome, takes_first, takes_others}
 use Rattle.bo_sound.proofs.SoundOrders.{sound_order, sound_position, sound_whole, sound_drop_carts}
-use Rattle.bo_vouchers.specs.declared.refusal.VoucherRefusal.{VoucherRefusal}
-use Rattle.bo_vouchers.specs.declared.refusal.VoucherRefusal.TheVariants.{Catalogue}
-use Rattle.bo_orders.specs.declared.new_order.NewOrder.{NewOrder}
-use Rattle.bo_orders.specs.declared.sold.Asked.{Asked}
+use Rattle.bo_commands.specs.declared.vouchers.VoucherRefusal.{VoucherRefusal}
+use Rattle.bo_commands.specs.declared.vouchers.VoucherRefusal.TheVariants.{Catalogue}
+use Rattle.bo_commands.specs.FitRequests.{IsFitOrder}
+use Rattle.bo_commands.specs.declared.orders.NewOrder.{NewOrder}
+use Rattle.bo_commands.specs.declared.carts.Asked.{Asked}
 use Rattle.bo_orders.specs.declared.sold.Sold.{Sold}
-use Rattle.bo_orders.specs.declared.refusal.OrderRefusal.{OrderRefusal}
-use Rattle.bo_orders.specs.declared.refusal.OrderRefusal.TheVariants.{Voucher as OfVoucher}
+use Rattle.bo_commands.specs.declared.orders.OrderRefusal.{OrderRefusal}
+use Rattle.bo_commands.specs.declared.orders.OrderRefusal.TheVariants.{Voucher as OfVoucher}
 use Rattle.bo_orders.specs.Sold.{sold_for}
 use Rattle.bo_orders.specs.Created.{order_row, position_row, position_of_sold, position_for, and_rows, rows_for, position_put, with_positions, with_ids_used, unless_over, placed_with, AreCounted, with_order_row, order_placed, created_of, counts_test, created_if, order_created}
-use Rattle.bo_orders.proofs.Counted.{are_rows, created_whole}
+use Rattle.bo_orders.proofs.Counted.{created_few, are_rows, created_whole}
+use Rattle.bo_orders.proofs.Limited.{order_limited, positions_limited}
 use Rattle.bo_orders.proofs.Puts.{put_is, carts_keep_catalogue, carts_keep_orders, carts_keep_positions, carts_keep_vouchers}
 use Rattle.bo_orders.proofs.SoldLemmas.{sold_fits, sold_is_product}
 use Rattle.bo_orders.proofs.Rows.{by_force, counted, puts_next}
@@ -136,7 +140,7 @@ order_stands row lists =
     ap (λ (o : Option Order). is_some o) found
 
 -- each row is the order's, its voucher is for its product, and its product is one
-abbrev IsOwn : Lists → ℕ → OrderPos → Type 0
+abbrev pub IsOwn : Lists → ℕ → OrderPos → Type 0
 IsOwn lists number p = (p.order ≡ number) × ((is_fit lists p.product p.voucher ≡ true) × IsProduct lists.catalogue p.product)
 
 module _ (draw : Draw) (state : State) (order : AreInOrder (λ r. r.id) state.lists.vouchers) (of_varied : AllVaried state.lists) where
@@ -157,25 +161,25 @@ module _ (draw : Draw) (state : State) (order : AreInOrder (λ r. r.id) state.li
       let same : (row ∷ others) ≡ rows = cc (h) in
       subst (AllByRecursion (IsOwn state.lists state.next.order)) same (own_row id number asked row e, more others refl)
 
-  are_own : (id number : ℕ) (asked : List Asked) (rows : List OrderPos) → rows_for draw state id number asked ≡ Ok rows → AllByRecursion (IsOwn state.lists state.next.order) rows
+  pub are_own : (id number : ℕ) (asked : List Asked) (rows : List OrderPos) → rows_for draw state id number asked ≡ Ok rows → AllByRecursion (IsOwn state.lists state.next.order) rows
   are_own id number [] rows h = let same : [] ≡ rows = cc (h) in subst (AllByRecursion (IsOwn state.lists state.next.order)) same tt
   are_own id number (entry ∷ more) rows h = both id number entry (position_for draw state id number entry) refl (rows_for draw state (id + 1) (number + 1) more) (are_own (id + 1) (number + 1) more) rows h
 
 -- the order's id is used, and the next position gets this one
-abbrev numbered : ℕ → State → State
+abbrev pub numbered : ℕ → State → State
 numbered id state = record state { next = record state.next { order = state.next.order + 1; position = id } }
 
 -- a box office stays sound as an order's positions are put
 module _ (lists : Lists) (number : ℕ) where
   -- it sells the same, and the order stands
-  record Goes (id : ℕ) (state : State) : Type 0 where
-    catalogue : lists.catalogue ≡ state.lists.catalogue
-    vouchers : lists.vouchers ≡ state.lists.vouchers
-    stands : is_some (order_at number state.lists) ≡ true
-    sound : IsSoundSoFar (numbered id state)
+  pub record Goes (id : ℕ) (state : State) : Type 0 where
+    pub catalogue : lists.catalogue ≡ state.lists.catalogue
+    pub vouchers : lists.vouchers ≡ state.lists.vouchers
+    pub stands : is_some (order_at number state.lists) ≡ true
+    pub sound : IsSoundSoFar (numbered id state)
 
-  goes_on : (id : ℕ) (row : OrderPos) (state : State) → row.id ≡ id → IsOwn lists number row → has_own_secret row ≡ true → has_use state.moment state.lists row.voucher ≡ true → Takes id state.lists.positions → Goes id state → Goes (id + 1) (changed (PutPosition row) state)
-  goes_on id row state e own secret left takes g = record {
+  pub goes_on : (id : ℕ) (row : OrderPos) (state : State) → row.id ≡ id → IsOwn lists number row → has_own_secret row ≡ true → has_use state.moment state.lists row.voucher ≡ true → Takes id state.lists.positions → IsLimitedPosition row → Goes id state → Goes (id + 1) (changed (PutPosition row) state)
+  goes_on id row state e own secret left takes limits g = record {
     catalogue = g.catalogue;
     vouchers = g.vouchers;
     stands = g.stands;
@@ -184,48 +188,66 @@ module _ (lists : Lists) (number : ℕ) where
         (fit_same lists state.lists (ap (λ (c : CatalogueLists). c.quotas) g.catalogue) g.vouchers row.product row.voucher own.1.0)
         (subst (λ (c : CatalogueLists). IsProduct c row.product) g.catalogue own.1.1)
         (by_force (stands_as is_in_force (order_at row.order state.lists)) (has_use state.moment state.lists row.voucher) left)
+        limits
         g.sound;
   }
 
-  puts_sound : (rows : List OrderPos) (id : ℕ) (state put : State) → TakesSome (length rows) id state.lists.positions → AreCounted id rows → AllByRecursion (IsOwn lists number) rows → AllByRecursion (λ p. has_own_secret p ≡ true) rows → Goes id state → with_positions rows (Ok state) ≡ Ok put → IsSoundSoFar (numbered (id + length rows) put)
-  puts_sound [] id state put takes counted own secrets g h =
+  puts_sound : (rows : List OrderPos) (id : ℕ) (state put : State) → TakesSome (length rows) id state.lists.positions → AreCounted id rows → AllByRecursion (IsOwn lists number) rows → AllByRecursion (λ p. has_own_secret p ≡ true) rows → AllByRecursion IsLimitedPosition rows → Goes id state → with_positions rows (Ok state) ≡ Ok put → IsSoundSoFar (numbered (id + length rows) put)
+  puts_sound [] id state put takes counted own secrets limits g h =
       let same : state ≡ put = cc (h) in
       let end : id ≡ id + 0 = omega arith in
       subst (λ (n : ℕ). IsSoundSoFar (numbered n put)) end (subst (λ (s : State). IsSoundSoFar (numbered id s)) same g.sound)
-  puts_sound (row ∷ rows) id state put takes counted own secrets g h = by_put (position_put row state) refl h (λ made more on. puts_sound rows (id + 1) made put more counted.1 own.1 secrets.1 on)
+  puts_sound (row ∷ rows) id state put takes counted own secrets limits g h = by_put (position_put row state) refl h (λ made more on. puts_sound rows (id + 1) made put more counted.1 own.1 secrets.1 limits.1 on)
     where
       by_put : (done : Result State OrderRefusal) → position_put row state ≡ done → with_positions rows done ≡ Ok put → ((made : State) → TakesSome (length rows) (id + 1) made.lists.positions → Goes (id + 1) made → with_positions rows (Ok made) ≡ Ok put → IsSoundSoFar (numbered (id + 1 + length rows) put)) → IsSoundSoFar (numbered (id + length (row ∷ rows)) put)
       by_put (Err refusal) e h more = absurd (cc (h))
       by_put (Ok made) e h more =
           let p = put_is row state made e in
           let end : id + 1 + length rows ≡ id + length (row ∷ rows) = omega arith in
-          subst (λ (n : ℕ). IsSoundSoFar (numbered n put)) end (more made (subst (λ (s : State). TakesSome (length rows) (id + 1) s.lists.positions) p.is (takes_others (λ (r : OrderPos). r.id) row rows id state.lists.positions takes)) (subst (Goes (id + 1)) p.is (goes_on id row state counted.0 own.0 secrets.0 p.left (takes_first (λ (r : OrderPos). r.id) row rows id state.lists.positions takes) g)) h)
+          subst (λ (n : ℕ). IsSoundSoFar (numbered n put)) end (more made (subst (λ (s : State). TakesSome (length rows) (id + 1) s.lists.positions) p.is (takes_others (λ (r : OrderPos). r.id) row rows id state.lists.positions takes)) (subst (Goes (id + 1)) p.is (goes_on id row state counted.0 own.0 secrets.0 p.left (takes_first (λ (r : OrderPos). r.id) row rows id state.lists.positions takes) limits.0 g)) h)
 
 -- there is a code for one order more, and room for its positions
-takes_all : (count : ℕ) (state : State) → (takes_order state && takes_positions count state) ≡ true → ((length state.lists.orders < last_order) × (state.next.order ≤ last_order)) × TakesSome count state.next.position state.lists.positions
+pub takes_all : (count : ℕ) (state : State) → (takes_order state && takes_positions count state) ≡ true → ((length state.lists.orders < last_order) × (state.next.order ≤ last_order)) × TakesSome count state.next.position state.lists.positions
 takes_all count state h = ((grind (arith, nat_tests, h), grind (arith, nat_tests, h)), (grind (arith, nat_tests, h), grind (arith, nat_tests, h)))
 
+-- the order is put, and none of its positions yet
+pub begins : (new : NewOrder) (draw : Draw) (before after : State) (made : OrderRows) → IsFitOrder new → IsSound before → IsCreated new draw before after made → Goes before.lists before.next.order before.next.position (with_order_row made.order new.consume_carts before)
+begins new draw before after made fit sound m = record {
+  catalogue = sym (carts_keep_catalogue ids before.lists);
+  vouchers = sym (carts_keep_vouchers ids before.lists);
+  stands = subst (λ (n : ℕ). is_some (order_at n (with_order_row made.order new.consume_carts before).lists) ≡ true) id (order_stands made.order (without_carts ids before).lists);
+  sound = sound_order (without_carts ids before) made.order id (subst (λ (orders : List Order). (length orders < last_order) × (before.next.order ≤ last_order)) (sym (carts_keep_orders ids before.lists)) (takes_all (length made.positions) before m.takes).0) (subst IsLimitedOrder m.is_order (order_limited new before fit sound)) (sound_drop_carts ids before sound);
+}
+  where
+    ids : List ℕ
+    ids = consumed new.consume_carts before.lists
+
+    id : made.order.id ≡ before.next.order
+    id = sym (ap (λ (o : Order). o.id) m.is_order)
+
+-- its positions are within the limits
+pub created_limited : (new : NewOrder) (draw : Draw) (before after : State) (made : OrderRows) → IsFitOrder new → IsDraw draw → IsSound before → order_created new draw before ≡ Ok (after, made) → IsCreated new draw before after made → AllByRecursion IsLimitedPosition made.positions
+created_limited new draw before after made fit sixteen sound h m =
+    let few = created_few new draw before (after, made) h in
+    positions_limited draw before sixteen sound before.next.position 1 new.positions made.positions (omega (arith, few.few)) fit.positions m.are_rows
+
 -- a box office stays sound as an order is made
-pub created_sound : (new : NewOrder) (draw : Draw) (before after : State) (made : OrderRows) → IsSound before → order_created new draw before ≡ Ok (after, made) → IsSound after
-created_sound new draw before after made sound h =
+pub created_sound : (new : NewOrder) (draw : Draw) (before after : State) (made : OrderRows) → IsFitOrder new → IsDraw draw → IsSound before → order_created new draw before ≡ Ok (after, made) → IsSound after
+created_sound new draw before after made fit sixteen sound h =
     let m = created_is new draw before after made h in
     let ids = consumed new.consume_carts before.lists in
     let start = before.next.position in
     let state = with_order_row made.order new.consume_carts before in
     let id : made.order.id ≡ before.next.order = sym (ap (λ (o : Order). o.id) m.is_order) in
     let room = takes_all (length made.positions) before m.takes in
-    let g : Goes before.lists before.next.order start state = record {
-      catalogue = sym (carts_keep_catalogue ids before.lists);
-      vouchers = sym (carts_keep_vouchers ids before.lists);
-      stands = subst (λ (n : ℕ). is_some (order_at n state.lists) ≡ true) id (order_stands made.order (without_carts ids before).lists);
-      sound = sound_order (without_carts ids before) made.order id (subst (λ (orders : List Order). (length orders < last_order) × (before.next.order ≤ last_order)) (sym (carts_keep_orders ids before.lists)) room.0) (sound_drop_carts ids before sound);
-    } in
+    let g = begins new draw before after made fit sound m in
     let takes = subst (λ (positions : List OrderPos). TakesSome (length made.positions) start positions) (sym (carts_keep_positions ids before.lists)) room.1 in
     let next = puts_next made.positions state m.put m.puts in
     let ids_count = counted draw before start 1 new.positions made.positions m.are_rows in
     let own = are_own draw before sound.ids.vouchers.in_order sound.varied start 1 new.positions made.positions m.are_rows in
     let rows = are_rows draw before start 1 new.positions made.positions m.are_rows in
-    let all = puts_sound before.lists before.next.order made.positions start state m.put takes ids_count own rows.secrets g m.puts in
+    let limits = created_limited new draw before after made fit sixteen sound h m in
+    let all = puts_sound before.lists before.next.order made.positions start state m.put takes ids_count own rows.secrets limits g m.puts in
     let of_it = all_weaker (IsOwn before.lists before.next.order) (λ p. p.order ≡ before.next.order) (λ p known. known.0) made.positions own in
     let whole = created_whole new draw before (after, made) made.order made.positions ids m.put h sound.ids.orders sound.ids.positions sound.ordered id m.are_rows ids_count of_it m.puts in
     let full = sound_whole (numbered (start + length made.positions) m.put) whole all in

@@ -14,8 +14,8 @@ use Rattle.bo_lists.specs.Change.{after_change}
 use Rattle.bo_lists.specs.Over.{is_over, is_over_size, ignores}
 use Rattle.bo_lists.specs.Takes.{used, IsWithin, TakesNoMore}
 use Rattle.bo_lists.proofs.Takes.{none_passes, within}
-use Rattle.bo_orders.specs.declared.new_order.NewOrder.{NewOrder}
-use Rattle.bo_orders.specs.declared.refusal.OrderRefusal.{OrderRefusal}
+use Rattle.bo_commands.specs.declared.orders.NewOrder.{NewOrder}
+use Rattle.bo_commands.specs.declared.orders.OrderRefusal.{OrderRefusal}
 use Rattle.bo_orders.specs.Created.{position_put, with_positions, AreCounted, with_order_row, order_created}
 use Rattle.bo_orders.proofs.Created.{created_is, created_moment, created_none_over}
 use Rattle.bo_orders.proofs.Puts.{put_is}

@@ -4,11 +4,11 @@ use Rattle.std.specs.Prelude.{◌++◌}
 use Rattle.bo_base.specs.declared.draw.Draw.{Draw}
 use Rattle.bo_lists.specs.declared.rows.CartPos.{CartPos}
 use Rattle.bo_lists.specs.Lists.{State}
-use Rattle.bo_orders.specs.declared.new_cart.NewCart.{NewCart}
-use Rattle.bo_orders.specs.declared.bulk.Entry.{Entry}
-use Rattle.bo_orders.specs.declared.bulk.Entry.TheVariants.{New, Faulty}
-use Rattle.bo_orders.specs.declared.bulk.Outcome.{Outcome}
-use Rattle.bo_orders.specs.declared.refusal.OrderRefusal.{OrderRefusal}
+use Rattle.bo_commands.specs.declared.carts.NewCart.{NewCart}
+use Rattle.bo_commands.specs.declared.carts.Entry.{Entry}
+use Rattle.bo_commands.specs.declared.carts.Entry.TheVariants.{New, Faulty}
+use Rattle.bo_commands.specs.declared.carts.Outcome.{Outcome}
+use Rattle.bo_commands.specs.declared.orders.OrderRefusal.{OrderRefusal}
 use Rattle.bo_orders.specs.Bulk.{outcome_of, entry_added, with_outcome, after_outcomes, all_added}
 use Rattle.bo_orders.specs.Carts.{position_added}
 use Rattle.bo_orders.proofs.Added.{added_is}

@@ -1,5 +1,5 @@
 -- What the moves of an order rest on.
-use Rattle.std.proofs.Common.{◌≡◌, ℕ, ◌+◌, Bool, true, false, cond, eqb, List, [], ◌∷◌, map, Option, Some, Result, Err, refl, sym, ap, ◌∙◌, count_by, arith}
+use Rattle.std.proofs.Common.{◌≡◌, ℕ, ◌+◌, Bool, true, false, cond, eqb, List, [], ◌∷◌, map, Option, Some, Err, refl, sym, ap, ◌∙◌, count_by, arith}
 use Rattle.std.specs.Prelude.{if◌then◌else◌}
 use Rattle.std.proofs.lemmas.Bool.Decides.{nat_tests}
 use Rattle.bo_lists.specs.declared.rows.Order.{Order}
@@ -13,16 +13,14 @@ use Rattle.bo_lists.specs.Usage.{stands_as, redeemed}
 use Rattle.bo_lists.specs.Headroom.{held}
 use Rattle.bo_lists.proofs.OrderHeadroom.{redeemed_order}
 use Rattle.bo_base.specs.Tables.{row_at}
-use Rattle.bo_orders.specs.declared.moves.Move.{Move}
-use Rattle.bo_orders.specs.declared.moves.Move.TheVariants.{MarkPaid, MarkPending, MarkExpired, MarkCanceled, Extend}
+use Rattle.bo_commands.specs.declared.orders.Move.{Move}
+use Rattle.bo_commands.specs.declared.orders.Move.TheVariants.{MarkPaid, MarkPending, MarkExpired, MarkCanceled, Extend}
 use Rattle.bo_orders.specs.declared.moves.Turn.{Turn}
-use Rattle.bo_lists.specs.declared.rows.OrderRows.{OrderRows}
 use Rattle.bo_lists.specs.declared.rows.Own.TheVariants.{Position}
 use Rattle.bo_lists.specs.Lists.{State}
 use Rattle.bo_lists.specs.Over.{first_over}
-use Rattle.bo_vouchers.specs.declared.refusal.VoucherRefusal.TheVariants.{SoldOut}
-use Rattle.bo_orders.specs.declared.refusal.OrderRefusal.{OrderRefusal}
-use Rattle.bo_orders.specs.declared.refusal.OrderRefusal.TheVariants.{Voucher as OfVoucher}
+use Rattle.bo_commands.specs.declared.vouchers.VoucherRefusal.TheVariants.{SoldOut}
+use Rattle.bo_commands.specs.declared.orders.OrderRefusal.TheVariants.{Voucher as OfVoucher}
 use Rattle.bo_orders.specs.Moves.{to, revived, turned, have_uses_again, revived_unless_over, revival}
 
 -- an order that comes back takes a use for each of its positions that name the voucher

@@ -11,17 +11,21 @@ use Rattle.bo_lists.specs.Lists.{State, order_at, positions_of}
 use Rattle.bo_lists.specs.Change.{after_change, changed}
 use Rattle.std.specs.List.{AllByRecursion}
 use Rattle.bo_lists.specs.Over.{first_over, ignores}
+use Rattle.bo_lists.proofs.EachRow.{all-row_at}
+use Rattle.bo_sound.specs.Limits.{IsLimitedOrder}
 use Rattle.bo_sound.specs.Sound.{IsSound}
 use Rattle.bo_lists.specs.Takes.{used, TakesNoMore}
 use Rattle.bo_lists.specs.Conditions.{is_in_force}
 use Rattle.bo_sound.proofs.OrderLowers.{moved_order_lowers}
 use Rattle.bo_sound.proofs.SoundOrders.{sound_changed_order}
-use Rattle.bo_orders.specs.declared.moves.Move.{Move}
+use Rattle.bo_commands.specs.FitRequests.{IsFitMove}
+use Rattle.bo_commands.specs.declared.orders.Move.{Move}
 use Rattle.bo_orders.specs.declared.moves.Turn.{Turn}
-use Rattle.bo_orders.specs.declared.refusal.OrderRefusal.{OrderRefusal}
-use Rattle.bo_orders.specs.declared.refusal.OrderRefusal.TheVariants.{Voucher as OfVoucher}
-use Rattle.bo_vouchers.specs.declared.refusal.VoucherRefusal.TheVariants.{NoHeadroom}
+use Rattle.bo_commands.specs.declared.orders.OrderRefusal.{OrderRefusal}
+use Rattle.bo_commands.specs.declared.orders.OrderRefusal.TheVariants.{Voucher as OfVoucher}
+use Rattle.bo_commands.specs.declared.vouchers.VoucherRefusal.TheVariants.{NoHeadroom}
 use Rattle.bo_orders.specs.Moves.{turned, moved_row, have_uses_again, order_rows, moved_to, revived_unless_over, revival, moved_by, moved_at, order_moved}
+use Rattle.bo_orders.proofs.Limited.{moved_limited}
 use Rattle.bo_orders.proofs.MoveLemmas.{found_id, kept_force}
 use Rattle.bo_orders.proofs.Revivals.{revival_takes_no_more}
 
@@ -129,8 +133,8 @@ module _ (number : ℕ) (change : Move) (before after : State) (rows : OrderRows
       by_force true e = inr (kept_force m.old.status change m.turn m.turns plain (ap (λ s. is_in_force s) (sym (status_is m)) ∙ e))
 
   -- the box office stays sound
-  pub moved_sound : IsSound before → Gives (order_moved number change before) → IsSound after
-  moved_sound sound h = subst IsSound m.is_after (by_back m.turn.revival refl)
+  pub moved_sound : IsFitMove change → IsSound before → Gives (order_moved number change before) → IsSound after
+  moved_sound fit sound h = subst IsSound m.is_after (by_back m.turn.revival refl)
     where
       m : IsMoved number change before after rows
       m = moved_is h
@@ -138,12 +142,15 @@ module _ (number : ℕ) (change : Move) (before after : State) (rows : OrderRows
       stood : order_at rows.order.id before.lists ≡ Some m.old
       stood = stood_as m
 
+      limits : IsLimitedOrder rows.order
+      limits = subst IsLimitedOrder m.is_row (moved_limited m.old m.turn.status change fit (all-row_at (λ (o : Order). o.id) IsLimitedOrder number before.lists.orders m.old m.stood sound.limits.orders))
+
       by_plain : (is_in_force rows.order.status ≡ false) ⊎ (is_in_force m.old.status ≡ true) → IsSound (changed (PutOrder rows.order) before)
-      by_plain (inl ended) = sound_changed_order before rows.order m.old stood sound (inl ended)
-      by_plain (inr kept) = sound_changed_order before rows.order m.old stood sound (inr (inl kept))
+      by_plain (inl ended) = sound_changed_order before rows.order m.old stood limits sound (inl ended)
+      by_plain (inr kept) = sound_changed_order before rows.order m.old stood limits sound (inr (inl kept))
 
       by_back : (back : Bool) → m.turn.revival ≡ back → IsSound (changed (PutOrder rows.order) before)
-      by_back true is = sound_changed_order before rows.order m.old stood sound (inr (inr (m.uses is)))
+      by_back true is = sound_changed_order before rows.order m.old stood limits sound (inr (inr (m.uses is)))
       by_back false is = by_plain (keeps_force m is)
 
   -- an order that isn't in force, and is afterwards, comes back

@@ -6,9 +6,9 @@ use Rattle.bo_lists.specs.declared.changes.Change.TheVariants.{PutPosition, Drop
 use Rattle.bo_lists.specs.Lists.{Lists, State}
 use Rattle.bo_lists.specs.Change.{after_change, after_all, changed}
 use Rattle.bo_lists.specs.Headroom.{has_use}
-use Rattle.bo_vouchers.specs.declared.refusal.VoucherRefusal.TheVariants.{NoHeadroom}
-use Rattle.bo_orders.specs.declared.refusal.OrderRefusal.{OrderRefusal}
-use Rattle.bo_orders.specs.declared.refusal.OrderRefusal.TheVariants.{Voucher as OfVoucher}
+use Rattle.bo_commands.specs.declared.vouchers.VoucherRefusal.TheVariants.{NoHeadroom}
+use Rattle.bo_commands.specs.declared.orders.OrderRefusal.{OrderRefusal}
+use Rattle.bo_commands.specs.declared.orders.OrderRefusal.TheVariants.{Voucher as OfVoucher}
 use Rattle.bo_orders.specs.Created.{position_put}
 
 -- a put of a position, which had a use of its voucher left

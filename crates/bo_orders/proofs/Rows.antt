@@ -18,12 +18,12 @@ use Rattle.bo_lists.proofs.OrderHeadroom.{headroom_position}
 use Rattle.bo_lists.proofs.EachRow.{next_absent}
 use Rattle.bo_sound.proofs.Numbered.{numbered_put}
 use Rattle.bo_sound.proofs.SoundOrders.{new_order_headroom, sound_drop_carts}
-use Rattle.bo_orders.specs.declared.sold.Asked.{Asked}
-use Rattle.bo_orders.specs.declared.refusal.OrderRefusal.{OrderRefusal}
-use Rattle.bo_orders.specs.declared.refusal.OrderRefusal.TheVariants.{Voucher as OfVoucher}
+use Rattle.bo_commands.specs.declared.carts.Asked.{Asked}
+use Rattle.bo_commands.specs.declared.orders.OrderRefusal.{OrderRefusal}
+use Rattle.bo_commands.specs.declared.orders.OrderRefusal.TheVariants.{Voucher as OfVoucher}
 use Rattle.bo_orders.specs.declared.sold.Sold.{Sold}
-use Rattle.bo_vouchers.specs.declared.refusal.VoucherRefusal.{VoucherRefusal}
-use Rattle.bo_vouchers.specs.declared.refusal.VoucherRefusal.TheVariants.{NoHeadroom}
+use Rattle.bo_commands.specs.declared.vouchers.VoucherRefusal.{VoucherRefusal}
+use Rattle.bo_commands.specs.declared.vouchers.VoucherRefusal.TheVariants.{NoHeadroom}
 use Rattle.bo_orders.specs.Sold.{sold_for}
 use Rattle.bo_orders.specs.Created.{IsReady, AreCounted, with_order_row, position_put, position_row, position_of_sold, position_for, and_rows, rows_for, with_positions}
 

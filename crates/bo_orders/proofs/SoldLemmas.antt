@@ -1,32 +1,28 @@
 -- What is known of what is sold: its product is named as its item is sold, and its voucher is for it.
-use Rattle.std.proofs.Common.{◌≡◌, ℕ, Bool, true, false, eqb, List, Option, Some, None, Result, Ok, Err, refl, sym, ap, ◌∙◌, subst, arith}
+use Rattle.std.proofs.Common.{◌≡◌, ℕ, Bool, true, false, List, Option, Some, None, Result, Ok, Err, refl, sym, ap, ◌∙◌, subst}
 use Rattle.std.specs.Prelude.{if◌then◌else◌, option_map}
 use Rattle.std.specs.List.{AllByRecursion}
-use Rattle.std.proofs.lemmas.Bool.Decides.{nat_tests}
 use Rattle.bo_base.specs.Tables.{AreInOrder}
 use Rattle.bo_base.specs.Texts.{same_text}
-use Rattle.bo_catalogue.specs.declared.rows.Item.{Item}
 use Rattle.bo_catalogue.specs.declared.rows.Product.{Product}
-use Rattle.bo_catalogue.specs.declared.rows.Variation.{Variation}
 use Rattle.bo_catalogue.specs.declared.refusal.CatalogueRefusal.{CatalogueRefusal}
-use Rattle.bo_catalogue.specs.declared.refusal.CatalogueRefusal.TheVariants.{NoVariation, Inactive, NotSold}
-use Rattle.bo_catalogue.specs.CatalogueLists.{CatalogueLists, item_at, variation_at, plain_product, varied_product, product_by, product_of, base_price, is_active, is_sold}
+use Rattle.bo_catalogue.specs.declared.refusal.CatalogueRefusal.TheVariants.{Inactive, NotSold}
+use Rattle.bo_catalogue.specs.CatalogueLists.{CatalogueLists, product_of, base_price, is_active, is_sold}
 use Rattle.bo_lists.specs.declared.rows.Voucher.{Voucher}
 use Rattle.bo_lists.specs.Lists.{State}
 use Rattle.bo_lists.specs.Conditions.{is_live_voucher}
 use Rattle.bo_lists.specs.Fits.{fits, fits_if, is_fit}
 use Rattle.bo_lists.specs.Named.{voucher_of}
-use Rattle.bo_sound.specs.Targets.{variation_by}
-use Rattle.bo_sound.specs.Varied.{sold_as, is_sold_as, is_of_varied, AllVaried, names_as_sold, IsProduct}
-use Rattle.bo_lists.proofs.EachRow.{all-row_at}
+use Rattle.bo_sound.specs.Varied.{is_of_varied, AllVaried, IsProduct}
 use Rattle.bo_lists.proofs.Found.{row_at_found}
-use Rattle.bo_vouchers.specs.declared.refusal.VoucherRefusal.{VoucherRefusal}
-use Rattle.bo_vouchers.specs.declared.refusal.VoucherRefusal.TheVariants.{VoucherExpired, WrongProduct}
-use Rattle.bo_orders.specs.declared.sold.Asked.{Asked}
+use Rattle.bo_sound.proofs.Products.{ok_product, product_is}
+use Rattle.bo_commands.specs.declared.vouchers.VoucherRefusal.{VoucherRefusal}
+use Rattle.bo_commands.specs.declared.vouchers.VoucherRefusal.TheVariants.{VoucherExpired, WrongProduct}
+use Rattle.bo_commands.specs.declared.carts.Asked.{Asked}
 use Rattle.bo_orders.specs.declared.sold.Sold.{Sold}
 use Rattle.bo_orders.specs.Sold.{sold_for, sold_of, sold_with, sold_at, if_for_sale, product_for_sale, voucher_asked, used_by, used_if, price_by}
 
-ok_voucher : (a b : Option Voucher) → (let all : Result (Option Voucher) VoucherRefusal = Ok a in all ≡ Ok b) → a ≡ b
+pub ok_voucher : (a b : Option Voucher) → (let all : Result (Option Voucher) VoucherRefusal = Ok a in all ≡ Ok b) → a ≡ b
 ok_voucher a b h = cc
 
 -- a voucher that may be used for a product stands, and is for it
@@ -47,7 +43,7 @@ module _ (state : State) (order : AreInOrder (λ r. r.id) state.lists.vouchers) 
   asked_fits None h = ap (λ a. is_fit state.lists product (option_map (λ v. v.id) a)) (sym (ok_voucher None asked h))
   asked_fits (Some code) h = by_found code (voucher_of code state.lists) refl h
 
-ok_sold : (a b : Sold) → (let all : Result Sold VoucherRefusal = Ok a in all ≡ Ok b) → a ≡ b
+pub ok_sold : (a b : Sold) → (let all : Result Sold VoucherRefusal = Ok a in all ≡ Ok b) → a ≡ b
 ok_sold a b h = cc
 
 module _ (asked : Asked) (state : State) (order : AreInOrder (λ r. r.id) state.lists.vouchers) (sold : Sold) where
@@ -68,37 +64,9 @@ module _ (asked : Asked) (state : State) (order : AreInOrder (λ r. r.id) state.
   unfolding sold_for
   sold_fits h = by_product (product_for_sale asked.item asked.variation state.lists.catalogue) h
 
-ok_product : (a b : Product) → (let all : Result Product CatalogueRefusal = Ok a in all ≡ Ok b) → a ≡ b
-ok_product a b h = cc
-
--- a product that can be asked for is one: it names a variation, which stands and is of its item, exactly where the item is sold by variation
 module _ (lists : CatalogueLists) (of_varied : AllByRecursion (λ v. is_of_varied lists.items v ≡ true) lists.variations) (product : Product) where
   abbrev GivesProduct : Result Product CatalogueRefusal → Type 0
   GivesProduct result = result ≡ Ok product
-
-  by_plain : (item : ℕ) (row : Item) (varied : Bool) → item_at item lists ≡ Some row → row.varied ≡ varied → GivesProduct (plain_product item varied) → IsProduct lists product
-  by_plain item row true stood is h = absurd (cc)
-  by_plain item row false stood is h =
-      let same = ok_product _ product h in
-      subst (IsProduct lists) same (record { as_sold = ap (sold_as (names_as_sold None)) stood ∙ ap (names_as_sold None) is; own = refl })
-
-  by_item_of : (item id : ℕ) (variation : Variation) (own : Bool) → variation_at id lists ≡ Some variation → eqb variation.item item ≡ own → (row : Item) → item_at item lists ≡ Some row → GivesProduct (if own then Ok (record { item = item; variation = Some id }) else Err NoVariation) → IsProduct lists product
-  by_item_of item id variation false found is row stood h = absurd (cc)
-  by_item_of item id variation true found is row stood h =
-      let same = ok_product _ product h in
-      let own : variation.item ≡ item = grind (arith, nat_tests, is) in
-      let known = all-row_at (λ (v : Variation). v.id) (λ v. is_of_varied lists.items v ≡ true) id lists.variations variation found of_varied in
-      let varied : row.varied ≡ true = sym (ap (sold_as (λ varied. varied)) stood) ∙ subst (λ (n : ℕ). is_sold_as (λ varied. varied) n lists.items ≡ true) own known in
-      subst (IsProduct lists) same (record { as_sold = ap (sold_as (names_as_sold (Some id))) stood ∙ ap (names_as_sold (Some id)) varied; own = ap (variation_by (Some item)) found ∙ is })
-
-  by_variation : (item id : ℕ) (found : Option Variation) → variation_at id lists ≡ found → (row : Item) → item_at item lists ≡ Some row → GivesProduct (varied_product item id found) → IsProduct lists product
-  by_variation item id None found row stood h = absurd (cc)
-  by_variation item id (Some variation) found row stood h = by_item_of item id variation (eqb variation.item item) found refl row stood h
-
-  by_item : (item : ℕ) (variation : Option ℕ) (found : Option Item) → item_at item lists ≡ found → GivesProduct (product_by item variation found lists) → IsProduct lists product
-  by_item item variation None stood h = absurd (cc)
-  by_item item None (Some row) stood h = by_plain item row row.varied stood refl h
-  by_item item (Some id) (Some row) stood h = by_variation item id (variation_at id lists) refl row stood h
 
   by_sold : (asked : Product) (sold : Bool) → GivesProduct (if sold then Ok asked else Err NotSold) → asked ≡ product
   by_sold asked true h = ok_product asked product h
@@ -110,7 +78,7 @@ module _ (lists : CatalogueLists) (of_varied : AllByRecursion (λ v. is_of_varie
 
   by_asked : (item : ℕ) (variation : Option ℕ) (asked : Result Product CatalogueRefusal) → product_of item variation lists ≡ asked → GivesProduct (if_for_sale lists asked) → IsProduct lists product
   by_asked item variation (Err refusal) is h = absurd (cc)
-  by_asked item variation (Ok asked) is h = by_item item variation (item_at item lists) refl (is ∙ ap (λ (p : Product). Ok p) (by_active asked (is_active asked lists) h))
+  by_asked item variation (Ok asked) is h = product_is lists of_varied product item variation (is ∙ ap (λ (p : Product). Ok p) (by_active asked (is_active asked lists) h))
 
   for_sale_is_product : (item : ℕ) (variation : Option ℕ) → GivesProduct (product_for_sale item variation lists) → IsProduct lists product
   for_sale_is_product item variation h = by_asked item variation (product_of item variation lists) refl h

@@ -1,15 +1,18 @@
 -- Adding many cart positions in one call: each entry by itself, after those before it.
-use Rattle.std.specs.Prelude.{ℕ, nat_lt, List, [], ◌∷◌, ◌++◌, length, Result, Ok, Err, if◌then◌else◌}
+use Rattle.std.specs.Prelude.{ℕ, nat_lt, List, [], ◌∷◌, ◌++◌, length, Option, Some, None, Result, Ok, Err, if◌then◌else◌}
+use Rattle.std.specs.List.{filter_map}
 use Rattle.bo_base.specs.declared.draw.Draw.{Draw}
 use Rattle.bo_lists.specs.declared.rows.CartPos.{CartPos}
+use Rattle.bo_lists.specs.declared.changes.Change.{Change}
+use Rattle.bo_lists.specs.declared.changes.Change.TheVariants.{PutCart}
 use Rattle.bo_lists.specs.Lists.{State}
 use Rattle.bo_orders.specs.Carts.{position_added}
-use Rattle.bo_orders.specs.declared.bulk.Entry.{Entry}
-use Rattle.bo_orders.specs.declared.bulk.Entry.TheVariants as entries
-use Rattle.bo_orders.specs.declared.bulk.Outcome.{Outcome}
-use Rattle.bo_orders.specs.declared.bulk.Outcome.TheVariants as outcomes
-use Rattle.bo_orders.specs.declared.refusal.OrderRefusal.{OrderRefusal}
-use Rattle.bo_orders.specs.declared.refusal.OrderRefusal.TheVariants.{TooMany}
+use Rattle.bo_commands.specs.declared.carts.Entry.{Entry}
+use Rattle.bo_commands.specs.declared.carts.Entry.TheVariants as entries
+use Rattle.bo_commands.specs.declared.carts.Outcome.{Outcome}
+use Rattle.bo_commands.specs.declared.carts.Outcome.TheVariants as outcomes
+use Rattle.bo_commands.specs.declared.orders.OrderRefusal.{OrderRefusal}
+use Rattle.bo_commands.specs.declared.orders.OrderRefusal.TheVariants.{TooMany}
 
 abbrev pub outcome_of : State → Result (State × CartPos) OrderRefusal → State × Outcome
 outcome_of state (Ok (after, row)) = (after, outcomes.Added row)
@@ -38,3 +41,13 @@ most_entries = 500
 -- the box office with all that could be added, and what became of each entry; or there are too many
 unfoldable pub many_added : List Entry → Draw → State → Result (State × List Outcome) OrderRefusal
 many_added entries draw state = if nat_lt most_entries (length entries) then Err TooMany else Ok (all_added entries draw state)
+
+-- an entry that was added is put, and any other changes nothing
+abbrev pub put_by : Outcome → Option Change
+put_by (outcomes.Added row) = Some (PutCart row)
+put_by (outcomes.Refused refusal) = None
+put_by (outcomes.Faulty fault) = None
+
+-- the changes of a bulk call: each row that was added is put, in turn
+abbrev pub bulk_changes : List Outcome → List Change
+bulk_changes outcomes = filter_map put_by outcomes

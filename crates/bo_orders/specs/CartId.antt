@@ -4,8 +4,8 @@ use Rattle.std.specs.List.{ends_with}
 use Rattle.std.specs.Fmt.{decimal}
 use Rattle.hex.specs.Hex.{encode_lower}
 use Rattle.bo_base.specs.declared.draw.Draw.{Draw}
-use Rattle.bo_orders.specs.declared.refusal.OrderRefusal.{OrderRefusal}
-use Rattle.bo_orders.specs.declared.refusal.OrderRefusal.TheVariants.{BadCart}
+use Rattle.bo_commands.specs.declared.orders.OrderRefusal.{OrderRefusal}
+use Rattle.bo_commands.specs.declared.orders.OrderRefusal.TheVariants.{BadCart}
 
 -- a cart id ends in `@api`
 abbrev pub is_cart_id : List ℕ → Bool

@@ -13,14 +13,14 @@ use Rattle.bo_lists.specs.Full.{takes_cart}
 use Rattle.bo_lists.specs.Headroom.{has_use}
 use Rattle.bo_lists.specs.Numbered.{with_cart}
 use Rattle.bo_lists.specs.Over.{first_over}
-use Rattle.bo_vouchers.specs.declared.refusal.VoucherRefusal.{VoucherRefusal}
-use Rattle.bo_vouchers.specs.declared.refusal.VoucherRefusal.TheVariants.{Catalogue, NoHeadroom, SoldOut}
+use Rattle.bo_commands.specs.declared.vouchers.VoucherRefusal.{VoucherRefusal}
+use Rattle.bo_commands.specs.declared.vouchers.VoucherRefusal.TheVariants.{Catalogue, NoHeadroom, SoldOut}
 use Rattle.bo_orders.specs.CartId.{cart_id_test, cart_id_of}
 use Rattle.bo_orders.specs.Sold.{sold_for}
-use Rattle.bo_orders.specs.declared.new_cart.NewCart.{NewCart}
+use Rattle.bo_commands.specs.declared.carts.NewCart.{NewCart}
 use Rattle.bo_orders.specs.declared.sold.Sold.{Sold}
-use Rattle.bo_orders.specs.declared.refusal.OrderRefusal.{OrderRefusal}
-use Rattle.bo_orders.specs.declared.refusal.OrderRefusal.TheVariants.{Voucher as OfVoucher}
+use Rattle.bo_commands.specs.declared.orders.OrderRefusal.{OrderRefusal}
+use Rattle.bo_commands.specs.declared.orders.OrderRefusal.TheVariants.{Voucher as OfVoucher}
 
 -- the row gets the next id, and is held for 1800 seconds where no end is given
 abbrev pub row_of_sold : NewCart → Draw → State → Result Sold VoucherRefusal → Result CartPos OrderRefusal

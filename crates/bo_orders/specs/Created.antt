@@ -9,10 +9,9 @@ use Rattle.bo_lists.specs.declared.rows.Order.{Order}
 use Rattle.bo_lists.specs.declared.rows.OrderPos.{OrderPos}
 use Rattle.bo_lists.specs.declared.rows.OrderRows.{OrderRows}
 use Rattle.bo_lists.specs.declared.rows.Own.TheVariants.{Position}
-use Rattle.bo_lists.specs.declared.rows.Status.{Status}
-use Rattle.bo_lists.specs.declared.rows.Status.TheVariants.{Pending, Paid}
-use Rattle.bo_lists.specs.declared.changes.Change.TheVariants.{PutOrder, PutPosition}
-use Rattle.bo_lists.specs.Lists.{State}
+use Rattle.bo_lists.specs.declared.changes.Change.{Change}
+use Rattle.bo_lists.specs.declared.changes.Change.TheVariants.{PutOrder, PutPosition, DropCart}
+use Rattle.bo_lists.specs.Lists.{Lists, State}
 use Rattle.bo_lists.specs.Change.{changed, without_carts}
 use Rattle.bo_lists.specs.Consumed.{consumed}
 use Rattle.bo_lists.specs.Full.{takes_order, takes_positions}
@@ -20,20 +19,15 @@ use Rattle.bo_lists.specs.Headroom.{has_use, AllHaveHeadroom}
 use Rattle.bo_lists.specs.Over.{first_over}
 use Rattle.bo_sound.specs.Ids.{AreNumbered}
 use Rattle.bo_sound.specs.Positions.{most_positions}
-use Rattle.bo_vouchers.specs.declared.refusal.VoucherRefusal.{VoucherRefusal}
-use Rattle.bo_vouchers.specs.declared.refusal.VoucherRefusal.TheVariants.{Catalogue, NoHeadroom, SoldOut}
-use Rattle.bo_orders.specs.declared.new_order.NewOrder.{NewOrder}
-use Rattle.bo_orders.specs.declared.new_order.Start.{Start}
-use Rattle.bo_orders.specs.declared.new_order.Start.TheVariants as starts
-use Rattle.bo_orders.specs.declared.sold.Asked.{Asked}
+use Rattle.bo_commands.specs.declared.vouchers.VoucherRefusal.{VoucherRefusal}
+use Rattle.bo_commands.specs.declared.vouchers.VoucherRefusal.TheVariants.{Catalogue, NoHeadroom, SoldOut}
+use Rattle.bo_commands.specs.declared.orders.NewOrder.{NewOrder}
+use Rattle.bo_commands.specs.Starts.{status_of}
+use Rattle.bo_commands.specs.declared.carts.Asked.{Asked}
 use Rattle.bo_orders.specs.declared.sold.Sold.{Sold}
-use Rattle.bo_orders.specs.declared.refusal.OrderRefusal.{OrderRefusal}
-use Rattle.bo_orders.specs.declared.refusal.OrderRefusal.TheVariants.{Voucher as OfVoucher, Empty, TooMany}
+use Rattle.bo_commands.specs.declared.orders.OrderRefusal.{OrderRefusal}
+use Rattle.bo_commands.specs.declared.orders.OrderRefusal.TheVariants.{Voucher as OfVoucher, Empty, TooMany}
 use Rattle.bo_orders.specs.Sold.{sold_for}
-
-abbrev pub status_of : Start → Status
-status_of starts.Pending = Pending
-status_of starts.Paid = Paid
 
 -- the order's row: it has the next number, and 14 days where no end is given
 abbrev pub order_row : NewOrder → State → Order
@@ -142,3 +136,7 @@ created_if new draw state (Ok _) = created_of new state (rows_for draw state sta
 -- the box office with the new order, and that order with its positions, or the first refusal
 unfoldable pub order_created : NewOrder → Draw → State → Result (State × OrderRows) OrderRefusal
 order_created new draw state = created_if new draw state (counts_test new)
+
+-- the changes that make an order: the cart positions that it consumes go, then it is put, and then its positions
+abbrev pub order_changes : List (List ℕ) → Order → List OrderPos → Lists → List Change
+order_changes carts order positions lists = map DropCart (consumed carts lists) ++ PutOrder order ∷ map PutPosition positions

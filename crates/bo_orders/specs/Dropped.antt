@@ -4,8 +4,8 @@ use Rattle.bo_lists.specs.declared.rows.CartPos.{CartPos}
 use Rattle.bo_lists.specs.declared.changes.Change.TheVariants.{DropCart}
 use Rattle.bo_lists.specs.Lists.{State, cart_at}
 use Rattle.bo_lists.specs.Change.{changed}
-use Rattle.bo_orders.specs.declared.refusal.OrderRefusal.{OrderRefusal}
-use Rattle.bo_orders.specs.declared.refusal.OrderRefusal.TheVariants.{NoPosition}
+use Rattle.bo_commands.specs.declared.orders.OrderRefusal.{OrderRefusal}
+use Rattle.bo_commands.specs.declared.orders.OrderRefusal.TheVariants.{NoPosition}
 
 abbrev pub dropped_at : ℕ → State → Option CartPos → Result State OrderRefusal
 dropped_at id state None = Err NoPosition

@@ -5,4 +5,4 @@ pub mod Bulk
 pub mod Created
 pub mod Moves
 pub mod Dropped
-pub mod Refusals
+pub mod Expired

@@ -10,12 +10,12 @@ use Rattle.bo_lists.specs.Lists.{State, order_at, positions_of}
 use Rattle.bo_lists.specs.Change.{after_change, changed}
 use Rattle.bo_lists.specs.Headroom.{have_room}
 use Rattle.bo_lists.specs.Over.{first_over}
-use Rattle.bo_vouchers.specs.declared.refusal.VoucherRefusal.TheVariants.{NoHeadroom, SoldOut}
-use Rattle.bo_orders.specs.declared.moves.Move.{Move}
-use Rattle.bo_orders.specs.declared.moves.Move.TheVariants.{MarkPaid, MarkPending, MarkExpired, MarkCanceled, Extend}
+use Rattle.bo_commands.specs.declared.vouchers.VoucherRefusal.TheVariants.{NoHeadroom, SoldOut}
+use Rattle.bo_commands.specs.declared.orders.Move.{Move}
+use Rattle.bo_commands.specs.declared.orders.Move.TheVariants.{MarkPaid, MarkPending, MarkExpired, MarkCanceled, Extend}
 use Rattle.bo_orders.specs.declared.moves.Turn.{Turn}
-use Rattle.bo_orders.specs.declared.refusal.OrderRefusal.{OrderRefusal}
-use Rattle.bo_orders.specs.declared.refusal.OrderRefusal.TheVariants.{Voucher as OfVoucher, NoOrder, WrongStatus}
+use Rattle.bo_commands.specs.declared.orders.OrderRefusal.{OrderRefusal}
+use Rattle.bo_commands.specs.declared.orders.OrderRefusal.TheVariants.{Voucher as OfVoucher, NoOrder, WrongStatus}
 
 abbrev pub to : Status → Option Turn
 to status = Some (record { status = status; revival = false })

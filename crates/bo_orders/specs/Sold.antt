@@ -8,10 +8,10 @@ use Rattle.bo_catalogue.specs.CatalogueLists.{CatalogueLists, product_of, base_p
 use Rattle.bo_lists.specs.declared.rows.Voucher.{Voucher}
 use Rattle.bo_lists.specs.Lists.{State}
 use Rattle.bo_lists.specs.Named.{voucher_of}
-use Rattle.bo_vouchers.specs.declared.refusal.VoucherRefusal.{VoucherRefusal}
-use Rattle.bo_vouchers.specs.declared.refusal.VoucherRefusal.TheVariants.{Catalogue, NoVoucher}
+use Rattle.bo_commands.specs.declared.vouchers.VoucherRefusal.{VoucherRefusal}
+use Rattle.bo_commands.specs.declared.vouchers.VoucherRefusal.TheVariants.{Catalogue, NoVoucher}
 use Rattle.bo_vouchers.specs.Usable.{usable}
-use Rattle.bo_orders.specs.declared.sold.Asked.{Asked}
+use Rattle.bo_commands.specs.declared.carts.Asked.{Asked}
 use Rattle.bo_orders.specs.declared.sold.Sold.{Sold}
 
 -- what is sold is active and in a quota

@@ -1,13 +1,12 @@
 //! Adding many cart positions in one call.
 
-ghost use Rattle.std.specs.Prelude.{◌≡◌, ◌≢◌, Ok, Err, IfOk, IfErr, OnErr};
+ghost use Rattle.std.specs.Prelude.{◌≡◌, ◌≢◌, [], ◌∷◌, ◌++◌, Ok, Err, IfOk, IfErr, OnErr};
 ghost use Rattle.bo_draft.specs.DraftState.{now, Extends};
-ghost use Rattle.bo_orders.specs.Bulk.{entry_added, all_added, many_added};
+ghost use Rattle.bo_orders.specs.Bulk.{bulk_changes, entry_added, all_added, many_added};
 
 use crate::carts::add_position;
-use crate::new_cart::NewCart;
-use crate::refusal::OrderRefusal;
 use bo_base::{Draw, List};
+use bo_commands::{Entry, OrderRefusal, Outcome};
 use bo_draft::Draft;
 use bo_faults::EntryFault;
 use bo_lists::CartPos;
@@ -16,26 +15,6 @@ use std::alloc::{AllocError, Global};
 
 // How many entries one call may have.
 const MOST_ENTRIES: usize = 500;
-
-/// An entry of a bulk call: a cart position that is asked for, or what is wrong with what stands in its place.
-#[derive(Debug, Drop)]
-pub enum Entry {
-    /// A cart position that is asked for.
-    New(NewCart),
-    /// What is wrong with what stands in its place.
-    Faulty(EntryFault),
-}
-
-/// What became of an entry.
-#[derive(Debug, Drop)]
-pub enum Outcome {
-    /// A cart position was added; this is a copy of it.
-    Added(CartPos),
-    /// The cart position was refused.
-    Refused(OrderRefusal),
-    /// Nothing could be asked for: what was wrong with the entry, as it was handed in.
-    Faulty(EntryFault),
-}
 
 /// Adds a cart position for each entry, in a draft that has changed no voucher. Each entry is answered by itself, as a
 /// request of its own after those before it, and a refused one changes nothing.
@@ -50,6 +29,7 @@ pub fn add_many<B: Book>(
     requires { (now draft.old).lists.vouchers ≡ draft.old.log.base.vouchers }
     ensures done { IfOk result (λ outcomes. many_added entries.now draw (now draft.old) ≡ Ok (now draft.new, outcomes)) }
     ensures refused { IfErr result (λ e. e ≢ OrderRefusal.Memory → many_added entries.now draw (now draft.old) ≡ Err e) }
+    ensures changes { IfOk result (λ outcomes. draft.new.log.changes ≡ draft.old.log.changes ++ bulk_changes outcomes) }
     ensures extends { Extends draft.old draft.new }
     ensures same { OnErr result (draft.new ≡ draft.old) }
 {
@@ -75,6 +55,7 @@ fn add_all<B: Book>(
 ) -> Result<Vec<Outcome>, AllocError>
     requires { (now draft.old).lists.vouchers ≡ draft.old.log.base.vouchers }
     ensures done { IfOk result (λ outcomes. all_added entries.now draw (now draft.old) ≡ (now draft.new, outcomes.items)) }
+    ensures changes { IfOk result (λ outcomes. draft.new.log.changes ≡ draft.old.log.changes ++ bulk_changes outcomes.items) }
     ensures extends { Extends draft.old draft.new }
 {
     let mut outcomes = Vec::new(alloc);
@@ -93,6 +74,7 @@ fn add_entry<B: Book>(
 ) -> Result<Outcome, AllocError>
     requires { (now draft.old).lists.vouchers ≡ draft.old.log.base.vouchers }
     ensures done { IfOk result (λ outcome. entry_added entry.now draw (now draft.old) ≡ (now draft.new, outcome)) }
+    ensures changes { IfOk result (λ outcome. draft.new.log.changes ≡ draft.old.log.changes ++ bulk_changes (outcome ∷ [])) }
     ensures extends { Extends draft.old draft.new }
 {
     match entry {

@@ -1,11 +1,10 @@
 //! The ids of carts.
 
-ghost use Rattle.std.specs.Prelude.{◌≡◌, IfOk};
+ghost use Rattle.std.specs.Prelude.{◌≡◌, IfOk, string_bytes};
 ghost use Rattle.bo_orders.specs.CartId.{is_cart_id, cart_id_test, made_cart_id, cart_id_of};
 
-use crate::new_cart::NewCart;
-use crate::refusal::OrderRefusal;
 use bo_base::{Draw, Text};
+use bo_commands::{NewCart, OrderRefusal};
 use std::alloc::{AllocError, Global};
 
 // Whether a text ends as a cart id does.
@@ -35,10 +34,18 @@ pub fn cart_id(alloc: Global, new: &NewCart, draw: Draw, id: u64) -> Result<Text
     }
 }
 
-#[tactic(auto, unfolding(crate::specs::CartId::made_cart_id))]
 fn made_cart_id(alloc: Global, draw: Draw, id: u64) -> Result<Text, AllocError>
     ensures { IfOk result (λ text. text ≡ made_cart_id draw id) }
 {
+    draw.known();
+    Ok(Text::new(cart_id_chars(alloc, draw, id)?))
+}
+
+#[tactic(auto, unfolding(crate::specs::CartId::made_cart_id))]
+fn cart_id_chars(alloc: Global, draw: Draw, id: u64) -> Result<String, AllocError>
+    ensures { IfOk result (λ chars. string_bytes chars ≡ made_cart_id draw id) }
+{
     let digits = hex::encode(alloc, draw.bytes)?;
-    Ok(Text::new(format!(in alloc; "{digits}z{id}@api")?))
+    let chars = format!(in alloc; "{digits}z{id}@api")?;
+    Ok(chars)
 }

@@ -1,20 +1,19 @@
 //! Adding and deleting cart positions.
 
-ghost use Rattle.std.specs.Prelude.{◌≡◌, ◌≢◌, Ok, Err, IfOk, IfErr, OnErr};
+ghost use Rattle.std.specs.Prelude.{◌≡◌, ◌≢◌, [], ◌∷◌, ◌++◌, Ok, Err, IfOk, IfErr, OnErr};
 ghost use Rattle.bo_draft.specs.DraftState.{now, Extends};
+ghost use Rattle.bo_lists.specs.declared.changes.Change.TheVariants.{PutCart, DropCart};
 ghost use Rattle.bo_orders.specs.Carts.{cart_row, placed, position_added, has_use_for};
 ghost use Rattle.bo_orders.specs.Dropped.{position_dropped};
 
 use crate::cart_id::{cart_id, test_cart_id};
-use crate::new_cart::NewCart;
-use crate::refusal::OrderRefusal;
 use crate::sold::sold_for;
 use bo_base::Draw;
 use bo_catalogue::CatalogueRefusal;
+use bo_commands::{NewCart, OrderRefusal, VoucherRefusal};
 use bo_draft::Draft;
 use bo_lists::{CartPos, Own};
 use bo_usage::Book;
-use bo_vouchers::VoucherRefusal;
 use std::alloc::Global;
 
 /// Adds a cart position, in a draft that has changed no voucher, and answers a copy of it.
@@ -32,6 +31,7 @@ pub fn add_position<B: Book>(
     requires { (now draft.old).lists.vouchers ≡ draft.old.log.base.vouchers }
     ensures done { IfOk result (λ row. position_added new.now draw (now draft.old) ≡ Ok (now draft.new, row)) }
     ensures refused { IfErr result (λ e. e ≢ OrderRefusal.Memory → position_added new.now draw (now draft.old) ≡ Err e) }
+    ensures changes { IfOk result (λ row. draft.new.log.changes ≡ draft.old.log.changes ++ PutCart row ∷ []) }
     ensures extends { Extends draft.old draft.new }
     ensures same { OnErr result (draft.new ≡ draft.old) }
 {
@@ -81,6 +81,7 @@ fn place<B: Book>(
 ) -> Result<CartPos, OrderRefusal>
     ensures done { IfOk result (λ copy. placed row (now draft.old) ≡ Ok (now draft.new, copy)) }
     ensures refused { IfErr result (λ e. e ≢ OrderRefusal.Memory → placed row (now draft.old) ≡ Err e) }
+    ensures changes { IfOk result (λ copy. draft.new.log.changes ≡ draft.old.log.changes ++ PutCart copy ∷ []) }
     ensures extends { Extends draft.old draft.new }
     ensures same { OnErr result (draft.new ≡ draft.old) }
 {
@@ -114,6 +115,7 @@ pub fn drop_position<B: Book>(
 ) -> Result<(), OrderRefusal>
     ensures done { IfOk result (λ _. position_dropped id (now draft.old) ≡ Ok (now draft.new)) }
     ensures refused { IfErr result (λ e. e ≢ OrderRefusal.Memory → position_dropped id (now draft.old) ≡ Err e) }
+    ensures changes { IfOk result (λ _. draft.new.log.changes ≡ draft.old.log.changes ++ DropCart id ∷ []) }
     ensures extends { Extends draft.old draft.new }
     ensures same { OnErr result (draft.new ≡ draft.old) }
 {

@@ -1,22 +1,21 @@
 //! Making an order.
 
-ghost use Rattle.std.specs.Prelude.{◌≡◌, ◌≢◌, ◌≤◌, ◌+◌, Ok, Err, IfOk, IfErr, OnOk, OnErr, ◌&&◌, [], length, map};
+ghost use Rattle.std.specs.Prelude.{◌≡◌, ◌≢◌, ◌≤◌, ◌+◌, Ok, Err, IfOk, IfErr, OnOk, OnErr, ◌&&◌, [], ◌∷◌, ◌++◌, length, map};
 ghost use Rattle.bo_draft.specs.DraftState.{now, Extends};
+ghost use Rattle.bo_lists.specs.declared.changes.Change.TheVariants.{PutPosition, DropCart};
 ghost use Rattle.bo_lists.specs.Change.{without_carts};
 ghost use Rattle.bo_lists.specs.Full.{takes_order, takes_positions};
 ghost use Rattle.bo_sound.specs.Sound.{IsSound};
 ghost use Rattle.bo_lists.specs.declared.rows.Own.TheVariants.{Position};
-ghost use Rattle.bo_orders.specs.Created.{order_created, counts_test, order_row, position_for, rows_for, position_put, with_positions, with_order_row, order_placed, IsReady, AreCounted};
+ghost use Rattle.bo_orders.specs.Created.{order_changes, order_created, counts_test, order_row, position_for, rows_for, position_put, with_positions, with_order_row, order_placed, IsReady, AreCounted};
 
-use crate::new_order::NewOrder;
-use crate::refusal::OrderRefusal;
-use crate::sold::{Asked, sold_for};
+use crate::sold::sold_for;
 use bo_base::{Draw, List, Text, secret};
 use bo_catalogue::CatalogueRefusal;
+use bo_commands::{Asked, NewOrder, OrderRefusal, VoucherRefusal};
 use bo_draft::Draft;
 use bo_lists::{Order, OrderPos, OrderRows, Own};
 use bo_usage::Book;
-use bo_vouchers::VoucherRefusal;
 use std::alloc::{AllocError, Global};
 
 // How many positions and how many cart ids a request for an order may have.
@@ -40,6 +39,7 @@ pub fn create<B: Book>(
     requires sound { IsSound (now draft.old) }
     ensures done { IfOk result (λ rows. order_created new.now draw (now draft.old) ≡ Ok (now draft.new, rows)) }
     ensures refused { IfErr result (λ e. e ≢ OrderRefusal.Memory → order_created new.now draw (now draft.old) ≡ Err e) }
+    ensures changes { IfOk result (λ rows. draft.new.log.changes ≡ draft.old.log.changes ++ order_changes new.now.consume_carts rows.order rows.positions (now draft.old).lists) }
     ensures extends { Extends draft.old draft.new }
     ensures same { OnErr result (draft.new ≡ draft.old) }
 {
@@ -138,13 +138,14 @@ fn new_rows<B: Book>(
     Ok(rows)
 }
 
-// Drops the cart positions of these ids.
-fn drop_carts<B: Book>(
+/// Drops the cart positions of these ids. Without memory some of them may be dropped.
+pub(crate) fn drop_carts<B: Book>(
     draft: &mut Draft<'_, B>,
     alloc: Global,
     ids: &[u64],
 ) -> Result<(), AllocError>
     ensures done { OnOk result (now draft.new ≡ without_carts ids.now (now draft.old)) }
+    ensures changes { OnOk result (draft.new.log.changes ≡ draft.old.log.changes ++ map DropCart ids.now) }
     ensures extends { Extends draft.old draft.new }
 {
     for id in ids {
@@ -164,6 +165,7 @@ fn put_order<B: Book>(
     requires sound { IsSound (now draft.old) }
     requires new { order.now.id ≡ (now draft.old).next.order }
     ensures done { OnOk result (now draft.new ≡ with_order_row order.now carts.now (now draft.old)) }
+    ensures changes { OnOk result (draft.new.log.changes ≡ draft.old.log.changes ++ order_changes carts.now order.now [] (now draft.old).lists) }
     ensures extends { Extends draft.old draft.new }
 {
     let ids = draft.carts_in(alloc, carts)?;
@@ -181,6 +183,7 @@ fn put_position<B: Book>(
     requires { IsReady row.now.id (now draft.old) }
     ensures done { OnOk result (position_put row.now (now draft.old) ≡ Ok (now draft.new)) }
     ensures refused { IfErr result (λ e. e ≢ OrderRefusal.Memory → position_put row.now (now draft.old) ≡ Err e) }
+    ensures changes { OnOk result (draft.new.log.changes ≡ draft.old.log.changes ++ PutPosition row.now ∷ []) }
     ensures extends { Extends draft.old draft.new }
 {
     if !draft.has_use(row.voucher) {
@@ -201,6 +204,7 @@ fn put_positions<B: Book>(
     requires counted { AreCounted first rows.now }
     ensures done { OnOk result (with_positions rows.now (Ok (now draft.old)) ≡ Ok (now draft.new)) }
     ensures refused { IfErr result (λ e. e ≢ OrderRefusal.Memory → with_positions rows.now (Ok (now draft.old)) ≡ Err e) }
+    ensures changes { OnOk result (draft.new.log.changes ≡ draft.old.log.changes ++ map PutPosition rows.now) }
     ensures extends { Extends draft.old draft.new }
 {
     for row in rows {
@@ -223,6 +227,7 @@ fn put_all<B: Book>(
     requires counted { AreCounted (now draft.old).next.position rows.now }
     ensures done { OnOk result (with_positions rows.now (Ok (with_order_row order.now carts.now (now draft.old))) ≡ Ok (now draft.new)) }
     ensures refused { IfErr result (λ e. e ≢ OrderRefusal.Memory → with_positions rows.now (Ok (with_order_row order.now carts.now (now draft.old))) ≡ Err e) }
+    ensures changes { OnOk result (draft.new.log.changes ≡ draft.old.log.changes ++ order_changes carts.now order.now rows.now (now draft.old).lists) }
     ensures extends { Extends draft.old draft.new }
 {
     let first = draft.next_position();
@@ -260,6 +265,7 @@ fn place<B: Book>(
     requires counted { AreCounted (now draft.old).next.position rows.items }
     ensures done { IfOk result (λ made. order_placed order rows.items carts.now (now draft.old) ≡ Ok (now draft.new, made)) }
     ensures refused { IfErr result (λ e. e ≢ OrderRefusal.Memory → order_placed order rows.items carts.now (now draft.old) ≡ Err e) }
+    ensures changes { IfOk result (λ made. draft.new.log.changes ≡ draft.old.log.changes ++ order_changes carts.now made.order made.positions (now draft.old).lists) }
     ensures extends { Extends draft.old draft.new }
     ensures same { OnErr result (draft.new ≡ draft.old) }
 {

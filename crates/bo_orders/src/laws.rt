@@ -1,7 +1,8 @@
 //! Laws of the decisions.
 
-ghost use Rattle.std.specs.Prelude.{◌≡◌, ℕ, ◌≤◌, ◌⊎◌, true, false, List, [], ◌∷◌, ◌++◌, map, Some, None, Ok};
+ghost use Rattle.std.specs.Prelude.{◌≡◌, ℕ, ◌≤◌, ◌⊎◌, true, false, List, [], ◌∷◌, ◌++◌, map, take, Some, None, Ok};
 ghost use Rattle.std.specs.List.{AllByRecursion};
+ghost use Rattle.bo_base.specs.Draws.{IsDraw};
 ghost use Rattle.bo_base.specs.declared.draw.Draw.{Draw};
 ghost use Rattle.bo_catalogue.specs.CatalogueLists.{quota_at};
 ghost use Rattle.bo_catalogue.specs.declared.rows.Quota.{Quota};
@@ -13,16 +14,18 @@ ghost use Rattle.bo_lists.specs.declared.rows.OrderRows.{OrderRows};
 ghost use Rattle.bo_lists.specs.declared.rows.Own.{Own};
 ghost use Rattle.bo_sound.specs.Sound.{IsSound};
 ghost use Rattle.bo_lists.specs.Conditions.{is_in_force};
-ghost use Rattle.bo_orders.specs.declared.bulk.Entry.{Entry};
-ghost use Rattle.bo_orders.specs.declared.new_cart.NewCart.{NewCart};
-ghost use Rattle.bo_orders.specs.declared.new_order.NewOrder.{NewOrder};
-ghost use Rattle.bo_orders.specs.declared.bulk.Outcome.{Outcome};
+ghost use Rattle.bo_commands.specs.FitRequests.{IsFitCart, IsFitEntry, IsFitOrder, IsFitMove};
+ghost use Rattle.bo_commands.specs.declared.carts.Entry.{Entry};
+ghost use Rattle.bo_commands.specs.declared.carts.NewCart.{NewCart};
+ghost use Rattle.bo_commands.specs.declared.orders.NewOrder.{NewOrder};
+ghost use Rattle.bo_commands.specs.declared.carts.Outcome.{Outcome};
 ghost use Rattle.bo_orders.specs.Bulk.{all_added, many_added, after_outcomes};
 ghost use Rattle.bo_orders.specs.Carts.{position_added};
 ghost use Rattle.bo_orders.specs.Created.{order_created};
 ghost use Rattle.bo_orders.specs.Dropped.{position_dropped};
+ghost use Rattle.bo_orders.specs.Expired.{orders_expired, carts_dropped};
 ghost use Rattle.bo_orders.specs.Moves.{order_moved};
-ghost use Rattle.bo_orders.specs.declared.moves.Move.{Move};
+ghost use Rattle.bo_commands.specs.declared.orders.Move.{Move};
 ghost use Rattle.bo_lists.specs.Takes.{used, TakesNoMore};
 
 /// Each cart position that is added was weighed: it takes too much of no quota, where the position itself
@@ -53,9 +56,9 @@ pub fn bulk_is_each_by_itself()
 /// after it no voucher is named by more order positions in force and live cart positions than it may be used.
 pub fn carts_keep_sound()
     ensures added { (new : NewCart) (draw : Draw) (before after : State) (row : CartPos) →
-        IsSound before → position_added new draw before ≡ Ok (after, row) → IsSound after }
+        IsFitCart new → IsDraw draw → IsSound before → position_added new draw before ≡ Ok (after, row) → IsSound after }
     ensures many { (entries : List Entry) (draw : Draw) (before after : State) (outcomes : List Outcome) →
-        IsSound before → many_added entries draw before ≡ Ok (after, outcomes) → IsSound after }
+        AllByRecursion IsFitEntry entries → IsDraw draw → IsSound before → many_added entries draw before ≡ Ok (after, outcomes) → IsSound after }
     ensures dropped { (id : ℕ) (before after : State) →
         IsSound before → position_dropped id before ≡ Ok after → IsSound after }
 {}
@@ -86,7 +89,7 @@ pub fn created_takes_no_more()
 /// is still one when an order is made.
 pub fn created_sound()
     ensures { (new : NewOrder) (draw : Draw) (before after : State) (rows : OrderRows) →
-        IsSound before → order_created new draw before ≡ Ok (after, rows) → IsSound after }
+        IsFitOrder new → IsDraw draw → IsSound before → order_created new draw before ≡ Ok (after, rows) → IsSound after }
 {}
 
 /// Each order that comes back to life was weighed: it takes too much of no quota, where its positions don't weigh if
@@ -112,8 +115,31 @@ pub fn other_moves_lower()
         order_moved number change before ≡ Ok (after, rows) → used after quota ≤ used before quota }
 {}
 
-/// A sound box office stays sound where an order is moved.
+/// A sound box office stays sound where an order is moved, to an end that is a moment.
 pub fn moves_keep_sound()
     ensures { (number : ℕ) (change : Move) (before after : State) (rows : OrderRows) →
-        IsSound before → order_moved number change before ≡ Ok (after, rows) → IsSound after }
+        IsFitMove change → IsSound before → order_moved number change before ≡ Ok (after, rows) → IsSound after }
+{}
+
+/// The first 501 entries of a bulk call, and the first 501 positions of an order, are answered as all of them are: who
+/// reads a request needs to hand on no more of it.
+pub fn the_first_are_enough()
+    ensures entries { (entries : List Entry) (draw : Draw) (state : State) →
+        many_added (take 501 entries) draw state ≡ many_added entries draw state }
+    ensures positions { (new : NewOrder) (draw : Draw) (state : State) →
+        order_created (record new { positions = take 501 new.positions }) draw state ≡ order_created new draw state }
+{}
+
+/// In a sound box office no quota that stands is used more than before where overdue orders expire, nor is any where dead
+/// cart positions are deleted.
+pub fn overdue_lowers()
+    ensures expired { (state : State) (quota : Quota) → IsSound state → quota_at quota.id state.lists.catalogue ≡ Some quota →
+        used (orders_expired state) quota ≤ used state quota }
+    ensures dropped { (state : State) (quota : Quota) → IsSound state → used (carts_dropped state) quota ≤ used state quota }
+{}
+
+/// A sound box office stays sound where overdue orders expire, and where dead cart positions are deleted.
+pub fn overdue_keeps_sound()
+    ensures expired { (state : State) → IsSound state → IsSound (orders_expired state) }
+    ensures dropped { (state : State) → IsSound state → IsSound (carts_dropped state) }
 {}

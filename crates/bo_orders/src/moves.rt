@@ -1,6 +1,6 @@
 //! The moves of an order.
 
-ghost use Rattle.std.specs.Prelude.{◌≡◌, ◌≢◌, ◌+◌, true, false, Ok, Err, IfOk, IfErr, OnErr, Some, None, [], map, count_by};
+ghost use Rattle.std.specs.Prelude.{◌≡◌, ◌≢◌, ◌+◌, true, false, Ok, Err, IfOk, IfErr, OnErr, Some, None, [], ◌∷◌, ◌++◌, map, count_by};
 ghost use Rattle.bo_draft.specs.DraftState.{now, Extends};
 ghost use Rattle.bo_lists.specs.declared.changes.Change.TheVariants.{PutOrder};
 ghost use Rattle.bo_lists.specs.declared.rows.Own.TheVariants.{Position};
@@ -12,28 +12,12 @@ ghost use Rattle.bo_lists.specs.Conditions.{is_in_force, names};
 ghost use Rattle.bo_lists.specs.Usage.{stands_as, redeemed};
 ghost use Rattle.bo_orders.specs.Moves.{to, revived, turned, end_after, moved_row, moved_to, moved_as, moved_by, have_uses_again, revival, order_moved};
 
-use crate::refusal::OrderRefusal;
 use bo_base::Moment;
+use bo_commands::{Move, OrderRefusal, VoucherRefusal};
 use bo_draft::Draft;
 use bo_lists::{Order, OrderPos, OrderRows, Own, Status};
 use bo_usage::Book;
-use bo_vouchers::VoucherRefusal;
 use std::alloc::{AllocError, Global};
-
-/// What is to become of an order.
-#[derive(Clone, Copy, Debug, PartialEq, Eq)]
-pub enum Move {
-    /// A pending or an expired order becomes paid.
-    MarkPaid,
-    /// A paid order becomes pending again.
-    MarkPending,
-    /// A pending order becomes expired.
-    MarkExpired,
-    /// An order that isn't cancelled becomes cancelled.
-    MarkCanceled,
-    /// A pending or an expired order gets this end, and is pending then.
-    Extend(Moment),
-}
 
 /// The status that follows, and whether an order comes back to life.
 #[derive(Clone, Copy, Debug, PartialEq, Eq)]
@@ -92,6 +76,7 @@ pub fn move_order<B: Book>(
     requires sound { IsSound (now draft.old) }
     ensures done { IfOk result (λ rows. order_moved number change (now draft.old) ≡ Ok (now draft.new, rows)) }
     ensures refused { IfErr result (λ e. e ≢ OrderRefusal.Memory → order_moved number change (now draft.old) ≡ Err e) }
+    ensures changes { IfOk result (λ rows. draft.new.log.changes ≡ draft.old.log.changes ++ PutOrder rows.order ∷ []) }
     ensures extends { Extends draft.old draft.new }
     ensures same { OnErr result (draft.new ≡ draft.old) }
 {
@@ -128,6 +113,7 @@ fn move_found<B: Book>(
     requires stands { order_at order.id (now draft.old).lists ≡ Some order }
     ensures done { IfOk result (λ rows. moved_by order change.now (now draft.old) (turned order.status change.now) ≡ Ok (now draft.new, rows)) }
     ensures refused { IfErr result (λ e. e ≢ OrderRefusal.Memory → moved_by order change.now (now draft.old) (turned order.status change.now) ≡ Err e) }
+    ensures changes { IfOk result (λ rows. draft.new.log.changes ≡ draft.old.log.changes ++ PutOrder rows.order ∷ []) }
     ensures extends { Extends draft.old draft.new }
     ensures same { OnErr result (draft.new ≡ draft.old) }
 {
@@ -158,6 +144,7 @@ fn move_as<B: Book>(
     requires turn { turned order.status change.now ≡ Some turn }
     ensures done { IfOk result (λ rows. moved_as order change.now (now draft.old) turn ≡ Ok (now draft.new, rows)) }
     ensures refused { IfErr result (λ e. e ≢ OrderRefusal.Memory → moved_as order change.now (now draft.old) turn ≡ Err e) }
+    ensures changes { IfOk result (λ rows. draft.new.log.changes ≡ draft.old.log.changes ++ PutOrder rows.order ∷ []) }
     ensures extends { Extends draft.old draft.new }
     ensures same { OnErr result (draft.new ≡ draft.old) }
 {
@@ -202,6 +189,7 @@ fn put<B: Book>(
     requires kept { is_in_force row.status ≡ true → stands_as is_in_force (order_at row.id (now draft.old).lists) ≡ true }
     ensures done { IfOk result (λ rows. (now draft.new, rows) ≡ moved_to row (now draft.old)) }
     ensures refused { IfErr result (λ e. e ≡ OrderRefusal.Memory) }
+    ensures changes { IfOk result (λ rows. draft.new.log.changes ≡ draft.old.log.changes ++ PutOrder rows.order ∷ []) }
     ensures extends { Extends draft.old draft.new }
     ensures same { OnErr result (draft.new ≡ draft.old) }
 {
@@ -225,6 +213,7 @@ fn revive<B: Book>(
     requires back { is_in_force row.status ≡ true }
     ensures done { IfOk result (λ rows. revival row (now draft.old) ≡ Ok (now draft.new, rows)) }
     ensures refused { IfErr result (λ e. e ≢ OrderRefusal.Memory → revival row (now draft.old) ≡ Err e) }
+    ensures changes { IfOk result (λ rows. draft.new.log.changes ≡ draft.old.log.changes ++ PutOrder rows.order ∷ []) }
     ensures extends { Extends draft.old draft.new }
     ensures same { OnErr result (draft.new ≡ draft.old) }
 {
@@ -281,7 +270,7 @@ fn has_room_again<B: Book>(
     match draft.voucher(id) {
         None => true,
         Some(voucher) => {
-            uses_again(draft, row, positions, voucher.id) <= u128::from(voucher.max_usages)
+            uses_again(draft, row, positions, voucher.id) <= u128::from(voucher.max_usages.get())
         }
     }
 }

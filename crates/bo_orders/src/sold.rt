@@ -8,19 +8,11 @@ ghost use Rattle.bo_orders.specs.Sold.{product_for_sale, voucher_asked, price_by
 
 use bo_base::{Cents, Text, price};
 use bo_catalogue::{CatalogueRefusal, Product};
+use bo_commands::{Asked, VoucherRefusal};
 use bo_draft::Draft;
 use bo_lists::Voucher;
 use bo_usage::Book;
-use bo_vouchers::{VoucherRefusal, usable};
-
-/// What a request asks for one position: a product, perhaps a price (cents) and the code of a voucher.
-#[derive(Debug, Drop)]
-pub struct Asked {
-    pub item: u64,
-    pub variation: Option<u64>,
-    pub price: Option<Cents>,
-    pub voucher: Option<Text>,
-}
+use bo_vouchers::usable;
 
 /// What is sold: a product, at a price, with a voucher or without one.
 #[derive(Clone, Copy, Debug, PartialEq, Eq)]

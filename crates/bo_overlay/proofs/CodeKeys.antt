@@ -11,12 +11,12 @@ use Rattle.bo_lists.specs.declared.changes.Change.{Change}
 use Rattle.bo_lists.specs.declared.changes.Change.TheVariants.{PutItem, PutVariation, PutQuota, PutVoucher, PutCart, PutOrder, PutPosition, PutWaiting, DropVoucher, DropCart, DropWaiting, PutCheckinList, PutCheckin}
 use Rattle.bo_lists.specs.Lists.{voucher_at}
 use Rattle.bo_overlay.specs.Logs.{Log, rows_of}
-use Rattle.bo_overlay.specs.Places.{further, touches, last_place}
+use Rattle.bo_log.specs.Places.{further, touches, last_place}
 use Rattle.bo_overlay.specs.Steps.{voucher_put}
 use Rattle.bo_overlay.specs.Coded.{passes_if, IsLeast, lesser, IsBelow, IsFrom, HasCode, IsPutAt, IsPutBelow, IsPutFrom, put_if}
-use Rattle.bo_overlay.specs.Keys.{digest_from, digest, code_key, code_keys}
-use Rattle.bo_overlay.proofs.LastPlaces.{last_within, last_passes, some_is}
-use Rattle.bo_overlay.proofs.EarlierPlaces.{height}
+use Rattle.bo_log.specs.Keys.{digest_from, digest, code_key, code_keys}
+use Rattle.bo_log.proofs.LastPlaces.{last_within, last_passes, some_is}
+use Rattle.bo_log.proofs.EarlierPlaces.{height}
 use Rattle.bo_overlay.proofs.Steps.{voucher_touched}
 use Rattle.bo_overlay.proofs.Coded.{lesser_least, least_as, put_is}
 

@@ -14,10 +14,10 @@ use Rattle.bo_lists.specs.Named.{voucher_of}
 use Rattle.bo_lists.proofs.EachRow.{key-row_at}
 use Rattle.bo_lists.proofs.Found.{row_at_found}
 use Rattle.bo_overlay.specs.Logs.{Log, rows_of}
-use Rattle.bo_overlay.specs.Places.{touches, last_place}
+use Rattle.bo_log.specs.Places.{touches, last_place}
 use Rattle.bo_overlay.specs.Coded.{passes_if, IsLeast, lesser, IsBelow, HasCode, IsPutBelow, IsUnchanged, IsPutAt, is_place, put_if}
 use Rattle.bo_overlay.specs.Steps.{voucher_put}
-use Rattle.bo_overlay.proofs.LastPlaces.{last_within, last_passes, some_is}
+use Rattle.bo_log.proofs.LastPlaces.{last_within, last_passes, some_is}
 use Rattle.bo_overlay.proofs.Steps.{voucher_kept, voucher_touched}
 
 -- two least ones are the same

@@ -1,6 +1,3 @@
-pub mod LastPlaces
-pub mod Indexes
-pub mod EarlierPlaces
 pub mod Steps
 pub mod Sales
 pub mod Kept
@@ -10,5 +7,4 @@ pub mod Redeems
 pub mod OfOrder
 pub mod Names
 pub mod Coded
-pub mod KeyIndexes
 pub mod CodeKeys

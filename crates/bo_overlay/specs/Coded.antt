@@ -5,7 +5,7 @@ use Rattle.bo_lists.specs.declared.changes.Change.{Change}
 use Rattle.bo_lists.specs.declared.changes.Change.TheVariants.{PutVoucher}
 use Rattle.bo_lists.specs.Lists.{voucher_at}
 use Rattle.bo_overlay.specs.Logs.{Log, rows_of}
-use Rattle.bo_overlay.specs.Places.{touches, last_place}
+use Rattle.bo_log.specs.Places.{touches, last_place}
 
 -- a row passes, if there is one
 abbrev pub passes_if : {T : Type 0} → (T → Bool) → Option T → Bool

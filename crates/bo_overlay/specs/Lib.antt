@@ -1,9 +1,8 @@
 pub mod Logs
 pub mod Steps
 pub mod Ordered
-pub mod Places
 pub mod Tickets
 pub mod Names
 pub mod Coded
 pub mod Due
-pub mod Keys
+pub mod Overlays

@@ -2,13 +2,10 @@
 #![tactic(auto)]
 
 mod cart_conditions;
-mod change_log;
-mod digests;
-mod key_log;
+mod over;
 mod overlay;
 mod row_names;
 mod tickets;
-mod touched;
 
 pub use overlay::{Overlay, count_if};
 pub use tickets::Ticket;

@@ -7,7 +7,7 @@ ghost use Rattle.bo_lists.specs.Named.{voucher_of, is_used};
 ghost use Rattle.bo_usage.specs.Naming.{naming};
 ghost use Rattle.bo_overlay.specs.Names.{name_gone};
 ghost use Rattle.bo_overlay.specs.Coded.{IsLeast, lesser, IsPutBelow, IsUnchanged, is_place, put_if};
-ghost use Rattle.bo_overlay.specs.Places.{touches, last_place};
+ghost use Rattle.bo_log.specs.Places.{touches, last_place};
 ghost use Rattle.bo_overlay.specs.Due.{due_orders, dead_carts};
 ghost use Rattle.bo_base.specs.Texts.{same_text};
 ghost use Rattle.bo_lists.specs.Consumed.{consumed};
@@ -18,20 +18,16 @@ ghost use Rattle.bo_overlay.specs.Logs.{Log, rows_of, rows_at, IsSale, AreSales}
 ghost use Rattle.bo_lists.specs.Conditions.{is_in_force, names};
 ghost use Rattle.bo_overlay.specs.Ordered.{count_ordered};
 ghost use Rattle.bo_overlay.specs.Tickets.{AreTicketsOf};
-ghost use Rattle.bo_lists.specs.Over.{is_free, is_free_cart, is_free_position, ignores, weighed, is_over_size};
-ghost use Rattle.bo_lists.specs.Total.{total};
-ghost use Rattle.bo_lists.specs.Usage.{usage_of, stands_as, uses, redeemed, is_covered_by, is_covered, cart_counts, position_counts};
+ghost use Rattle.bo_lists.specs.Usage.{stands_as, uses, redeemed};
 ghost use Rattle.bo_overlay.specs.Steps.{voucher_put, cart_put, order_put, position_put, waiting_put, checkin_list_put, checkin_put, puts};
 
 use crate::cart_conditions::{CartCondition, Holds, HoldsIn};
-use crate::change_log::{ChangeLog, Table};
-use crate::digests::{code_key, digest};
-use crate::key_log::KeyLog;
 use crate::row_names::{cart_name, entry_name, is_name, name_put};
 use crate::tickets::{Ticket, copy_tickets, put_tickets};
 use bo_base::{List, Moment, Text};
 use bo_catalogue::{Catalogue, Quota};
-use bo_lists::{CartPos, Change, Checkin, CheckinList, Order, OrderPos, Own, Voucher, Waiting};
+use bo_lists::{CartPos, Change, Checkin, CheckinList, Order, OrderPos, Voucher, Waiting};
+use bo_log::{ChangeLog, KeyLog, Table, code_key, digest};
 use bo_usage::{Book, PositionTest};
 use std::alloc::{AllocError, Global};
 use std::marker::Model;
@@ -46,7 +42,7 @@ pub struct Overlay<'a, B: Book> {
 
 impl<'a, B: Book> Model for Overlay<'a, B> {
     ghost use Rattle.bo_overlay.specs.Logs.{Log};
-    ghost use Rattle.bo_overlay.specs.Keys.{IsOverlay};
+    ghost use Rattle.bo_overlay.specs.Overlays.{IsOverlay};
 
     ghost Value = { Log };
 
@@ -514,106 +510,6 @@ impl<'a, B: Book> Overlay<'a, B> {
         ensures few { result ≤ 4294967296 }
     {
         self.log.len()
-    }
-
-    /// Whether the voucher of a cart position blocks places of the quota, so that it takes none of its own.
-    pub fn is_covered(&self, at: Moment, quota: &Quota, cart: &CartPos) -> bool
-        ensures { result ≡ is_covered (rows_of self.now) at quota.now cart.now }
-    {
-        self.covers(at, quota, cart.voucher)
-    }
-
-    /// Whether a row's voucher blocks places of the quota.
-    pub fn covers(&self, at: Moment, quota: &Quota, voucher: Option<u64>) -> bool
-        ensures { result ≡ is_covered_by (rows_of self.now) at quota.now voucher }
-    {
-        match voucher {
-            None => false,
-            Some(id) => match self.voucher(id) {
-                None => false,
-                Some(voucher) => voucher.blocks(at, quota),
-            },
-        }
-    }
-
-    /// Whether a cart position counts in the quota: it is live, for one of its products, and not covered.
-    pub fn cart_counts(&self, at: Moment, quota: &Quota, cart: &CartPos) -> bool
-        ensures { result ≡ cart_counts (rows_of self.now) at quota.now cart.now }
-    {
-        cart.is_live(at) && quota.has(cart.product) && !self.is_covered(at, quota, cart)
-    }
-
-    // Whether a request's own row counts in the quota, and its voucher ignores quotas.
-    fn is_free(&self, at: Moment, quota: &Quota, own: Own) -> bool
-        ensures { result ≡ is_free (rows_of self.now) at quota.now own }
-    {
-        match own {
-            Own::Cart(id) => self.is_free_cart(at, quota, self.cart(id)),
-            Own::Position(id) => self.is_free_position(quota, self.position(id)),
-        }
-    }
-
-    fn is_free_cart(&self, at: Moment, quota: &Quota, cart: Option<&CartPos>) -> bool
-        ensures { result ≡ is_free_cart (rows_of self.now) at quota.now (option_copied cart.entry) }
-    {
-        match cart {
-            None => false,
-            Some(cart) => self.cart_counts(at, quota, cart) && self.ignores(cart.voucher),
-        }
-    }
-
-    fn is_free_position(&self, quota: &Quota, position: Option<&OrderPos>) -> bool
-        ensures { result ≡ is_free_position (rows_of self.now) quota.now (option_copied position.entry) }
-    {
-        match position {
-            None => false,
-            Some(row) => self.position_counts(quota, row) && self.ignores(row.voucher),
-        }
-    }
-
-    // Whether an order position is for a product of the quota, and its order is paid or pending.
-    fn position_counts(&self, quota: &Quota, position: &OrderPos) -> bool
-        ensures { result ≡ position_counts is_in_force (rows_of self.now) quota.now position.now }
-    {
-        let in_force = match self.order(position.order) {
-            None => false,
-            Some(order) => order.status.is_in_force(),
-        };
-        in_force && quota.has(position.product)
-    }
-
-    fn ignores(&self, voucher: Option<u64>) -> bool
-        ensures { result ≡ ignores (rows_of self.now) voucher }
-    {
-        match voucher {
-            None => false,
-            Some(id) => self.voucher(id).is_some_and(|v| v.allow_ignore_quota),
-        }
-    }
-
-    fn free_count(&self, at: Moment, quota: &Quota, own: &[Own]) -> usize
-        ensures { result ≡ count_by (is_free (rows_of self.now) at quota.now) own.now }
-    {
-        own.iter()
-            .filter(|row| self.is_free(at, quota, **row))
-            .count()
-    }
-
-    /// Whether a request takes too much of a quota of which so much was used before, and is used now.
-    #[tactic(auto, unfolding(bo_lists::specs::Over::weighed))]
-    pub fn is_over(&self, at: Moment, quota: &Quota, own: &[Own], before: u128, after: u128) -> bool
-        requires { after ≡ total (usage_of (rows_of self.now) at quota.now) }
-        ensures { result ≡ is_over_size quota.now.size before (weighed (rows_of self.now) at quota.now own.now) }
-    {
-        let Some(size) = quota.size else {
-            return false;
-        };
-        // Where all that is used isn't too much, the own rows needn't be looked up.
-        if after <= u128::from(size) || after <= before {
-            return false;
-        }
-        let weight = after.saturating_sub(self.free_count(at, quota, own) as u128);
-        u128::from(size) < weight && before < weight
     }
 
     /// Undoes all but the first changes.

@@ -54,7 +54,7 @@ later_after organizer event (calls.Write command) clock draw state =
     subst (λ (n : ℕ). state.moment ≤ n) (sym stores) (not_before clock state)
 
 never_falls_once : (old : BoxOfficeView) (tick : Tick) (m : Message) (answer : Answer) (new : BoxOfficeView) → Serves old tick m answer new → old.state.moment ≤ new.state.moment
-never_falls_once old tick m (answers.Decided response) new leads = subst (λ (v : BoxOfficeView). old.state.moment ≤ v.state.moment) (sym leads.0) (later_after old.organizer old.event _ tick.clock tick.draw old.state)
+never_falls_once old tick m (answers.Decided response) new leads = subst (λ (v : BoxOfficeView). old.state.moment ≤ v.state.moment) (sym leads.0.0) (later_after old.organizer old.event _ tick.clock tick.draw old.state)
 never_falls_once old tick m answers.Unavailable new same = subst (λ (v : BoxOfficeView). old.state.moment ≤ v.state.moment) (sym same) (omega arith)
 
 pub never_falls : (old : BoxOfficeView) (ticks : List Tick) (items : List Item) (a : List ℕ) (new : BoxOfficeView) → Runs Serves old ticks items a new → old.state.moment ≤ new.state.moment

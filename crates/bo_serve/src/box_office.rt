@@ -3,17 +3,18 @@
 ghost use Rattle.std.specs.Prelude.{◌≡◌, ◌≤◌, Ok, IfOk, OnErr, max, min};
 ghost use Rattle.bo_base.specs.Moments.{last_moment};
 ghost use Rattle.bo_words.specs.Replies.{words};
+ghost use Rattle.bo_lists.specs.Change.{applied};
 ghost use Rattle.bo_lists.specs.Lists.{State};
 ghost use Rattle.bo_sound.specs.Sound.{IsSound};
 ghost use Rattle.bo_office.specs.Answer.{answer};
 ghost use Rattle.bo_office.specs.Step.{step};
 ghost use Rattle.bo_serve.specs.BoxOfficeView.{BoxOfficeView};
-ghost use Rattle.bo_serve.specs.Served.{Serves, Leads, token_row, response_of, served};
+ghost use Rattle.bo_serve.specs.Served.{Serves, Leads, IsFitToServe, token_row, response_of, served};
 
 use crate::desk::Desk;
 use bo_api::{Call, Words};
-use bo_base::{Answer, Draw, Moment, Response, Tick};
-use bo_commands::{Command, Query};
+use bo_base::{Answer, Draw, Known, Moment, Response, Tick};
+use bo_commands::{Command, Query, Reply};
 use bo_http::frame::Frame;
 use bo_lists::Changes;
 use bo_office::Office;
@@ -86,13 +87,38 @@ impl<B: Book> BoxOffice<B> {
         }
     }
 
+    // What a reply is told.
+    fn worded(&self, alloc: Global, reply: Reply) -> Result<Response, AllocError>
+        ensures { IfOk result (λ response. response ≡ words self.now.organizer self.now.event reply) }
+    {
+        self.words.words(alloc, &reply)
+    }
+
     // What a query is told.
     fn ask(&self, alloc: Global, at: Moment, query: &Query) -> Result<Response, AllocError>
         requires { self.now.state.moment ≤ at }
         ensures { IfOk result (λ response. response ≡ words self.now.organizer self.now.event (answer query.now at self.now.state)) }
     {
         let reply = self.office.ask(alloc, at, query)?;
-        self.words.words(alloc, &reply)
+        self.worded(alloc, reply)
+    }
+
+    // What a command changes, and what it is told.
+    fn decided(
+        &self,
+        alloc: Global,
+        at: Moment,
+        draw: Draw,
+        command: &Command,
+    ) -> Result<(Changes, Response), AllocError>
+        requires { self.now.state.moment ≤ at }
+        ensures state { IfOk result (λ r. applied r.0 at self.now.state ≡ (step command.now at draw self.now.state).0) }
+        ensures sound { IfOk result (λ r. IsSound (applied r.0 at self.now.state)) }
+        ensures told { IfOk result (λ r. r.1 ≡ words self.now.organizer self.now.event (step command.now at draw self.now.state).1) }
+    {
+        let (changes, reply) = self.office.decide(alloc, at, draw, command)?;
+        let response = self.worded(alloc, reply)?;
+        Ok((changes, response))
     }
 
     // Does a command. All that can fail comes before the change.
@@ -107,8 +133,7 @@ impl<B: Book> BoxOffice<B> {
         ensures ok { IfOk result (Leads self.old (response_of self.old.organizer self.old.event (Call.Write command.now) at draw self.old.state) self.new) }
         ensures err { OnErr result (self.new ≡ self.old) }
     {
-        let (changes, reply) = self.office.decide(alloc, at, draw, command)?;
-        let response = self.words.words(alloc, &reply)?;
+        let (changes, response) = self.decided(alloc, at, draw, command)?;
         self.office.reserve(&changes)?;
         self.office.adopt(changes, at);
         Ok(response)
@@ -126,11 +151,15 @@ impl<B: Book> BoxOffice<B> {
     // Does what a message asks for, and words it. Where there is no memory, nothing changes.
     fn tell(&mut self, alloc: Global, tick: Tick, frame: &Frame<'_>) -> Result<Response, AllocError>
         ensures ok { IfOk result (Leads self.old (served self.old tick frame.now) self.new) }
+        ensures fit { IfOk result (λ _. IsFitToServe self.old tick frame.now) }
         ensures err { OnErr result (self.new ≡ self.old) }
     {
         let token = self.token(frame);
         let at = self.moment_at(tick.clock);
-        match self.words.read_request(alloc, frame, token)? {
+        let call = self.words.read_request(alloc, frame, token)?;
+        call.known();
+        tick.draw.known();
+        match call {
             Call::Unauthorized(response) => Ok(response),
             Call::ReadRefused(response) => Ok(response),
             Call::Read(query) => self.ask(alloc, at, &query),

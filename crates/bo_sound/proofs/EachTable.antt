@@ -22,3 +22,6 @@ module _ {items variations quotas vouchers carts orders positions waiting checki
 
   pub set_positions : EachTable items variations quotas vouchers carts orders positions waiting checkin_lists checkins → new → EachTable items variations quotas vouchers carts orders new waiting checkin_lists checkins
   set_positions each it = record { items = each.items; variations = each.variations; quotas = each.quotas; vouchers = each.vouchers; carts = each.carts; orders = each.orders; positions = it; waiting = each.waiting; checkin_lists = each.checkin_lists; checkins = each.checkins }
+
+  pub set_waiting : EachTable items variations quotas vouchers carts orders positions waiting checkin_lists checkins → new → EachTable items variations quotas vouchers carts orders positions new checkin_lists checkins
+  set_waiting each it = record { items = each.items; variations = each.variations; quotas = each.quotas; vouchers = each.vouchers; carts = each.carts; orders = each.orders; positions = each.positions; waiting = it; checkin_lists = each.checkin_lists; checkins = each.checkins }

@@ -9,11 +9,15 @@ pub mod Fresh
 pub mod Codes
 pub mod Endings
 pub mod OwnCodes
+pub mod Apart
 pub mod Secrets
 pub mod Positions
 pub mod Varied
+pub mod Products
 pub mod Sound
 pub mod SoundOrders
+pub mod SoundWaiting
 pub mod Exact
 pub mod OrderLowers
 pub mod Checkins
+pub mod Changes

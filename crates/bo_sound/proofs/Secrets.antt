@@ -1,5 +1,5 @@
 -- Secrets tell their positions, and so no two positions have one.
-use Rattle.std.proofs.Common.{◌≡◌, ◌≢◌, ℕ, ◌+◌, ◌^◌, ◌<◌, ◌≤◌, ◌⊎◌, inl, inr, Bool, true, false, eqb, cond, List, [], ◌∷◌, ◌++◌, length, Option, Some, None, decimal, codes, nat_eq, append_assoc, refl, sym, ◌∙◌, subst, arith}
+use Rattle.std.proofs.Common.{◌≡◌, ◌≢◌, ℕ, ◌+◌, ◌^◌, ◌<◌, ◌≤◌, ◌⊎◌, inl, inr, Bool, true, false, ◌&&◌, eqb, cond, List, [], ◌∷◌, ◌++◌, length, Option, Some, None, decimal, codes, nat_eq, append_assoc, refl, sym, ◌∙◌, subst, arith}
 use Rattle.std.specs.Prelude.{is_some}
 use Rattle.std.specs.List.{ends_with, AllByRecursion}
 use Rattle.std.specs.Cmp.Lexicographic.{bytes_decides}
@@ -12,8 +12,10 @@ use Rattle.bo_base.specs.Texts.{same_text}
 use Rattle.bo_lists.specs.declared.rows.Order.{Order}
 use Rattle.bo_lists.specs.declared.rows.OrderPos.{OrderPos}
 use Rattle.bo_lists.proofs.EachRow.{all_weaker, all-row_at, key-row_at, found_below}
+use Rattle.bo_sound.specs.Changes.{same_place}
 use Rattle.bo_sound.specs.Positions.{CountFrom, AreWhole, of_order, AllHavePositions, AreOfOrders, AreOrdered}
 use Rattle.bo_sound.specs.Secrets.{secret_ending, has_own_secret, HaveUnlikeSecrets}
+use Rattle.bo_sound.proofs.Apart.{AreApart}
 use Rattle.bo_sound.proofs.Endings.{before_end, ends_own, ends_is, last_number}
 
 -- the secret that is made of an order and a number ends in them
@@ -146,3 +148,21 @@ module _ (orders : List Order) where
   secrets_unlike next positions limit below h =
       let counts = count_at positions h.whole in
       all_differ positions (known_all next limit below positions h.each (all_small positions h.each.stand counts)) h.each.stand counts
+
+  -- nor have two positions one number in one order
+  other_place : (p q : OrderPos) → (q.order ≡ p.order → p.positionid + 1 ≤ q.positionid) → same_place p q ≡ false
+  other_place p q above = by_order (eqb_tells p.order q.order) (eqb_tells p.positionid q.positionid)
+    where
+      by_order : ((eqb p.order q.order ≡ true) × (p.order ≡ q.order)) ⊎ ((eqb p.order q.order ≡ false) × (p.order ≢ q.order)) → ((eqb p.positionid q.positionid ≡ true) × (p.positionid ≡ q.positionid)) ⊎ ((eqb p.positionid q.positionid ≡ false) × (p.positionid ≢ q.positionid)) → (eqb p.order q.order && eqb p.positionid q.positionid) ≡ false
+      by_order (inr other) number = rw other.0 refl
+      by_order (inl same) (inr other) = rw (same.0, other.0) refl
+      by_order (inl same) (inl number) = absurd (omega (arith, above (sym same.1), number.1))
+
+  all_places : (ps : List OrderPos) → AllByRecursion (λ p. Stands p.order) ps → AllCount ps → AreApart same_place ps
+  all_places [] stand h = tt
+  all_places (p ∷ ps) stand h =
+      let f = first p ps (h p.order stand.0) in
+      (all_weaker (λ q. q.order ≡ p.order → p.positionid + 1 ≤ q.positionid) (λ q. same_place p q ≡ false) (λ q above. other_place p q above) ps (later p.order (p.positionid + 1) ps f.before), all_places ps stand.1 (all_count_rest p ps h))
+
+  pub places_apart : (positions : List OrderPos) → AreOrdered orders positions → AreApart same_place positions
+  places_apart positions h = all_places positions h.each.stand (count_at positions h.whole)

@@ -24,6 +24,7 @@ use Rattle.bo_lists.specs.Headroom.{held, HasHeadroom, AllHaveHeadroom, has_use}
 use Rattle.bo_lists.specs.Fits.{fits_quota, fits_by, fits, fits_if, is_fit, AllFit}
 use Rattle.bo_lists.specs.Named.{is_used}
 use Rattle.bo_lists.specs.Numbered.{AreFrom, with_item, with_variation, with_quota, with_voucher, with_cart}
+use Rattle.bo_sound.specs.Limits.{IsLimitedItem, IsLimitedVariation, IsLimitedQuota, IsLimitedVoucher, IsLimitedCart}
 use Rattle.bo_sound.specs.Members.{HasMembers}
 use Rattle.bo_sound.specs.Range.{IsNextId}
 use Rattle.bo_sound.specs.Targets.{HasTarget}
@@ -63,6 +64,7 @@ sound_empty = record {
     next_ids = record { items = first_next; variations = first_next; quotas = first_next; vouchers = first_next; carts = first_next; orders = record { from_one = omega arith; within = omega arith }; positions = first_next; waiting = first_next; checkin_lists = first_next; checkins = first_next };
   };
   few = record { items = omega arith; variations = omega arith; quotas = omega arith; vouchers = omega arith; carts = omega arith; orders = omega arith; positions = omega arith; waiting = omega arith; checkin_lists = omega arith; checkins = omega arith };
+  limits = record { items = tt; variations = tt; quotas = tt; vouchers = tt; carts = tt; orders = tt; positions = tt; waiting = tt; checkin_lists = tt; checkins = tt };
   ids = record {
     items = numbered_none (λ r. r.id) 1;
     variations = numbered_none (λ r. r.id) 1;
@@ -93,6 +95,7 @@ pub sound_later : (state : State) (at : ℕ) → state.moment ≤ at → at ≤ 
 sound_later state at le last h = record {
   range = record { moment = last; next_ids = h.range.next_ids };
   few = h.few;
+  limits = h.limits;
   ids = h.ids;
   members = h.members;
   targets = h.targets;
@@ -108,10 +111,11 @@ sound_later state at le last h = record {
 }
 
 -- a new cart position of a product, that names no voucher, or one for its product, with a use left where the position is live
-pub sound_cart : (state : State) (row : CartPos) → row.id ≡ state.next.cart → Takes state.next.cart state.lists.carts → IsProduct state.lists.catalogue row.product → (not (is_live_cart state.moment row) || has_use state.moment state.lists row.voucher) ≡ true → is_fit state.lists row.product row.voucher ≡ true → IsSound state → IsSound (with_cart row state)
-sound_cart state row e takes product left fits h = record {
+pub sound_cart : (state : State) (row : CartPos) → row.id ≡ state.next.cart → Takes state.next.cart state.lists.carts → IsProduct state.lists.catalogue row.product → (not (is_live_cart state.moment row) || has_use state.moment state.lists row.voucher) ≡ true → is_fit state.lists row.product row.voucher ≡ true → IsLimitedCart row → IsSound state → IsSound (with_cart row state)
+sound_cart state row e takes product left fits limits h = record {
   range = record { moment = h.range.moment; next_ids = set_carts h.range.next_ids (next_put last_id state.next.cart takes.1 h.range.next_ids.carts) };
   few = set_carts h.few (few_put (λ r. r.id) most_rows row state.lists.carts takes.0);
+  limits = set_carts h.limits (all-with_row (λ r. r.id) IsLimitedCart row state.lists.carts limits h.limits.carts);
   ids = set_carts h.ids (numbered_put (λ r. r.id) row state.next.cart state.lists.carts e h.range.next_ids.carts.from_one h.ids.carts);
   members = h.members;
   targets = h.targets;
@@ -131,6 +135,7 @@ pub sound_drop_cart : (state : State) (id : ℕ) → IsSound state → IsSound (
 sound_drop_cart state id h = record {
   range = h.range;
   few = set_carts h.few (few_dropped (λ r. r.id) most_rows id state.lists.carts h.few.carts);
+  limits = set_carts h.limits (all-without_row (λ r. r.id) IsLimitedCart id state.lists.carts h.limits.carts);
   ids = set_carts h.ids (numbered_dropped (λ r. r.id) id state.next.cart state.lists.carts h.ids.carts);
   members = h.members;
   targets = h.targets;
@@ -146,10 +151,11 @@ sound_drop_cart state id h = record {
 }
 
 -- an item without its variations
-put_item : (state : State) (row : Item) → row.id ≡ state.next.item → Takes state.next.item state.lists.catalogue.items → IsSound state → IsSound (record state { lists = after_change (PutItem row) state.lists; next = record state.next { item = state.next.item + 1 } })
-put_item state row e takes h = record {
+put_item : (state : State) (row : Item) → row.id ≡ state.next.item → Takes state.next.item state.lists.catalogue.items → IsLimitedItem row → IsSound state → IsSound (record state { lists = after_change (PutItem row) state.lists; next = record state.next { item = state.next.item + 1 } })
+put_item state row e takes limits h = record {
   range = record { moment = h.range.moment; next_ids = set_items h.range.next_ids (next_put last_id state.next.item takes.1 h.range.next_ids.items) };
   few = set_items h.few (few_put (λ r. r.id) most_rows row state.lists.catalogue.items takes.0);
+  limits = set_items h.limits (all-with_row (λ r. r.id) IsLimitedItem row state.lists.catalogue.items limits h.limits.items);
   ids = set_items h.ids (numbered_put (λ r. r.id) row state.next.item state.lists.catalogue.items e h.range.next_ids.items.from_one h.ids.items);
   members = members_put_item row state.lists.catalogue kept h.members;
   targets = targets_put_item row state.lists.catalogue state.lists.vouchers h.targets;
@@ -173,10 +179,11 @@ put_item state row e takes h = record {
         absurd (cc)
 
 -- a new variation of an item that is sold by variation
-pub sound_variation : (state : State) (row : Variation) → row.id ≡ state.next.variation → Takes state.next.variation state.lists.catalogue.variations → is_of_varied state.lists.catalogue.items row ≡ true → IsSound state → IsSound (with_variation row state)
-sound_variation state row e takes of h = record {
+pub sound_variation : (state : State) (row : Variation) → row.id ≡ state.next.variation → Takes state.next.variation state.lists.catalogue.variations → is_of_varied state.lists.catalogue.items row ≡ true → IsLimitedVariation row → IsSound state → IsSound (with_variation row state)
+sound_variation state row e takes of limits h = record {
   range = record { moment = h.range.moment; next_ids = set_variations h.range.next_ids (next_put last_id state.next.variation takes.1 h.range.next_ids.variations) };
   few = set_variations h.few (few_put (λ r. r.id) most_rows row state.lists.catalogue.variations takes.0);
+  limits = set_variations h.limits (all-with_row (λ r. r.id) IsLimitedVariation row state.lists.catalogue.variations limits h.limits.variations);
   ids = set_variations h.ids (numbered_put (λ r. r.id) row state.next.variation state.lists.catalogue.variations e h.range.next_ids.variations.from_one h.ids.variations);
   members = members_put_variation row state.lists.catalogue absent h.members;
   targets = targets_put_variation row state.lists.catalogue absent state.lists.vouchers h.targets;
@@ -198,18 +205,18 @@ sound_variation state row e takes of h = record {
 abbrev more_variations : List Variation → State → State
 more_variations rows state = record state { lists = after_all (map PutVariation rows) state.lists; next = record state.next { variation = state.next.variation + length rows } }
 
-put_variations : (rows : List Variation) (state : State) → TakesSome (length rows) state.next.variation state.lists.catalogue.variations → AreFrom state.next.variation rows → AllByRecursion (λ v. is_of_varied state.lists.catalogue.items v ≡ true) rows → IsSound state → IsSound (more_variations rows state)
-put_variations [] state takes from of h =
+put_variations : (rows : List Variation) (state : State) → TakesSome (length rows) state.next.variation state.lists.catalogue.variations → AreFrom state.next.variation rows → AllByRecursion (λ v. is_of_varied state.lists.catalogue.items v ≡ true) rows → AllByRecursion IsLimitedVariation rows → IsSound state → IsSound (more_variations rows state)
+put_variations [] state takes from of limits h =
     let none : state.next.variation ≡ state.next.variation + 0 = omega arith in
     subst (λ (n : ℕ). IsSound (record state { next = record state.next { variation = n } })) none h
-put_variations (row ∷ rows) state takes from of h =
-    let more = put_variations rows (with_variation row state) (takes_others (λ (r : Variation). r.id) row rows state.next.variation state.lists.catalogue.variations takes) from.1 of.1 (sound_variation state row from.0 (takes_first (λ (r : Variation). r.id) row rows state.next.variation state.lists.catalogue.variations takes) of.0 h) in
+put_variations (row ∷ rows) state takes from of limits h =
+    let more = put_variations rows (with_variation row state) (takes_others (λ (r : Variation). r.id) row rows state.next.variation state.lists.catalogue.variations takes) from.1 of.1 limits.1 (sound_variation state row from.0 (takes_first (λ (r : Variation). r.id) row rows state.next.variation state.lists.catalogue.variations takes) of.0 limits.0 h) in
     let count : state.next.variation + 1 + length rows ≡ state.next.variation + length (row ∷ rows) = omega arith in
     subst (λ (n : ℕ). IsSound (record state { lists = after_all (map PutVariation rows) (after_change (PutVariation row) state.lists); next = record state.next { variation = n } })) count more
 
 -- a new item with its variations, whose ids count on
-pub sound_item : (state : State) (rows : ItemRows) → rows.item.id ≡ state.next.item → Takes state.next.item state.lists.catalogue.items → TakesSome (length rows.variations) state.next.variation state.lists.catalogue.variations → AreFrom state.next.variation rows.variations → AreOf rows.item rows.variations → IsSound state → IsSound (with_item rows state)
-sound_item state rows e takes takes_more from of h = put_variations rows.variations (record state { lists = after_change (PutItem rows.item) state.lists; next = record state.next { item = state.next.item + 1 } }) takes_more from (put_of_varied rows.item state.lists.catalogue.items rows.variations of) (put_item state rows.item e takes h)
+pub sound_item : (state : State) (rows : ItemRows) → rows.item.id ≡ state.next.item → Takes state.next.item state.lists.catalogue.items → TakesSome (length rows.variations) state.next.variation state.lists.catalogue.variations → AreFrom state.next.variation rows.variations → AreOf rows.item rows.variations → IsLimitedItem rows.item → AllByRecursion IsLimitedVariation rows.variations → IsSound state → IsSound (with_item rows state)
+sound_item state rows e takes takes_more from of limits each h = put_variations rows.variations (record state { lists = after_change (PutItem rows.item) state.lists; next = record state.next { item = state.next.item + 1 } }) takes_more from (put_of_varied rows.item state.lists.catalogue.items rows.variations of) each (put_item state rows.item e takes limits h)
 
 -- those that are made with an item do
 pub variation_rows_count : (new : List NewVariation) (item first : ℕ) → AreFrom first (variation_rows new item first)
@@ -217,10 +224,11 @@ variation_rows_count [] item first = tt
 variation_rows_count (variation ∷ variations) item first = (refl, variation_rows_count variations item (first + 1))
 
 -- an item that is changed, and sold as before
-pub sound_changed_item : (state : State) (row old : Item) → item_at row.id state.lists.catalogue ≡ Some old → row.varied ≡ old.varied → IsSound state → IsSound (changed (PutItem row) state)
-sound_changed_item state row old e varied h = record {
+pub sound_changed_item : (state : State) (row old : Item) → item_at row.id state.lists.catalogue ≡ Some old → row.varied ≡ old.varied → IsLimitedItem row → IsSound state → IsSound (changed (PutItem row) state)
+sound_changed_item state row old e varied limits h = record {
   range = h.range;
   few = set_items h.few (few_changed (λ r. r.id) most_rows row old state.lists.catalogue.items h.ids.items.in_order e h.few.items);
+  limits = set_items h.limits (all-with_row (λ r. r.id) IsLimitedItem row state.lists.catalogue.items limits h.limits.items);
   ids = set_items h.ids (numbered_changed (λ r. r.id) row old state.next.item state.lists.catalogue.items e h.ids.items);
   members = members_put_item row state.lists.catalogue kept h.members;
   targets = targets_put_item row state.lists.catalogue state.lists.vouchers h.targets;
@@ -246,10 +254,11 @@ fit_put_quota lists row has h = record {
 }
 
 -- a new quota, whose members stand and fit together
-pub sound_quota : (state : State) (row : Quota) → row.id ≡ state.next.quota → Takes state.next.quota state.lists.catalogue.quotas → HasMembers state.lists.catalogue row → IsSound state → IsSound (with_quota row state)
-sound_quota state row e takes its h = record {
+pub sound_quota : (state : State) (row : Quota) → row.id ≡ state.next.quota → Takes state.next.quota state.lists.catalogue.quotas → HasMembers state.lists.catalogue row → IsLimitedQuota row → IsSound state → IsSound (with_quota row state)
+sound_quota state row e takes its limits h = record {
   range = record { moment = h.range.moment; next_ids = set_quotas h.range.next_ids (next_put last_id state.next.quota takes.1 h.range.next_ids.quotas) };
   few = set_quotas h.few (few_put (λ r. r.id) most_rows row state.lists.catalogue.quotas takes.0);
+  limits = set_quotas h.limits (all-with_row (λ r. r.id) IsLimitedQuota row state.lists.catalogue.quotas limits h.limits.quotas);
   ids = set_quotas h.ids (numbered_put (λ r. r.id) row state.next.quota state.lists.catalogue.quotas e h.range.next_ids.quotas.from_one h.ids.quotas);
   members = members_put_quota row state.lists.catalogue its h.members;
   targets = targets_put_quota row state.lists.catalogue state.lists.vouchers h.targets;
@@ -273,10 +282,11 @@ sound_quota state row e takes its h = record {
         absurd (cc)
 
 -- a quota that gets another size
-pub sound_resized : (state : State) (row old : Quota) → quota_at row.id state.lists.catalogue ≡ Some old → row.items ≡ old.items → row.variations ≡ old.variations → IsSound state → IsSound (changed (PutQuota row) state)
-sound_resized state row old e items variations h = record {
+pub sound_resized : (state : State) (row old : Quota) → quota_at row.id state.lists.catalogue ≡ Some old → row.items ≡ old.items → row.variations ≡ old.variations → IsLimitedQuota row → IsSound state → IsSound (changed (PutQuota row) state)
+sound_resized state row old e items variations limits h = record {
   range = h.range;
   few = set_quotas h.few (few_changed (λ r. r.id) most_rows row old state.lists.catalogue.quotas h.ids.quotas.in_order e h.few.quotas);
+  limits = set_quotas h.limits (all-with_row (λ r. r.id) IsLimitedQuota row state.lists.catalogue.quotas limits h.limits.quotas);
   ids = set_quotas h.ids (numbered_changed (λ r. r.id) row old state.next.quota state.lists.catalogue.quotas e h.ids.quotas);
   members = members_put_quota row state.lists.catalogue (members_kept state.lists.catalogue row old e items variations h.members) h.members;
   targets = targets_put_quota row state.lists.catalogue state.lists.vouchers h.targets;
@@ -318,10 +328,11 @@ module _ (lists : Lists) (row : Voucher) where
   headroom_voucher at room h = all-with_row (λ r. r.id) (HasHeadroom at lists) row lists.vouchers room h
 
 -- a new voucher whose code no other one has, that names what stands, and that may block if it does
-pub sound_voucher : (state : State) (row : Voucher) → row.id ≡ state.next.voucher → Takes state.next.voucher state.lists.vouchers → HasTarget state.lists.catalogue row → HasItsCode row state.lists → redeemed row.id state.lists + held state.moment row.id state.lists ≤ row.max_usages → is_whole state.lists.catalogue.items row ≡ true → IsSound state → IsSound (with_voucher row state)
-sound_voucher state row e takes target code room whole h = record {
+pub sound_voucher : (state : State) (row : Voucher) → row.id ≡ state.next.voucher → Takes state.next.voucher state.lists.vouchers → HasTarget state.lists.catalogue row → HasItsCode row state.lists → redeemed row.id state.lists + held state.moment row.id state.lists ≤ row.max_usages → is_whole state.lists.catalogue.items row ≡ true → IsLimitedVoucher row → IsSound state → IsSound (with_voucher row state)
+sound_voucher state row e takes target code room whole limits h = record {
   range = record { moment = h.range.moment; next_ids = set_vouchers h.range.next_ids (next_put last_id state.next.voucher takes.1 h.range.next_ids.vouchers) };
   few = set_vouchers h.few (few_put (λ r. r.id) most_rows row state.lists.vouchers takes.0);
+  limits = set_vouchers h.limits (all-with_row (λ r. r.id) IsLimitedVoucher row state.lists.vouchers limits h.limits.vouchers);
   ids = set_vouchers h.ids (numbered_put (λ r. r.id) row state.next.voucher state.lists.vouchers e h.range.next_ids.vouchers.from_one h.ids.vouchers);
   members = h.members;
   targets = all-with_row (λ r. r.id) (HasTarget state.lists.catalogue) row state.lists.vouchers target h.targets;
@@ -345,15 +356,16 @@ sound_voucher state row e takes target code room whole h = record {
         absurd (cc)
 
 -- it has headroom, since nothing names an id that wasn't given yet
-pub sound_new_voucher : (state : State) (row : Voucher) → row.id ≡ state.next.voucher → Takes state.next.voucher state.lists.vouchers → HasTarget state.lists.catalogue row → HasItsCode row state.lists → is_whole state.lists.catalogue.items row ≡ true → IsSound state → IsSound (with_voucher row state)
-sound_new_voucher state row e takes target code whole h = sound_voucher state row e takes target code (rw e (fresh_headroom state.lists state.next.voucher h.ids.vouchers state.moment row.max_usages h.fit)) whole h
+pub sound_new_voucher : (state : State) (row : Voucher) → row.id ≡ state.next.voucher → Takes state.next.voucher state.lists.vouchers → HasTarget state.lists.catalogue row → HasItsCode row state.lists → is_whole state.lists.catalogue.items row ≡ true → IsLimitedVoucher row → IsSound state → IsSound (with_voucher row state)
+sound_new_voucher state row e takes target code whole limits h = sound_voucher state row e takes target code (rw e (fresh_headroom state.lists state.next.voucher h.ids.vouchers state.moment row.max_usages h.fit)) whole limits h
 
 -- a voucher that is changed: it names what stands, its code is its own, it has headroom, and it may block if it does
-module _ (state : State) (row old : Voucher) (stands : voucher_at row.id state.lists ≡ Some old) (target : HasTarget state.lists.catalogue row) (code : HasItsCode row state.lists) (room : redeemed row.id state.lists + held state.moment row.id state.lists ≤ row.max_usages) (whole : is_whole state.lists.catalogue.items row ≡ true) (h : IsSound state) where
+module _ (state : State) (row old : Voucher) (stands : voucher_at row.id state.lists ≡ Some old) (target : HasTarget state.lists.catalogue row) (code : HasItsCode row state.lists) (room : redeemed row.id state.lists + held state.moment row.id state.lists ≤ row.max_usages) (whole : is_whole state.lists.catalogue.items row ≡ true) (limits : IsLimitedVoucher row) (h : IsSound state) where
   by_fit : AllFit (after_change (PutVoucher row) state.lists) → IsSound (changed (PutVoucher row) state)
   by_fit fit = record {
     range = h.range;
     few = set_vouchers h.few (few_changed (λ r. r.id) most_rows row old state.lists.vouchers h.ids.vouchers.in_order stands h.few.vouchers);
+    limits = set_vouchers h.limits (all-with_row (λ r. r.id) IsLimitedVoucher row state.lists.vouchers limits h.limits.vouchers);
     ids = set_vouchers h.ids (numbered_changed (λ r. r.id) row old state.next.voucher state.lists.vouchers stands h.ids.vouchers);
     members = h.members;
     targets = all-with_row (λ r. r.id) (HasTarget state.lists.catalogue) row state.lists.vouchers target h.targets;
@@ -393,6 +405,7 @@ pub sound_drop_voucher : (state : State) (id : ℕ) → is_used id state.lists �
 sound_drop_voucher state id unused h = record {
   range = h.range;
   few = set_vouchers h.few (few_dropped (λ r. r.id) most_rows id state.lists.vouchers h.few.vouchers);
+  limits = set_vouchers h.limits (all-without_row (λ r. r.id) IsLimitedVoucher id state.lists.vouchers h.limits.vouchers);
   ids = set_vouchers h.ids (numbered_dropped (λ r. r.id) id state.next.voucher state.lists.vouchers h.ids.vouchers);
   members = h.members;
   targets = all-without_row (λ r. r.id) (HasTarget state.lists.catalogue) id state.lists.vouchers h.targets;

@@ -14,6 +14,7 @@ use Rattle.bo_lists.specs.Headroom.{AllHaveHeadroom, has_use, have_room}
 use Rattle.bo_lists.specs.Fits.{is_fit, AllFit}
 use Rattle.bo_lists.specs.Numbered.{with_order, with_position}
 use Rattle.bo_sound.specs.Varied.{IsProduct}
+use Rattle.bo_sound.specs.Limits.{IsLimitedOrder, IsLimitedPosition}
 use Rattle.bo_sound.specs.Positions.{AllHavePositions}
 use Rattle.bo_sound.specs.Sound.{IsSound, IsSoundSoFar}
 use Rattle.bo_lists.proofs.EachRow.{all-with_row, next_absent}
@@ -42,10 +43,11 @@ new_order_headroom state row e h = headroom_new_order row state.lists state.mome
     absent = ap (λ (n : ℕ). order_at n state.lists) e ∙ next_absent (λ (r : Order). r.id) state.next.order state.lists.orders h.ids.orders.below
 
 -- a new order, which has no positions yet
-pub sound_order : (state : State) (row : Order) → row.id ≡ state.next.order → (length state.lists.orders < last_order) × (state.next.order ≤ last_order) → IsSound state → IsSoundSoFar (with_order row state)
-sound_order state row e takes h = record {
+pub sound_order : (state : State) (row : Order) → row.id ≡ state.next.order → (length state.lists.orders < last_order) × (state.next.order ≤ last_order) → IsLimitedOrder row → IsSound state → IsSoundSoFar (with_order row state)
+sound_order state row e takes limits h = record {
   range = record { moment = h.range.moment; next_ids = set_orders h.range.next_ids (next_put last_order state.next.order takes.1 h.range.next_ids.orders) };
   few = set_orders h.few (few_put (λ r. r.id) last_order row state.lists.orders takes.0);
+  limits = set_orders h.limits (all-with_row (λ r. r.id) IsLimitedOrder row state.lists.orders limits h.limits.orders);
   ids = set_orders h.ids (numbered_put (λ r. r.id) row state.next.order state.lists.orders e h.range.next_ids.orders.from_one h.ids.orders);
   members = h.members;
   targets = h.targets;
@@ -62,10 +64,11 @@ sound_order state row e takes h = record {
 
 -- a new position of an order that stands: with a secret of its own, fit, of a product, and with a use left where its order is
 -- in force
-pub sound_position : (state : State) (row : OrderPos) → row.id ≡ state.next.position → Takes state.next.position state.lists.positions → IsOfOrder state.lists.orders row → is_fit state.lists row.product row.voucher ≡ true → IsProduct state.lists.catalogue row.product → (not (stands_as is_in_force (order_at row.order state.lists)) || has_use state.moment state.lists row.voucher) ≡ true → IsSoundSoFar state → IsSoundSoFar (with_position row state)
-sound_position state row e takes of_order fits product left h = record {
+pub sound_position : (state : State) (row : OrderPos) → row.id ≡ state.next.position → Takes state.next.position state.lists.positions → IsOfOrder state.lists.orders row → is_fit state.lists row.product row.voucher ≡ true → IsProduct state.lists.catalogue row.product → (not (stands_as is_in_force (order_at row.order state.lists)) || has_use state.moment state.lists row.voucher) ≡ true → IsLimitedPosition row → IsSoundSoFar state → IsSoundSoFar (with_position row state)
+sound_position state row e takes of_order fits product left limits h = record {
   range = record { moment = h.range.moment; next_ids = set_positions h.range.next_ids (next_put last_id state.next.position takes.1 h.range.next_ids.positions) };
   few = set_positions h.few (few_put (λ r. r.id) most_rows row state.lists.positions takes.0);
+  limits = set_positions h.limits (all-with_row (λ r. r.id) IsLimitedPosition row state.lists.positions limits h.limits.positions);
   ids = set_positions h.ids (numbered_put (λ r. r.id) row state.next.position state.lists.positions e h.range.next_ids.positions.from_one h.ids.positions);
   members = h.members;
   targets = h.targets;
@@ -90,6 +93,7 @@ pub sound_whole : (state : State) → AllHavePositions state.lists.orders state.
 sound_whole state whole h = record {
   range = h.range;
   few = h.few;
+  limits = h.limits;
   ids = h.ids;
   members = h.members;
   targets = h.targets;
@@ -105,11 +109,12 @@ sound_whole state whole h = record {
 }
 
 -- an order that is changed
-module _ (state : State) (row old : Order) (stands : order_at row.id state.lists ≡ Some old) (h : IsSound state) where
+module _ (state : State) (row old : Order) (stands : order_at row.id state.lists ≡ Some old) (limits : IsLimitedOrder row) (h : IsSound state) where
   by_headroom : AllHaveHeadroom state.moment (after_change (PutOrder row) state.lists) → IsSound (changed (PutOrder row) state)
   by_headroom headroom = record {
     range = h.range;
     few = set_orders h.few (few_changed (λ r. r.id) last_order row old state.lists.orders h.ids.orders.in_order stands h.few.orders);
+    limits = set_orders h.limits (all-with_row (λ r. r.id) IsLimitedOrder row state.lists.orders limits h.limits.orders);
     ids = set_orders h.ids (numbered_changed (λ r. r.id) row old state.next.order state.lists.orders stands h.ids.orders);
     members = h.members;
     targets = h.targets;

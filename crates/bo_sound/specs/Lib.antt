@@ -9,5 +9,7 @@ pub mod OwnCodes
 pub mod Secrets
 pub mod Positions
 pub mod Sent
+pub mod Limits
 pub mod Sound
 pub mod Checkins
+pub mod Changes

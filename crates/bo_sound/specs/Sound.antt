@@ -5,6 +5,7 @@ use Rattle.bo_lists.specs.Fits.{AllFit}
 use Rattle.bo_sound.specs.Checkins.{IsDoorOf}
 use Rattle.bo_sound.specs.Few.{AllFew}
 use Rattle.bo_sound.specs.Ids.{AllNumbered}
+use Rattle.bo_sound.specs.Limits.{AllLimited}
 use Rattle.bo_sound.specs.Members.{AllHaveMembers}
 use Rattle.bo_sound.specs.OwnCodes.{HaveCodes}
 use Rattle.bo_sound.specs.Positions.{AreOfOrders, AreOrdered}
@@ -19,6 +20,8 @@ pub record IsSoundWith (rule : Type 0) (state : State) : Type 0 where
   pub range : AreInRange state.moment state.next
   -- no table has more than 1,000,000 rows, that of orders no more than there are codes
   pub few : AllFew state.lists
+  -- texts, amounts of money, moments and counts are within their limits, and no voucher takes off more than 100 percent
+  pub limits : AllLimited state.lists
   -- in each table ids rise, and each is at least 1 and below the next one
   pub ids : AllNumbered state.next state.lists
   -- the items and the variations of a quota rise, stand and fit together

@@ -164,7 +164,7 @@ impl Recount {
         ensures small { result ≤ 4294967295 }
     {
         if voucher.blocks(at, quota) {
-            u64::from(voucher.max_usages).saturating_sub(self.redeemed_by(voucher.id))
+            u64::from(voucher.max_usages.get()).saturating_sub(self.redeemed_by(voucher.id))
         } else {
             0
         }

@@ -1,5 +1,6 @@
 pub mod Unlike
 pub mod Passed
+pub mod Limited
 pub mod OwnCodes
 pub mod Made
 pub mod Changed

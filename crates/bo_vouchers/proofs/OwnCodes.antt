@@ -23,8 +23,9 @@ use Rattle.bo_sound.specs.Reserved.{is_lower_hex, ends_as_made, goes_on_as_made,
 use Rattle.bo_sound.proofs.Endings.{ends_own, decimal_digits}
 use Rattle.bo_sound.specs.Sound.{IsSound}
 use Rattle.bo_sound.proofs.OwnCodes.{own_other, own_ending, none_has, HasItsCode}
-use Rattle.bo_vouchers.specs.declared.refusal.VoucherRefusal.TheVariants.{TooLarge, ReservedCode}
-use Rattle.bo_vouchers.specs.Codes.{IsDraw, made_code, code_of, is_reserved_if, new_code}
+use Rattle.bo_commands.specs.declared.vouchers.VoucherRefusal.TheVariants.{TooLarge, ReservedCode}
+use Rattle.bo_base.specs.Draws.{IsDraw}
+use Rattle.bo_vouchers.specs.Codes.{made_code, code_of, is_reserved_if, new_code}
 use Rattle.bo_vouchers.specs.Checks.{value_fits, taken_test, reserved_test, row_test}
 use Rattle.bo_vouchers.proofs.Passed.{Passed}
 

@@ -1,4 +1,3 @@
-pub mod Refusals
 pub mod Codes
 pub mod Rows
 pub mod Checks

@@ -8,10 +8,12 @@ ghost use Rattle.bo_lists.specs.Over.{first_over};
 ghost use Rattle.bo_sound.specs.Sound.{IsSound};
 ghost use Rattle.bo_lists.specs.Takes.{used, TakesNoMore};
 ghost use Rattle.bo_lists.specs.declared.rows.Voucher.{Voucher};
-ghost use Rattle.bo_vouchers.specs.declared.requests.NewVoucher.{NewVoucher};
-ghost use Rattle.bo_vouchers.specs.declared.requests.VoucherPatch.{VoucherPatch};
+ghost use Rattle.bo_commands.specs.declared.vouchers.NewVoucher.{NewVoucher};
+ghost use Rattle.bo_commands.specs.declared.vouchers.VoucherPatch.{VoucherPatch};
 ghost use Rattle.bo_lists.specs.Named.{voucher_of};
-ghost use Rattle.bo_vouchers.specs.Codes.{IsDraw, made_code};
+ghost use Rattle.bo_base.specs.Draws.{IsDraw};
+ghost use Rattle.bo_commands.specs.FitRequests.{IsFitVoucher, IsFitVoucherPatch};
+ghost use Rattle.bo_vouchers.specs.Codes.{made_code};
 ghost use Rattle.bo_vouchers.specs.Made.{voucher_made};
 ghost use Rattle.bo_vouchers.specs.Changed.{voucher_changed};
 ghost use Rattle.bo_vouchers.specs.Deleted.{voucher_deleted};
@@ -44,12 +46,13 @@ pub fn deleting_lowers()
         voucher_deleted id before ≡ Ok after → used after quota ≤ used before quota }
 {}
 
-/// A sound box office stays sound where a voucher is made, changed or deleted.
+/// A sound box office stays sound where a voucher is made, changed or deleted. What is asked is within its limits, as that
+/// of each request is: its type keeps it so.
 pub fn vouchers_keep_sound()
     ensures made { (new : NewVoucher) (draw : Draw) (before after : State) (row : Voucher) →
-        IsSound before → voucher_made new draw before ≡ Ok (after, row) → IsSound after }
+        IsFitVoucher new → IsDraw draw → IsSound before → voucher_made new draw before ≡ Ok (after, row) → IsSound after }
     ensures changed { (id : ℕ) (patch : VoucherPatch) (before after : State) (row : Voucher) →
-        IsSound before → voucher_changed id patch before ≡ Ok (after, row) → IsSound after }
+        IsFitVoucherPatch patch → IsSound before → voucher_changed id patch before ≡ Ok (after, row) → IsSound after }
     ensures deleted { (id : ℕ) (before after : State) →
         IsSound before → voucher_deleted id before ≡ Ok after → IsSound after }
 {}

@@ -1,21 +1,22 @@
 -- The bodies of refusals, and of the entries of bulk calls, have no float.
 use Rattle.std.proofs.Common.{◌≡◌, ℕ, false, List, Option, Some, None, refl}
 use Rattle.serde_json.specs.Written.{has_float}
-use Rattle.bo_vouchers.specs.declared.refusal.VoucherRefusal.TheVariants as voucher
-use Rattle.bo_orders.specs.declared.refusal.OrderRefusal.TheVariants as order
-use Rattle.bo_orders.specs.declared.bulk.Outcome.{Outcome}
-use Rattle.bo_orders.specs.declared.bulk.Outcome.TheVariants as outcomes
+use Rattle.bo_commands.specs.declared.vouchers.VoucherRefusal.TheVariants as voucher
+use Rattle.bo_commands.specs.declared.orders.OrderRefusal.TheVariants as order
+use Rattle.bo_commands.specs.declared.doors.DoorRefusal.{DoorRefusal}
+use Rattle.bo_commands.specs.declared.carts.Outcome.{Outcome}
+use Rattle.bo_commands.specs.declared.carts.Outcome.TheVariants as outcomes
 use Rattle.bo_faults.specs.declared.fields.EntryFault.{EntryFault}
 use Rattle.bo_faults.specs.declared.fields.EntryFault.TheVariants as entry_faults
 use Rattle.bo_commands.specs.declared.requests.Kind.{Kind}
 use Rattle.bo_commands.specs.declared.requests.Kind.TheVariants as kinds
 use Rattle.bo_commands.specs.declared.replies.Refusal.{Refusal}
 use Rattle.bo_commands.specs.declared.replies.Refusal.TheVariants as refusals
-use Rattle.bo_words.specs.Refusals.{detail, quota_named, refusal_body, numbered_body, told_body, manner_of, body_in, refusal_data}
+use Rattle.bo_words.specs.Refusals.{detail, door_detail, quota_named, refusal_body, numbered_body, reason_of, door_body, told_body, manner_of, body_in, refusal_data}
 use Rattle.bo_words.specs.declared.refusals.Manner.{Manner}
 use Rattle.bo_words.specs.declared.refusals.Manner.TheVariants.{Missing, Told, Untold}
 use Rattle.bo_words.specs.Results.{entry_fault_body, outcome_body}
-use Rattle.bo_words.proofs.Floats.{cart_no_float}
+use Rattle.bo_shown.proofs.Floats.{cart_no_float}
 
 worded_no_float : (number : ℕ) (text : List ℕ) (quota : Option ℕ) → has_float (refusal_body number text quota) ≡ false
 worded_no_float number text None = refl
@@ -25,10 +26,15 @@ numbered_no_float : (refusal : Refusal) (text : Option (List ℕ)) → has_float
 numbered_no_float refusal None = refl
 numbered_no_float refusal (Some text) = worded_no_float _ text (quota_named refusal)
 
+door_no_float : (refusal : DoorRefusal) (word : Option (List ℕ)) → has_float (door_body refusal word) ≡ false
+door_no_float refusal None = numbered_no_float (refusals.Door refusal) (door_detail refusal)
+door_no_float refusal (Some word) = refl
+
 told_no_float : (refusal : Refusal) → has_float (told_body refusal) ≡ false
 told_no_float refusals.NoPage = refl
 told_no_float (refusals.Voucher voucher.TooLarge) = refl
 told_no_float (refusals.Order (order.WrongStatus status)) = refl
+told_no_float (refusals.Door refusal) = door_no_float refusal (reason_of refusal)
 told_no_float refusal = numbered_no_float refusal (detail refusal)
 
 body_no_float : (manner : Manner) (refusal : Refusal) → has_float (body_in manner refusal) ≡ false

@@ -1,8 +1,3 @@
-pub mod Values
-pub mod Pieces
-pub mod OrderRows
-pub mod Rows
-pub mod VoucherParts
 pub mod Responses
 pub mod Faults
 pub mod Table

@@ -3,18 +3,21 @@ use Rattle.std.specs.Prelude.{ℕ, ◌+◌, ◌-◌, ◌*◌, List, ◌++◌, ma
 use Rattle.std.specs.Fmt.{decimal}
 use Rattle.serde_json.specs.Data.{Data, string, null, object, Members, member, no_members}
 use Rattle.bo_commands.specs.declared.requests.Resource.{Resource}
-use Rattle.bo_commands.specs.declared.requests.Resource.TheVariants.{Items, Quotas, Vouchers, Carts, Orders}
+use Rattle.bo_commands.specs.declared.requests.Resource.TheVariants.{Items, Quotas, Vouchers, Carts, Orders, WaitingEntries, CheckinLists, Tickets}
 use Rattle.bo_commands.specs.declared.replies.Page.{Page}
-use Rattle.bo_words.specs.Values.{count, list}
-use Rattle.bo_words.specs.Rows.{shown_body}
+use Rattle.bo_shown.specs.Values.{count, list}
+use Rattle.bo_shown.specs.Rows.{shown_body}
 
--- the part of a list's path that is its own
+-- the part of a list's path that is its own; the positions of a check-in list stand under its number
 abbrev pub resource_path : Resource → List ℕ
 resource_path Items = codes "/items/"
 resource_path Quotas = codes "/quotas/"
 resource_path Vouchers = codes "/vouchers/"
 resource_path Carts = codes "/cartpositions/"
 resource_path Orders = codes "/orders/"
+resource_path WaitingEntries = codes "/waitinglistentries/"
+resource_path CheckinLists = codes "/checkinlists/"
+resource_path (Tickets door) = codes "/checkinlists/" ++ decimal door ++ codes "/positions/"
 
 -- the path of a page: that of the list, and its number
 unfoldable pub page_path : List ℕ → List ℕ → Resource → ℕ → List ℕ

@@ -5,17 +5,22 @@ use Rattle.bo_base.specs.Tables.{has}
 use Rattle.bo_base.specs.declared.answer.Response.{Response}
 use Rattle.bo_catalogue.specs.declared.refusal.CatalogueRefusal.{CatalogueRefusal}
 use Rattle.bo_catalogue.specs.declared.refusal.CatalogueRefusal.TheVariants as catalogue
-use Rattle.bo_vouchers.specs.declared.refusal.VoucherRefusal.{VoucherRefusal}
-use Rattle.bo_vouchers.specs.declared.refusal.VoucherRefusal.TheVariants as voucher
-use Rattle.bo_orders.specs.declared.refusal.OrderRefusal.{OrderRefusal}
-use Rattle.bo_orders.specs.declared.refusal.OrderRefusal.TheVariants as order
+use Rattle.bo_commands.specs.declared.vouchers.VoucherRefusal.{VoucherRefusal}
+use Rattle.bo_commands.specs.declared.vouchers.VoucherRefusal.TheVariants as voucher
+use Rattle.bo_commands.specs.declared.orders.OrderRefusal.{OrderRefusal}
+use Rattle.bo_commands.specs.declared.orders.OrderRefusal.TheVariants as order
+use Rattle.bo_commands.specs.declared.waiting.WaitingRefusal.{WaitingRefusal}
+use Rattle.bo_commands.specs.declared.waiting.WaitingRefusal.TheVariants as waiting
+use Rattle.bo_commands.specs.declared.doors.DoorRefusal.{DoorRefusal}
+use Rattle.bo_commands.specs.declared.doors.DoorRefusal.TheVariants as door
 use Rattle.bo_commands.specs.Refusals.{number_of_refusal}
 use Rattle.bo_commands.specs.declared.requests.Kind.{Kind}
+use Rattle.bo_commands.specs.declared.requests.Kind.TheVariants as kinds
 use Rattle.bo_commands.specs.declared.replies.Refusal.{Refusal}
 use Rattle.bo_commands.specs.declared.replies.Refusal.TheVariants as refusals
 use Rattle.bo_lists.specs.declared.rows.Status.{Status}
-use Rattle.bo_words.specs.Values.{count}
-use Rattle.bo_words.specs.OrderRows.{status_letter}
+use Rattle.bo_shown.specs.Values.{count}
+use Rattle.bo_shown.specs.OrderRows.{status_letter}
 use Rattle.bo_words.specs.Responses.{response, empty_body}
 use Rattle.bo_words.specs.Table.{Row, row_of}
 use Rattle.bo_words.specs.declared.refusals.Manner.{Manner}
@@ -69,10 +74,26 @@ order_detail order.Empty = Some (codes "No positions.")
 order_detail order.TooMany = Some (codes "Too many.")
 order_detail order.BadCart = Some (codes "Wrong cart.")
 
+abbrev pub waiting_detail : WaitingRefusal → Option (List ℕ)
+waiting_detail waiting.Memory = None
+waiting_detail (waiting.Catalogue refusal) = catalogue_detail refusal
+waiting_detail (waiting.SoldOut quota) = Some (codes "Sold out.")
+waiting_detail waiting.StillAvailable = Some (codes "Still available.")
+waiting_detail waiting.AlreadyWaiting = Some (codes "Already waiting.")
+waiting_detail waiting.AlreadySent = Some (codes "Already sent.")
+waiting_detail waiting.NoEntry = None
+
+-- what a door says of a ticket is no sentence but a word
+abbrev pub door_detail : DoorRefusal → Option (List ℕ)
+door_detail (door.Catalogue refusal) = catalogue_detail refusal
+door_detail refusal = None
+
 abbrev pub detail : Refusal → Option (List ℕ)
 detail (refusals.Catalogue refusal) = catalogue_detail refusal
 detail (refusals.Voucher refusal) = voucher_detail refusal
 detail (refusals.Order refusal) = order_detail refusal
+detail (refusals.Waiting refusal) = waiting_detail refusal
+detail (refusals.Door refusal) = door_detail refusal
 detail refusals.NoPage = None
 
 -- the quota that is sold out
@@ -83,6 +104,7 @@ quota_of refusal = None
 abbrev pub quota_named : Refusal → Option ℕ
 quota_named (refusals.Voucher refusal) = quota_of refusal
 quota_named (refusals.Order (order.Voucher refusal)) = quota_of refusal
+quota_named (refusals.Waiting (waiting.SoldOut quota)) = Some quota
 quota_named refusal = None
 
 -- `{"code":N,"detail":"text"}`, and `{"code":N,"detail":"text","quota":Q}` where a quota is named
@@ -110,25 +132,55 @@ abbrev pub numbered_body : Refusal → Option (List ℕ) → Data
 numbered_body refusal None = empty_body
 numbered_body refusal (Some text) = refusal_body (number_of_refusal refusal) text (quota_named refusal)
 
--- a page that isn't there has 404, what is forbidden 403, and any other refusal 400
-abbrev pub told_status : Refusal → ℕ
-told_status refusals.NoPage = 404
-told_status (refusals.Voucher voucher.InUse) = 403
-told_status refusal = 400
+-- the word by which a door says why a ticket isn't let in
+abbrev pub reason_of : DoorRefusal → Option (List ℕ)
+reason_of door.Invalid = Some (codes "invalid")
+reason_of door.Canceled = Some (codes "canceled")
+reason_of door.Product = Some (codes "product")
+reason_of door.Unpaid = Some (codes "unpaid")
+reason_of door.AlreadyRedeemed = Some (codes "already_redeemed")
+reason_of refusal = None
+
+-- `{"reason":R,"status":"error"}`
+abbrev pub reason_body : List ℕ → Data
+reason_body word = object (
+    member (codes "reason") (string word)
+    (member (codes "status") (string (codes "error"))
+    no_members))
+
+-- by its word where it has one, else by number and sentence
+abbrev pub door_body : DoorRefusal → Option (List ℕ) → Data
+door_body refusal None = numbered_body (refusals.Door refusal) (door_detail refusal)
+door_body refusal (Some word) = reason_body word
+
+-- an entry that was sent its voucher may neither be changed nor deleted; to send it another is no more than wrong
+abbrev pub sent_status : Kind → ℕ
+sent_status kinds.SendVoucher = 400
+sent_status kind = 403
+
+-- a page or a ticket that isn't there has 404, what is forbidden 403, and any other refusal 400
+abbrev pub told_status : Kind → Refusal → ℕ
+told_status kind refusals.NoPage = 404
+told_status kind (refusals.Door door.Invalid) = 404
+told_status kind (refusals.Voucher voucher.InUse) = 403
+told_status kind (refusals.Waiting waiting.AlreadySent) = sent_status kind
+told_status kind refusal = 400
 
 -- more than 100 percent is told as a fault of the field, a page that isn't there by `Invalid page.`, an order's status
--- that doesn't allow a move with that status, and any other refusal by its number and its sentence
+-- that doesn't allow a move with that status, a ticket that isn't let in by the door's word, and any other refusal by its
+-- number and its sentence
 abbrev pub told_body : Refusal → Data
 told_body (refusals.Voucher voucher.TooLarge) = fault_body (record { field = fields.Value; problem = problems.OutOfRange })
 told_body refusals.NoPage = invalid_page_body
 told_body (refusals.Order (order.WrongStatus status)) = wrong_status_body status
+told_body (refusals.Door refusal) = door_body refusal (reason_of refusal)
 told_body refusal = numbered_body refusal (detail refusal)
 
 -- 404 where the path names what isn't there, the refusal's own status, or 200 where no request of the kind is refused so
-abbrev pub status_in : Manner → Refusal → ℕ
-status_in Missing refusal = 404
-status_in Told refusal = told_status refusal
-status_in Untold refusal = 200
+abbrev pub status_in : Manner → Kind → Refusal → ℕ
+status_in Missing kind refusal = 404
+status_in Told kind refusal = told_status kind refusal
+status_in Untold kind refusal = 200
 
 -- `Not found.`, the refusal's own body, or `{}`
 abbrev pub body_in : Manner → Refusal → Data
@@ -141,4 +193,4 @@ refusal_data kind refusal = body_in (manner_of kind refusal) refusal
 
 -- a refusal is told by its status and its body
 unfoldable pub refused : Kind → Refusal → Response
-refused kind refusal = response (status_in (manner_of kind refusal) refusal) None (refusal_data kind refusal)
+refused kind refusal = response (status_in (manner_of kind refusal) kind refusal) None (refusal_data kind refusal)

@@ -10,7 +10,9 @@ use Rattle.bo_commands.specs.declared.replies.Reply.TheVariants as replies
 use Rattle.bo_commands.specs.declared.replies.Shown.{Shown}
 use Rattle.bo_commands.specs.declared.replies.Shown.TheVariants as shown
 use Rattle.bo_words.specs.Responses.{response, empty_body}
-use Rattle.bo_words.specs.Rows.{shown_body, availability_body}
+use Rattle.bo_shown.specs.Rows.{shown_body, availability_body}
+use Rattle.bo_shown.specs.WaitingRows.{periodic_body}
+use Rattle.bo_shown.specs.DoorRows.{admitted_body, door_status_body}
 use Rattle.bo_words.specs.Results.{results_body}
 use Rattle.bo_words.specs.Pages.{page_body}
 use Rattle.bo_words.specs.Refusals.{refused}
@@ -23,9 +25,15 @@ gone = record { status = 204; allow = None; body = [] }
 abbrev pub untold : Response
 untold = response 200 None empty_body
 
--- a variation is shown where it is made, and else with its item
+-- a position of a check-in list is made with its order
+abbrev pub is_made : Shown → Bool
+is_made (shown.Ticket ticket) = false
+is_made row = true
+
+-- a variation is shown where it is made, and else with its item; a position of a check-in list is shown in pages alone
 abbrev pub stands_alone : Shown → Bool
 stands_alone (shown.Variation priced) = false
+stands_alone (shown.Ticket ticket) = false
 stands_alone row = true
 
 -- a row of the kind that the list has
@@ -35,7 +43,13 @@ is_row_of resources.Quotas (shown.Quota quota) = true
 is_row_of resources.Vouchers (shown.Voucher voucher redeemed) = true
 is_row_of resources.Carts (shown.Cart cart) = true
 is_row_of resources.Orders (shown.Order rows) = true
+is_row_of resources.WaitingEntries (shown.Waiting entry) = true
+is_row_of resources.CheckinLists (shown.CheckinList door) = true
+is_row_of (resources.Tickets door) (shown.Ticket ticket) = true
 is_row_of resource row = false
+
+abbrev pub made : Shown → Response
+made row = if is_made row then response 201 None (shown_body row) else untold
 
 abbrev pub found : Shown → Response
 found row = if stands_alone row then response 200 None (shown_body row) else untold
@@ -44,12 +58,16 @@ abbrev pub listed : List ℕ → List ℕ → Page → Response
 listed organizer event page =
     if list_all (is_row_of page.resource) page.rows then response 200 None (page_body organizer event page) else untold
 
--- 201 for what was made, 200 for what was asked for and for a bulk call, 204 for what was deleted, in the shop of these slugs
+-- 201 for what was made and for a ticket that was let in or out, 200 for what was asked for, for a bulk call and for
+-- periodic work, 204 for what was deleted, in the shop of these slugs
 unfoldable pub words : List ℕ → List ℕ → Reply → Response
-words organizer event (replies.Made row) = response 201 None (shown_body row)
+words organizer event (replies.Made row) = made row
 words organizer event (replies.Found row) = found row
 words organizer event (replies.Results outcomes) = response 200 None (results_body outcomes)
 words organizer event (replies.Listed page) = listed organizer event page
 words organizer event replies.Gone = gone
 words organizer event (replies.Availability left) = response 200 None (availability_body left)
+words organizer event (replies.Periodic counts) = response 200 None (periodic_body counts)
+words organizer event (replies.Admitted position) = response 201 None (admitted_body position)
+words organizer event (replies.Status door) = response 200 None (door_status_body door)
 words organizer event (replies.Refused kind refusal) = refused kind refusal

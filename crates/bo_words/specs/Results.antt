@@ -5,10 +5,10 @@ use Rattle.bo_faults.specs.declared.fields.EntryFault.{EntryFault}
 use Rattle.bo_faults.specs.declared.fields.EntryFault.TheVariants as entry_faults
 use Rattle.bo_commands.specs.declared.requests.Kind.TheVariants as kinds
 use Rattle.bo_commands.specs.declared.replies.Refusal.TheVariants as refusals
-use Rattle.bo_orders.specs.declared.bulk.Outcome.{Outcome}
-use Rattle.bo_orders.specs.declared.bulk.Outcome.TheVariants as outcomes
-use Rattle.bo_words.specs.Values.{list}
-use Rattle.bo_words.specs.Rows.{cart_body}
+use Rattle.bo_commands.specs.declared.carts.Outcome.{Outcome}
+use Rattle.bo_commands.specs.declared.carts.Outcome.TheVariants as outcomes
+use Rattle.bo_shown.specs.Values.{list}
+use Rattle.bo_shown.specs.Rows.{cart_body}
 use Rattle.bo_words.specs.Faults.{invalid_data_body, fault_body}
 use Rattle.bo_words.specs.Refusals.{refusal_data}
 

@@ -14,8 +14,11 @@ numbers missing others = record { missing = missing; others = others }
 -- The table; what isn't in it is told by no request. 2 is a value too large, 10 no item, 11 no variation, 12 a variation
 -- that is needed, 13 no quota, 14 wrong members, 15 not active, 16 a full table, 17 an item without variations, 18 in no
 -- quota, 20 a taken code, 21 a wrong target, 22 what can't be blocked, 23 no voucher, 24 an expired one, 25 one without
--- uses left, 26 one for another product, 27 one in use, 28 sold out, 33 a reserved code, 40 no cart position, 41 no order,
--- 42 a status that doesn't allow it, 43 no positions, 44 too many, 45 a wrong cart id, 59 no such page
+-- uses left, 26 one for another product, 27 one in use, 28 sold out, 29 what can be had without waiting, 30 who waits
+-- already, 31 an entry that was sent its voucher, 32 no entry, 33 a reserved code, 40 no cart position, 41 no order, 42 a
+-- status that doesn't allow it, 43 no positions, 44 too many, 45 a wrong cart id, 50 no check-in list, 51 no such ticket,
+-- 52 one of an expired or cancelled order, 53 one that isn't on the list, 54 an unpaid one, 55 one that was let in already,
+-- 59 no such page
 abbrev pub row_of : Kind → Row
 row_of kinds.AddItem = numbers [] (16 ∷ [])
 row_of kinds.ChangeItem = numbers (10 ∷ []) []
@@ -30,6 +33,14 @@ row_of kinds.AddCarts = numbers [] (44 ∷ [])
 row_of kinds.DropCart = numbers (40 ∷ []) []
 row_of kinds.AddOrder = numbers [] (43 ∷ 44 ∷ 10 ∷ 11 ∷ 12 ∷ 15 ∷ 18 ∷ 23 ∷ 24 ∷ 26 ∷ 25 ∷ 28 ∷ 16 ∷ [])
 row_of kinds.MoveOrder = numbers (41 ∷ []) (42 ∷ 25 ∷ 28 ∷ [])
-row_of kinds.List = numbers [] (59 ∷ [])
-row_of kinds.One = numbers (10 ∷ 13 ∷ 23 ∷ 40 ∷ 41 ∷ []) []
+row_of kinds.AddWaiting = numbers [] (10 ∷ 11 ∷ 12 ∷ 15 ∷ 30 ∷ 29 ∷ 16 ∷ [])
+row_of kinds.ChangeWaiting = numbers (32 ∷ []) (31 ∷ [])
+row_of kinds.DropWaiting = numbers (32 ∷ []) (31 ∷ [])
+row_of kinds.SendVoucher = numbers (32 ∷ []) (31 ∷ 15 ∷ 18 ∷ 28 ∷ 16 ∷ [])
+row_of kinds.Periodic = numbers [] []
+row_of kinds.AddCheckinList = numbers [] (10 ∷ 16 ∷ [])
+row_of kinds.Redeem = numbers (50 ∷ []) (51 ∷ 52 ∷ 53 ∷ 54 ∷ 55 ∷ 16 ∷ [])
+row_of kinds.List = numbers (50 ∷ []) (59 ∷ [])
+row_of kinds.One = numbers (10 ∷ 13 ∷ 23 ∷ 40 ∷ 41 ∷ 32 ∷ 50 ∷ []) []
 row_of kinds.Availability = numbers (13 ∷ []) []
+row_of kinds.Status = numbers (50 ∷ []) []

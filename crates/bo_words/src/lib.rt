@@ -3,17 +3,12 @@
 
 pub mod faults;
 pub mod laws;
-mod orders;
 mod pages;
-mod pieces;
 mod refusals;
 pub mod replies;
 mod responses;
 mod results;
-mod rows;
 mod table;
-mod values;
-mod vouchers;
 
 pub use faults::{
     field_fault, invalid_data, invalid_page, invalid_token, method_not_allowed, no_credentials,

@@ -5,24 +5,26 @@ ghost use Rattle.serde_json.specs.Data.{object, no_members};
 ghost use Rattle.serde_json.specs.View.{view};
 ghost use Rattle.serde_json.specs.Written.{compact_text};
 ghost use Rattle.bo_words.specs.Pages.{resource_path, page_path, next_path, previous_path, page_members, page_body};
-ghost use Rattle.bo_words.specs.Rows.{shown_body};
+ghost use Rattle.bo_shown.specs.Rows.{shown_body};
 
-use crate::pieces::{WriteRow, append_list_member, append_opened, append_text};
-use crate::rows::append_shown;
 use bo_commands::{Page, Resource, Shown};
+use bo_shown::{WriteRow, append_list_member, append_opened, append_shown, append_text};
 use serde_json::{Value, json};
 use std::alloc::{AllocError, Global};
 
 /// The part of a list's path that is its own.
-fn resource_path(resource: Resource) -> &'static str
-    ensures { result.now ≡ resource_path resource }
+fn resource_path(alloc: Global, resource: Resource) -> Result<String, AllocError>
+    ensures { IfOk result (λ s. string_bytes s ≡ resource_path resource) }
 {
     match resource {
-        Resource::Items => "/items/",
-        Resource::Quotas => "/quotas/",
-        Resource::Vouchers => "/vouchers/",
-        Resource::Carts => "/cartpositions/",
-        Resource::Orders => "/orders/",
+        Resource::Items => String::from_str(alloc, "/items/"),
+        Resource::Quotas => String::from_str(alloc, "/quotas/"),
+        Resource::Vouchers => String::from_str(alloc, "/vouchers/"),
+        Resource::Carts => String::from_str(alloc, "/cartpositions/"),
+        Resource::Orders => String::from_str(alloc, "/orders/"),
+        Resource::WaitingEntries => String::from_str(alloc, "/waitinglistentries/"),
+        Resource::CheckinLists => String::from_str(alloc, "/checkinlists/"),
+        Resource::Tickets(list) => format!(in alloc; "/checkinlists/{list}/positions/"),
     }
 }
 
@@ -37,7 +39,7 @@ fn page_path(
 ) -> Result<String, AllocError>
     ensures { IfOk result (λ s. string_bytes s ≡ page_path organizer.now event.now resource number) }
 {
-    let path = resource_path(resource);
+    let path = resource_path(alloc, resource)?;
     format!(in alloc; "/api/v1/organizers/{organizer}/events/{event}{path}?page={number}")
 }
 

@@ -4,19 +4,17 @@ ghost use Rattle.std.specs.Prelude.{◌≡◌, IfOk};
 ghost use Rattle.std.specs.Option.{option_copied};
 ghost use Rattle.serde_json.specs.View.{view};
 ghost use Rattle.bo_words.specs.Faults.{fault_body};
-ghost use Rattle.bo_words.specs.Refusals.{catalogue_detail, voucher_detail, order_detail, detail, quota_of, quota_named, refusal_body, numbered_body, wrong_status_body, told_status, told_body, manner_of, status_in, refusal_data, refused};
+ghost use Rattle.bo_words.specs.Refusals.{catalogue_detail, voucher_detail, order_detail, waiting_detail, door_detail, detail, quota_of, quota_named, refusal_body, numbered_body, wrong_status_body, reason_of, door_body, sent_status, told_status, told_body, manner_of, status_in, refusal_data, refused};
 
 use crate::faults::fault_value;
-use crate::orders::status_letter;
 use crate::responses::{detail_value, value_response};
 use crate::table::row_of;
 use bo_base::Response;
 use bo_catalogue::CatalogueRefusal;
-use bo_commands::{Kind, Refusal};
+use bo_commands::{DoorRefusal, Kind, OrderRefusal, Refusal, VoucherRefusal, WaitingRefusal};
 use bo_faults::{Fault, Field, Problem};
 use bo_lists::Status;
-use bo_orders::OrderRefusal;
-use bo_vouchers::VoucherRefusal;
+use bo_shown::status_letter;
 use http::StatusCode;
 use serde_json::{Value, json};
 use std::alloc::{AllocError, Global};
@@ -76,6 +74,31 @@ fn order_detail(refusal: OrderRefusal) -> Option<&'static str>
     }
 }
 
+/// The sentence that tells a refusal of a call on the waiting list.
+fn waiting_detail(refusal: WaitingRefusal) -> Option<&'static str>
+    ensures { option_copied result ≡ waiting_detail refusal }
+{
+    match refusal {
+        WaitingRefusal::Memory => None,
+        WaitingRefusal::Catalogue(refusal) => catalogue_detail(refusal),
+        WaitingRefusal::SoldOut(_) => Some("Sold out."),
+        WaitingRefusal::StillAvailable => Some("Still available."),
+        WaitingRefusal::AlreadyWaiting => Some("Already waiting."),
+        WaitingRefusal::AlreadySent => Some("Already sent."),
+        WaitingRefusal::NoEntry => None,
+    }
+}
+
+/// The sentence that tells a refusal of a call of the doors; what they say of a ticket is no sentence but a word.
+fn door_detail(refusal: DoorRefusal) -> Option<&'static str>
+    ensures { option_copied result ≡ door_detail refusal }
+{
+    match refusal {
+        DoorRefusal::Catalogue(refusal) => catalogue_detail(refusal),
+        _ => None,
+    }
+}
+
 /// The sentence that tells a refusal.
 fn detail(refusal: Refusal) -> Option<&'static str>
     ensures { option_copied result ≡ detail refusal }
@@ -84,6 +107,8 @@ fn detail(refusal: Refusal) -> Option<&'static str>
         Refusal::Catalogue(refusal) => catalogue_detail(refusal),
         Refusal::Voucher(refusal) => voucher_detail(refusal),
         Refusal::Order(refusal) => order_detail(refusal),
+        Refusal::Waiting(refusal) => waiting_detail(refusal),
+        Refusal::Door(refusal) => door_detail(refusal),
         Refusal::NoPage => None,
     }
 }
@@ -105,6 +130,7 @@ fn quota_named(refusal: Refusal) -> Option<u64>
     match refusal {
         Refusal::Voucher(refusal) => quota_of(refusal),
         Refusal::Order(OrderRefusal::Voucher(refusal)) => quota_of(refusal),
+        Refusal::Waiting(WaitingRefusal::SoldOut(quota)) => Some(quota),
         _ => None,
     }
 }
@@ -154,14 +180,51 @@ fn wrong_status_value(alloc: Global, status: Status) -> Result<Value, AllocError
     json!(in alloc; {"code": 42, "detail": "Not possible in this status.", "status": letter})
 }
 
-/// The status of a refusal that the kind of request can have: 404 for a page that isn't there, 403 for what is
-/// forbidden, else 400.
-fn told_status(refusal: Refusal) -> StatusCode
-    ensures { result ≡ told_status refusal }
+/// The word by which a door says why a ticket isn't let in.
+fn reason_of(refusal: DoorRefusal) -> Option<&'static str>
+    ensures { option_copied result ≡ reason_of refusal }
+{
+    match refusal {
+        DoorRefusal::Invalid => Some("invalid"),
+        DoorRefusal::Canceled => Some("canceled"),
+        DoorRefusal::Product => Some("product"),
+        DoorRefusal::Unpaid => Some("unpaid"),
+        DoorRefusal::AlreadyRedeemed => Some("already_redeemed"),
+        _ => None,
+    }
+}
+
+/// A refusal of the doors, by its word where it has one, else by its number and its sentence.
+fn door_value(alloc: Global, refusal: DoorRefusal) -> Result<Value, AllocError>
+    ensures { IfOk result (λ v. view v ≡ door_body refusal (reason_of refusal)) }
+{
+    match reason_of(refusal) {
+        None => numbered_value(alloc, Refusal::Door(refusal)),
+        Some(word) => json!(in alloc; {"reason": word, "status": "error"}),
+    }
+}
+
+/// The status for an entry of the waiting list that was sent its voucher: 400 where it is to be sent another, and 403
+/// where it is to be changed or deleted.
+fn sent_status(kind: Kind) -> StatusCode
+    ensures { result ≡ sent_status kind }
+{
+    match kind {
+        Kind::SendVoucher => StatusCode::BAD_REQUEST,
+        _ => StatusCode::FORBIDDEN,
+    }
+}
+
+/// The status of a refusal that the kind of request can have: 404 for a page or a ticket that isn't there, 403 for what
+/// is forbidden, else 400.
+fn told_status(kind: Kind, refusal: Refusal) -> StatusCode
+    ensures { result ≡ told_status kind refusal }
 {
     match refusal {
         Refusal::NoPage => StatusCode::NOT_FOUND,
+        Refusal::Door(DoorRefusal::Invalid) => StatusCode::NOT_FOUND,
         Refusal::Voucher(VoucherRefusal::InUse) => StatusCode::FORBIDDEN,
+        Refusal::Waiting(WaitingRefusal::AlreadySent) => sent_status(kind),
         _ => StatusCode::BAD_REQUEST,
     }
 }
@@ -174,6 +237,7 @@ fn told_value(alloc: Global, refusal: Refusal) -> Result<Value, AllocError>
         Refusal::Voucher(VoucherRefusal::TooLarge) => too_large(alloc),
         Refusal::NoPage => detail_value(alloc, "Invalid page."),
         Refusal::Order(OrderRefusal::WrongStatus(status)) => wrong_status_value(alloc, status),
+        Refusal::Door(refusal) => door_value(alloc, refusal),
         _ => numbered_value(alloc, refusal),
     }
 }
@@ -205,12 +269,12 @@ fn manner_of(kind: Kind, refusal: Refusal) -> Manner
 }
 
 /// The status of a refusal that is told in that manner.
-fn status_in(manner: Manner, refusal: Refusal) -> StatusCode
-    ensures { result ≡ status_in manner refusal }
+fn status_in(manner: Manner, kind: Kind, refusal: Refusal) -> StatusCode
+    ensures { result ≡ status_in manner kind refusal }
 {
     match manner {
         Manner::Missing => StatusCode::NOT_FOUND,
-        Manner::Told => told_status(refusal),
+        Manner::Told => told_status(kind, refusal),
         Manner::Untold => StatusCode::OK,
     }
 }
@@ -233,5 +297,6 @@ pub(crate) fn refused(alloc: Global, kind: Kind, refusal: Refusal) -> Result<Res
     ensures { IfOk result (λ t. t ≡ refused kind refusal) }
 {
     let value = refusal_data(alloc, kind, refusal)?;
-    value_response(alloc, status_in(manner_of(kind, refusal), refusal), &value)
+    let status = status_in(manner_of(kind, refusal), kind, refusal);
+    value_response(alloc, status, &value)
 }

@@ -4,18 +4,21 @@ ghost use Rattle.std.specs.Prelude.{◌≡◌, None, IfOk};
 ghost use Rattle.std.specs.List.{list_all};
 ghost use Rattle.bo_words.specs.Responses.{response};
 ghost use Rattle.bo_words.specs.Results.{results_body};
-ghost use Rattle.bo_words.specs.Rows.{shown_body, availability_body};
-ghost use Rattle.bo_words.specs.Replies.{gone, untold, stands_alone, is_row_of, found, listed, words};
+ghost use Rattle.bo_shown.specs.Rows.{shown_body, availability_body};
+ghost use Rattle.bo_shown.specs.WaitingRows.{periodic_body};
+ghost use Rattle.bo_shown.specs.DoorRows.{admitted_body, door_status_body};
+ghost use Rattle.bo_words.specs.Replies.{gone, untold, is_made, stands_alone, is_row_of, made, found, listed, words};
 
 use crate::pages::append_page;
 use crate::refusals::refused;
 use crate::responses::value_response;
 use crate::results::append_results;
-use crate::rows::{append_shown, availability_value};
 use bo_base::{Body, Response};
-use bo_commands::{Page, Reply, Resource, Shown};
-use bo_lists::Availability;
-use bo_orders::Outcome;
+use bo_commands::{DoorStatus, Outcome, Page, PeriodicCounts, Reply, Resource, Shown};
+use bo_lists::{Availability, OrderPos};
+use bo_shown::{
+    admitted_value, append_shown, availability_value, door_status_value, periodic_value,
+};
 use http::StatusCode;
 use serde_json::json;
 use std::alloc::{AllocError, Global};
@@ -48,11 +51,29 @@ fn untold(alloc: Global) -> Result<Response, AllocError>
     value_response(alloc, StatusCode::OK, &value)
 }
 
-/// Whether the row is ever shown but where it is made.
+/// Whether a request makes a row of that kind; a check-in list's positions are made with their orders.
+fn is_made(shown: &Shown) -> bool
+    ensures { result ≡ is_made shown.now }
+{
+    !matches!(shown, Shown::Ticket(_))
+}
+
+/// 201 and a row that was made.
+fn made_response(alloc: Global, shown: &Shown) -> Result<Response, AllocError>
+    ensures { IfOk result (λ t. t ≡ made shown.now) }
+{
+    if is_made(shown) {
+        row_response(alloc, StatusCode::CREATED, shown)
+    } else {
+        untold(alloc)
+    }
+}
+
+/// Whether the row is ever shown by itself but where it is made.
 fn stands_alone(shown: &Shown) -> bool
     ensures { result ≡ stands_alone shown.now }
 {
-    !matches!(shown, Shown::Variation(_))
+    !matches!(shown, Shown::Variation(_) | Shown::Ticket(_))
 }
 
 /// 200 and a row that stands.
@@ -76,6 +97,9 @@ fn is_row_of(resource: Resource, shown: &Shown) -> bool
         Resource::Vouchers => matches!(shown, Shown::Voucher(_, _)),
         Resource::Carts => matches!(shown, Shown::Cart(_)),
         Resource::Orders => matches!(shown, Shown::Order(_)),
+        Resource::WaitingEntries => matches!(shown, Shown::Waiting(_)),
+        Resource::CheckinLists => matches!(shown, Shown::CheckinList(_)),
+        Resource::Tickets(_) => matches!(shown, Shown::Ticket(_)),
     }
 }
 
@@ -127,8 +151,32 @@ fn availability_response(alloc: Global, left: &Availability) -> Result<Response,
     value_response(alloc, StatusCode::OK, &value)
 }
 
-/// The words of a reply, in the shop of these slugs: 201 for what was made, 200 for what was asked for and for a bulk
-/// call, 204 for what was deleted, and for a refusal its status, its number and its sentence. A reply that no request
+/// 200 and what periodic work did.
+fn periodic_response(alloc: Global, counts: PeriodicCounts) -> Result<Response, AllocError>
+    ensures { IfOk result (λ t. t ≡ response 200 None (periodic_body counts)) }
+{
+    let value = periodic_value(alloc, counts)?;
+    value_response(alloc, StatusCode::OK, &value)
+}
+
+/// 201 and the position that was let in or out.
+fn admitted_response(alloc: Global, position: &OrderPos) -> Result<Response, AllocError>
+    ensures { IfOk result (λ t. t ≡ response 201 None (admitted_body position.now)) }
+{
+    let value = admitted_value(alloc, position)?;
+    value_response(alloc, StatusCode::CREATED, &value)
+}
+
+/// 200 and the numbers of a check-in list.
+fn status_response(alloc: Global, door: DoorStatus) -> Result<Response, AllocError>
+    ensures { IfOk result (λ t. t ≡ response 200 None (door_status_body door)) }
+{
+    let value = door_status_value(alloc, door)?;
+    value_response(alloc, StatusCode::OK, &value)
+}
+
+/// The words of a reply, in the shop of these slugs: 201 for what was made and for a ticket that was let in or out, 200
+/// for what was asked for, for a bulk call and for periodic work, 204 for what was deleted, and for a refusal its status, its number and its sentence. A reply that no request
 /// leads to has 200 and `{}`.
 #[tactic(auto, unfolding(crate::specs::Replies::words))]
 pub fn words(
@@ -140,12 +188,15 @@ pub fn words(
     ensures { IfOk result (λ response. response ≡ words organizer.now event.now reply.now) }
 {
     match reply {
-        Reply::Made(shown) => row_response(alloc, StatusCode::CREATED, shown),
+        Reply::Made(shown) => made_response(alloc, shown),
         Reply::Found(shown) => found_response(alloc, shown),
         Reply::Results(outcomes) => results_response(alloc, outcomes.as_slice()),
         Reply::Listed(page) => page_response(alloc, organizer, event, page),
         Reply::Gone => Ok(gone(alloc)),
         Reply::Availability(left) => availability_response(alloc, left),
+        Reply::Periodic(counts) => periodic_response(alloc, *counts),
+        Reply::Admitted(position) => admitted_response(alloc, position),
+        Reply::Status(door) => status_response(alloc, *door),
         Reply::Refused(kind, refusal) => refused(alloc, *kind, *refusal),
     }
 }

@@ -6,13 +6,11 @@ ghost use Rattle.serde_json.specs.Written.{compact_text};
 ghost use Rattle.bo_words.specs.Results.{entry_fault_body, result_body, outcome_body, results_body};
 
 use crate::faults::fault_value;
-use crate::pieces::{WriteRow, append_key_and_list, append_text, append_value};
 use crate::refusals::refusal_data;
 use crate::responses::detail_value;
-use crate::rows::cart_value;
-use bo_commands::{Kind, Refusal};
+use bo_commands::{Kind, Outcome, Refusal};
 use bo_faults::EntryFault;
-use bo_orders::Outcome;
+use bo_shown::{WriteRow, append_key_and_list, append_text, append_value, cart_value};
 use serde_json::{Value, json};
 use std::alloc::{AllocError, Global};
 

@@ -40,8 +40,16 @@ pub(crate) fn row_of(kind: Kind) -> Row
         Kind::DropCart => numbers(&[40], &[]),
         Kind::AddOrder => numbers(&[], &[43, 44, 10, 11, 12, 15, 18, 23, 24, 26, 25, 28, 16]),
         Kind::MoveOrder => numbers(&[41], &[42, 25, 28]),
-        Kind::List => numbers(&[], &[59]),
-        Kind::One => numbers(&[10, 13, 23, 40, 41], &[]),
+        Kind::AddWaiting => numbers(&[], &[10, 11, 12, 15, 30, 29, 16]),
+        Kind::ChangeWaiting => numbers(&[32], &[31]),
+        Kind::DropWaiting => numbers(&[32], &[31]),
+        Kind::SendVoucher => numbers(&[32], &[31, 15, 18, 28, 16]),
+        Kind::Periodic => numbers(&[], &[]),
+        Kind::AddCheckinList => numbers(&[], &[10, 16]),
+        Kind::Redeem => numbers(&[50], &[51, 52, 53, 54, 55, 16]),
+        Kind::List => numbers(&[50], &[59]),
+        Kind::One => numbers(&[10, 13, 23, 40, 41, 32, 50], &[]),
         Kind::Availability => numbers(&[13], &[]),
+        Kind::Status => numbers(&[50], &[]),
     }
 }

@@ -17,6 +17,8 @@ import orders  # noqa: F401
 import bulk  # noqa: F401
 import limits  # noqa: F401
 import edges  # noqa: F401
+import waiting  # noqa: F401
+import doors  # noqa: F401
 
 HERE = Path(__file__).parent.parent
 

@@ -1,4 +1,5 @@
-use Rattle.std.proofs.Common.{◌≡◌, ◌+◌, drop, Ok}
+use Rattle.std.proofs.Common.{◌≡◌, ◌+◌, ◌++◌, drop, map, Ok}
+use Rattle.bo_lists.specs.declared.changes.Change.TheVariants.{PutPosition}
 use Rattle.bo_draft.specs.DraftState.{now, Extends}
 use Rattle.bo_orders.specs.Created.{with_positions, IsReady, AreCounted}
 use Rattle.bo_orders.proofs.creating.put_positions.Given as goal
@@ -8,5 +9,6 @@ invariant-loop-row g l = record {
   rest : with_positions (drop l.row-index l.rows) (Ok (now l.draft)) ≡ with_positions l.rows (Ok (now l.fn.draft));
   ready : IsReady (l.first + l.row-index) (now l.draft);
   counted : AreCounted (l.first + l.row-index) (drop l.row-index l.rows);
+  changes : l.draft.log.changes ++ map PutPosition (drop l.row-index l.rows) ≡ l.fn.draft.log.changes ++ map PutPosition l.rows;
   extends : Extends l.fn.draft l.draft;
 }

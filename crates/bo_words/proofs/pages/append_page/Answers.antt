@@ -1,11 +1,11 @@
 use Rattle.std.proofs.Common.{ap, ◌∙◌, map, codes}
 use Rattle.serde_json.specs.Data.{Members, member, no_members}
 use Rattle.serde_json.specs.Written.{compact_text, has_float}
-use Rattle.bo_words.specs.Values.{list}
-use Rattle.bo_words.specs.Rows.{shown_body}
+use Rattle.bo_shown.specs.Values.{list}
+use Rattle.bo_shown.specs.Rows.{shown_body}
 use Rattle.bo_words.specs.Pages.{page_members}
-use Rattle.bo_words.proofs.Floats.{page_no_float}
-use Rattle.bo_words.proofs.PieceLemmas.{begun, list_of, with_member, ended}
+use Rattle.bo_words.proofs.PageFloats.{page_no_float}
+use Rattle.bo_shown.proofs.PieceLemmas.{begun, list_of, with_member, ended}
 use Rattle.bo_words.proofs.pages.append_page.Goals as goal
 
 pub append_opened-requires : goal.append_opened-requires

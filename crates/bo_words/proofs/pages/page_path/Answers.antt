@@ -9,5 +9,5 @@ pub returns : goal.returns
 unfolding page_path
 returns c =
     let front = codes "/api/v1/organizers/" ++ c.args.organizer.now ++ codes "/events/" ++ c.args.event.now in
-    IfOk-weaker c.format.result _ _ (λ s h. h ∙ pieces_grouped (codes "/api/v1/organizers/") c.args.organizer.now (codes "/events/") c.args.event.now c.resource_path-path.result.now (codes "?page=") (decimal c.args.number)
-    ∙ ap (λ path. front ++ path ++ codes "?page=" ++ decimal c.args.number) c.resource_path-path.ensures) c.format.ensures.ok
+    IfOk-weaker c.format.result _ _ (λ s h. h ∙ pieces_grouped (codes "/api/v1/organizers/") c.args.organizer.now (codes "/events/") c.args.event.now _ (codes "?page=") (decimal c.args.number)
+    ∙ ap (λ path. front ++ path ++ codes "?page=" ++ decimal c.args.number) c.in_ok-path.ensures) c.format.ensures.ok

@@ -12,4 +12,4 @@ pub returns-clause-sound : goal.returns-clause-sound
 returns-clause-sound g c =
     let sound = subst (λ (view : OfficeView). IsSound view.state) c.self.view_is c.self.invariant in
     let last : c.args.at ≤ last_moment = search rules in
-    IfOk-weaker c.decided.result _ _ (λ r h. subst IsSound (sym (ap (λ (x : State × Reply). x.0) h)) (step_sound c.args.command.now c.args.at c.args.draw c.args.self.now.state c.requires last sound)) c.decided.ensures.step
+    IfOk-weaker c.decided.result _ _ (λ r h. subst IsSound (sym (ap (λ (x : State × Reply). x.0) h)) (step_sound c.args.command.now c.args.at c.args.draw c.args.self.now.state c.known.ensures c.known-2.ensures c.requires last sound)) c.decided.ensures.step

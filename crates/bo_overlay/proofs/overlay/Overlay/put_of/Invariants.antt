@@ -1,5 +1,5 @@
 use Rattle.bo_overlay.proofs.CodeKeys.{IsWalked}
-use Rattle.bo_overlay.proofs.EarlierPlaces.{height}
+use Rattle.bo_log.proofs.EarlierPlaces.{height}
 use Rattle.bo_overlay.proofs.overlay.Overlay.put_of.Given as goal
 
 -- the least of those that the changes from here on put

@@ -1,0 +1,9 @@
+-- Draws.
+use Rattle.std.specs.Prelude.{◌≡◌, length}
+use Rattle.hex.specs.Hex.{IsBytes}
+use Rattle.bo_base.specs.declared.draw.Draw.{Draw}
+
+-- a draw is sixteen bytes
+pub record IsDraw (draw : Draw) : Type 0 where
+  pub sixteen : length draw.bytes ≡ 16
+  pub bytes : IsBytes draw.bytes

@@ -1,0 +1,71 @@
+-- What the types of requests promise: texts, amounts of money, moments and counts are within their limits.
+use Rattle.std.specs.Prelude.{IfSome}
+use Rattle.std.specs.List.{AllByRecursion}
+use Rattle.bo_base.specs.Counts.{IsUses, IsPriority}
+use Rattle.bo_base.specs.Moments.{IsMoment}
+use Rattle.bo_base.specs.Money.{IsMoney}
+use Rattle.bo_base.specs.Texts.{IsText}
+use Rattle.bo_commands.specs.declared.vouchers.NewVoucher.{NewVoucher}
+use Rattle.bo_commands.specs.declared.vouchers.VoucherPatch.{VoucherPatch}
+use Rattle.bo_commands.specs.declared.carts.Asked.{Asked}
+use Rattle.bo_commands.specs.declared.carts.NewCart.{NewCart}
+use Rattle.bo_commands.specs.declared.carts.Entry.{Entry}
+use Rattle.bo_commands.specs.declared.carts.Entry.TheVariants as entries
+use Rattle.bo_commands.specs.declared.orders.NewOrder.{NewOrder}
+use Rattle.bo_commands.specs.declared.orders.Move.{Move}
+use Rattle.bo_commands.specs.declared.orders.Move.TheVariants as moves
+use Rattle.bo_commands.specs.declared.waiting.NewWaiting.{NewWaiting}
+use Rattle.bo_commands.specs.declared.waiting.WaitingPatch.{WaitingPatch}
+use Rattle.bo_commands.specs.declared.doors.NewCheckinList.{NewCheckinList}
+use Rattle.bo_commands.specs.declared.doors.Scan.{Scan}
+
+pub record IsFitVoucher (new : NewVoucher) : Type 0 where
+  pub code : IfSome new.code IsText
+  pub uses : IsUses new.max_usages
+  pub end : IfSome new.valid_until IsMoment
+  pub value : IfSome new.value IsMoney
+  pub tag : IsText new.tag
+  pub comment : IsText new.comment
+
+pub record IsFitVoucherPatch (patch : VoucherPatch) : Type 0 where
+  pub code : IfSome patch.code IsText
+  pub uses : IfSome patch.max_usages IsUses
+  pub end : IfSome patch.valid_until (λ end. IfSome end IsMoment)
+  pub value : IfSome patch.value (λ value. IfSome value IsMoney)
+  pub tag : IfSome patch.tag IsText
+  pub comment : IfSome patch.comment IsText
+
+pub record IsFitAsked (asked : Asked) : Type 0 where
+  pub price : IfSome asked.price IsMoney
+
+pub record IsFitCart (new : NewCart) : Type 0 where
+  pub asked : IsFitAsked new.asked
+  pub cart_id : IfSome new.cart_id IsText
+  pub expires : IfSome new.expires IsMoment
+
+abbrev pub IsFitEntry : Entry → Type 0
+IsFitEntry (entries.New new) = IsFitCart new
+IsFitEntry (entries.Faulty fault) = Unit {0}
+
+pub record IsFitOrder (new : NewOrder) : Type 0 where
+  pub email : IfSome new.email IsText
+  pub expires : IfSome new.expires IsMoment
+  pub positions : AllByRecursion IsFitAsked new.positions
+
+abbrev pub IsFitMove : Move → Type 0
+IsFitMove (moves.Extend end) = IsMoment end
+IsFitMove other = Unit {0}
+
+pub record IsFitWaiting (new : NewWaiting) : Type 0 where
+  pub email : IsText new.email
+  pub priority : IsPriority new.priority
+
+pub record IsFitWaitingPatch (patch : WaitingPatch) : Type 0 where
+  pub priority : IfSome patch.priority IsPriority
+
+pub record IsFitCheckinList (new : NewCheckinList) : Type 0 where
+  pub name : IsText new.name
+
+pub record IsFitScan (scan : Scan) : Type 0 where
+  pub nonce : IfSome scan.nonce IsText
+  pub datetime : IfSome scan.datetime IsMoment

@@ -1,0 +1,17 @@
+use Rattle.std.proofs.Common.{refl}
+use Rattle.bo_door.specs.Last.{later}
+use Rattle.bo_door.specs.Belongs.{belongs}
+use Rattle.bo_door.specs.Status.{status_of, ticket_of}
+use Rattle.bo_door.proofs.worked.the_last_goes_by_its_moment.Goals as goal
+
+pub returns-clause-uploaded : goal.returns-clause-uploaded
+unfolding status_of ticket_of belongs later
+returns-clause-uploaded c = refl
+
+pub returns-clause-together : goal.returns-clause-together
+unfolding status_of ticket_of belongs later
+returns-clause-together c = refl
+
+pub returns-clause-page : goal.returns-clause-page
+unfolding status_of ticket_of belongs later
+returns-clause-page c = refl

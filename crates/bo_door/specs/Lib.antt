@@ -1,0 +1,9 @@
+pub mod ListAdded
+pub mod Last
+pub mod Belongs
+pub mod Verdict
+pub mod Valid
+pub mod Scanned
+pub mod Stays
+pub mod Status
+pub mod Worked

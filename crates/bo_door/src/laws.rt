@@ -1,0 +1,64 @@
+//! Laws of the decisions at the door.
+
+ghost use Rattle.std.specs.Prelude.{◌≡◌, ℕ, true, List, Some, Ok, is_some};
+ghost use Rattle.bo_catalogue.specs.declared.rows.Quota.{Quota};
+ghost use Rattle.bo_lists.specs.declared.rows.OrderPos.{OrderPos};
+ghost use Rattle.bo_lists.specs.declared.rows.CheckinList.{CheckinList};
+ghost use Rattle.bo_lists.specs.declared.rows.Checkin.{Checkin};
+ghost use Rattle.bo_lists.specs.Lists.{State, checkin_list_at};
+ghost use Rattle.bo_lists.specs.Takes.{used};
+ghost use Rattle.bo_sound.specs.Checkins.{AreOnce};
+ghost use Rattle.bo_sound.specs.Sound.{IsSound};
+ghost use Rattle.bo_commands.specs.FitRequests.{IsFitCheckinList, IsFitScan};
+ghost use Rattle.bo_commands.specs.declared.doors.NewCheckinList.{NewCheckinList};
+ghost use Rattle.bo_commands.specs.declared.doors.Ticket.{Ticket};
+ghost use Rattle.bo_commands.specs.declared.doors.Scan.{Scan};
+ghost use Rattle.bo_door.specs.Last.{IsLast, checkins_of, last_of};
+ghost use Rattle.bo_door.specs.ListAdded.{list_added};
+ghost use Rattle.bo_door.specs.Scanned.{scanned};
+ghost use Rattle.bo_door.specs.Valid.{IsStillGood};
+ghost use Rattle.bo_door.specs.Verdict.{shown_by, is_stored};
+
+/// A sound box office stays sound where a check-in list is added and where a ticket is scanned.
+pub fn doors_keep_sound()
+    ensures added { (new : NewCheckinList) (before after : State) (row : CheckinList) →
+        IsFitCheckinList new → IsSound before → list_added new before ≡ Ok (after, row) → IsSound after }
+    ensures scanned { (list : ℕ) (ticket : Ticket) (scan : Scan) (before after : State) (position : OrderPos) →
+        IsFitScan scan → IsSound before → scanned list ticket scan before ≡ Ok (after, position) → IsSound after }
+{}
+
+/// Neither a new check-in list nor a scan changes what is used of a quota.
+pub fn doors_use_nothing()
+    ensures added { (new : NewCheckinList) (before after : State) (row : CheckinList) (quota : Quota) →
+        list_added new before ≡ Ok (after, row) → used after quota ≡ used before quota }
+    ensures scanned { (list : ℕ) (ticket : Ticket) (scan : Scan) (before after : State) (position : OrderPos) (quota : Quota) →
+        scanned list ticket scan before ≡ Ok (after, position) → used after quota ≡ used before quota }
+{}
+
+/// In a box office that is sound before it, a scan leaves no list with a nonce twice for a position.
+pub fn a_nonce_is_stored_once()
+    ensures { (list : ℕ) (ticket : Ticket) (scan : Scan) (before after : State) (position : OrderPos) →
+        IsFitScan scan → IsSound before → scanned list ticket scan before ≡ Ok (after, position) → AreOnce after.lists.checkins }
+{}
+
+/// A scan with a nonce that is let through leaves a check-in with it, and further scans leave it there. The scan is let
+/// through again and changes nothing, whatever came between, as long as its list and its position stand, the check-in is
+/// stored, and its order stands as it did, or is paid.
+pub fn a_scan_again_adds_nothing()
+    ensures stores { (list : ℕ) (ticket : Ticket) (scan : Scan) (before after : State) (position : OrderPos) →
+        is_some scan.nonce ≡ true → scanned list ticket scan before ≡ Ok (after, position) →
+        is_stored list position.id scan.nonce after.lists.checkins ≡ true }
+    ensures stays { (list position : ℕ) (scan other : Scan) (at : ℕ) (ticket : Ticket) (before after : State) (row : OrderPos) →
+        is_stored list position scan.nonce before.lists.checkins ≡ true → scanned at ticket other before ≡ Ok (after, row) →
+        IsSound before → is_stored list position scan.nonce after.lists.checkins ≡ true }
+    ensures again { (list : ℕ) (ticket : Ticket) (scan : Scan) (before after later : State) (position : OrderPos) →
+        scanned list ticket scan before ≡ Ok (after, position) →
+        checkin_list_at list later.lists ≡ checkin_list_at list before.lists → shown_by ticket later.lists ≡ Some position →
+        IsStillGood position.order before.lists later.lists → is_stored list position.id scan.nonce later.lists.checkins ≡ true →
+        scanned list ticket scan later ≡ Ok (later, position) }
+{}
+
+/// The last check-in of a position by a list is one of them, and none of them is later.
+pub fn the_last_is_the_greatest()
+    ensures { (list position : ℕ) (checkins : List Checkin) → IsLast (last_of list position checkins) (checkins_of list position checkins) }
+{}

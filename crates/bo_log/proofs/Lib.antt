@@ -1,0 +1,4 @@
+pub mod LastPlaces
+pub mod Indexes
+pub mod EarlierPlaces
+pub mod KeyIndexes

@@ -1,0 +1,92 @@
+//! The rows of one table that a log touches, in order of id.
+
+ghost use Rattle.std.specs.Prelude.{◌≡◌, [], OnOk, OnErr, None, Some};
+ghost use Rattle.bo_log.specs.declared.touched.Touch.{Touch};
+ghost use Rattle.bo_base.specs.Tables.{with_row};
+ghost use Rattle.bo_log.specs.Places.{place_in};
+
+use bo_base::{Row, place_of};
+use std::alloc::{AllocError, Global};
+use std::marker::Model;
+
+/// A row that a log touches or touched, and the last place where it does so.
+#[derive(Clone, Copy, Debug)]
+pub struct Touch {
+    pub id: u64,
+    pub place: Option<usize>,
+}
+
+impl Row for Touch {
+    ghost key = { λ t. t.id };
+
+    fn id(&self) -> u64 {
+        self.id
+    }
+}
+
+/// The rows of one table that a log touches.
+#[derive(Drop)]
+pub struct Touched {
+    rows: Vec<Touch>,
+}
+
+impl Model for Touched {
+    ghost use Rattle.std.specs.Prelude.{List};
+    ghost use Rattle.bo_base.specs.Tables.{AreInOrder};
+    ghost use Rattle.bo_log.specs.declared.touched.Touch.{Touch};
+
+    ghost Value = { List Touch };
+
+    ghost view = { λ t. t.rows.items };
+
+    ghost invariant = { λ t. AreInOrder (λ r. r.id) t.rows.items };
+}
+
+impl Touched {
+    /// No rows.
+    pub fn new(alloc: Global) -> Self
+        ensures { result ≡ [] }
+    {
+        Touched {
+            rows: Vec::new(alloc),
+        }
+    }
+
+    /// The last place that touches the row.
+    pub fn last(&self, id: u64) -> Option<usize>
+        ensures { result ≡ place_in id self.now }
+    {
+        match place_of(&self.rows, id) {
+            Ok(at) => self.rows[at].place,
+            Err(_) => None,
+        }
+    }
+
+    /// Keeps a place as the last one that touches the row.
+    pub fn touch(&mut self, id: u64, place: usize) -> Result<(), AllocError>
+        ensures ok { OnOk result (self.new ≡ with_row (λ r. r.id) (record { id = id; place = Some place }) self.old) }
+        ensures err { OnErr result (self.new ≡ self.old) }
+    {
+        let touch = Touch {
+            id,
+            place: Some(place),
+        };
+        match place_of(&self.rows, id) {
+            Ok(at) => {
+                self.rows[at] = touch;
+                Ok(())
+            }
+            Err(at) => Ok(self.rows.insert(at, touch)?),
+        }
+    }
+
+    /// Goes back to an earlier place, or to none, of a row that is touched.
+    pub fn go_back(&mut self, id: u64, place: Option<usize>)
+        requires { place_in id self.old ≡ None → ⊥ }
+        ensures { self.new ≡ with_row (λ r. r.id) (record { id = id; place = place }) self.old }
+    {
+        if let Ok(at) = place_of(&self.rows, id) {
+            self.rows[at] = Touch { id, place };
+        }
+    }
+}

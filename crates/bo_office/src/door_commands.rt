@@ -1,0 +1,62 @@
+//! Commands of the doors. None of them depends on its draw.
+
+ghost use Rattle.std.specs.Prelude.{◌≡◌, ◌≤◌, IfOk};
+ghost use Rattle.bo_base.specs.declared.draw.Draw.{Draw};
+ghost use Rattle.bo_lists.specs.Change.{applied};
+ghost use Rattle.bo_office.specs.Changes.{changes_of};
+ghost use Rattle.bo_office.specs.Step.{RefusesWithoutChange, step};
+ghost use Rattle.bo_commands.specs.declared.requests.Command.{Command};
+
+use crate::office::Office;
+use bo_base::Moment;
+use bo_commands::{DoorRefusal, Kind, NewCheckinList, Refusal, Reply, Scan, Shown, Ticket};
+use bo_door::{add_list, redeem};
+use bo_lists::Changes;
+use bo_usage::Book;
+use std::alloc::{AllocError, Global};
+
+impl<B: Book> Office<B> {
+    // Adds a check-in list.
+    pub(crate) fn add_checkin_list(
+        &self,
+        alloc: Global,
+        at: Moment,
+        new: &NewCheckinList,
+    ) -> Result<(Changes, Reply), AllocError>
+        requires { self.now.state.moment ≤ at }
+        ensures step { IfOk result (λ r. (draw : Draw) → (applied r.0 at self.now.state, r.1) ≡ step (Command.AddCheckinList new.now) at draw self.now.state) }
+        ensures changes { IfOk result (λ r. (draw : Draw) → r.0.list ≡ changes_of (Command.AddCheckinList new.now) draw (record self.now.state { moment = at }) r.1) }
+        ensures refused { IfOk result (RefusesWithoutChange self.now.state) }
+    {
+        let mut draft = self.open(alloc, at)?;
+        let reply = match add_list(&mut draft, alloc, new) {
+            Ok(row) => Reply::Made(Shown::CheckinList(row)),
+            Err(DoorRefusal::Memory) => return Err(AllocError),
+            Err(refusal) => Reply::Refused(Kind::AddCheckinList, Refusal::Door(refusal)),
+        };
+        Ok((draft.finish(), reply))
+    }
+
+    // Checks a ticket in or out.
+    pub(crate) fn redeem(
+        &self,
+        alloc: Global,
+        at: Moment,
+        list: u64,
+        ticket: &Ticket,
+        scan: &Scan,
+    ) -> Result<(Changes, Reply), AllocError>
+        requires { self.now.state.moment ≤ at }
+        ensures step { IfOk result (λ r. (draw : Draw) → (applied r.0 at self.now.state, r.1) ≡ step (Command.Redeem list ticket.now scan.now) at draw self.now.state) }
+        ensures changes { IfOk result (λ r. (draw : Draw) → r.0.list ≡ changes_of (Command.Redeem list ticket.now scan.now) draw (record self.now.state { moment = at }) r.1) }
+        ensures refused { IfOk result (RefusesWithoutChange self.now.state) }
+    {
+        let mut draft = self.open(alloc, at)?;
+        let reply = match redeem(&mut draft, alloc, list, ticket, scan) {
+            Ok(position) => Reply::Admitted(position),
+            Err(DoorRefusal::Memory) => return Err(AllocError),
+            Err(refusal) => Reply::Refused(Kind::Redeem, Refusal::Door(refusal)),
+        };
+        Ok((draft.finish(), reply))
+    }
+}

@@ -1,0 +1,117 @@
+-- The rows that carts and orders get are within their limits.
+use Rattle.std.proofs.Common.{◌≡◌, ℕ, ◌+◌, ◌^◌, ◌<◌, min, List, [], ◌∷◌, ◌++◌, length, decimal, codes, Option, Some, None, Result, Ok, Err, refl, subst, arith}
+use Rattle.std.specs.Prelude.{IfSome}
+use Rattle.std.specs.List.{AllByRecursion}
+use Rattle.hex.specs.Hex.{encode_lower}
+use Rattle.bo_base.specs.Draws.{IsDraw}
+use Rattle.bo_base.specs.Moments.{last_moment, IsMoment}
+use Rattle.bo_base.specs.Texts.{IsText}
+use Rattle.bo_base.specs.declared.draw.Draw.{Draw}
+use Rattle.bo_base.proofs.Pieces.{text_of, behind, with_number, hex_piece, secret_text}
+use Rattle.bo_lists.specs.declared.rows.CartPos.{CartPos}
+use Rattle.bo_lists.specs.declared.rows.Order.{Order}
+use Rattle.bo_lists.specs.declared.rows.OrderPos.{OrderPos}
+use Rattle.bo_lists.specs.declared.rows.Status.{Status}
+use Rattle.bo_lists.specs.Lists.{State}
+use Rattle.bo_sound.specs.Limits.{IsLimitedCart, IsLimitedOrder, IsLimitedPosition}
+use Rattle.bo_sound.specs.Sound.{IsSound}
+use Rattle.bo_commands.specs.FitRequests.{IsFitAsked, IsFitCart, IsFitOrder, IsFitMove}
+use Rattle.bo_commands.specs.declared.carts.Asked.{Asked}
+use Rattle.bo_commands.specs.declared.carts.NewCart.{NewCart}
+use Rattle.bo_commands.specs.declared.orders.Move.{Move}
+use Rattle.bo_commands.specs.declared.orders.Move.TheVariants as moves
+use Rattle.bo_commands.specs.declared.orders.NewOrder.{NewOrder}
+use Rattle.bo_commands.specs.declared.orders.OrderRefusal.{OrderRefusal}
+use Rattle.bo_commands.specs.declared.vouchers.VoucherRefusal.{VoucherRefusal}
+use Rattle.bo_vouchers.proofs.Limited.{given_or}
+use Rattle.bo_orders.specs.declared.sold.Sold.{Sold}
+use Rattle.bo_orders.specs.CartId.{cart_id_test, made_cart_id, cart_id_of}
+use Rattle.bo_orders.specs.Carts.{cart_row, row_in_cart, row_of_sold}
+use Rattle.bo_orders.specs.Created.{order_row, position_row, position_of_sold, position_for, and_rows, rows_for}
+use Rattle.bo_orders.specs.Moves.{end_after, moved_row}
+use Rattle.bo_orders.specs.Sold.{sold_for}
+use Rattle.bo_orders.proofs.Prices.{sold_money}
+
+-- a cart id that is made is a text
+pub made_cart_text : (draw : Draw) (id : ℕ) → IsDraw draw → id < 2 ^ 64 → IsText (made_cart_id draw id)
+unfolding made_cart_id
+made_cart_text draw id sixteen small =
+    let front = with_number 32 (encode_lower draw.bytes) id (hex_piece draw sixteen) small in
+    text_of 57 (made_cart_id draw id) (behind 53 4 (encode_lower draw.bytes ++ codes "z" ++ decimal id) (codes "@api") front (record { short = omega arith; plain = refl })) (omega arith)
+
+cart_text : (given : Option (List ℕ)) (draw : Draw) (id : ℕ) → IsDraw draw → id < 2 ^ 64 → IfSome given IsText → IsText (cart_id_of given draw id)
+cart_text None draw id sixteen small its = made_cart_text draw id sixteen small
+cart_text (Some given) draw id sixteen small its = its
+
+-- an end by default
+ends : (at : ℕ) → IsMoment (min at last_moment)
+ends at = omega arith
+
+ok_row : (a b : CartPos) → (let all : Result CartPos OrderRefusal = Ok a in all ≡ Ok b) → a ≡ b
+ok_row a b h = cc
+
+-- a new cart position
+module _ (new : NewCart) (draw : Draw) (state : State) (fit : IsFitCart new) (sixteen : IsDraw draw) (sound : IsSound state) (row : CartPos) where
+  cart_by_sold : (sold : Result Sold VoucherRefusal) → sold_for new.asked state ≡ sold → row_of_sold new draw state sold ≡ Ok row → IsLimitedCart row
+  cart_by_sold (Err refusal) is h = absurd (cc)
+  cart_by_sold (Ok sold) is h =
+      let same = ok_row _ row h in
+      subst IsLimitedCart same (record {
+        cart_id = cart_text new.cart_id draw state.next.cart sixteen (omega (arith, sound.range.next_ids.carts.within)) fit.cart_id;
+        price = sold_money new.asked fit.asked state sound.ids.vouchers.in_order sound.limits sold is;
+        made_at = sound.range.moment;
+        expires = given_or IsMoment new.expires (min (state.moment + 1800) last_moment) fit.expires (ends (state.moment + 1800));
+      })
+
+  cart_by_test : (test : Result (Unit {0}) OrderRefusal) → row_in_cart new draw state test ≡ Ok row → IsLimitedCart row
+  cart_by_test (Err refusal) h = absurd (cc)
+  cart_by_test (Ok u) h = cart_by_sold (sold_for new.asked state) refl h
+
+  pub cart_limited : cart_row new draw state ≡ Ok row → IsLimitedCart row
+  unfolding cart_row
+  cart_limited h = cart_by_test (cart_id_test new.cart_id) h
+
+-- a new order
+pub order_limited : (new : NewOrder) (state : State) → IsFitOrder new → IsSound state → IsLimitedOrder (order_row new state)
+order_limited new state fit sound = record {
+  email = fit.email;
+  made_at = sound.range.moment;
+  expires = given_or IsMoment new.expires (min (state.moment + 1209600) last_moment) fit.expires (ends (state.moment + 1209600));
+}
+
+-- its positions
+module _ (draw : Draw) (state : State) (sixteen : IsDraw draw) (sound : IsSound state) where
+  limited_sold : (id number : ℕ) (asked : Asked) → IsFitAsked asked → number < 2 ^ 64 → (sold : Result Sold VoucherRefusal) (row : OrderPos) → sold_for asked state ≡ sold → position_of_sold draw state.next.order id number sold ≡ Ok row → IsLimitedPosition row
+  limited_sold id number asked fit small (Err refusal) row is h = absurd (cc (h))
+  limited_sold id number asked fit small (Ok sold) row is h =
+      let same : position_row draw state.next.order id number sold ≡ row = cc (h) in
+      subst IsLimitedPosition same (record {
+        price = sold_money asked fit state sound.ids.vouchers.in_order sound.limits sold is;
+        secret = secret_text draw state.next.order number sixteen (omega (arith, sound.range.next_ids.orders.within)) small;
+      })
+
+  limited_row : (id number : ℕ) (asked : Asked) → IsFitAsked asked → number < 2 ^ 64 → (row : OrderPos) → position_for draw state id number asked ≡ Ok row → IsLimitedPosition row
+  unfolding position_for
+  limited_row id number asked fit small row h = limited_sold id number asked fit small (sold_for asked state) row refl h
+
+  both : (id number : ℕ) (asked : Asked) → IsFitAsked asked → number < 2 ^ 64 → (first : Result OrderPos OrderRefusal) → position_for draw state id number asked ≡ first → (rest : Result (List OrderPos) OrderRefusal) → ((rows : List OrderPos) → rest ≡ Ok rows → AllByRecursion IsLimitedPosition rows) → (rows : List OrderPos) → and_rows first rest ≡ Ok rows → AllByRecursion IsLimitedPosition rows
+  both id number asked fit small (Err refusal) e rest more rows h = absurd (cc (h))
+  both id number asked fit small (Ok row) e (Err refusal) more rows h = absurd (cc (h))
+  both id number asked fit small (Ok row) e (Ok others) more rows h =
+      let same : (row ∷ others) ≡ rows = cc (h) in
+      subst (AllByRecursion IsLimitedPosition) same (limited_row id number asked fit small row e, more others refl)
+
+  pub positions_limited : (id number : ℕ) (asked : List Asked) (rows : List OrderPos) → number + length asked < 2 ^ 64 → AllByRecursion IsFitAsked asked → rows_for draw state id number asked ≡ Ok rows → AllByRecursion IsLimitedPosition rows
+  positions_limited id number [] rows small fit h = let same : [] ≡ rows = cc (h) in subst (AllByRecursion IsLimitedPosition) same tt
+  positions_limited id number (entry ∷ more) rows small fit h = both id number entry fit.0 (omega (arith, small)) (position_for draw state id number entry) refl (rows_for draw state (id + 1) (number + 1) more) (λ rest is. positions_limited (id + 1) (number + 1) more rest (omega (arith, small)) fit.1 is) rows h
+
+-- an order that is moved
+end_limited : (change : Move) (old : ℕ) → IsFitMove change → IsMoment old → IsMoment (end_after change old)
+end_limited (moves.Extend end) old fit its = fit
+end_limited moves.MarkPaid old fit its = its
+end_limited moves.MarkPending old fit its = its
+end_limited moves.MarkExpired old fit its = its
+end_limited moves.MarkCanceled old fit its = its
+
+pub moved_limited : (old : Order) (status : Status) (change : Move) → IsFitMove change → IsLimitedOrder old → IsLimitedOrder (moved_row old status change)
+moved_limited old status change fit its = record { email = its.email; made_at = its.made_at; expires = end_limited change old.expires fit its.expires }

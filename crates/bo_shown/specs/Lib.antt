@@ -1,0 +1,7 @@
+pub mod Values
+pub mod Pieces
+pub mod OrderRows
+pub mod WaitingRows
+pub mod DoorRows
+pub mod Rows
+pub mod VoucherParts

@@ -1,0 +1,124 @@
+//! Orders and their positions as JSON.
+
+ghost use Rattle.std.specs.Prelude.{◌≡◌, ◌++◌, IfOk, OnOk};
+ghost use Rattle.serde_json.specs.Data.{object, no_members};
+ghost use Rattle.serde_json.specs.View.{view};
+ghost use Rattle.serde_json.specs.Written.{compact_text};
+ghost use Rattle.bo_base.specs.Codes.{order_code};
+ghost use Rattle.bo_shown.specs.OrderRows.{status_letter, order_total, position_body, order_members, last_members, order_body};
+
+use crate::pieces::{
+    WriteRow, append_list_member, append_members, append_opened, append_text, append_value,
+};
+use crate::values::{count_or_null, moment, money, text_or_null};
+use bo_base::codes::LAST_ORDER;
+use bo_base::{Text, order_code, total_text};
+use bo_lists::{Order, OrderPos, Status};
+use serde_json::{Value, json};
+use std::alloc::{AllocError, Global};
+
+// How many texts of five places in base 28 there are.
+const CODES: u64 = LAST_ORDER as u64 + 1;
+
+/// The letter of an order's status.
+pub fn status_letter(status: Status) -> &'static str
+    ensures { result.now ≡ status_letter status }
+{
+    match status {
+        Status::Pending => "n",
+        Status::Paid => "p",
+        Status::Expired => "e",
+        Status::Cancelled => "c",
+    }
+}
+
+/// The code of the order with this number; of a number beyond that of the last code, its last five places in base 28.
+fn code(alloc: Global, number: u64) -> Result<Text, AllocError>
+    ensures { IfOk result (λ code. code ≡ order_code number) }
+{
+    order_code(alloc, (number % CODES) as u32)
+}
+
+/// A position.
+pub(crate) fn position_value(alloc: Global, position: &OrderPos) -> Result<Value, AllocError>
+    ensures { IfOk result (λ v. view v ≡ position_body position.now) }
+{
+    let order = code(alloc, position.order)?;
+    let price = money(alloc, position.price)?;
+    let variation = count_or_null(position.product.variation);
+    let voucher = count_or_null(position.voucher);
+    json!(in alloc; {
+        "id": position.id,
+        "item": position.product.item,
+        "order": order.as_str(),
+        "positionid": position.positionid,
+        "price": price,
+        "secret": position.secret.as_str(),
+        "variation": variation,
+        "voucher": voucher,
+    })
+}
+
+/// Writes the positions of an order.
+struct PositionWriter;
+
+impl WriteRow<OrderPos> for PositionWriter {
+    ghost body = { λ _ position. position_body position };
+
+    fn append(&self, alloc: Global, out: &mut Vec<u8>, row: &OrderPos) -> Result<(), AllocError> {
+        let value = position_value(alloc, row)?;
+        append_value(alloc, out, &value)
+    }
+}
+
+/// What the positions cost together, in cents.
+fn total(positions: &[OrderPos]) -> u128
+    ensures { result ≡ order_total positions.now }
+{
+    let mut cents = 0;
+    for position in positions {
+        cents += u128::from(position.price.get());
+    }
+    cents
+}
+
+/// What stands of an order before its positions.
+fn order_value(alloc: Global, order: &Order) -> Result<Value, AllocError>
+    ensures { IfOk result (λ v. view v ≡ object (order_members order.now no_members)) }
+{
+    let code = code(alloc, order.id)?;
+    let made_at = moment(alloc, order.made_at)?;
+    let email = text_or_null(alloc, &order.email)?;
+    let expires = moment(alloc, order.expires)?;
+    json!(in alloc; {
+        "code": code.as_str(),
+        "datetime": made_at,
+        "email": email,
+        "expires": expires,
+    })
+}
+
+/// What stands of an order behind its positions.
+fn last_value(alloc: Global, order: &Order, positions: &[OrderPos]) -> Result<Value, AllocError>
+    ensures { IfOk result (λ v. view v ≡ object (last_members order.now positions.now)) }
+{
+    let total = total_text(alloc, total(positions))?;
+    json!(in alloc; {"status": status_letter(order.status), "total": total.as_str()})
+}
+
+/// Appends an order with its positions.
+pub(crate) fn append_order(
+    alloc: Global,
+    out: &mut Vec<u8>,
+    order: &Order,
+    positions: &[OrderPos],
+) -> Result<(), AllocError>
+    ensures { OnOk result (out.new.items ≡ out.old.items ++ compact_text (order_body order.now positions.now)) }
+{
+    let value = order_value(alloc, order)?;
+    let last = last_value(alloc, order, positions)?;
+    append_opened(alloc, out, &value)?;
+    append_list_member(alloc, out, "positions", &PositionWriter, positions)?;
+    append_members(alloc, out, &last)?;
+    append_text(out, "}")
+}

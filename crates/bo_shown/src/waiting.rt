@@ -1,0 +1,54 @@
+//! Entries of the waiting list, and what periodic work did, as JSON.
+
+ghost use Rattle.std.specs.Prelude.{◌≡◌, ◌++◌, IfOk, OnOk};
+ghost use Rattle.serde_json.specs.View.{view};
+ghost use Rattle.serde_json.specs.Written.{compact_text};
+ghost use Rattle.bo_shown.specs.WaitingRows.{waiting_body, periodic_body};
+
+use crate::pieces::append_value;
+use crate::values::{count_or_null, moment};
+use bo_commands::PeriodicCounts;
+use bo_lists::Waiting;
+use serde_json::{Value, json};
+use std::alloc::{AllocError, Global};
+
+/// An entry.
+fn waiting_value(alloc: Global, entry: &Waiting) -> Result<Value, AllocError>
+    ensures { IfOk result (λ v. view v ≡ waiting_body entry.now) }
+{
+    let created = moment(alloc, entry.created)?;
+    let variation = count_or_null(entry.product.variation);
+    let voucher = count_or_null(entry.voucher);
+    json!(in alloc; {
+        "created": created,
+        "email": entry.email.as_str(),
+        "id": entry.id,
+        "item": entry.product.item,
+        "priority": entry.priority.get(),
+        "variation": variation,
+        "voucher": voucher,
+    })
+}
+
+/// Appends an entry.
+pub(crate) fn append_waiting(
+    alloc: Global,
+    out: &mut Vec<u8>,
+    entry: &Waiting,
+) -> Result<(), AllocError>
+    ensures { OnOk result (out.new.items ≡ out.old.items ++ compact_text (waiting_body entry.now)) }
+{
+    let value = waiting_value(alloc, entry)?;
+    append_value(alloc, out, &value)
+}
+
+/// What periodic work did.
+pub fn periodic_value(alloc: Global, counts: PeriodicCounts) -> Result<Value, AllocError>
+    ensures { IfOk result (λ v. view v ≡ periodic_body counts) }
+{
+    json!(in alloc; {
+        "deleted": counts.deleted,
+        "expired": counts.expired,
+        "sent": counts.sent,
+    })
+}

@@ -1,0 +1,119 @@
+-- What is known where an entry was changed, and where one left.
+use Rattle.std.proofs.Common.{◌≡◌, ℕ, ◌≤◌, Bool, true, false, Option, Some, None, Result, Ok, Err, refl, sym, ap, ◌∙◌, subst}
+use Rattle.std.specs.Prelude.{if◌then◌else◌}
+use Rattle.bo_catalogue.specs.declared.rows.Product.{Product}
+use Rattle.bo_catalogue.specs.declared.rows.Quota.{Quota}
+use Rattle.bo_lists.specs.declared.rows.Waiting.{Waiting}
+use Rattle.bo_lists.specs.declared.changes.Change.TheVariants.{PutWaiting, DropWaiting}
+use Rattle.bo_lists.specs.Change.{changed}
+use Rattle.bo_lists.specs.Lists.{State, waiting_at}
+use Rattle.bo_lists.specs.Takes.{used}
+use Rattle.bo_lists.specs.Usage.{has_none}
+use Rattle.bo_lists.proofs.EachRow.{all-row_at, key-row_at}
+use Rattle.bo_base.specs.Counts.{IsPriority}
+use Rattle.bo_sound.specs.Limits.{IsLimitedWaiting}
+use Rattle.bo_sound.specs.Sent.{voucher_stands}
+use Rattle.bo_sound.specs.Sound.{IsSound}
+use Rattle.bo_sound.specs.Varied.{IsProduct}
+use Rattle.bo_sound.proofs.SoundWaiting.{sound_changed_waiting, sound_drop_waiting}
+use Rattle.bo_commands.specs.FitRequests.{IsFitWaitingPatch}
+use Rattle.bo_commands.specs.declared.waiting.WaitingPatch.{WaitingPatch}
+use Rattle.bo_commands.specs.declared.waiting.WaitingRefusal.{WaitingRefusal}
+use Rattle.bo_commands.specs.declared.waiting.WaitingRefusal.TheVariants.{AlreadySent}
+use Rattle.bo_vouchers.proofs.Limited.{given_or}
+use Rattle.bo_waiting.specs.Changed.{changed_entry, changed_to, changed_if_waits, changed_at, entry_changed}
+use Rattle.bo_waiting.specs.Left.{left_at, entry_left}
+use Rattle.bo_waiting.proofs.WaitingUsage.{put_alike, drop_lowers}
+
+-- the entry of an id stands under its own
+pub own_place : (id : ℕ) (state : State) (old : Waiting) → waiting_at id state.lists ≡ Some old → waiting_at old.id state.lists ≡ Some old
+own_place id state old e = ap (λ (n : ℕ). waiting_at n state.lists) (key-row_at (λ (r : Waiting). r.id) id state.lists.waiting old e) ∙ e
+
+-- the entry as it waited, and as it is afterwards
+pub record IsChanged (id : ℕ) (patch : WaitingPatch) (before after : State) (row : Waiting) : Type 0 where
+  pub old : Waiting
+  pub stood : waiting_at id before.lists ≡ Some old
+  pub waits : has_none old.voucher ≡ true
+  pub is_row : changed_entry patch old ≡ row
+  pub is_after : changed (PutWaiting row) before ≡ after
+
+module _ (id : ℕ) (patch : WaitingPatch) (before after : State) (row : Waiting) where
+  abbrev Gives : Result (State × Waiting) WaitingRefusal → Type 0
+  Gives result = result ≡ Ok (after, row)
+
+  by_waits : (old : Waiting) → waiting_at id before.lists ≡ Some old → (b : Bool) → has_none old.voucher ≡ b → Gives (if b then Ok (changed_to (changed_entry patch old) before) else Err AlreadySent) → IsChanged id patch before after row
+  by_waits old stood false is h = absurd (cc)
+  by_waits old stood true is h =
+      let same : changed_to (changed_entry patch old) before ≡ (after, row) = cc in
+      let is_row : changed_entry patch old ≡ row = ap (λ (x : State × Waiting). x.1) same in
+      record {
+        old = old;
+        stood = stood;
+        waits = is;
+        is_row = is_row;
+        is_after = ap (λ (r : Waiting). changed (PutWaiting r) before) (sym is_row) ∙ ap (λ (x : State × Waiting). x.0) same;
+      }
+
+  by_old : (found : Option Waiting) → waiting_at id before.lists ≡ found → Gives (changed_at patch before found) → IsChanged id patch before after row
+  unfolding changed_if_waits
+  by_old None e h = absurd (cc)
+  by_old (Some old) e h = by_waits old e (has_none old.voucher) refl h
+
+  pub changed_is : Gives (entry_changed id patch before) → IsChanged id patch before after row
+  unfolding entry_changed
+  changed_is h = by_old (waiting_at id before.lists) refl h
+
+  pub changed_moment : Gives (entry_changed id patch before) → after.moment ≡ before.moment
+  changed_moment h = sym (ap (λ (s : State). s.moment) (changed_is h).is_after)
+
+  -- it stood under the id that it has
+  pub changed_stood : (c : IsChanged id patch before after row) → waiting_at row.id before.lists ≡ Some c.old
+  changed_stood c = ap (λ (r : Waiting). waiting_at r.id before.lists) (sym c.is_row) ∙ own_place id before c.old c.stood
+
+  pub changed_keeps_used : (quota : Quota) → IsSound before → Gives (entry_changed id patch before) → used after quota ≡ used before quota
+  changed_keeps_used quota sound h =
+      let c = changed_is h in
+      let voucher : row.voucher ≡ c.old.voucher = sym (ap (λ (r : Waiting). r.voucher) c.is_row) in
+      let product : row.product ≡ c.old.product = sym (ap (λ (r : Waiting). r.product) c.is_row) in
+      subst (λ (s : State). used s quota ≡ used before quota) c.is_after (put_alike before row c.old (changed_stood c) voucher product quota sound)
+
+  pub changed_sound : IsFitWaitingPatch patch → IsSound before → Gives (entry_changed id patch before) → IsSound after
+  changed_sound fit sound h =
+      let c = changed_is h in
+      let product = all-row_at (λ (r : Waiting). r.id) (λ w. IsProduct before.lists.catalogue w.product) id before.lists.waiting c.old c.stood sound.products.waiting in
+      let voucher = all-row_at (λ (r : Waiting). r.id) (λ w. voucher_stands before.lists.vouchers w.voucher ≡ true) id before.lists.waiting c.old c.stood sound.sent in
+      let was = all-row_at (λ (r : Waiting). r.id) IsLimitedWaiting id before.lists.waiting c.old c.stood sound.limits.waiting in
+      let limits : IsLimitedWaiting (changed_entry patch c.old) = record { email = was.email; priority = given_or IsPriority patch.priority c.old.priority fit.priority was.priority; created = was.created } in
+      subst IsSound c.is_after (subst (λ (r : Waiting). IsSound (changed (PutWaiting r) before)) c.is_row (sound_changed_waiting before (changed_entry patch c.old) c.old (own_place id before c.old c.stood) product voucher limits sound))
+
+-- the entry waited, and the box office is without it
+pub record IsLeft (id : ℕ) (before after : State) : Type 0 where
+  pub old : Waiting
+  pub stood : waiting_at id before.lists ≡ Some old
+  pub waits : has_none old.voucher ≡ true
+  pub is_after : changed (DropWaiting id) before ≡ after
+
+module _ (id : ℕ) (before after : State) where
+  abbrev Leaves : Result State WaitingRefusal → Type 0
+  Leaves result = result ≡ Ok after
+
+  left_by_waits : (old : Waiting) → waiting_at id before.lists ≡ Some old → (b : Bool) → has_none old.voucher ≡ b → Leaves (if b then Ok (changed (DropWaiting id) before) else Err AlreadySent) → IsLeft id before after
+  left_by_waits old stood false is h = absurd (cc)
+  left_by_waits old stood true is h = record { old = old; stood = stood; waits = is; is_after = cc }
+
+  left_by_old : (found : Option Waiting) → waiting_at id before.lists ≡ found → Leaves (left_at id before found) → IsLeft id before after
+  left_by_old None e h = absurd (cc)
+  left_by_old (Some old) e h = left_by_waits old e (has_none old.voucher) refl h
+
+  pub left_is : Leaves (entry_left id before) → IsLeft id before after
+  unfolding entry_left
+  left_is h = left_by_old (waiting_at id before.lists) refl h
+
+  pub left_moment : Leaves (entry_left id before) → after.moment ≡ before.moment
+  left_moment h = sym (ap (λ (s : State). s.moment) (left_is h).is_after)
+
+  pub left_lowers : (quota : Quota) → IsSound before → Leaves (entry_left id before) → used after quota ≤ used before quota
+  left_lowers quota sound h = subst (λ (s : State). used s quota ≤ used before quota) (left_is h).is_after (drop_lowers before id quota sound)
+
+  pub left_sound : IsSound before → Leaves (entry_left id before) → IsSound after
+  left_sound sound h = subst IsSound (left_is h).is_after (sound_drop_waiting before id sound)

@@ -1,0 +1,13 @@
+pub mod WaitingUsage
+pub mod Closed
+pub mod Joins
+pub mod Leaves
+pub mod Queue
+pub mod Order
+pub mod Trades
+pub mod Served
+pub mod Sent
+pub mod OneTurn
+pub mod SentTexts
+pub mod SentSound
+pub mod Worked

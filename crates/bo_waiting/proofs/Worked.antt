@@ -1,0 +1,67 @@
+-- The definitions on worked cases.
+use Rattle.std.proofs.Common.{◌≡◌, ℕ, List, [], ◌∷◌, true, false, Some, None, Result, Ok, Err, map, refl}
+use Rattle.std.specs.Prelude.{ℤ, pos}
+use Rattle.bo_catalogue.specs.declared.rows.Item.{Item}
+use Rattle.bo_catalogue.specs.declared.rows.Quota.{Quota}
+use Rattle.bo_lists.specs.declared.rows.Waiting.{Waiting}
+use Rattle.bo_lists.specs.Lists.{State, no_rows, first_ids}
+use Rattle.bo_lists.specs.Usage.{usage_of, blocked_by}
+use Rattle.bo_commands.specs.declared.waiting.NewWaiting.{NewWaiting}
+use Rattle.bo_commands.specs.declared.waiting.WaitingRefusal.{WaitingRefusal}
+use Rattle.bo_commands.specs.declared.waiting.WaitingRefusal.TheVariants.{StillAvailable, AlreadyWaiting}
+use Rattle.bo_waiting.specs.Joined.{joined_for, entry_joined}
+use Rattle.bo_waiting.specs.Places.{first_closed}
+use Rattle.bo_waiting.specs.Serving.{queue, is_served, served}
+
+abbrev item : ℕ → Item
+item id = record { id = id; name = []; default_price = 0; active = true; varied = false }
+
+abbrev quota : ℕ → ℕ → ℕ → Quota
+quota id size item = record { id = id; name = []; size = Some size; items = item ∷ []; variations = [] }
+
+abbrev waits : ℕ → ℤ → ℕ → Waiting
+waits id priority item = record { id = id; email = []; product = record { item = item; variation = None }; priority = priority; created = 100; voucher = None }
+
+abbrev joined_rows : Result (State × Waiting) WaitingRefusal → List Waiting
+joined_rows (Ok joined) = joined.0.lists.waiting
+joined_rows (Err refusal) = []
+
+abbrev shop : ℕ → ℕ → List Waiting → State
+shop one two entries = record {
+  lists = record no_rows { catalogue = record { items = item 1 ∷ item 2 ∷ []; variations = []; quotas = quota 1 one 1 ∷ quota 2 two 2 ∷ [] }; waiting = entries };
+  next = first_ids;
+  moment = 100;
+}
+
+-- a greater priority goes first, then a smaller id
+by_priority : map (λ (e : Waiting). e.id) (queue (shop 0 1 (waits 1 (pos 0) 1 ∷ waits 2 (pos 5) 2 ∷ waits 3 (pos 0) 2 ∷ [])).lists) ≡ 2 ∷ 1 ∷ 3 ∷ []
+unfolding queue
+by_priority = refl
+
+-- the quota of the first is full, so the second alone is sent to
+second_alone : map (λ (e : Waiting). e.id) (served (shop 0 1 (waits 1 (pos 5) 1 ∷ waits 2 (pos 0) 2 ∷ []))) ≡ 2 ∷ []
+unfolding served queue is_served usage_of blocked_by
+second_alone = refl
+
+-- one place, two for it: the one of higher priority; the other is passed over
+one_place : map (λ (e : Waiting). e.id) (served (shop 1 0 (waits 1 (pos 0) 1 ∷ waits 2 (pos 5) 1 ∷ []))) ≡ 2 ∷ []
+unfolding served queue is_served usage_of blocked_by
+one_place = refl
+
+abbrev asks : ℕ → NewWaiting
+asks item = record { email = []; item = item; variation = None; priority = pos 0 }
+
+-- who waits for a product isn't told that it can be had
+twice : entry_joined (asks 1) (shop 1 0 (waits 1 (pos 0) 1 ∷ [])) ≡ Err AlreadyWaiting
+unfolding entry_joined joined_for
+twice = refl
+
+-- one place is left, so nobody has to wait
+still_available : entry_joined (asks 1) (shop 1 0 []) ≡ Err StillAvailable
+unfolding entry_joined joined_for first_closed usage_of blocked_by
+still_available = refl
+
+-- no place is left, so one may
+sold_out : map (λ (e : Waiting). e.id) (joined_rows (entry_joined (asks 1) (shop 0 1 []))) ≡ 1 ∷ []
+unfolding entry_joined joined_for first_closed usage_of blocked_by
+sold_out = refl

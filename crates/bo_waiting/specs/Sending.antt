@@ -1,0 +1,103 @@
+-- Sending a voucher to an entry of the waiting list.
+use Rattle.std.specs.Prelude.{◌≡◌, ℕ, ◌+◌, ◌≤◌, List, [], ◌∷◌, true, false, Option, Some, None, Result, Ok, Err, if◌then◌else◌, min, codes}
+use Rattle.bo_base.specs.Moments.{last_moment}
+use Rattle.bo_base.specs.Tables.{AreInOrder}
+use Rattle.bo_base.specs.declared.draw.Draw.{Draw}
+use Rattle.bo_base.specs.declared.price_mode.PriceMode.TheVariants as modes
+use Rattle.bo_catalogue.specs.declared.rows.Product.{Product}
+use Rattle.bo_catalogue.specs.declared.rows.Quota.{Quota}
+use Rattle.bo_catalogue.specs.declared.refusal.CatalogueRefusal.TheVariants.{Inactive, NotSold, Full}
+use Rattle.bo_catalogue.specs.CatalogueLists.{is_active, is_sold}
+use Rattle.bo_catalogue.specs.Member.{is_in}
+use Rattle.bo_lists.specs.declared.rows.Usage.{Usage}
+use Rattle.bo_lists.specs.declared.rows.Voucher.{Voucher}
+use Rattle.bo_lists.specs.declared.rows.Waiting.{Waiting}
+use Rattle.bo_lists.specs.declared.changes.Change.{Change}
+use Rattle.bo_lists.specs.declared.changes.Change.TheVariants.{PutVoucher, PutWaiting}
+use Rattle.bo_lists.specs.Change.{changed}
+use Rattle.bo_lists.specs.Fits.{AllFit}
+use Rattle.bo_lists.specs.Full.{takes_voucher}
+use Rattle.bo_lists.specs.Lists.{State, waiting_at}
+use Rattle.bo_lists.specs.Numbered.{with_voucher}
+use Rattle.bo_lists.specs.Usage.{has_none}
+use Rattle.bo_sound.specs.Ids.{AreNumbered}
+use Rattle.bo_vouchers.specs.Codes.{made_code}
+use Rattle.bo_commands.specs.declared.waiting.WaitingRefusal.{WaitingRefusal}
+use Rattle.bo_commands.specs.declared.waiting.WaitingRefusal.TheVariants.{Catalogue, SoldOut, AlreadySent, NoEntry}
+use Rattle.bo_waiting.specs.Places.{first_closed}
+
+-- an entry's voucher: one use of its product, which is kept free for it for two days
+abbrev pub sent_voucher : Draw → State → Product → Voucher
+sent_voucher draw state product = record {
+  id = state.next.voucher;
+  code = made_code draw state.next.voucher;
+  max_usages = 1;
+  valid_until = Some (min (state.moment + 172800) last_moment);
+  block_quota = true;
+  allow_ignore_quota = false;
+  price_mode = modes.None;
+  value = None;
+  item = Some product.item;
+  variation = product.variation;
+  quota = None;
+  tag = codes "waiting-list";
+  comment = [];
+}
+
+-- the entry with that voucher
+abbrev pub with_its_voucher : State → Waiting → Waiting
+with_its_voucher state entry = record entry { voucher = Some state.next.voucher }
+
+-- the box office with the new voucher, and the entry that has it
+abbrev pub with_sent : Draw → Waiting → State → State
+with_sent draw entry state = changed (PutWaiting (with_its_voucher state entry)) (with_voucher (sent_voucher draw state entry.product) state)
+
+-- the voucher is put before the entry that names it
+abbrev pub sent_changes : Draw → State → Waiting → List Change
+sent_changes draw state row = PutVoucher (sent_voucher draw state row.product) ∷ PutWaiting row ∷ []
+
+-- one that waits is sent its voucher where the table takes it
+abbrev pub numbered_sent : Draw → Waiting → State → Result (State × Waiting) WaitingRefusal
+numbered_sent draw entry state = if takes_voucher state then Ok (with_sent draw entry state, with_its_voucher state entry) else Err (Catalogue Full)
+
+abbrev pub sent_if_open : Draw → Waiting → State → Option ℕ → Result (State × Waiting) WaitingRefusal
+sent_if_open draw entry state (Some quota) = Err (SoldOut quota)
+sent_if_open draw entry state None = numbered_sent draw entry state
+
+abbrev pub sent_if_sold : Draw → Waiting → State → Result (State × Waiting) WaitingRefusal
+sent_if_sold draw entry state = if is_sold entry.product state.lists.catalogue then sent_if_open draw entry state (first_closed state entry.product) else Err (Catalogue NotSold)
+
+abbrev pub sent_if_active : Draw → Waiting → State → Result (State × Waiting) WaitingRefusal
+sent_if_active draw entry state = if is_active entry.product state.lists.catalogue then sent_if_sold draw entry state else Err (Catalogue Inactive)
+
+-- to an entry that stands
+unfoldable pub sent_to : Draw → Waiting → State → Result (State × Waiting) WaitingRefusal
+sent_to draw entry state = if has_none entry.voucher then sent_if_active draw entry state else Err AlreadySent
+
+abbrev pub sent_at : Draw → State → Option Waiting → Result (State × Waiting) WaitingRefusal
+sent_at draw state None = Err NoEntry
+sent_at draw state (Some entry) = sent_to draw entry state
+
+-- the box office with the voucher and the entry that has it, and that entry, or the first refusal
+unfoldable pub voucher_sent : ℕ → Draw → State → Result (State × Waiting) WaitingRefusal
+voucher_sent id draw state = sent_at draw state (waiting_at id state.lists)
+
+-- what one entry for the product takes of the quota
+abbrev pub place_in : Quota → Product → ℕ
+place_in quota product = if is_in quota product then 1 else 0
+
+-- one waits less, and one is blocked more, in the quotas of the product
+pub record TradesPlace (quota : Quota) (product : Product) (before after : Usage) : Type 0 where
+  pub paid : after.paid ≡ before.paid
+  pub pending : after.pending ≡ before.pending
+  pub blocked : after.blocked ≡ before.blocked + place_in quota product
+  pub carts : after.carts ≡ before.carts
+  pub waiting : after.waiting + place_in quota product ≡ before.waiting
+
+-- what sending rests on: part of what is sound
+pub record CanSend (state : State) : Type 0 where
+  pub moment : state.moment ≤ last_moment
+  pub next : 1 ≤ state.next.voucher
+  pub vouchers : AreNumbered (λ r. r.id) state.next.voucher state.lists.vouchers
+  pub fit : AllFit state.lists
+  pub waiting : AreInOrder (λ r. r.id) state.lists.waiting

@@ -1,0 +1,6 @@
+-- Where an entry stands in the queue.
+use Rattle.bo_lists.specs.declared.rows.Waiting.{Waiting}
+use Rattle.bo_waiting.specs.declared.turns.Turn.{Turn}
+
+abbrev pub turn_of : Waiting → Turn
+turn_of entry = record { priority = record { 0 = entry.priority }; created = entry.created; id = entry.id }

@@ -1,0 +1,86 @@
+//! Changing and leaving: what may become of an entry that waits.
+
+ghost use Rattle.std.specs.Prelude.{◌≡◌, ◌≢◌, ◌++◌, ◌∷◌, [], Ok, Err, IfOk, IfErr, OnOk, OnErr};
+ghost use Rattle.bo_draft.specs.DraftState.{now, Extends};
+ghost use Rattle.bo_lists.specs.Lists.{waiting_at};
+ghost use Rattle.bo_lists.specs.declared.changes.Change.TheVariants.{PutWaiting, DropWaiting};
+ghost use Rattle.bo_waiting.specs.Changed.{changed_if_waits, changed_entry, entry_changed};
+ghost use Rattle.bo_waiting.specs.Left.{entry_left};
+
+use crate::rows::{copy, patched};
+use bo_commands::{WaitingPatch, WaitingRefusal};
+use bo_draft::Draft;
+use bo_lists::Waiting;
+use bo_usage::Book;
+use std::alloc::Global;
+
+/// Gives the waiting entry of an id the priority that is given, if one is, and answers a copy of it.
+/// A refusal leaves the draft as it was.
+/// Refusals, in this order: 32 `NoEntry`; 31 `AlreadySent`. 6 `Memory` may come anywhere.
+#[tactic(auto, unfolding(crate::specs::Changed::entry_changed))]
+pub fn change<B: Book>(
+    draft: &mut Draft<'_, B>,
+    alloc: Global,
+    id: u64,
+    patch: WaitingPatch,
+) -> Result<Waiting, WaitingRefusal>
+    ensures done { IfOk result (λ row. entry_changed id patch (now draft.old) ≡ Ok (now draft.new, row)) }
+    ensures refused { IfErr result (λ e. e ≢ WaitingRefusal.Memory → entry_changed id patch (now draft.old) ≡ Err e) }
+    ensures extends { Extends draft.old draft.new }
+    ensures same { OnErr result (draft.new ≡ draft.old) }
+    ensures changes { IfOk result (λ row. draft.new.log.changes ≡ draft.old.log.changes ++ PutWaiting row ∷ []) }
+{
+    let entry = match draft.waiting(id) {
+        None => return Err(WaitingRefusal::NoEntry),
+        Some(entry) => copy(alloc, entry)?,
+    };
+    change_found(draft, alloc, entry, patch)
+}
+
+// The same for an entry that stands.
+#[tactic(auto, unfolding(crate::specs::Changed::changed_if_waits))]
+fn change_found<B: Book>(
+    draft: &mut Draft<'_, B>,
+    alloc: Global,
+    entry: Waiting,
+    patch: WaitingPatch,
+) -> Result<Waiting, WaitingRefusal>
+    ensures done { IfOk result (λ row. changed_if_waits patch (now draft.old) entry ≡ Ok (now draft.new, row)) }
+    ensures refused { IfErr result (λ e. e ≢ WaitingRefusal.Memory → changed_if_waits patch (now draft.old) entry ≡ Err e) }
+    ensures extends { Extends draft.old draft.new }
+    ensures same { OnErr result (draft.new ≡ draft.old) }
+    ensures changes { IfOk result (λ row. draft.new.log.changes ≡ draft.old.log.changes ++ PutWaiting row ∷ []) }
+{
+    if entry.voucher.is_some() {
+        return Err(WaitingRefusal::AlreadySent);
+    }
+    let row = patched(entry, patch);
+    let answer = copy(alloc, &row)?;
+    draft.put_waiting(alloc, row)?;
+    Ok(answer)
+}
+
+/// Removes the waiting entry of an id. A refusal leaves the draft as it was.
+/// Refusals, in this order: 32 `NoEntry`; 31 `AlreadySent`. 6 `Memory` may come after them.
+#[tactic(auto, unfolding(crate::specs::Left::entry_left))]
+pub fn leave<B: Book>(
+    draft: &mut Draft<'_, B>,
+    alloc: Global,
+    id: u64,
+) -> Result<(), WaitingRefusal>
+    ensures done { OnOk result (entry_left id (now draft.old) ≡ Ok (now draft.new)) }
+    ensures refused { IfErr result (λ e. e ≢ WaitingRefusal.Memory → entry_left id (now draft.old) ≡ Err e) }
+    ensures extends { Extends draft.old draft.new }
+    ensures same { OnErr result (draft.new ≡ draft.old) }
+    ensures changes { OnOk result (draft.new.log.changes ≡ draft.old.log.changes ++ DropWaiting id ∷ []) }
+{
+    let is_sent = match draft.waiting(id) {
+        None => return Err(WaitingRefusal::NoEntry),
+        Some(entry) => entry.voucher.is_some(),
+    };
+    if is_sent {
+        return Err(WaitingRefusal::AlreadySent);
+    }
+    draft.drop_waiting(alloc, id)?;
+    Ok(())
+}

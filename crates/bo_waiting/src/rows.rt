@@ -1,0 +1,40 @@
+//! Rows of the waiting list.
+
+ghost use Rattle.std.specs.Prelude.{◌≡◌, Some, IfOk};
+ghost use Rattle.bo_waiting.specs.Changed.{changed_entry};
+
+use bo_commands::WaitingPatch;
+use bo_lists::Waiting;
+use std::alloc::{AllocError, Global};
+
+/// An equal entry.
+pub fn copy(alloc: Global, entry: &Waiting) -> Result<Waiting, AllocError>
+    ensures { IfOk result (λ row. row ≡ entry.now) }
+{
+    Ok(Waiting {
+        id: entry.id,
+        email: entry.email.copy(alloc)?,
+        product: entry.product,
+        priority: entry.priority,
+        created: entry.created,
+        voucher: entry.voucher,
+    })
+}
+
+/// The entry with this voucher.
+pub fn with_voucher(entry: Waiting, voucher: u64) -> Waiting
+    ensures { result ≡ record entry { voucher = Some voucher } }
+{
+    Waiting {
+        voucher: Some(voucher),
+        ..entry
+    }
+}
+
+/// The entry as it is after a change.
+pub fn patched(entry: Waiting, patch: WaitingPatch) -> Waiting
+    ensures { result ≡ changed_entry patch entry }
+{
+    let priority = patch.priority.unwrap_or(entry.priority);
+    Waiting { priority, ..entry }
+}

@@ -1,0 +1,115 @@
+//! Serving the waiting list.
+
+ghost use Rattle.std.specs.Prelude.{◌≡◌, ◌++◌, [], IfOk, OnOk, OnErr, map};
+ghost use Rattle.bo_draft.specs.DraftState.{now, Extends};
+ghost use Rattle.bo_sound.specs.Sound.{IsSound};
+ghost use Rattle.bo_waiting.specs.Places.{places_left};
+ghost use Rattle.bo_waiting.specs.Sending.{CanSend, voucher_sent};
+ghost use Rattle.bo_waiting.specs.Serving.{queue, all_served, served_changes, state_after, each_sent, run_after, noted, logged};
+
+use crate::places::{all_after_one, first_without_place, places_left};
+use crate::rows::copy;
+use crate::sending::send_to;
+use crate::turns::ids_in_turn;
+use bo_base::Draw;
+use bo_commands::WaitingRefusal;
+use bo_draft::Draft;
+use bo_usage::Book;
+use std::alloc::{AllocError, Global};
+
+/// Sends a voucher to each waiting entry that can be sent one in its turn, in a draft that has changed no waiting entry,
+/// and answers the ids of these entries in their turn: a higher priority goes first, then who came first.
+/// It ends where the table of vouchers is full. `Err` where there is no memory; the draft is then as it was.
+pub fn serve_all<B: Book>(
+    draft: &mut Draft<'_, B>,
+    alloc: Global,
+    draw: Draw,
+) -> Result<Vec<u64>, AllocError>
+    requires sound { IsSound (now draft.old) }
+    requires waiting { (now draft.old).lists.waiting ≡ draft.old.log.base.waiting }
+    ensures done { IfOk result (λ ids. all_served draw (now draft.old) ≡ (now draft.new, ids.items)) }
+    ensures extends { Extends draft.old draft.new }
+    ensures same { OnErr result (draft.new ≡ draft.old) }
+    ensures changes { OnOk result (draft.new.log.changes ≡ draft.old.log.changes ++ served_changes draw (now draft.old)) }
+{
+    let queue = queue_of(draft, alloc)?;
+    if queue.is_empty() {
+        return Ok(queue);
+    }
+    let mut left = places_left(draft, alloc)?;
+    let mark = draft.mark(alloc)?;
+    match serve_each(draft, alloc, draw, &queue, &mut left) {
+        Ok(ids) => Ok(ids),
+        Err(refusal) => {
+            draft.back_to(mark);
+            Err(refusal)
+        }
+    }
+}
+
+// The ids of the entries that wait, in their turn.
+#[tactic(auto, unfolding(crate::specs::Serving::queue))]
+fn queue_of<B: Book>(draft: &Draft<'_, B>, alloc: Global) -> Result<Vec<u64>, AllocError>
+    requires { (now draft.now).lists.waiting ≡ draft.now.log.base.waiting }
+    ensures { IfOk result (λ ids. ids.items ≡ map (λ e. e.id) (queue (now draft.now).lists)) }
+{
+    ids_in_turn(alloc, draft.waiting_list())
+}
+
+// Sends to each of these entries in turn, or skips it, until the table of vouchers is full.
+// Without memory some of them are sent.
+fn serve_each<B: Book>(
+    draft: &mut Draft<'_, B>,
+    alloc: Global,
+    draw: Draw,
+    queue: &[u64],
+    left: &mut Vec<Option<u128>>,
+) -> Result<Vec<u64>, AllocError>
+    requires can { CanSend (now draft.old) }
+    requires left { left.old.items ≡ map (places_left (now draft.old)) (now draft.old).lists.catalogue.quotas }
+    ensures done { IfOk result (λ ids. run_after [] draft.old.log.changes (each_sent draw queue.now (now draft.old)) ≡ record { state = now draft.new; ids = ids.items; changes = draft.new.log.changes }) }
+    ensures extends { Extends draft.old draft.new }
+{
+    let mut ids = Vec::new(alloc);
+    for id in queue {
+        if !draft.takes_voucher() {
+            return Ok(ids);
+        }
+        serve_one(draft, alloc, draw, *id, left, &mut ids)?;
+    }
+    Ok(ids)
+}
+
+// Sends to one entry, notes its id and takes its places, or skips it where it can't be sent.
+#[tactic(auto, unfolding(crate::specs::Sending::voucher_sent))]
+fn serve_one<B: Book>(
+    draft: &mut Draft<'_, B>,
+    alloc: Global,
+    draw: Draw,
+    id: u64,
+    left: &mut Vec<Option<u128>>,
+    ids: &mut Vec<u64>,
+) -> Result<(), AllocError>
+    requires can { CanSend (now draft.old) }
+    requires left { left.old.items ≡ map (places_left (now draft.old)) (now draft.old).lists.catalogue.quotas }
+    ensures done { OnOk result (now draft.new ≡ state_after (now draft.old) (voucher_sent id draw (now draft.old))) }
+    ensures noted { OnOk result (ids.new.items ≡ noted (voucher_sent id draw (now draft.old)) ids.old.items) }
+    ensures logged { OnOk result (draft.new.log.changes ≡ logged draw (now draft.old) (voucher_sent id draw (now draft.old)) draft.old.log.changes) }
+    ensures left { OnOk result (left.new.items ≡ map (places_left (now draft.new)) (now draft.new).lists.catalogue.quotas) }
+    ensures extends { Extends draft.old draft.new }
+{
+    let entry = match draft.waiting(id) {
+        None => return Ok(()),
+        Some(entry) => copy(alloc, entry)?,
+    };
+    let product = entry.product;
+    let closed = first_without_place(draft.catalogue().quotas(), left, product);
+    match send_to(draft, alloc, draw, entry, closed) {
+        Ok(row) => {
+            *left = all_after_one(alloc, draft.catalogue().quotas(), left, product)?;
+            Ok(ids.push(row.id)?)
+        }
+        Err(WaitingRefusal::Memory) => Err(AllocError),
+        Err(_) => Ok(()),
+    }
+}
