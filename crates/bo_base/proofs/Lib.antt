@@ -1,3 +1,4 @@
+pub mod Decided
 pub mod Places
 pub mod RisingLemmas
 pub mod Edits
@@ -5,6 +6,7 @@ pub mod ToldLemmas
 mod CivilLemmas
 mod TextLemmas
 mod DigitLemmas
+mod MomentLemmas
 mod MoneyLemmas
 pub mod CodeLemmas
 pub mod Pieces

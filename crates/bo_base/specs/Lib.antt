@@ -1,3 +1,4 @@
+pub mod Deciding
 pub mod Tables
 pub mod Texts
 pub mod Slugs

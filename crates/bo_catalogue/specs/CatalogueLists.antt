@@ -1,6 +1,8 @@
 -- All that is for sale, as lists of rows in order of id.
-use Rattle.std.specs.Prelude.{ℕ, Bool, true, false, ◌&&◌, List, map, filter, ◌==◌, if◌then◌else◌, Option, Some, None, Result, Ok, Err, unwrap_or}
+use Rattle.std.specs.Prelude.{ℕ, Bool, true, false, ◌&&◌, List, map, filter, ◌==◌, Option, Some, None, Result, Ok, unwrap_or}
 use Rattle.std.specs.List.{list_any}
+use Rattle.std.specs.Option.{ok_or}
+use Rattle.bo_base.specs.Deciding.{◌>>=◌, ◌>>◌, check, refuse_if}
 use Rattle.bo_base.specs.Tables.{row_at}
 use Rattle.bo_catalogue.specs.declared.rows.Item.{Item}
 use Rattle.bo_catalogue.specs.declared.rows.Variation.{Variation}
@@ -39,21 +41,20 @@ abbrev pub with_variations : CatalogueLists → Item → ItemRows
 with_variations lists item = record { item = item; variations = variations_of item.id lists }
 
 -- an item that is varied is sold by one of its variations, and any other by itself
-abbrev pub plain_product : ℕ → Bool → Result Product CatalogueRefusal
-plain_product item true = Err NeedsVariation
-plain_product item false = Ok (record { item = item; variation = None })
+abbrev pub product_in : ℕ → Option ℕ → CatalogueLists → Item → Result Product CatalogueRefusal
+product_in item None lists row = do
+  refuse_if row.varied NeedsVariation
+  Ok (record { item = item; variation = None })
+product_in item (Some id) lists row = do
+  variation ← ok_or (variation_at id lists) NoVariation
+  check (variation.item == item) NoVariation
+  Ok (record { item = item; variation = Some id })
 
-abbrev pub varied_product : ℕ → ℕ → Option Variation → Result Product CatalogueRefusal
-varied_product item id None = Err NoVariation
-varied_product item id (Some variation) = if variation.item == item then Ok (record { item = item; variation = Some id }) else Err NoVariation
-
-abbrev pub product_by : ℕ → Option ℕ → Option Item → CatalogueLists → Result Product CatalogueRefusal
-product_by item variation None lists = Err NoItem
-product_by item None (Some row) lists = plain_product item row.varied
-product_by item (Some id) (Some row) lists = varied_product item id (variation_at id lists)
-
+-- the product that an item and a variation, or none, name, or the first refusal
 abbrev pub product_of : ℕ → Option ℕ → CatalogueLists → Result Product CatalogueRefusal
-product_of item variation lists = product_by item variation (item_at item lists) lists
+product_of item variation lists = do
+  row ← ok_or (item_at item lists) NoItem
+  product_in item variation lists row
 
 -- the quotas that a product is in, by id
 abbrev pub quotas_of : Product → CatalogueLists → List ℕ

@@ -1,5 +1,6 @@
 -- A new item, with its variations.
-use Rattle.std.specs.Prelude.{ℕ, ◌+◌, Bool, true, false, ◌&&◌, List, [], ◌∷◌, length, Result, Ok, Err, if◌then◌else◌}
+use Rattle.std.specs.Prelude.{ℕ, ◌+◌, Bool, true, false, ◌&&◌, List, [], ◌∷◌, length, Result, Ok}
+use Rattle.bo_base.specs.Deciding.{◌>>◌, check}
 use Rattle.bo_catalogue.specs.declared.rows.Item.{Item}
 use Rattle.bo_catalogue.specs.declared.rows.Variation.{Variation}
 use Rattle.bo_catalogue.specs.declared.rows.ItemRows.{ItemRows}
@@ -30,5 +31,6 @@ item_rows new id first = record { item = item_row new id; variations = variation
 
 -- the rows, where the items take one more, and the variations as many as there are; the first variation gets the id first
 unfoldable pub item_added : NewItem → ℕ → ℕ → CatalogueLists → Result ItemRows CatalogueRefusal
-item_added new id first lists =
-    if takes_row id lists.items && takes_rows (length new.variations) first lists.variations then Ok (item_rows new id first) else Err Full
+item_added new id first lists = do
+  check (takes_row id lists.items && takes_rows (length new.variations) first lists.variations) Full
+  Ok (item_rows new id first)

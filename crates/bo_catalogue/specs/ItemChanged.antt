@@ -1,5 +1,7 @@
 -- An item that is changed.
-use Rattle.std.specs.Prelude.{ℕ, Option, Some, None, Result, Ok, Err, unwrap_or}
+use Rattle.std.specs.Prelude.{ℕ, Result, Ok, unwrap_or}
+use Rattle.std.specs.Option.{ok_or}
+use Rattle.bo_base.specs.Deciding.{◌>>=◌}
 use Rattle.bo_catalogue.specs.declared.rows.Item.{Item}
 use Rattle.bo_catalogue.specs.declared.requests.ItemPatch.{ItemPatch}
 use Rattle.bo_catalogue.specs.declared.refusal.CatalogueRefusal.{CatalogueRefusal}
@@ -10,10 +12,8 @@ use Rattle.bo_catalogue.specs.CatalogueLists.{CatalogueLists, item_at}
 abbrev pub patched_item : ItemPatch → Item → Item
 patched_item patch row = record row { name = unwrap_or patch.name row.name; default_price = unwrap_or patch.default_price row.default_price; active = unwrap_or patch.active row.active }
 
-abbrev pub item_changed_by : ItemPatch → Option Item → Result Item CatalogueRefusal
-item_changed_by patch None = Err NoItem
-item_changed_by patch (Some row) = Ok (patched_item patch row)
-
 -- the row as it is afterwards
 abbrev pub item_changed : ℕ → ItemPatch → CatalogueLists → Result Item CatalogueRefusal
-item_changed id patch lists = item_changed_by patch (item_at id lists)
+item_changed id patch lists = do
+  row ← ok_or (item_at id lists) NoItem
+  Ok (patched_item patch row)

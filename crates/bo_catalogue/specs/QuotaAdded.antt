@@ -1,7 +1,8 @@
 -- A new quota: its row, and the tests in the order of their refusals.
-use Rattle.std.specs.Prelude.{ℕ, Bool, false, ◌&&◌, ◌||◌, not, List, Option, Some, None, Result, Ok, Err, if◌then◌else◌}
+use Rattle.std.specs.Prelude.{ℕ, Bool, false, ◌&&◌, ◌||◌, not, List, Option, Some, None, Result, Ok}
 use Rattle.std.specs.List.{filter_map, list_all}
 use Rattle.std.specs.Option.{is_some}
+use Rattle.bo_base.specs.Deciding.{◌>>◌, check}
 use Rattle.bo_base.specs.Tables.{has}
 use Rattle.bo_base.specs.Rising.{rising}
 use Rattle.bo_catalogue.specs.declared.rows.Item.{Item}
@@ -50,23 +51,18 @@ items_stand quota lists = list_all (λ id. is_some (item_at id lists)) quota.ite
 unfoldable pub variations_stand : Quota → CatalogueLists → Bool
 variations_stand quota lists = list_all (λ id. is_some (variation_at id lists)) quota.variations
 
-abbrev pub room_test : Quota → CatalogueLists → Result (Unit {0}) CatalogueRefusal
-room_test quota lists = if takes_row quota.id lists.quotas then Ok tt else Err Full
-
-abbrev pub member_test : Quota → CatalogueLists → Result (Unit {0}) CatalogueRefusal
-member_test quota lists = if variations_fit quota lists && items_fit quota lists then room_test quota lists else Err BadMember
-
-abbrev pub variation_test : Quota → CatalogueLists → Result (Unit {0}) CatalogueRefusal
-variation_test quota lists = if variations_stand quota lists then member_test quota lists else Err NoVariation
-
 -- all its items stand, all its variations do, they fit together, and there is room
 unfoldable pub quota_test : Quota → CatalogueLists → Result (Unit {0}) CatalogueRefusal
-quota_test quota lists = if items_stand quota lists then variation_test quota lists else Err NoItem
-
-abbrev pub quota_if : Quota → Result (Unit {0}) CatalogueRefusal → Result Quota CatalogueRefusal
-quota_if quota (Ok _) = Ok quota
-quota_if quota (Err refusal) = Err refusal
+quota_test quota lists = do
+  check (items_stand quota lists) NoItem
+  check (variations_stand quota lists) NoVariation
+  check (variations_fit quota lists && items_fit quota lists) BadMember
+  check (takes_row quota.id lists.quotas) Full
+  Ok tt
 
 -- the row, or the first refusal
 unfoldable pub quota_added : NewQuota → ℕ → CatalogueLists → Result Quota CatalogueRefusal
-quota_added new id lists = quota_if (quota_row new id) (quota_test (quota_row new id) lists)
+quota_added new id lists = do
+  let quota = quota_row new id
+  quota_test quota lists
+  Ok quota

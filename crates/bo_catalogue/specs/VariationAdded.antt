@@ -1,5 +1,7 @@
 -- A new variation.
-use Rattle.std.specs.Prelude.{ℕ, Option, Some, None, Result, Ok, Err, if◌then◌else◌, unwrap_or}
+use Rattle.std.specs.Prelude.{ℕ, Result, Ok, unwrap_or}
+use Rattle.std.specs.Option.{ok_or}
+use Rattle.bo_base.specs.Deciding.{◌>>=◌, ◌>>◌, check}
 use Rattle.bo_catalogue.specs.declared.rows.Item.{Item}
 use Rattle.bo_catalogue.specs.declared.rows.Variation.{Variation}
 use Rattle.bo_catalogue.specs.declared.rows.PricedVariation.{PricedVariation}
@@ -17,14 +19,11 @@ variation_row new item id = record { id = id; item = item; name = new.name; defa
 abbrev pub priced_variation : Item → Variation → PricedVariation
 priced_variation item row = record { row = row; price = unwrap_or row.default_price item.default_price }
 
-abbrev pub variation_in : NewVariation → Item → ℕ → CatalogueLists → Result PricedVariation CatalogueRefusal
-variation_in new item id lists = if takes_row id lists.variations then Ok (priced_variation item (variation_row new item.id id)) else Err Full
-
--- an item that was made without variations never gets one
-abbrev pub variation_of_item : NewVariation → ℕ → CatalogueLists → Option Item → Result PricedVariation CatalogueRefusal
-variation_of_item new id lists None = Err NoItem
-variation_of_item new id lists (Some item) = if item.varied then variation_in new item id lists else Err Plain
-
 -- the row with its price, or the first refusal
 unfoldable pub variation_added : ℕ → NewVariation → ℕ → CatalogueLists → Result PricedVariation CatalogueRefusal
-variation_added item new id lists = variation_of_item new id lists (item_at item lists)
+variation_added item new id lists = do
+  row ← ok_or (item_at item lists) NoItem
+  -- an item that was made without variations never gets one
+  check row.varied Plain
+  check (takes_row id lists.variations) Full
+  Ok (priced_variation row (variation_row new row.id id))

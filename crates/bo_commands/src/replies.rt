@@ -86,7 +86,7 @@ pub enum Reply {
     Results(List<Outcome>),
     /// A page of a list.
     Listed(Page),
-    /// A row was deleted.
+    /// A row was deleted, or a voucher was sent.
     Gone,
     /// What is left of a quota.
     Availability(Availability),

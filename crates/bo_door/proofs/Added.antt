@@ -1,10 +1,10 @@
 -- What is known where a check-in list was added.
 use Rattle.std.proofs.Common.{◌≡◌, ℕ, Bool, true, false, List, [], ◌∷◌, Result, Ok, Err, refl, sym, ap, ◌∙◌, subst}
-use Rattle.std.specs.Prelude.{◌&&◌, is_some, if◌then◌else◌}
+use Rattle.std.specs.Prelude.{◌&&◌, is_some}
 use Rattle.std.specs.List.{list_all, AllByRecursion}
+use Rattle.bo_base.proofs.Decided.{gave_it, passed}
 use Rattle.bo_base.proofs.RisingLemmas.{rising_in_order}
 use Rattle.bo_catalogue.specs.declared.rows.Quota.{Quota}
-use Rattle.bo_catalogue.specs.declared.refusal.CatalogueRefusal.TheVariants.{NoItem, Full}
 use Rattle.bo_catalogue.specs.CatalogueLists.{CatalogueLists, item_at}
 use Rattle.bo_lists.specs.declared.rows.CheckinList.{CheckinList}
 use Rattle.bo_lists.specs.declared.changes.Change.TheVariants.{PutCheckinList}
@@ -23,9 +23,8 @@ use Rattle.bo_sound.proofs.Numbered.{takes_it}
 use Rattle.bo_commands.specs.FitRequests.{IsFitCheckinList}
 use Rattle.bo_commands.specs.declared.doors.NewCheckinList.{NewCheckinList}
 use Rattle.bo_commands.specs.declared.doors.DoorRefusal.{DoorRefusal}
-use Rattle.bo_commands.specs.declared.doors.DoorRefusal.TheVariants.{Catalogue}
-use Rattle.bo_door.specs.ListAdded.{list_row, items_stand, numbered, list_added}
-use Rattle.bo_door.proofs.SoundDoors.{sound_checkin_list}
+use Rattle.bo_door.specs.ListAdded.{list_row, items_stand, list_added}
+use Rattle.bo_sound.proofs.SoundDoors.{sound_checkin_list}
 
 -- an item of each of these ids stands
 stand_each : (lists : CatalogueLists) (ids : List ℕ) → list_all (λ id. is_some (item_at id lists)) ids ≡ true → AllByRecursion (λ id. has_item lists.items id ≡ true) ids
@@ -50,25 +49,19 @@ module _ (new : NewCheckinList) (before after : State) (row : CheckinList) where
   abbrev asked : CheckinList
   asked = list_row new before.next.list
 
-  by_room : items_stand asked.limit_products before.lists.catalogue ≡ true → (takes : Bool) → takes_checkin_list before ≡ takes → Gives (if takes then Ok (with_checkin_list asked before, asked) else Err (Catalogue Full)) → IsAdded new before after row
-  by_room stand false e h = absurd (cc)
-  by_room stand true e h =
-      let same : (let added : State × CheckinList = (with_checkin_list asked before, asked) in added ≡ (after, row)) = cc in
+  pub added_is : Gives (list_added new before) → IsAdded new before after row
+  unfolding list_added
+  added_is h =
+      let (stand, h1) = passed (items_stand asked.limit_products before.lists.catalogue) _ _ h in
+      let (takes, h2) = passed (takes_checkin_list before) _ _ h1 in
+      let same = gave_it (with_checkin_list asked before, asked) (after, row) h2 in
       let is_row : asked ≡ row = ap (λ (x : State × CheckinList). x.1) same in
       record {
         is_row = is_row;
         stand = subst (λ (r : CheckinList). items_stand r.limit_products before.lists.catalogue ≡ true) is_row stand;
-        takes = e;
+        takes = takes;
         is_after = ap (λ (r : CheckinList). with_checkin_list r before) (sym is_row) ∙ ap (λ (x : State × CheckinList). x.0) same;
       }
-
-  by_items : (stand : Bool) → items_stand asked.limit_products before.lists.catalogue ≡ stand → Gives (if stand then numbered asked before else Err (Catalogue NoItem)) → IsAdded new before after row
-  by_items false e h = absurd (cc)
-  by_items true e h = by_room e (takes_checkin_list before) refl h
-
-  pub added_is : Gives (list_added new before) → IsAdded new before after row
-  unfolding list_added
-  added_is h = by_items (items_stand asked.limit_products before.lists.catalogue) refl h
 
   pub added_id : Gives (list_added new before) → row.id ≡ before.next.list
   added_id h = sym (ap (λ (r : CheckinList). r.id) (added_is h).is_row)

@@ -1,11 +1,11 @@
 -- What is known where a ticket was let through.
 use Rattle.std.proofs.Common.{◌≡◌, ℕ, ◌⊎◌, inl, inr, Bool, true, false, [], ◌∷◌, Option, Some, None, Result, Ok, Err, refl, sym, ap, ◌∙◌, subst}
 use Rattle.std.specs.Prelude.{is_some, unwrap_or, IfSome, if◌then◌else◌}
+use Rattle.bo_base.proofs.Decided.{gave, gave_it, passed}
 use Rattle.bo_base.specs.Moments.{IsMoment}
 use Rattle.bo_base.specs.Tables.{AreInOrder}
 use Rattle.bo_base.specs.Texts.{same_text}
 use Rattle.bo_catalogue.specs.declared.rows.Quota.{Quota}
-use Rattle.bo_catalogue.specs.declared.refusal.CatalogueRefusal.TheVariants.{Full}
 use Rattle.bo_lists.specs.declared.rows.OrderPos.{OrderPos}
 use Rattle.bo_lists.specs.declared.rows.CheckinList.{CheckinList}
 use Rattle.bo_lists.specs.declared.changes.Change.TheVariants.{PutCheckin}
@@ -28,14 +28,13 @@ use Rattle.bo_commands.specs.declared.doors.Ticket.{Ticket}
 use Rattle.bo_commands.specs.declared.doors.Ticket.TheVariants.{Position, Secret, Unreadable}
 use Rattle.bo_commands.specs.declared.doors.Scan.{Scan}
 use Rattle.bo_commands.specs.declared.doors.DoorRefusal.{DoorRefusal}
-use Rattle.bo_commands.specs.declared.doors.DoorRefusal.TheVariants.{Catalogue}
 use Rattle.bo_door.specs.declared.verdict.Admission.{Admission}
 use Rattle.bo_door.specs.declared.verdict.Admission.TheVariants.{Again, New}
 use Rattle.bo_door.specs.Verdict.{shown_by, is_stored}
 use Rattle.bo_door.specs.Valid.{IsValid}
-use Rattle.bo_door.specs.Scanned.{checkin_row, scanned_by, verdict_of, scanned, puts_by, scan_puts}
+use Rattle.bo_door.specs.Scanned.{checkin_row, stored, let_through, verdict_of, scanned, puts_by, scan_puts}
 use Rattle.bo_door.proofs.Judged.{IsEither, IsJudged, judged_is}
-use Rattle.bo_door.proofs.SoundDoors.{sound_checkin}
+use Rattle.bo_sound.proofs.SoundDoors.{sound_checkin}
 
 -- the position that a ticket shows is the one of its id
 pub shown_stands : (ticket : Ticket) (lists : Lists) (position : OrderPos) → AreInOrder (λ r. r.id) lists.positions → shown_by ticket lists ≡ Some position → position_at position.id lists ≡ Some position
@@ -78,22 +77,21 @@ module _ (list : ℕ) (ticket : Ticket) (scan : Scan) (before after : State) (po
   id_of : (a : Admission) (j : IsVerdict a) → j.list.id ≡ list
   id_of a j = key-row_at (λ (r : CheckinList). r.id) list before.lists.checkin_lists j.list j.found_it
 
-  by_room : (p : OrderPos) (takes : Bool) → takes_checkin before ≡ takes → is_stored list p.id scan.nonce before.lists.checkins ≡ false → Gives (if takes then Ok (with_checkin (checkin_row list p scan before) before, p) else Err (Catalogue Full)) → (p ≡ position) × IsNew list scan before after position
-  by_room p false e unstored h = absurd (cc)
-  by_room p true e unstored h =
-      let same : (let made : State × OrderPos = (with_checkin (checkin_row list p scan before) before, p) in made ≡ (after, position)) = cc in
+  put_new : (p : OrderPos) → is_stored list p.id scan.nonce before.lists.checkins ≡ false → Gives (stored (checkin_row list p scan before) p before) → (p ≡ position) × IsNew list scan before after position
+  put_new p unstored h =
+      let (takes, h1) = passed (takes_checkin before) _ _ h in
+      let same = gave_it (with_checkin (checkin_row list p scan before) before, p) (after, position) h1 in
       let is : p ≡ position = ap (λ (x : State × OrderPos). x.1) same in (
         is,
         record {
           unstored = subst (λ (q : OrderPos). is_stored list q.id scan.nonce before.lists.checkins ≡ false) is unstored;
-          takes = e;
+          takes = takes;
           is_after = ap (λ (q : OrderPos). with_checkin (checkin_row list q scan before) before) (sym is) ∙ ap (λ (x : State × OrderPos). x.0) same;
         },
       )
 
-  by_verdict : (result : Result Admission DoorRefusal) → verdict_of list ticket scan before ≡ result → Gives (scanned_by list scan before result) → Is
-  by_verdict (Err refusal) e h = absurd (cc)
-  by_verdict (Ok (Again p)) e h =
+  by_admission : (admission : Admission) → verdict_of list ticket scan before ≡ Ok admission → Gives (let_through list scan before admission) → Is
+  by_admission (Again p) e h =
       let same : (let made : State × OrderPos = (before, p) in made ≡ (after, position)) = cc in
       let is : p ≡ position = ap (λ (x : State × OrderPos). x.1) same in
       by_either (judged_is scan before.lists (checkin_list_at list before.lists) (shown_by ticket before.lists) (Again p) e) is (ap (λ (x : State × OrderPos). x.0) same)
@@ -106,7 +104,7 @@ module _ (list : ℕ) (ticket : Ticket) (scan : Scan) (before after : State) (po
               let q : j.position ≡ p = cc in
               (admitted_by (Again p) j (q ∙ is), inl (subst (λ (n : ℕ). is_stored n position.id scan.nonce before.lists.checkins ≡ true) (id_of (Again p) j) (subst (λ (o : OrderPos). is_stored j.list.id o.id scan.nonce before.lists.checkins ≡ true) (q ∙ is) c.0), e))
           by_case (inr c) = absurd (cc)
-  by_verdict (Ok (New p)) e h = by_either (judged_is scan before.lists (checkin_list_at list before.lists) (shown_by ticket before.lists) (New p) e)
+  by_admission (New p) e h = by_either (judged_is scan before.lists (checkin_list_at list before.lists) (shown_by ticket before.lists) (New p) e)
     where
       by_either : (j : IsVerdict (New p)) → Is
       by_either j = by_case j.either
@@ -116,12 +114,14 @@ module _ (list : ℕ) (ticket : Ticket) (scan : Scan) (before after : State) (po
           by_case (inr c) =
               let q : j.position ≡ p = cc in
               let unstored : is_stored list p.id scan.nonce before.lists.checkins ≡ false = subst (λ (n : ℕ). is_stored n p.id scan.nonce before.lists.checkins ≡ false) (id_of (New p) j) (subst (λ (o : OrderPos). is_stored j.list.id o.id scan.nonce before.lists.checkins ≡ false) q c.0.0) in
-              let r = by_room p (takes_checkin before) refl unstored h in
+              let r = put_new p unstored h in
               (admitted_by (New p) j (q ∙ r.0), inr r.1)
 
   pub admitted_is : Gives (scanned list ticket scan before) → Is
   unfolding scanned
-  admitted_is h = by_verdict (verdict_of list ticket scan before) refl h
+  admitted_is h =
+      let (admission, e, h1) = gave (verdict_of list ticket scan before) _ h in
+      by_admission admission e h1
 
   pub admitted_moment : Gives (scanned list ticket scan before) → after.moment ≡ before.moment
   admitted_moment h = by_case (admitted_is h).1
@@ -164,17 +164,12 @@ module _ (list : ℕ) (ticket : Ticket) (scan : Scan) (before after : State) (po
   -- its changes can be made at once, and lead there
   pub admitted_leads : IsFitScan scan → IsSound before → Gives (scanned list ticket scan before) → LeadTo (scan_puts list ticket scan before) before.lists after.lists
   unfolding scanned scan_puts
-  admitted_leads fit sound h = by_verdict_leads (verdict_of list ticket scan before) h (admitted_sound fit sound h)
+  admitted_leads fit sound h =
+      let (admission, e, h1) = gave (verdict_of list ticket scan before) _ h in
+      subst (λ (v : Result Admission DoorRefusal). LeadTo (puts_by list scan before v) before.lists after.lists) (sym e) (by_admission_leads admission h1 (admitted_sound fit sound h))
     where
-      by_verdict_leads : (result : Result Admission DoorRefusal) → Gives (scanned_by list scan before result) → IsSound after → LeadTo (puts_by list scan before result) before.lists after.lists
-      by_verdict_leads (Err refusal) h sound = absurd (cc (h))
-      by_verdict_leads (Ok (Again p)) h sound =
-          let same : (let made : State × OrderPos = (before, p) in made ≡ (after, position)) = cc (h) in
-          subst (λ (s : State). LeadTo [] before.lists s.lists) (ap (λ (x : State × OrderPos). x.0) same) (leads_nowhere before.lists)
-      by_verdict_leads (Ok (New p)) h sound = by_takes (takes_checkin before) h
-        where
-          by_takes : (takes : Bool) → Gives (if takes then Ok (with_checkin (checkin_row list p scan before) before, p) else Err (Catalogue Full)) → LeadTo (PutCheckin (checkin_row list p scan before) ∷ []) before.lists after.lists
-          by_takes false h = absurd (cc (h))
-          by_takes true h =
-              let same : (let made : State × OrderPos = (with_checkin (checkin_row list p scan before) before, p) in made ≡ (after, position)) = cc (h) in
-              leads_one (PutCheckin (checkin_row list p scan before)) before after (ap (λ (x : State × OrderPos). x.0.lists) same) sound
+      by_admission_leads : (admission : Admission) → Gives (let_through list scan before admission) → IsSound after → LeadTo (puts_by list scan before (Ok admission)) before.lists after.lists
+      by_admission_leads (Again p) h sound = subst (λ (s : State). LeadTo [] before.lists s.lists) (ap (λ (x : State × OrderPos). x.0) (gave_it (before, p) (after, position) h)) (leads_nowhere before.lists)
+      by_admission_leads (New p) h sound =
+          let (takes, h1) = passed (takes_checkin before) _ _ h in
+          leads_one (PutCheckin (checkin_row list p scan before)) before after (ap (λ (x : State × OrderPos). x.0.lists) (gave_it (with_checkin (checkin_row list p scan before) before, p) (after, position) h1)) sound

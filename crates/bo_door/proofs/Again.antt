@@ -1,8 +1,9 @@
 -- A scan that is sent again.
-use Rattle.std.proofs.Common.{◌≡◌, ℕ, ◌<◌, ◌⊎◌, inl, inr, Bool, true, false, ◌||◌, List, [], ◌∷◌, Option, Some, None, Ok, refl, sym, ap, ◌∙◌, subst, arith}
+use Rattle.std.proofs.Common.{◌≡◌, ℕ, ◌<◌, ◌⊎◌, inl, inr, Bool, true, false, ◌||◌, List, [], ◌∷◌, Option, Some, None, Result, Ok, refl, sym, ap, ◌∙◌, subst, arith}
 use Rattle.std.specs.Prelude.{◌&&◌, not, ◌==◌, is_some}
 use Rattle.std.specs.List.{list_any, AllByRecursion}
 use Rattle.std.proofs.lemmas.Bool.Decides.{nat_tests}
+use Rattle.bo_base.specs.Deciding.{◌>>=◌}
 use Rattle.bo_base.specs.Tables.{with_row}
 use Rattle.bo_base.specs.Texts.{same_text}
 use Rattle.bo_lists.specs.declared.rows.Status.{Status}
@@ -19,9 +20,11 @@ use Rattle.bo_sound.specs.Sound.{IsSound}
 use Rattle.bo_commands.specs.FitRequests.{IsFitScan}
 use Rattle.bo_commands.specs.declared.doors.Ticket.{Ticket}
 use Rattle.bo_commands.specs.declared.doors.Scan.{Scan}
+use Rattle.bo_commands.specs.declared.doors.DoorRefusal.{DoorRefusal}
+use Rattle.bo_door.specs.declared.verdict.Admission.{Admission}
 use Rattle.bo_door.specs.Verdict.{shown_by, is_in_force_if, is_unpaid, is_unpaid_if, is_stored}
 use Rattle.bo_door.specs.Valid.{IsValid, IsStillGood}
-use Rattle.bo_door.specs.Scanned.{checkin_row, scanned_by, scanned}
+use Rattle.bo_door.specs.Scanned.{checkin_row, let_through, scanned}
 use Rattle.bo_door.proofs.Judged.{again_is}
 use Rattle.bo_door.proofs.Admitted.{IsEitherOf, admitted_is, admitted_sound}
 
@@ -97,7 +100,7 @@ module _ (list : ℕ) (ticket : Ticket) (scan : Scan) (before after : State) (po
 -- while it is stored, it is let through again, and nothing changes
 pub scan_again : (list : CheckinList) (ticket : Ticket) (scan : Scan) (state : State) (position : OrderPos) → checkin_list_at list.id state.lists ≡ Some list → shown_by ticket state.lists ≡ Some position → IsValid list position scan state.lists → is_stored list.id position.id scan.nonce state.lists.checkins ≡ true → scanned list.id ticket scan state ≡ Ok (state, position)
 unfolding scanned
-scan_again list ticket scan state position found shown valid stored = rw (found, shown) (ap (scanned_by list.id scan state) (again_is scan state.lists list position valid stored))
+scan_again list ticket scan state position found shown valid stored = rw (found, shown) (ap (λ (v : Result Admission DoorRefusal). v >>= (λ a. let_through list.id scan state a)) (again_is scan state.lists list position valid stored))
 
 paid_in_force : (status : Status) → is_paid status ≡ true → is_in_force status ≡ true
 paid_in_force Pending e = absurd (cc (e))

@@ -1,6 +1,7 @@
 -- A new check-in list.
-use Rattle.std.specs.Prelude.{ℕ, Bool, is_some, List, Result, Ok, Err, if◌then◌else◌}
+use Rattle.std.specs.Prelude.{ℕ, Bool, is_some, List, Result, Ok}
 use Rattle.std.specs.List.{list_all}
+use Rattle.bo_base.specs.Deciding.{◌>>◌, check}
 use Rattle.bo_base.specs.Rising.{rising}
 use Rattle.bo_catalogue.specs.declared.refusal.CatalogueRefusal.TheVariants.{NoItem, Full}
 use Rattle.bo_catalogue.specs.CatalogueLists.{CatalogueLists, item_at}
@@ -20,12 +21,10 @@ list_row new id = record { id = id; name = new.name; all_products = new.all_prod
 unfoldable pub items_stand : List ℕ → CatalogueLists → Bool
 items_stand ids lists = list_all (λ id. is_some (item_at id lists)) ids
 
-abbrev pub numbered : CheckinList → State → Result (State × CheckinList) DoorRefusal
-numbered row state = if takes_checkin_list state then Ok (with_checkin_list row state, row) else Err (Catalogue Full)
-
-abbrev pub list_added_with : CheckinList → State → Result (State × CheckinList) DoorRefusal
-list_added_with row state = if items_stand row.limit_products state.lists.catalogue then numbered row state else Err (Catalogue NoItem)
-
 -- the box office with the new list, and its row, or the first refusal
 unfoldable pub list_added : NewCheckinList → State → Result (State × CheckinList) DoorRefusal
-list_added new state = list_added_with (list_row new state.next.list) state
+list_added new state = do
+  let row = list_row new state.next.list
+  check (items_stand row.limit_products state.lists.catalogue) (Catalogue NoItem)
+  check (takes_checkin_list state) (Catalogue Full)
+  Ok (with_checkin_list row state, row)

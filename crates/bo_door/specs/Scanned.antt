@@ -1,5 +1,6 @@
 -- What a scan of a ticket changes.
-use Rattle.std.specs.Prelude.{ℕ, List, [], ◌∷◌, unwrap_or, Result, Ok, Err, if◌then◌else◌}
+use Rattle.std.specs.Prelude.{ℕ, List, [], ◌∷◌, unwrap_or, Result, Ok, Err}
+use Rattle.bo_base.specs.Deciding.{◌>>=◌, ◌>>◌, check}
 use Rattle.bo_catalogue.specs.declared.refusal.CatalogueRefusal.TheVariants.{Full}
 use Rattle.bo_lists.specs.declared.rows.OrderPos.{OrderPos}
 use Rattle.bo_lists.specs.declared.rows.Checkin.{Checkin}
@@ -20,14 +21,16 @@ use Rattle.bo_door.specs.Verdict.{shown_by, verdict}
 abbrev pub checkin_row : ℕ → OrderPos → Scan → State → Checkin
 checkin_row list position scan state = record { id = state.next.checkin; list = list; position = position.id; kind = scan.kind; datetime = unwrap_or scan.datetime state.moment; nonce = scan.nonce }
 
+-- it is stored where the table takes it
 abbrev pub stored : Checkin → OrderPos → State → Result (State × OrderPos) DoorRefusal
-stored row position state = if takes_checkin state then Ok (with_checkin row state, position) else Err (Catalogue Full)
+stored row position state = do
+  check (takes_checkin state) (Catalogue Full)
+  Ok (with_checkin row state, position)
 
--- who is let through anew is stored, where the table takes it, and who was let through before isn't again
-abbrev pub scanned_by : ℕ → Scan → State → Result Admission DoorRefusal → Result (State × OrderPos) DoorRefusal
-scanned_by list scan state (Err refusal) = Err refusal
-scanned_by list scan state (Ok (Again position)) = Ok (state, position)
-scanned_by list scan state (Ok (New position)) = stored (checkin_row list position scan state) position state
+-- who is let through anew is stored, and who was let through before isn't again
+abbrev pub let_through : ℕ → Scan → State → Admission → Result (State × OrderPos) DoorRefusal
+let_through list scan state (Again position) = Ok (state, position)
+let_through list scan state (New position) = stored (checkin_row list position scan state) position state
 
 -- the verdict on this scan
 abbrev pub verdict_of : ℕ → Ticket → Scan → State → Result Admission DoorRefusal
@@ -35,7 +38,9 @@ verdict_of list ticket scan state = verdict (checkin_list_at list state.lists) (
 
 -- the box office with the check-in, if it is a new one, and the position, or the first refusal
 unfoldable pub scanned : ℕ → Ticket → Scan → State → Result (State × OrderPos) DoorRefusal
-scanned list ticket scan state = scanned_by list scan state (verdict_of list ticket scan state)
+scanned list ticket scan state = do
+  admission ← verdict_of list ticket scan state
+  let_through list scan state admission
 
 abbrev pub puts_by : ℕ → Scan → State → Result Admission DoorRefusal → List Change
 puts_by list scan state (Err refusal) = []

@@ -2,14 +2,11 @@
 
 ghost use Rattle.std.specs.Prelude.{◌≡◌, IfOk, List, ◌∷◌, length, map, take, drop};
 ghost use Rattle.bo_lists.specs.declared.rows.OrderPos.{OrderPos};
-ghost use Rattle.bo_door.specs.Last.{checkins_of};
 ghost use Rattle.bo_door.specs.Belongs.{is_for, includes, belongs, belonging};
 ghost use Rattle.bo_door.specs.Status.{ticket_of, part};
 
-use crate::passages::is_of;
-use bo_base::List;
 use bo_commands::ListedTicket;
-use bo_lists::{Checkin, CheckinList, OrderPos, Status};
+use bo_lists::{CheckinList, OrderPos, Status};
 use bo_usage::Book;
 use std::alloc::{AllocError, Global};
 
@@ -53,7 +50,7 @@ pub fn position_count<B: Book>(book: &B, list: &CheckinList) -> usize
 }
 
 /// The positions that belong to the list, by id, without the first `skip` of them and at most `most`, with their
-/// check-ins by the list, by id. Each goes over all check-ins. `Err` where there is no memory for them.
+/// check-ins by the list, by id. `Err` where there is no memory for them.
 pub fn positions<B: Book>(
     book: &B,
     alloc: Global,
@@ -110,24 +107,6 @@ pub fn ticket_of<B: Book>(
 {
     Ok(ListedTicket {
         position: position.copy(alloc)?,
-        checkins: checkins_of(book.checkins(), alloc, list.id, position.id)?,
+        checkins: book.checkins_of(alloc, list.id, position.id)?,
     })
-}
-
-// Copies of the check-ins of a position by a list, by id.
-fn checkins_of(
-    checkins: &[Checkin],
-    alloc: Global,
-    list: u64,
-    position: u64,
-) -> Result<List<Checkin>, AllocError>
-    ensures { IfOk result (λ rows. rows ≡ checkins_of list position checkins.now) }
-{
-    let mut rows = Vec::new(alloc);
-    for checkin in checkins {
-        if is_of(checkin, list, position) {
-            rows.push(checkin.copy(alloc)?)?;
-        }
-    }
-    Ok(List::new(rows))
 }

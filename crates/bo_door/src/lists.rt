@@ -3,7 +3,7 @@
 ghost use Rattle.std.specs.Prelude.{◌≡◌, ◌≢◌, [], ◌∷◌, ◌++◌, Ok, Err, IfOk, IfErr, OnErr};
 ghost use Rattle.bo_draft.specs.DraftState.{now, Extends};
 ghost use Rattle.bo_lists.specs.declared.changes.Change.TheVariants.{PutCheckinList};
-ghost use Rattle.bo_door.specs.ListAdded.{list_row, items_stand, numbered, list_added};
+ghost use Rattle.bo_door.specs.ListAdded.{list_row, items_stand, list_added};
 
 use bo_base::Ids;
 use bo_catalogue::{Catalogue, CatalogueRefusal};
@@ -34,7 +34,13 @@ pub fn add_list<B: Book>(
     if !items_stand(draft.catalogue(), row.limit_products.as_slice()) {
         return Err(DoorRefusal::Catalogue(CatalogueRefusal::NoItem));
     }
-    number(draft, alloc, row)
+    if !draft.takes_checkin_list() {
+        return Err(DoorRefusal::Catalogue(CatalogueRefusal::Full));
+    }
+    let copy = row.copy(alloc)?;
+    draft.put_checkin_list(alloc, row)?;
+    draft.use_checkin_list_id();
+    Ok(copy)
 }
 
 // The row that is asked for.
@@ -58,26 +64,4 @@ fn items_stand(catalogue: &Catalogue, ids: &[u64]) -> bool
     ensures { result ≡ items_stand ids.now catalogue.now.lists }
 {
     ids.iter().all(|id| catalogue.item(*id).is_some())
-}
-
-// Puts the row, if the table takes it, and counts its id as used.
-fn number<B: Book>(
-    draft: &mut Draft<'_, B>,
-    alloc: Global,
-    row: CheckinList,
-) -> Result<CheckinList, DoorRefusal>
-    requires { (now draft.old).lists.checkin_lists ≡ draft.old.log.base.checkin_lists }
-    ensures done { IfOk result (λ copy. numbered row (now draft.old) ≡ Ok (now draft.new, copy)) }
-    ensures refused { IfErr result (λ e. e ≢ DoorRefusal.Memory → numbered row (now draft.old) ≡ Err e) }
-    ensures extends { Extends draft.old draft.new }
-    ensures same { OnErr result (draft.new ≡ draft.old) }
-    ensures changes { IfOk result (λ copy. draft.new.log.changes ≡ draft.old.log.changes ++ PutCheckinList copy ∷ []) }
-{
-    if !draft.takes_checkin_list() {
-        return Err(DoorRefusal::Catalogue(CatalogueRefusal::Full));
-    }
-    let copy = row.copy(alloc)?;
-    draft.put_checkin_list(alloc, row)?;
-    draft.use_checkin_list_id();
-    Ok(copy)
 }

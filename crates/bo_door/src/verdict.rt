@@ -1,8 +1,7 @@
 //! The verdict on a scan of a ticket at a door.
 
-ghost use Rattle.std.specs.Prelude.{◌≡◌, ◌≢◌, Some, Ok, Err, IfOk, IfErr, find};
+ghost use Rattle.std.specs.Prelude.{◌≡◌, ◌≢◌, Some, Ok, Err, IfOk, IfErr};
 ghost use Rattle.std.specs.Option.{option_copied};
-ghost use Rattle.bo_base.specs.Texts.{same_text};
 ghost use Rattle.bo_draft.specs.DraftState.{now};
 ghost use Rattle.bo_lists.specs.Lists.{order_at};
 ghost use Rattle.bo_sound.specs.Checkins.{same_nonce};
@@ -74,7 +73,8 @@ fn judge_position<B: Book>(
     if is_unpaid(draft, list, position, scan) {
         return Err(DoorRefusal::Unpaid);
     }
-    let checkins = draft.checkins();
+    let stored = draft.checkins_of(alloc, list.id, position.id)?;
+    let checkins = stored.as_slice();
     if is_stored(checkins, list.id, position.id, &scan.nonce) {
         return Ok(Admission::Again(position.copy(alloc)?));
     }
@@ -91,16 +91,9 @@ fn shown_by<'d, B: Book>(draft: &'d Draft<'_, B>, ticket: &Ticket) -> Option<&'d
 {
     match ticket {
         Ticket::Position(id) => draft.position(*id),
-        Ticket::Secret(secret) => with_secret(draft.positions(), secret.as_str()),
+        Ticket::Secret(secret) => draft.position_with(secret.as_str()),
         Ticket::Unreadable => None,
     }
-}
-
-// The first position with that secret.
-fn with_secret<'p>(positions: &'p [OrderPos], secret: &str) -> Option<&'p OrderPos>
-    ensures { option_copied result ≡ find (λ p. same_text p.secret secret.now) positions.now }
-{
-    positions.iter().find(|p| p.secret.same(secret))
 }
 
 // Whether the position's order is pending or paid.

@@ -18,8 +18,8 @@ use Rattle.bo_lists.proofs.Time.{one}
 use Rattle.bo_lists.proofs.Orders.{counts, of_order, order_step, position_step, blocked_linear}
 use Rattle.bo_draft.specs.Shift.{KeepsHeadroom, used, sale_come, sale_gone, order_come, order_gone}
 use Rattle.bo_draft.proofs.Parts.{by_usage, order_total, position_total}
-use Rattle.bo_overlay.proofs.OrderSums.{of_one, order_put_is}
-use Rattle.bo_overlay.specs.Ordered.{count_ordered, if_stands}
+use Rattle.bo_usage.proofs.OrderSums.{of_one, order_put_is}
+use Rattle.bo_usage.specs.OfOrder.{count_ordered, if_stands}
 
 -- an order in force is paid or pending
 all_in_force : (order : Option Order) (n : ℕ) → if_stands is_paid order n + if_stands is_pending order n ≡ if_stands is_in_force order n

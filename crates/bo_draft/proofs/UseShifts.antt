@@ -14,8 +14,8 @@ use Rattle.bo_lists.specs.Lists.{Lists, cart_at, order_at, position_at}
 use Rattle.bo_lists.specs.Conditions.{is_in_force, is_live_cart, names, holds}
 use Rattle.bo_lists.specs.Usage.{redeemed, stands_as, uses}
 use Rattle.bo_lists.proofs.Time.{one}
-use Rattle.bo_overlay.specs.Ordered.{count_ordered, if_stands}
-use Rattle.bo_overlay.proofs.Redeems.{named, redeemed_order, redeemed_position}
+use Rattle.bo_usage.specs.OfOrder.{count_ordered, if_stands}
+use Rattle.bo_usage.proofs.Redeemed.{named, redeemed_order, redeemed_position}
 use Rattle.bo_draft.specs.Uses.{one_use, held_by, used_by, IsShift}
 
 held_is : (at v : ℕ) (cart : Option CartPos) → sum_at (λ c. if holds at v c then 1 else 0) cart ≡ one_use v (held_by at cart)

@@ -22,7 +22,7 @@ use Rattle.bo_lists.specs.Usage.{usage_of, redeemed, stands_as, position_counts,
 use Rattle.bo_lists.specs.Headroom.{held_in, AllHaveHeadroom}
 use Rattle.bo_overlay.specs.Logs.{Log, rows_of}
 use Rattle.bo_overlay.specs.declared.tickets.Ticket.{Ticket}
-use Rattle.bo_overlay.specs.Ordered.{count_ordered}
+use Rattle.bo_usage.specs.OfOrder.{count_ordered}
 use Rattle.bo_overlay.specs.Tickets.{AreTicketsOf}
 
 -- all that is used of a quota

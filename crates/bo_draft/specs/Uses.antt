@@ -10,7 +10,7 @@ use Rattle.bo_lists.specs.Headroom.{held}
 use Rattle.bo_lists.specs.Lists.{Lists, order_at}
 use Rattle.bo_lists.specs.Conditions.{is_in_force, is_live_cart, names}
 use Rattle.bo_lists.specs.Usage.{redeemed, stands_as}
-use Rattle.bo_overlay.specs.Ordered.{count_ordered}
+use Rattle.bo_usage.specs.OfOrder.{count_ordered}
 use Rattle.bo_draft.specs.declared.use_shift.UseShift.{UseShift}
 use Rattle.bo_draft.specs.declared.counts.Count.{Count}
 use Rattle.bo_draft.specs.Counts.{came, went}

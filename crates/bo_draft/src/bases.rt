@@ -5,10 +5,12 @@ ghost use Rattle.bo_base.specs.Tables.{AreInOrder};
 ghost use Rattle.bo_catalogue.specs.CatalogueLists.{quota_at};
 ghost use Rattle.bo_catalogue.specs.declared.rows.Quota.{Quota};
 ghost use Rattle.bo_draft.specs.Shift.{used, AreBases};
+ghost use Rattle.bo_lists.specs.Usage.{usage_of};
 
 use crate::counts::Count;
 use bo_base::{Moment, Row, Steps, place_of};
 use bo_catalogue::Quota;
+use bo_lists::Usage;
 use bo_usage::Book;
 use std::alloc::AllocError;
 use std::marker::Brand;
@@ -137,27 +139,34 @@ pub fn base_of<B: Book>(
 }
 
 // All that is used of a quota that stands in the book.
+#[tactic(auto, unfolding(crate::specs::Shift::used))]
 fn used_in_book<B: Book>(book: &B, quota: &Quota, at: Moment) -> u128
     requires moment { (B.state book.now).moment ≤ at }
     requires stands { quota_at quota.now.id (B.state book.now).lists.catalogue ≡ Some quota.now }
     ensures value { result ≡ used (B.state book.now).lists at quota.now }
     ensures few { result ≤ 92233720368547758080 }
 {
-    used_in::<B, Brand>(book, quota, at, Blank::new(1))
+    usage_in_book(book, quota, at).total()
+}
+
+/// What uses a quota that stands in the book.
+pub fn usage_in_book<B: Book>(book: &B, quota: &Quota, at: Moment) -> Usage
+    requires moment { (B.state book.now).moment ≤ at }
+    requires stands { quota_at quota.now.id (B.state book.now).lists.catalogue ≡ Some quota.now }
+    ensures { result ≡ usage_of (B.state book.now).lists at quota.now }
+{
+    usage_in::<B, Brand>(book, quota, at, Blank::new(1))
 }
 
 // The same, in a ledger of steps that nobody reads.
-#[tactic(auto, unfolding(crate::specs::Shift::used))]
-fn used_in<B: Book, L: Ledger>(book: &B, quota: &Quota, at: Moment, blank: Blank) -> u128
+fn usage_in<B: Book, L: Ledger>(book: &B, quota: &Quota, at: Moment, blank: Blank) -> Usage
     requires name { blank.name ≡ L.name }
     requires parts { blank.parts ≡ L.parts }
     requires some { 0 < blank.parts }
     requires moment { (B.state book.now).moment ≤ at }
     requires stands { quota_at quota.now.id (B.state book.now).lists.catalogue ≡ Some quota.now }
-    ensures value { result ≡ used (B.state book.now).lists at quota.now }
-    ensures few { result ≤ 92233720368547758080 }
+    ensures { result ≡ usage_of (B.state book.now).lists at quota.now }
 {
     let mut steps = Steps::<L>::new(blank);
-    let usage = book.usage_at(quota, at, &mut steps);
-    usage.total()
+    book.usage_at(quota, at, &mut steps)
 }

@@ -1,25 +1,26 @@
 //! A book with changes that aren't applied yet.
 
-ghost use Rattle.std.specs.Prelude.{true, not, ◌||◌, ◌≡◌, [], ◌≤◌, ◌<◌, ◌+◌, ◌-◌, IfOk, OnOk, OnErr, length, Some, None};
+ghost use Rattle.std.specs.Prelude.{true, not, ◌||◌, ◌≡◌, [], ◌≤◌, ◌<◌, ◌+◌, ◌-◌, IfOk, OnOk, OnErr, length, map, count_by, Some, None};
 ghost use Rattle.std.specs.Option.{option_copied};
 ghost use Rattle.bo_lists.specs.Full.{takes_cart, takes_voucher, takes_order, takes_positions, takes_waiting, takes_checkin_list, takes_checkin};
-ghost use Rattle.bo_lists.specs.Lists.{voucher_at, cart_at, order_at, position_at, positions_of, waiting_at, checkin_list_at, checkin_at};
+ghost use Rattle.bo_lists.specs.Lists.{voucher_at, cart_at, order_at, position_at, positions_of, waiting_at, checkin_list_at, checkin_at, checkins_by};
 ghost use Rattle.bo_lists.specs.Consumed.{consumed};
 ghost use Rattle.bo_lists.specs.Headroom.{has_use, held, HasHeadroom, AllHaveHeadroom};
 ghost use Rattle.bo_lists.specs.Conditions.{is_live_cart};
 ghost use Rattle.bo_base.specs.Tables.{AreInOrder};
-ghost use Rattle.bo_lists.specs.Named.{voucher_of, is_used};
+ghost use Rattle.bo_lists.specs.Named.{voucher_of, with_secret, is_used};
+ghost use Rattle.bo_lists.specs.Waits.{waiters, is_waiting};
 ghost use Rattle.bo_lists.specs.Over.{first_over};
 ghost use Rattle.bo_lists.specs.Change.{changed};
 ghost use Rattle.bo_draft.specs.DraftState.{DraftState, MarkState, IsMarkOf, Extends, now, back, with_change};
 ghost use Rattle.bo_overlay.specs.Logs.{rows_of};
-ghost use Rattle.bo_overlay.specs.Due.{due_orders, dead_carts};
+ghost use Rattle.bo_lists.specs.Due.{due_orders, dead_carts};
 ghost use Rattle.bo_draft.specs.Shift.{CanCome};
-ghost use Rattle.bo_lists.specs.Usage.{redeemed, usage_of};
+ghost use Rattle.bo_lists.specs.Usage.{redeemed, usage_of, waits_for};
 ghost use Rattle.bo_lists.specs.Total.{total};
 ghost use Rattle.bo_catalogue.specs.CatalogueLists.{quota_at};
 
-use crate::bases::{Base, ask_bases};
+use crate::bases::{Base, ask_bases, usage_in_book};
 use crate::counts::Count;
 use crate::over::{first_over, used_now};
 use crate::shift::{carts_after, counts_after, turned_tickets, vouchers_after};
@@ -27,7 +28,7 @@ use crate::use_shift::use_shift;
 use crate::uses::Uses;
 use bo_base::codes::LAST_ORDER;
 use bo_base::{List, Moment, Text};
-use bo_catalogue::{Catalogue, LAST_ID, MOST_ROWS, Quota, takes_rows};
+use bo_catalogue::{Catalogue, LAST_ID, MOST_ROWS, Product, Quota, takes_rows};
 use bo_lists::{
     CartPos, Change, Changes, Checkin, CheckinList, NextIds, Order, OrderPos, Own, Voucher, Waiting,
 };
@@ -108,11 +109,13 @@ impl<'a, B: Book> Draft<'a, B> {
         })
     }
 
-    /// No voucher is used more often than it may be, and the ids of vouchers and of cart positions rise.
+    /// No voucher is used more often than it may be, and the ids of vouchers, of cart positions and of waiting entries
+    /// rise.
     pub fn known(&self)
         ensures headroom { AllHaveHeadroom self.now.moment (rows_of self.now.log) }
         ensures vouchers { AreInOrder (λ r. r.id) (rows_of self.now.log).vouchers }
         ensures carts { AreInOrder (λ r. r.id) (rows_of self.now.log).carts }
+        ensures waiting { AreInOrder (λ r. r.id) (rows_of self.now.log).waiting }
     {
         let _ = &self.moment;
         self.overlay.known();
@@ -210,46 +213,6 @@ impl<'a, B: Book> Draft<'a, B> {
         self.overlay.waiting(id)
     }
 
-    /// All orders, by number, in a draft that has changed none of them.
-    pub fn orders(&self) -> &[Order]
-        requires { (now self.now).lists.orders ≡ self.now.log.base.orders }
-        ensures { result.now ≡ (now self.now).lists.orders }
-    {
-        self.overlay.orders()
-    }
-
-    /// All cart positions, by id, in a draft that has changed none of them.
-    pub fn carts(&self) -> &[CartPos]
-        requires { (now self.now).lists.carts ≡ self.now.log.base.carts }
-        ensures { result.now ≡ (now self.now).lists.carts }
-    {
-        self.overlay.carts()
-    }
-
-    /// All order positions, by id, in a draft that has changed none of them.
-    pub fn positions(&self) -> &[OrderPos]
-        requires { (now self.now).lists.positions ≡ self.now.log.base.positions }
-        ensures { result.now ≡ (now self.now).lists.positions }
-    {
-        self.overlay.positions()
-    }
-
-    /// All check-ins, by id, in a draft that has changed none of them.
-    pub fn checkins(&self) -> &[Checkin]
-        requires { (now self.now).lists.checkins ≡ self.now.log.base.checkins }
-        ensures { result.now ≡ (now self.now).lists.checkins }
-    {
-        self.overlay.checkins()
-    }
-
-    /// The whole waiting list, by id, in a draft that has changed none of it.
-    pub fn waiting_list(&self) -> &[Waiting]
-        requires { (now self.now).lists.waiting ≡ self.now.log.base.waiting }
-        ensures { result.now ≡ (now self.now).lists.waiting }
-    {
-        self.overlay.waiting_list()
-    }
-
     /// All that is used of a quota that stands: its five counts together.
     #[tactic(auto, unfolding(crate::specs::Shift::used))]
     pub fn used(&self, quota: &Quota) -> u128
@@ -267,13 +230,64 @@ impl<'a, B: Book> Draft<'a, B> {
         )
     }
 
+    /// How many entries wait for a place of a quota that stands, in a draft that has changed no waiting entry.
+    #[tactic(auto, unfolding(bo_lists::specs::Usage::usage_of))]
+    pub fn waiting_for(&self, quota: &Quota) -> u64
+        requires waiting { (now self.now).lists.waiting ≡ self.now.log.base.waiting }
+        requires stands { quota_at quota.now.id (now self.now).lists.catalogue ≡ Some quota.now }
+        ensures { result ≡ count_by (waits_for quota.now) (now self.now).lists.waiting }
+    {
+        self.overlay.known();
+        usage_in_book(self.book, quota, self.moment).waiting
+    }
+
+    /// Whether an entry of this email waits, without a voucher, for this product, in a draft that has changed no
+    /// waiting entry.
+    pub fn is_waiting(&self, email: &str, product: Product) -> bool
+        requires { (now self.now).lists.waiting ≡ self.now.log.base.waiting }
+        ensures { result ≡ is_waiting email.now product (now self.now).lists }
+    {
+        self.book.is_waiting(email, product)
+    }
+
+    /// The ids of the waiting entries without voucher, in order, in a draft that has changed no waiting entry.
+    /// `Err` where there is no memory for them.
+    pub fn waiters(&self, alloc: Global) -> Result<Vec<u64>, AllocError>
+        requires { (now self.now).lists.waiting ≡ self.now.log.base.waiting }
+        ensures { IfOk result (λ ids. ids.items ≡ map (λ e. e.id) (waiters (now self.now).lists)) }
+    {
+        self.book.waiters(alloc)
+    }
+
+    /// The first order position with that secret, in a draft that has changed no order position.
+    pub fn position_with(&self, secret: &str) -> Option<&OrderPos>
+        requires { (now self.now).lists.positions ≡ self.now.log.base.positions }
+        ensures { option_copied result ≡ with_secret secret.now (now self.now).lists }
+    {
+        self.book.position_with(secret)
+    }
+
+    /// Copies of the check-ins of a position by a list, by id, in a draft that has changed no check-in.
+    /// `Err` where there is no memory for them.
+    pub fn checkins_of(
+        &self,
+        alloc: Global,
+        list: u64,
+        position: u64,
+    ) -> Result<List<Checkin>, AllocError>
+        requires { (now self.now).lists.checkins ≡ self.now.log.base.checkins }
+        ensures { IfOk result (λ rows. rows ≡ checkins_by list position (now self.now).lists) }
+    {
+        self.book.checkins_of(alloc, list, position)
+    }
+
     /// Copies of the positions of an order, by id, in a draft that has changed no order position.
     /// `Err` where there is no memory for them.
     pub fn positions_of(&self, alloc: Global, order: u64) -> Result<List<OrderPos>, AllocError>
         requires { (now self.now).lists.positions ≡ self.now.log.base.positions }
         ensures { IfOk result (λ rows. rows ≡ positions_of order (now self.now).lists) }
     {
-        self.overlay.positions_of(alloc, order)
+        self.book.positions_of(alloc, order)
     }
 
     /// The ids of the cart positions of these carts, dead ones too, in order,
@@ -282,7 +296,7 @@ impl<'a, B: Book> Draft<'a, B> {
         requires { (now self.now).lists.carts ≡ self.now.log.base.carts }
         ensures { IfOk result (λ ids. ids.items ≡ consumed carts.now (now self.now).lists) }
     {
-        self.overlay.carts_in(alloc, carts)
+        self.book.carts_in(alloc, carts)
     }
 
     /// The numbers of the pending orders that ended before the draft's moment, in order, in a draft that has changed
@@ -291,7 +305,7 @@ impl<'a, B: Book> Draft<'a, B> {
         requires { (now self.now).lists.orders ≡ self.now.log.base.orders }
         ensures { IfOk result (λ ids. ids.items ≡ due_orders (now self.now).moment (now self.now).lists) }
     {
-        self.overlay.due_orders(alloc, self.moment)
+        self.book.due_orders(alloc, self.moment)
     }
 
     /// The ids of the cart positions that are dead at the draft's moment, in order, in a draft that has changed no
@@ -300,7 +314,7 @@ impl<'a, B: Book> Draft<'a, B> {
         requires { (now self.now).lists.carts ≡ self.now.log.base.carts }
         ensures { IfOk result (λ ids. ids.items ≡ dead_carts (now self.now).moment (now self.now).lists) }
     {
-        self.overlay.dead_carts(alloc, self.moment)
+        self.book.dead_carts(alloc, self.moment)
     }
 
     /// Whether one more cart position may name the voucher.
@@ -354,8 +368,7 @@ impl<'a, B: Book> Draft<'a, B> {
         requires { (now self.now).lists.orders ≡ self.now.log.base.orders }
         ensures { result ≡ takes_order (now self.now) }
     {
-        self.overlay.orders().len() < LAST_ORDER as usize
-            && self.next.order <= u64::from(LAST_ORDER)
+        self.book.orders().len() < LAST_ORDER as usize && self.next.order <= u64::from(LAST_ORDER)
     }
 
     /// Counts the id of an order as used.
@@ -381,7 +394,7 @@ impl<'a, B: Book> Draft<'a, B> {
         requires { (now self.now).lists.positions ≡ self.now.log.base.positions }
         ensures { result ≡ takes_positions count (now self.now) }
     {
-        takes_rows(count, self.next.position, self.overlay.positions())
+        takes_rows(count, self.next.position, self.book.positions())
     }
 
     /// Counts the ids of so many order positions as used.
@@ -432,7 +445,7 @@ impl<'a, B: Book> Draft<'a, B> {
         requires { (now self.now).lists.waiting ≡ self.now.log.base.waiting }
         ensures { result ≡ takes_waiting (now self.now) }
     {
-        let rows = self.overlay.waiting_list().len();
+        let rows = self.book.waiting().len();
         rows < MOST_ROWS && self.next.waiting <= LAST_ID
     }
 
@@ -459,7 +472,7 @@ impl<'a, B: Book> Draft<'a, B> {
         requires { (now self.now).lists.checkin_lists ≡ self.now.log.base.checkin_lists }
         ensures { result ≡ takes_checkin_list (now self.now) }
     {
-        self.overlay.checkin_lists().len() < MOST_ROWS && self.next.list <= LAST_ID
+        self.book.checkin_lists().len() < MOST_ROWS && self.next.list <= LAST_ID
     }
 
     /// Counts the id of a check-in list as used.
@@ -485,7 +498,7 @@ impl<'a, B: Book> Draft<'a, B> {
         requires { (now self.now).lists.checkins ≡ self.now.log.base.checkins }
         ensures { result ≡ takes_checkin (now self.now) }
     {
-        self.overlay.checkins().len() < MOST_ROWS && self.next.checkin <= LAST_ID
+        self.book.checkins().len() < MOST_ROWS && self.next.checkin <= LAST_ID
     }
 
     /// Counts the id of a check-in as used.

@@ -1,26 +1,36 @@
 //! A box office without rows, and a stream of requests to it.
 
 ghost use Rattle.std.specs.Prelude.{◌≡◌, ◌+◌, ◌≤◌, IfOk};
+ghost use Rattle.bo_lists.specs.Lists.{empty};
 ghost use Rattle.bo_serve.specs.BoxOfficeView.{BoxOfficeView};
 ghost use Rattle.bo_serve.specs.Run.{RunLeads, CountedAll};
 ghost use Rattle.bo_serve.specs.Served.{Serves};
 ghost use Rattle.bo_feed.specs.House.{fresh_house};
 
 use bo_base::{Drain, Slug, Source, Ticks};
+use bo_counters::Counters;
 use bo_office::Office;
 use bo_serve::{BoxOffice, Failure, Room, run_stream};
-use bo_usage::Recount;
 use sha2::{Digest, Sha256};
 use std::alloc::{AllocError, Global};
 
+// An office without rows.
+fn empty_office(alloc: Global, organizer: Slug, event: Slug) -> Office<Counters>
+    ensures organizer { result.organizer ≡ organizer }
+    ensures event { result.event ≡ event }
+    ensures state { result.state ≡ empty }
+{
+    Office::over(organizer, event, Counters::new(alloc))
+}
+
 /// The box office that `feed` begins with: organizer `house`, event `hall`, the token `feed`, and no rows.
 #[tactic(auto, unfolding(crate::specs::House::fresh_house, bo_base::specs::Slugs::is_slug))]
-pub fn open_house(alloc: Global) -> Result<BoxOffice<Recount>, AllocError>
+pub fn open_house(alloc: Global) -> Result<BoxOffice<Counters>, AllocError>
     ensures { IfOk result (λ house. house ≡ fresh_house) }
 {
     let organizer = Slug::copy_of(alloc, "house")?;
     let event = Slug::copy_of(alloc, "hall")?;
-    let office = Office::over(organizer, event, Recount::new(alloc));
+    let office = empty_office(alloc, organizer, event);
     BoxOffice::over(alloc, office, Sha256::digest(b"feed"))
 }
 

@@ -11,10 +11,10 @@ any-with_row : (test : ℕ → Bool) (x : ℕ) (xs : List ℕ) → list_any test
 any-with_row test x [] = refl
 any-with_row test x (y ∷ ys) = grind (arith, nat_tests, any-with_row test x ys, λ (same : y ≡ x). ap test same)
 
-key_is : (k i : ℕ) → i < 18446744073709551616 → key_of (entry k i) ≡ k
+pub key_is : (k i : ℕ) → i < 18446744073709551616 → key_of (entry k i) ≡ k
 key_is k i lt = grind (arith)
 
-id_is : (k i : ℕ) → i < 18446744073709551616 → id_of (entry k i) ≡ i
+pub id_is : (k i : ℕ) → i < 18446744073709551616 → id_of (entry k i) ≡ i
 id_is k i lt = grind (arith)
 
 pub has_entry-with_entries : (keys : List ℕ) (id : ℕ) (entries : List ℕ) (k i : ℕ) → id < 18446744073709551616 → has_entry k i (with_entries keys id entries) ≡ ((eqb id i && has k keys) || has_entry k i entries)
@@ -74,4 +74,12 @@ of_key_is k [] = refl
 of_key_is k (e ∷ es) = rw (within e) (ap (λ l. cond (eqb (key_of e) k) (e ∷ l) l) (of_key_is k es))
   where
     within : (e : ℕ) → is_between (entry k 0) (entry (k + 1) 0) e ≡ eqb (key_of e) k
+    within e = grind (arith, nat_tests)
+
+-- the entries between the first ones of two keys are those of the keys between
+pub between_is : (m n : ℕ) (entries : List ℕ) → filter (is_between (entry m 0) (entry n 0)) entries ≡ filter (λ e. is_between m n (key_of e)) entries
+between_is m n [] = refl
+between_is m n (e ∷ es) = rw (within e) (ap (λ l. cond (is_between m n (key_of e)) (e ∷ l) l) (between_is m n es))
+  where
+    within : (e : ℕ) → is_between (entry m 0) (entry n 0) e ≡ is_between m n (key_of e)
     within e = grind (arith, nat_tests)

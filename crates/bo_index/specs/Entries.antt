@@ -21,6 +21,14 @@ has_entry key id entries = list_any (λ e. key_of e == key && id_of e == id) ent
 abbrev pub ids_of : ℕ → List ℕ → List ℕ
 ids_of key entries = map id_of (filter (λ e. key_of e == key) entries)
 
+-- from one number on, and before another
+abbrev pub is_between : ℕ → ℕ → ℕ → Bool
+is_between from to e = nat_le from e && nat_lt e to
+
+-- the ids that the entries have with a key from one on and before another
+abbrev pub ids_between : ℕ → ℕ → List ℕ → List ℕ
+ids_between from to entries = map id_of (filter (λ e. is_between from to (key_of e)) entries)
+
 -- the entries of an id with each of these keys
 abbrev pub entries_of : List ℕ → ℕ → List ℕ
 entries_of keys id = map (λ key. entry key id) keys
@@ -32,10 +40,6 @@ with_entries keys id entries = with_ids (entries_of keys id) entries
 -- the entries but those of an id
 abbrev pub without_id : ℕ → List ℕ → List ℕ
 without_id id entries = filter (λ e. not (id_of e == id)) entries
-
--- from one entry on, and before another
-abbrev pub is_between : ℕ → ℕ → ℕ → Bool
-is_between from to e = nat_le from e && nat_lt e to
 
 -- the entries from this one on begin at place i
 pub record IsStart (entries : List ℕ) (e i : ℕ) : Type 0 where

@@ -4,7 +4,7 @@ ghost use Rattle.std.specs.Prelude.{◌≡◌, ◌≤◌, ◌<◌, ◌+◌, ◌+
 ghost use Rattle.std.specs.List.{insert};
 ghost use Rattle.bo_base.specs.Rising.{rising};
 ghost use Rattle.bo_base.specs.Tables.{with_row, without_row, AreInOrder, IsPlace, IsGap};
-ghost use Rattle.bo_index.specs.Entries.{IsStart, entry, ids_of, entries_of, with_entries, without_id};
+ghost use Rattle.bo_index.specs.Entries.{IsStart, entry, ids_of, ids_between, entries_of, with_entries, without_id};
 
 use crate::entries::{entry, id_of};
 use crate::found::Found;
@@ -77,6 +77,17 @@ impl Index {
         let low = start_of(&self.entries, entry(key, 0));
         let high = start_after(&self.entries, key);
         Found::of(&self.entries[low..high])
+    }
+
+    /// The ids of the keys that are `from` or greater, and less than `to`: by key, and rising for each of them.
+    pub fn between(&self, from: u64, to: u64) -> Found<'_>
+        requires { from ≤ to }
+        ensures all { result ≡ ids_between from to self.now.rows }
+        ensures few { length result ≤ 4294967296 }
+    {
+        let first = start_of(&self.entries, entry(from, 0));
+        let end = start_of(&self.entries, entry(to, 0));
+        Found::of(&self.entries[first..end])
     }
 }
 

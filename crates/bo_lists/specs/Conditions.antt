@@ -61,3 +61,10 @@ blocks at quota voucher = voucher.block_quota && is_live_voucher at voucher && h
 -- a live cart position that names the voucher
 abbrev pub holds : ℕ → ℕ → CartPos → Bool
 holds at id cart = is_live_cart at cart && names id cart.voucher
+
+-- both are none, or both are this id
+abbrev pub same_id : Option ℕ → Option ℕ → Bool
+same_id None None = true
+same_id None (Some b) = false
+same_id (Some a) None = false
+same_id (Some a) (Some b) = a == b

@@ -15,3 +15,7 @@ pub mod Numbered
 pub mod Full
 pub mod Consumed
 pub mod Takes
+pub mod Due
+pub mod CameDue
+pub mod Waits
+pub mod CountRows

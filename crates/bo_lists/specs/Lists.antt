@@ -1,5 +1,5 @@
 -- The box office as lists of rows in order of id.
-use Rattle.std.specs.Prelude.{ℕ, ◌==◌, List, [], Option, filter}
+use Rattle.std.specs.Prelude.{ℕ, ◌==◌, ◌&&◌, List, [], Option, filter}
 use Rattle.bo_base.specs.Tables.{row_at}
 use Rattle.bo_catalogue.specs.CatalogueLists.{CatalogueLists}
 use Rattle.bo_lists.specs.declared.rows.Voucher.{Voucher}
@@ -51,6 +51,10 @@ checkin_list_at id lists = row_at (λ r. r.id) id lists.checkin_lists
 
 abbrev pub checkin_at : ℕ → Lists → Option Checkin
 checkin_at id lists = row_at (λ r. r.id) id lists.checkins
+
+-- the check-ins of a position by a list, by id
+abbrev pub checkins_by : ℕ → ℕ → Lists → List Checkin
+checkins_by list position lists = filter (λ c. c.list == list && c.position == position) lists.checkins
 
 abbrev pub no_rows : Lists
 no_rows = record { catalogue = record { items = []; variations = []; quotas = [] }; vouchers = []; carts = []; orders = []; positions = []; waiting = []; checkin_lists = []; checkins = [] }

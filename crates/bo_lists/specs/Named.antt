@@ -1,14 +1,24 @@
 -- Vouchers by their codes, and what names a voucher.
-use Rattle.std.specs.Prelude.{◌≡◌, ℕ, Bool, false, ◌&&◌, ◌||◌, not, ◌==◌, List, [], ◌∷◌, Option, find}
+use Rattle.std.specs.Prelude.{◌≡◌, ℕ, Bool, false, ◌&&◌, ◌||◌, not, ◌==◌, List, [], ◌∷◌, Option, find, filter}
 use Rattle.std.specs.List.{list_any, AllByRecursion}
 use Rattle.bo_base.specs.Texts.{same_text}
 use Rattle.bo_lists.specs.declared.rows.Voucher.{Voucher}
+use Rattle.bo_lists.specs.declared.rows.CartPos.{CartPos}
+use Rattle.bo_lists.specs.declared.rows.OrderPos.{OrderPos}
 use Rattle.bo_lists.specs.Conditions.{names}
 use Rattle.bo_lists.specs.Lists.{Lists}
 
 -- the first voucher with that code
 abbrev pub voucher_of : List ℕ → Lists → Option Voucher
 voucher_of code lists = find (λ v. same_text v.code code) lists.vouchers
+
+-- the first order position with that secret
+abbrev pub with_secret : List ℕ → Lists → Option OrderPos
+with_secret secret lists = find (λ p. same_text p.secret secret) lists.positions
+
+-- the cart positions that name a voucher, dead ones too, by id
+abbrev pub carts_naming : ℕ → Lists → List CartPos
+carts_naming id lists = filter (λ c. names id c.voucher) lists.carts
 
 -- a voucher other than this one has the code
 abbrev pub is_taken : ℕ → List ℕ → Lists → Bool

@@ -3,9 +3,11 @@
 
 mod available;
 pub mod changes;
+pub mod count_rows;
 pub mod rows;
 
 pub use changes::{Change, Changes};
+pub use count_rows::{CountRows, QuotaCount, VoucherCount};
 pub use rows::{
     Availability, CartPos, Checkin, CheckinKind, CheckinList, NextIds, Order, OrderPos, OrderRows,
     Own, Status, Usage, Voucher, Waiting,

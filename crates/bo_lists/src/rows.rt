@@ -6,6 +6,9 @@ ghost use Rattle.bo_lists.specs.Total.{total};
 ghost use Rattle.bo_lists.specs.Conditions.{is_paid, is_pending, is_in_force, is_live_voucher, hits, blocks, is_live_cart, holds};
 ghost use Rattle.bo_lists.specs.Consumed.{is_consumed};
 ghost use Rattle.bo_lists.specs.Usage.{waits_for};
+ghost use Rattle.bo_lists.specs.Waits.{same_product, waits_as};
+ghost use Rattle.bo_lists.specs.Due.{is_due};
+ghost use Rattle.bo_lists.specs.CameDue.{is_due_cart, is_due_voucher};
 ghost use Rattle.bo_lists.specs.Fits.{has_variation, fits_item, fits_by, fits};
 
 use bo_base::{Cents, Ids, List, Moment, PriceMode, Priority, Row, Size, Text, Uses};
@@ -266,6 +269,16 @@ impl Status {
 }
 
 impl Voucher {
+    /// Whether it ended, or ends, at `from` or later, and before `to`.
+    pub fn ends_between(&self, from: Moment, to: Moment) -> bool
+        ensures { result ≡ is_due_voucher from to self.now }
+    {
+        match self.valid_until {
+            None => false,
+            Some(end) => from <= end && end < to,
+        }
+    }
+
     /// Whether it hasn't ended at this moment.
     pub fn is_live(&self, at: Moment) -> bool
         ensures { result ≡ is_live_voucher at self.now }
@@ -367,7 +380,35 @@ impl Usage {
     }
 }
 
+// Whether both are one product.
+fn same_product(a: Product, b: Product) -> bool
+    ensures { result ≡ same_product a b }
+{
+    a.item == b.item && a.variation == b.variation
+}
+
 impl Waiting {
+    /// An equal row.
+    pub fn copy(&self, alloc: Global) -> Result<Waiting, AllocError>
+        ensures { IfOk result (λ row. row ≡ self.now) }
+    {
+        Ok(Waiting {
+            id: self.id,
+            email: self.email.copy(alloc)?,
+            product: self.product,
+            priority: self.priority,
+            created: self.created,
+            voucher: self.voucher,
+        })
+    }
+
+    /// Whether it waits, without a voucher, for this product, and is of this email.
+    pub fn waits_as(&self, email: &str, product: Product) -> bool
+        ensures { result ≡ waits_as email.now product self.now }
+    {
+        self.voucher.is_none() && same_product(self.product, product) && self.email.same(email)
+    }
+
     /// Whether it waits, without a voucher, for a place of this quota.
     pub fn waits_for(&self, quota: &Quota) -> bool
         ensures { result ≡ waits_for quota.now self.now }
@@ -377,6 +418,13 @@ impl Waiting {
 }
 
 impl Order {
+    /// Whether it is pending, and ended before the moment.
+    pub fn is_due(&self, at: Moment) -> bool
+        ensures { result ≡ is_due at self.now }
+    {
+        self.status.is_pending() && self.expires < at
+    }
+
     /// An equal row.
     pub fn copy(&self, alloc: Global) -> Result<Order, AllocError>
         ensures { IfOk result (λ row. row ≡ self.now) }
@@ -433,6 +481,13 @@ impl CartPos {
         ensures { result ≡ is_consumed carts.now self.now }
     {
         carts.iter().any(|cart| self.cart_id.same(cart.as_str()))
+    }
+
+    /// Whether it ended, or ends, at `from` or later, and before `to`.
+    pub fn ends_between(&self, from: Moment, to: Moment) -> bool
+        ensures { result ≡ is_due_cart from to self.now }
+    {
+        from <= self.expires && self.expires < to
     }
 
     /// Whether it is held at this moment.

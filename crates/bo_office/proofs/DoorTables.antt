@@ -287,7 +287,7 @@ module _ (draw : Draw) (state : State) where
   send_grows : (id : ℕ) (after : State) (row : Waiting) → voucher_sent id draw state ≡ Ok (after, row) → DoorGrows state after
   send_grows id after row h =
       let v = sent_is id draw state after row h in
-      subst (λ (s : State). DoorGrows state s) v.is_after (same_door state (with_sent draw v.old state) (record { lists = refl; positions = refl; checkins = refl }))
+      subst (λ (s : State). DoorGrows state s) v.to.is_after (same_door state (with_sent draw v.old state) (record { lists = refl; positions = refl; checkins = refl }))
 
   work_grows : DoorGrows state (periodic_done draw state).0
   unfolding all_served orders_expired carts_dropped

@@ -55,22 +55,20 @@ use Rattle.bo_commands.specs.declared.carts.NewCart.{NewCart}
 use Rattle.bo_commands.specs.declared.orders.NewOrder.{NewOrder}
 use Rattle.bo_commands.specs.declared.orders.OrderRefusal.{OrderRefusal}
 use Rattle.bo_orders.specs.Bulk.{outcome_of, entry_added, all_added}
-use Rattle.bo_orders.specs.Carts.{cart_row, position_added, row_in_cart, row_of_sold}
+use Rattle.bo_orders.specs.Carts.{position_added}
 use Rattle.bo_orders.specs.Created.{AreCounted, position_put, with_positions, with_order_row, order_created}
 use Rattle.bo_orders.specs.Dropped.{position_dropped}
 use Rattle.bo_orders.specs.Moves.{order_moved}
-use Rattle.bo_orders.proofs.Added.{added_is}
+use Rattle.bo_orders.proofs.Added.{added_is, added_id}
 use Rattle.bo_orders.proofs.Created.{created_is}
 use Rattle.bo_orders.proofs.Dropped.{dropped_is}
 use Rattle.bo_orders.proofs.MoveLemmas.{found_id}
 use Rattle.bo_orders.proofs.Moved.{moved_is}
 use Rattle.bo_orders.proofs.Puts.{put_is}
 use Rattle.bo_orders.proofs.Rows.{counted, puts_next}
-use Rattle.bo_orders.specs.CartId.{cart_id_test}
-use Rattle.bo_orders.specs.Sold.{sold_for}
 use Rattle.bo_orders.specs.declared.sold.Sold.{Sold}
 use Rattle.bo_commands.specs.declared.vouchers.VoucherRefusal.{VoucherRefusal}
-use Rattle.bo_overlay.specs.Due.{is_due}
+use Rattle.bo_lists.specs.Due.{is_due}
 use Rattle.bo_orders.specs.Expired.{expired_row, expired_if_due, orders_expired, carts_dropped}
 use Rattle.bo_commands.specs.declared.waiting.NewWaiting.{NewWaiting}
 use Rattle.bo_commands.specs.declared.waiting.WaitingPatch.{WaitingPatch}
@@ -557,27 +555,10 @@ deleted_ids id s after h = subst (λ (t : State). AllIdsGoOn s t) (deleted_is id
 pub dropped_ids : (id : ℕ) (s after : State) → position_dropped id s ≡ Ok after → AllIdsGoOn s after
 dropped_ids id s after h = subst (λ (t : State). AllIdsGoOn s t) (dropped_is id s after h) (drop_cart s id)
 
--- the row of a new cart position has the next id
-module _ (new : NewCart) (draw : Draw) (s : State) (row : CartPos) where
-  id_if_sold : (sold : Result Sold VoucherRefusal) → row_of_sold new draw s sold ≡ Ok row → row.id ≡ s.next.cart
-  id_if_sold (Err refusal) h = absurd (cc (h))
-  id_if_sold (Ok sold) h = by_row _ h
-    where
-      by_row : (r : CartPos) → (let made : Result CartPos OrderRefusal = Ok r in made ≡ Ok row) → row.id ≡ r.id
-      by_row r e = let is : r ≡ row = cc (e) in ap (λ (x : CartPos). x.id) (sym is)
-
-  id_in_cart : (test : Result (Unit {0}) OrderRefusal) → row_in_cart new draw s test ≡ Ok row → row.id ≡ s.next.cart
-  id_in_cart (Err refusal) h = absurd (cc (h))
-  id_in_cart (Ok u) h = id_if_sold (sold_for new.asked s) h
-
-  cart_id_is : cart_row new draw s ≡ Ok row → row.id ≡ s.next.cart
-  unfolding cart_row
-  cart_id_is h = id_in_cart (cart_id_test new.cart_id) h
-
 pub added_ids : (new : NewCart) (draw : Draw) (s after : State) (row : CartPos) → position_added new draw s ≡ Ok (after, row) → AllIdsGoOn s after
 added_ids new draw s after row h =
     let a = added_is new draw s after row h in
-    subst (λ (t : State). AllIdsGoOn s t) a.is_after (new_cart s row (cart_id_is new draw s row a.is_row))
+    subst (λ (t : State). AllIdsGoOn s t) a.is_after (new_cart s row (added_id new draw s after row a))
 
 one_added : (new : NewCart) (draw : Draw) (s : State) (made : Result (State × CartPos) OrderRefusal) → position_added new draw s ≡ made → AllIdsGoOn s (outcome_of s made).0
 one_added new draw s (Err refusal) h = all_same s
@@ -663,4 +644,4 @@ left_ids id s after h = subst (λ (t : State). AllIdsGoOn s t) (left_is id s aft
 pub sending_ids : (id : ℕ) (draw : Draw) (s after : State) (row : Waiting) → voucher_sent id draw s ≡ Ok (after, row) → AllIdsGoOn s after
 sending_ids id draw s after row h =
     let v = sent_is id draw s after row h in
-    subst (λ (t : State). AllIdsGoOn s t) v.is_after (sent_ids draw v.old s (ap is_some (own_place id s v.old v.stands)))
+    subst (λ (t : State). AllIdsGoOn s t) v.to.is_after (sent_ids draw v.old s (ap is_some (own_place id s v.old v.stands)))

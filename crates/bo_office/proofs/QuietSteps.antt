@@ -34,7 +34,7 @@ use Rattle.bo_office.proofs.NewIds.{all_same, all_more, stands_in, each_stands, 
 -- ---- sending and serving
 
 pub sent_moment : (id : ℕ) (draw : Draw) (state after : State) (row : Waiting) → voucher_sent id draw state ≡ Ok (after, row) → after.moment ≡ state.moment
-sent_moment id draw state after row h = ap (λ (s : State). s.moment) (sym (sent_is id draw state after row h).is_after)
+sent_moment id draw state after row h = ap (λ (s : State). s.moment) (sym (sent_is id draw state after row h).to.is_after)
 
 served_moment : (draw : Draw) (entries : List Waiting) (state : State) → (all_sent draw entries state).moment ≡ state.moment
 served_moment draw [] state = refl

@@ -11,7 +11,6 @@ use bo_catalogue::{Item, Quota};
 use bo_commands::{Kind, Page, Refusal, Reply, Resource, Shown};
 use bo_lists::{CartPos, Order, Voucher, Waiting};
 use bo_usage::Book;
-use bo_waiting::rows::copy;
 use std::alloc::{AllocError, Global};
 
 impl<B: Book> Office<B> {
@@ -188,7 +187,7 @@ fn shown_waiting(alloc: Global, waiting: &[Waiting]) -> Result<List<Shown>, Allo
 {
     let mut rows = Vec::new(alloc);
     for entry in waiting {
-        rows.push(Shown::Waiting(copy(alloc, entry)?))?;
+        rows.push(Shown::Waiting(entry.copy(alloc)?))?;
     }
     Ok(List::new(rows))
 }

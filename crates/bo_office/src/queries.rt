@@ -13,7 +13,6 @@ use bo_commands::{
 };
 use bo_lists::{Order, OrderRows, Voucher};
 use bo_usage::{Book, availability};
-use bo_waiting::rows::copy;
 use std::alloc::{AllocError, Global};
 
 impl<B: Book> Office<B> {
@@ -125,7 +124,7 @@ impl<B: Book> Office<B> {
     {
         match self.book().entry(id) {
             None => Ok(none(Refusal::Waiting(WaitingRefusal::NoEntry))),
-            Some(entry) => Ok(Reply::Found(Shown::Waiting(copy(alloc, entry)?))),
+            Some(entry) => Ok(Reply::Found(Shown::Waiting(entry.copy(alloc)?))),
         }
     }
 

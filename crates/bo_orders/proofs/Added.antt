@@ -1,10 +1,9 @@
 -- What is known where a cart position was added.
 use Rattle.std.proofs.Common.{◌≡◌, ℕ, Bool, true, false, [], ◌∷◌, Option, Some, None, Result, Ok, Err, refl, sym, ap, ◌∙◌, subst}
-use Rattle.std.specs.Prelude.{if◌then◌else◌}
+use Rattle.bo_base.proofs.Decided.{found_none, gave, gave_below, gave_it, gave_unit, passed}
 use Rattle.bo_base.specs.Tables.{AreInOrder}
 use Rattle.bo_base.specs.Draws.{IsDraw}
 use Rattle.bo_base.specs.declared.draw.Draw.{Draw}
-use Rattle.bo_catalogue.specs.declared.refusal.CatalogueRefusal.TheVariants.{Full}
 use Rattle.bo_lists.specs.declared.rows.CartPos.{CartPos}
 use Rattle.bo_lists.specs.declared.rows.Own.TheVariants.{Cart}
 use Rattle.bo_lists.specs.declared.changes.Change.TheVariants.{PutCart}
@@ -18,18 +17,15 @@ use Rattle.bo_sound.specs.Sound.{IsSound}
 use Rattle.bo_sound.specs.Varied.{AllVaried, IsProduct}
 use Rattle.bo_sound.proofs.Numbered.{takes_it}
 use Rattle.bo_sound.proofs.Sound.{sound_cart}
-use Rattle.bo_commands.specs.declared.vouchers.VoucherRefusal.{VoucherRefusal}
-use Rattle.bo_commands.specs.declared.vouchers.VoucherRefusal.TheVariants.{Catalogue, NoHeadroom}
+use Rattle.bo_commands.specs.declared.vouchers.VoucherRefusal.TheVariants.{SoldOut}
 use Rattle.bo_orders.specs.CartId.{cart_id_test}
 use Rattle.bo_lists.specs.Takes.{TakesNoMore}
 use Rattle.bo_orders.proofs.Takes.{takes_no_more}
 use Rattle.bo_commands.specs.FitRequests.{IsFitCart}
 use Rattle.bo_commands.specs.declared.carts.NewCart.{NewCart}
-use Rattle.bo_commands.specs.declared.orders.OrderRefusal.{OrderRefusal}
 use Rattle.bo_commands.specs.declared.orders.OrderRefusal.TheVariants.{Voucher as OfVoucher}
-use Rattle.bo_orders.specs.Carts.{position_added, placed, placed_by, placed_if, has_use_for, cart_row, row_in_cart, row_of_sold}
+use Rattle.bo_orders.specs.Carts.{position_added, placed, has_use_for, cart_row, row_of_sold}
 use Rattle.bo_orders.specs.Sold.{sold_for}
-use Rattle.bo_orders.specs.declared.sold.Sold.{Sold}
 use Rattle.bo_orders.proofs.Limited.{cart_limited}
 use Rattle.bo_orders.proofs.SoldLemmas.{sold_fits, sold_is_product}
 
@@ -39,27 +35,12 @@ pub record IsNew (state : State) (row : CartPos) : Type 0 where
   pub fit : is_fit state.lists row.product row.voucher ≡ true
   pub product : IsProduct state.lists.catalogue row.product
 
-ok_row : (a b : CartPos) → (let all : Result CartPos OrderRefusal = Ok a in all ≡ Ok b) → a ≡ b
-ok_row a b h = cc
-
-module _ (new : NewCart) (draw : Draw) (state : State) (order : AreInOrder (λ r. r.id) state.lists.vouchers) (of_varied : AllVaried state.lists) (row : CartPos) where
-  by_sold : (sold : Result Sold VoucherRefusal) → sold_for new.asked state ≡ sold → row_of_sold new draw state sold ≡ Ok row → IsNew state row
-  by_sold (Err refusal) is h = absurd (cc)
-  by_sold (Ok sold) is h =
-      let same = ok_row _ row h in
-      record {
-        id = sym (ap (λ (r : CartPos). r.id) same);
-        fit = sym (ap (λ (r : CartPos). is_fit state.lists r.product r.voucher) same) ∙ sold_fits new.asked state order sold is;
-        product = subst (λ (r : CartPos). IsProduct state.lists.catalogue r.product) same (sold_is_product new.asked state of_varied sold is);
-      }
-
-  by_cart : (test : Result (Unit {0}) OrderRefusal) → row_in_cart new draw state test ≡ Ok row → IsNew state row
-  by_cart (Err refusal) h = absurd (cc)
-  by_cart (Ok u) h = by_sold (sold_for new.asked state) refl h
-
-  pub row_is_new : cart_row new draw state ≡ Ok row → IsNew state row
-  unfolding cart_row
-  row_is_new h = by_cart (cart_id_test new.cart_id) h
+pub row_is_new : (new : NewCart) (draw : Draw) (state : State) → AreInOrder (λ r. r.id) state.lists.vouchers → AllVaried state.lists → (row : CartPos) → cart_row new draw state ≡ Ok row → IsNew state row
+unfolding cart_row
+row_is_new new draw state order of_varied row h =
+    let (named, h1) = gave_unit (cart_id_test new.cart_id) _ h in
+    let (sold, is, h2) = gave_below OfVoucher (sold_for new.asked state) _ h1 in
+    subst (IsNew state) (gave_it (row_of_sold new draw state sold) row h2) (record { id = refl; fit = sold_fits new.asked state sold order is; product = sold_is_product new.asked state sold of_varied is })
 
 -- the row, the tests that it passed, and the box office with it
 pub record IsAdded (new : NewCart) (draw : Draw) (before after : State) (row : CartPos) : Type 0 where
@@ -70,35 +51,29 @@ pub record IsAdded (new : NewCart) (draw : Draw) (before after : State) (row : C
   pub is_after : with_cart row before ≡ after
 
 module _ (new : NewCart) (draw : Draw) (before after : State) (row : CartPos) where
-  by_room : (r : CartPos) (room : Bool) → takes_cart before ≡ room → cart_row new draw before ≡ Ok r → has_use_for r before ≡ true → first_over before.lists (after_change (PutCart r) before.lists) before.moment (Cart r.id ∷ []) ≡ None → (let all : Result (State × CartPos) OrderRefusal = if room then Ok (with_cart r before, r) else Err (OfVoucher (Catalogue Full)) in all ≡ Ok (after, row)) → IsAdded new draw before after row
-  by_room r true e is left over h =
-      let same : (let made : State × CartPos = (with_cart r before, r) in made ≡ (after, row)) = cc in
+  pub added_is : position_added new draw before ≡ Ok (after, row) → IsAdded new draw before after row
+  unfolding position_added placed
+  added_is h =
+      let (r, asked, h1) = gave (cart_row new draw before) _ h in
+      let (left, h2) = passed (has_use_for r before) _ _ h1 in
+      let (over, h3) = found_none (λ quota. OfVoucher (SoldOut quota)) (first_over before.lists (after_change (PutCart r) before.lists) before.moment (Cart r.id ∷ [])) _ h2 in
+      let (takes, h4) = passed (takes_cart before) _ _ h3 in
+      let same = gave_it (with_cart r before, r) (after, row) h4 in
       let row_is : r ≡ row = ap (λ (x : State × CartPos). x.1) same in
       record {
-        is_row = is ∙ ap (λ (x : CartPos). Ok x) row_is;
+        is_row = asked ∙ ap (λ (x : CartPos). Ok x) row_is;
         has_use = subst (λ (x : CartPos). has_use_for x before ≡ true) row_is left;
         not_over = subst (λ (x : CartPos). first_over before.lists (after_change (PutCart x) before.lists) before.moment (Cart x.id ∷ []) ≡ None) row_is over;
-        takes = e;
+        takes = takes;
         is_after = ap (λ (x : CartPos). with_cart x before) (sym row_is) ∙ ap (λ (x : State × CartPos). x.0) same;
       }
-  by_room r false e is left over h = absurd (cc)
 
-  by_over : (r : CartPos) (over : Option ℕ) → cart_row new draw before ≡ Ok r → has_use_for r before ≡ true → first_over before.lists (after_change (PutCart r) before.lists) before.moment (Cart r.id ∷ []) ≡ over → placed_by r before over ≡ Ok (after, row) → IsAdded new draw before after row
-  by_over r (Some quota) is left e h = absurd (cc)
-  by_over r None is left e h = by_room r (takes_cart before) refl is left e h
-
-  by_use : (r : CartPos) (left : Bool) → cart_row new draw before ≡ Ok r → has_use_for r before ≡ left → (if left then placed_by r before (first_over before.lists (after_change (PutCart r) before.lists) before.moment (Cart r.id ∷ [])) else Err (OfVoucher NoHeadroom)) ≡ Ok (after, row) → IsAdded new draw before after row
-  by_use r true is left h = by_over r _ is left refl h
-  by_use r false is left h = absurd (cc)
-
-  by_row : (r : Result CartPos OrderRefusal) → cart_row new draw before ≡ r → placed_if before r ≡ Ok (after, row) → IsAdded new draw before after row
-  unfolding placed
-  by_row (Err refusal) is h = absurd (cc)
-  by_row (Ok r) is h = by_use r (has_use_for r before) is refl h
-
-  pub added_is : position_added new draw before ≡ Ok (after, row) → IsAdded new draw before after row
-  unfolding position_added
-  added_is h = by_row (cart_row new draw before) refl h
+  pub added_id : IsAdded new draw before after row → row.id ≡ before.next.cart
+  unfolding cart_row
+  added_id a =
+      let (named, h1) = gave_unit (cart_id_test new.cart_id) _ a.is_row in
+      let (sold, is, h2) = gave_below OfVoucher (sold_for new.asked before) _ h1 in
+      ap (λ (r : CartPos). r.id) (sym (gave_it (row_of_sold new draw before sold) row h2))
 
   -- the request took too much of no quota
   pub added_none_over : position_added new draw before ≡ Ok (after, row) → first_over before.lists after.lists before.moment (Cart row.id ∷ []) ≡ None

@@ -1,8 +1,9 @@
 -- The positions of a new order: as many as are asked for, numbered from 1, each with a secret of its own.
 use Rattle.std.proofs.Common.{◌≡◌, ◌≢◌, ℕ, ◌+◌, ◌<◌, ◌≤◌, Bool, true, false, List, [], ◌∷◌, ◌++◌, append_assoc, append-nil, length, map, Option, Some, None, Result, Ok, Err, eqb, refl, sym, ap, ◌∙◌, subst, subst₂, arith}
-use Rattle.std.specs.Prelude.{is_some, nat_lt, if◌then◌else◌}
+use Rattle.std.specs.Prelude.{is_some, nat_lt}
 use Rattle.std.specs.List.{AllByRecursion}
 use Rattle.std.proofs.lemmas.Bool.Decides.{nat_tests}
+use Rattle.bo_base.proofs.Decided.{gave, gave_below, gave_it, gave_unit, unrefused}
 use Rattle.bo_base.specs.Tables.{row_at, with_row}
 use Rattle.bo_base.specs.declared.draw.Draw.{Draw}
 use Rattle.bo_lists.specs.declared.rows.Order.{Order}
@@ -17,14 +18,12 @@ use Rattle.bo_sound.specs.Positions.{most_positions, CountFrom, AreWhole, AllHav
 use Rattle.bo_sound.specs.Secrets.{has_own_secret}
 use Rattle.bo_sound.proofs.Positions.{last_put, whole_created}
 use Rattle.bo_sound.proofs.Secrets.{made_ends}
-use Rattle.bo_commands.specs.declared.vouchers.VoucherRefusal.{VoucherRefusal}
 use Rattle.bo_commands.specs.declared.orders.NewOrder.{NewOrder}
 use Rattle.bo_commands.specs.declared.carts.Asked.{Asked}
-use Rattle.bo_orders.specs.declared.sold.Sold.{Sold}
 use Rattle.bo_commands.specs.declared.orders.OrderRefusal.{OrderRefusal}
-use Rattle.bo_commands.specs.declared.orders.OrderRefusal.TheVariants.{Empty, TooMany}
+use Rattle.bo_commands.specs.declared.orders.OrderRefusal.TheVariants.{Voucher as OfVoucher}
 use Rattle.bo_orders.specs.Sold.{sold_for}
-use Rattle.bo_orders.specs.Created.{position_row, position_of_sold, position_for, and_rows, rows_for, position_put, with_positions, AreCounted, counts_test, created_if, order_created}
+use Rattle.bo_orders.specs.Created.{position_row, position_for, rows_for, position_put, with_positions, AreCounted, counts_test, order_created}
 use Rattle.bo_orders.proofs.Puts.{put_is, carts_keep_orders, carts_keep_positions}
 
 -- an order that is made asks for 1 to 500 positions
@@ -32,32 +31,13 @@ pub record AreFew (new : NewOrder) : Type 0 where
   pub some : 0 < length new.positions
   pub few : length new.positions ≤ most_positions
 
-module _ (new : NewOrder) where
-  abbrev Passes : Result (Unit {0}) OrderRefusal → Type 0
-  Passes result = result ≡ Ok tt
-
-  abbrev carts_test : Result (Unit {0}) OrderRefusal
-  carts_test = if nat_lt most_positions (length new.consume_carts) then Err TooMany else Ok tt
-
-  by_many : (b : Bool) → nat_lt most_positions (length new.positions) ≡ b → 0 < length new.positions → Passes (if b then Err TooMany else carts_test) → AreFew new
-  by_many true e some h = absurd (cc)
-  by_many false e some h = record { some = some; few = grind (arith, nat_tests, e) }
-
-  by_none : (b : Bool) → eqb (length new.positions) 0 ≡ b → Passes (if b then Err Empty else (if nat_lt most_positions (length new.positions) then Err TooMany else carts_test)) → AreFew new
-  by_none true e h = absurd (cc)
-  by_none false e h = by_many (nat_lt most_positions (length new.positions)) refl (grind (arith, nat_tests, e)) h
-
-  are_few : Passes (counts_test new) → AreFew new
-  are_few h = by_none (eqb (length new.positions) 0) refl h
-
-  module _ (draw : Draw) (before : State) (made : State × OrderRows) where
-    by_counts : (counts : Result (Unit {0}) OrderRefusal) → counts_test new ≡ counts → created_if new draw before counts ≡ Ok made → AreFew new
-    by_counts (Err refusal) e h = absurd (cc)
-    by_counts (Ok u) e h = are_few e
-
-    pub created_few : order_created new draw before ≡ Ok made → AreFew new
-    unfolding order_created
-    created_few h = by_counts (counts_test new) refl h
+pub created_few : (new : NewOrder) (draw : Draw) (before : State) (made : State × OrderRows) → order_created new draw before ≡ Ok made → AreFew new
+unfolding order_created
+created_few new draw before made h =
+    let (counts, h1) = gave_unit (counts_test new) _ h in
+    let (some, c1) = unrefused (eqb (length new.positions) 0) _ _ counts in
+    let (few, c2) = unrefused (nat_lt most_positions (length new.positions)) _ _ c1 in
+    record { some = grind (arith, nat_tests, some); few = grind (arith, nat_tests, few) }
 
 -- the rows of what is asked for: their numbers count on, their secrets end in them, and there are as many
 pub record AreRows (number : ℕ) (asked : List Asked) (rows : List OrderPos) : Type 0 where
@@ -66,28 +46,20 @@ pub record AreRows (number : ℕ) (asked : List Asked) (rows : List OrderPos) : 
   pub all : length rows ≡ length asked
 
 module _ (draw : Draw) (state : State) where
-  numbered_sold : (id number : ℕ) (sold : Result Sold VoucherRefusal) (row : OrderPos) → position_of_sold draw state.next.order id number sold ≡ Ok row → (row.positionid ≡ number) × (has_own_secret row ≡ true)
-  numbered_sold id number (Err refusal) row h = absurd (cc (h))
-  numbered_sold id number (Ok sold) row h =
-      let same : position_row draw state.next.order id number sold ≡ row = cc (h) in
-      subst (λ (r : OrderPos). (r.positionid ≡ number) × (has_own_secret r ≡ true)) same (refl, made_ends draw state.next.order number)
-
   numbered_row : (id number : ℕ) (asked : Asked) (row : OrderPos) → position_for draw state id number asked ≡ Ok row → (row.positionid ≡ number) × (has_own_secret row ≡ true)
   unfolding position_for
-  numbered_row id number asked row h = numbered_sold id number (sold_for asked state) row h
-
-  both : (id number : ℕ) (asked : Asked) (others : List Asked) (first : Result OrderPos OrderRefusal) → position_for draw state id number asked ≡ first → (rest : Result (List OrderPos) OrderRefusal) → ((rows : List OrderPos) → rest ≡ Ok rows → AreRows (number + 1) others rows) → (rows : List OrderPos) → and_rows first rest ≡ Ok rows → AreRows number (asked ∷ others) rows
-  both id number asked others (Err refusal) e rest more rows h = absurd (cc (h))
-  both id number asked others (Ok row) e (Err refusal) more rows h = absurd (cc (h))
-  both id number asked others (Ok row) e (Ok rest_rows) more rows h =
-      let same : (row ∷ rest_rows) ≡ rows = cc (h) in
-      let first = numbered_row id number asked row e in
-      let rest = more rest_rows refl in
-      subst (AreRows number (asked ∷ others)) same (record { counted = (first.0, rest.counted); secrets = (first.1, rest.secrets); all = omega (arith, rest.all) })
+  numbered_row id number asked row h =
+      let (sold, is, h1) = gave_below OfVoucher (sold_for asked state) _ h in
+      subst (λ (r : OrderPos). (r.positionid ≡ number) × (has_own_secret r ≡ true)) (gave_it (position_row draw state.next.order id number sold) row h1) (refl, made_ends draw state.next.order number)
 
   pub are_rows : (id number : ℕ) (asked : List Asked) (rows : List OrderPos) → rows_for draw state id number asked ≡ Ok rows → AreRows number asked rows
-  are_rows id number [] rows h = let same : [] ≡ rows = cc (h) in subst (AreRows number []) same (record { counted = tt; secrets = tt; all = refl })
-  are_rows id number (entry ∷ more) rows h = both id number entry more (position_for draw state id number entry) refl (rows_for draw state (id + 1) (number + 1) more) (are_rows (id + 1) (number + 1) more) rows h
+  are_rows id number [] rows h = subst (AreRows number []) (gave_it [] rows h) (record { counted = tt; secrets = tt; all = refl })
+  are_rows id number (entry ∷ more) rows h =
+      let (row, first, h1) = gave (position_for draw state id number entry) _ h in
+      let (others, rest, h2) = gave (rows_for draw state (id + 1) (number + 1) more) _ h1 in
+      let one = numbered_row id number entry row first in
+      let are = are_rows (id + 1) (number + 1) more others rest in
+      subst (AreRows number (entry ∷ more)) (gave_it (row ∷ others) rows h2) (record { counted = (one.0, are.counted); secrets = (one.1, are.secrets); all = omega (arith, are.all) })
 
 -- puts leave the orders, and put the positions behind those that stand
 pub record StandBehind (rows : List OrderPos) (state put : State) : Type 0 where

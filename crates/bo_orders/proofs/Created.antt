@@ -1,15 +1,15 @@
 -- What is known where an order was made.
 use Rattle.std.proofs.Common.{◌≡◌, ℕ, ◌+◌, ◌<◌, ◌≤◌, Bool, true, false, List, [], ◌∷◌, length, map, Option, Some, None, Result, Ok, Err, refl, sym, ap, ◌∙◌, subst, arith}
-use Rattle.std.specs.Prelude.{◌&&◌, is_some, if◌then◌else◌}
+use Rattle.std.specs.Prelude.{◌&&◌, is_some}
 use Rattle.std.specs.List.{AllByRecursion}
 use Rattle.std.proofs.lemmas.Bool.Decides.{nat_tests}
+use Rattle.bo_base.proofs.Decided.{found_none, gave, gave_below, gave_it, gave_unit, passed}
 use Rattle.bo_base.specs.Codes.{last_order}
 use Rattle.bo_base.specs.Tables.{AreInOrder}
 use Rattle.bo_base.specs.Draws.{IsDraw}
 use Rattle.bo_base.specs.declared.draw.Draw.{Draw}
 use Rattle.bo_base.proofs.Edits.{row_at-with_row}
 use Rattle.bo_catalogue.specs.CatalogueLists.{CatalogueLists}
-use Rattle.bo_catalogue.specs.declared.refusal.CatalogueRefusal.TheVariants.{Full}
 use Rattle.bo_lists.specs.declared.rows.NextIds.{NextIds}
 use Rattle.bo_lists.specs.declared.rows.Order.{Order}
 use Rattle.bo_lists.specs.declared.rows.OrderPos.{OrderPos}
@@ -33,24 +33,19 @@ use Rattle.bo_sound.specs.Varied.{AllVaried, IsProduct}
 use Rattle.bo_sound.proofs.Fit.{fit_same}
 use Rattle.bo_sound.proofs.Numbered.{Takes, TakesSome, takes_first, takes_others}
 use Rattle.bo_sound.proofs.SoundOrders.{sound_order, sound_position, sound_whole, sound_drop_carts}
-use Rattle.bo_commands.specs.declared.vouchers.VoucherRefusal.{VoucherRefusal}
-use Rattle.bo_commands.specs.declared.vouchers.VoucherRefusal.TheVariants.{Catalogue}
+use Rattle.bo_commands.specs.declared.vouchers.VoucherRefusal.TheVariants.{SoldOut}
 use Rattle.bo_commands.specs.FitRequests.{IsFitOrder}
 use Rattle.bo_commands.specs.declared.orders.NewOrder.{NewOrder}
 use Rattle.bo_commands.specs.declared.carts.Asked.{Asked}
-use Rattle.bo_orders.specs.declared.sold.Sold.{Sold}
 use Rattle.bo_commands.specs.declared.orders.OrderRefusal.{OrderRefusal}
 use Rattle.bo_commands.specs.declared.orders.OrderRefusal.TheVariants.{Voucher as OfVoucher}
 use Rattle.bo_orders.specs.Sold.{sold_for}
-use Rattle.bo_orders.specs.Created.{order_row, position_row, position_of_sold, position_for, and_rows, rows_for, position_put, with_positions, with_ids_used, unless_over, placed_with, AreCounted, with_order_row, order_placed, created_of, counts_test, created_if, order_created}
+use Rattle.bo_orders.specs.Created.{order_row, position_row, position_for, rows_for, position_put, with_positions, with_ids_used, AreCounted, with_order_row, order_placed, counts_test, order_created}
 use Rattle.bo_orders.proofs.Counted.{created_few, are_rows, created_whole}
 use Rattle.bo_orders.proofs.Limited.{order_limited, positions_limited}
 use Rattle.bo_orders.proofs.Puts.{put_is, carts_keep_catalogue, carts_keep_orders, carts_keep_positions, carts_keep_vouchers}
 use Rattle.bo_orders.proofs.SoldLemmas.{sold_fits, sold_is_product}
 use Rattle.bo_orders.proofs.Rows.{by_force, counted, puts_next}
-
-ok_made : (a b : State × OrderRows) → (let all : Result (State × OrderRows) OrderRefusal = Ok a in all ≡ Ok b) → a ≡ b
-ok_made a b h = cc
 
 -- the rows of the order, the tests that it passed, and the box office with it
 pub record IsCreated (new : NewOrder) (draw : Draw) (before after : State) (made : OrderRows) : Type 0 where
@@ -66,52 +61,27 @@ module _ (new : NewOrder) (draw : Draw) (before after : State) (made : OrderRows
   abbrev Gives : Result (State × OrderRows) OrderRefusal → Type 0
   Gives result = result ≡ Ok (after, made)
 
-  module _ (rows : List OrderPos) (asked : rows_for draw before before.next.position 1 new.positions ≡ Ok rows) where
-    abbrev row : Order
-    row = order_row new before
-
-    with_tests : (put : State) → with_positions rows (Ok (with_order_row row new.consume_carts before)) ≡ Ok put → first_over before.lists put.lists before.moment (map (λ p. Position p.id) rows) ≡ None → (takes_order before && takes_positions (length rows) before) ≡ true → (let all : State × OrderRows = (with_ids_used (length rows) put, record { order = row; positions = rows }) in all ≡ (after, made)) → IsCreated new draw before after made
-    with_tests put puts over takes is =
-        let same : record { order = row; positions = rows } ≡ made = ap (λ (x : State × OrderRows). x.1) is in
-        let same_rows : rows ≡ made.positions = ap (λ (r : OrderRows). r.positions) same in
-        let same_order : row ≡ made.order = ap (λ (r : OrderRows). r.order) same in
-        record {
-          put = put;
-          is_order = same_order;
-          are_rows = subst (λ ps. rows_for draw before before.next.position 1 new.positions ≡ Ok ps) same_rows asked;
-          puts = subst (λ (r : OrderRows). with_positions r.positions (Ok (with_order_row r.order new.consume_carts before)) ≡ Ok put) same puts;
-          not_over = subst (λ (r : OrderRows). first_over before.lists put.lists before.moment (map (λ p. Position p.id) r.positions) ≡ None) same over;
-          takes = subst (λ (r : OrderRows). (takes_order before && takes_positions (length r.positions) before) ≡ true) same takes;
-          is_after = subst (λ (r : OrderRows). with_ids_used (length r.positions) put ≡ after) same (ap (λ (x : State × OrderRows). x.0) is);
-        }
-
-    by_room : (put : State) → with_positions rows (Ok (with_order_row row new.consume_carts before)) ≡ Ok put → first_over before.lists put.lists before.moment (map (λ p. Position p.id) rows) ≡ None → (takes : Bool) → (takes_order before && takes_positions (length rows) before) ≡ takes → Gives (if takes then Ok (with_ids_used (length rows) put, record { order = row; positions = rows }) else Err (OfVoucher (Catalogue Full))) → IsCreated new draw before after made
-    by_room put puts over true e h = with_tests put puts over e (ok_made _ (after, made) h)
-    by_room put puts over false e h = absurd (cc)
-
-    by_over : (put : State) → with_positions rows (Ok (with_order_row row new.consume_carts before)) ≡ Ok put → (over : Option ℕ) → first_over before.lists put.lists before.moment (map (λ p. Position p.id) rows) ≡ over → Gives (unless_over row rows before put over) → IsCreated new draw before after made
-    by_over put puts (Some quota) e h = absurd (cc)
-    by_over put puts None e h = by_room put puts e (takes_order before && takes_positions (length rows) before) refl h
-
-    by_puts : (puts : Result State OrderRefusal) → with_positions rows (Ok (with_order_row row new.consume_carts before)) ≡ puts → Gives (placed_with row rows before puts) → IsCreated new draw before after made
-    by_puts (Err refusal) e h = absurd (cc)
-    by_puts (Ok put) e h = by_over put e (first_over before.lists put.lists before.moment (map (λ p. Position p.id) rows)) refl h
-
-    placed_is : Gives (order_placed row rows new.consume_carts before) → IsCreated new draw before after made
-    unfolding order_placed
-    placed_is h = by_puts (with_positions rows (Ok (with_order_row row new.consume_carts before))) refl h
-
-  by_rows : (rows : Result (List OrderPos) OrderRefusal) → rows_for draw before before.next.position 1 new.positions ≡ rows → Gives (created_of new before rows) → IsCreated new draw before after made
-  by_rows (Err refusal) e h = absurd (cc)
-  by_rows (Ok rows) e h = placed_is rows e h
-
-  by_counts : (counts : Result (Unit {0}) OrderRefusal) → Gives (created_if new draw before counts) → IsCreated new draw before after made
-  by_counts (Err refusal) h = absurd (cc)
-  by_counts (Ok _) h = by_rows (rows_for draw before before.next.position 1 new.positions) refl h
-
   pub created_is : Gives (order_created new draw before) → IsCreated new draw before after made
-  unfolding order_created
-  created_is h = by_counts (counts_test new) h
+  unfolding order_created order_placed
+  created_is h =
+      let row = order_row new before in
+      let (counts, h1) = gave_unit (counts_test new) _ h in
+      let (rows, asked, h2) = gave (rows_for draw before before.next.position 1 new.positions) _ h1 in
+      let (put, puts, h3) = gave (with_positions rows (Ok (with_order_row row new.consume_carts before))) _ h2 in
+      let (over, h4) = found_none (λ quota. OfVoucher (SoldOut quota)) (first_over before.lists put.lists before.moment (map (λ p. Position p.id) rows)) _ h3 in
+      let (takes, h5) = passed (takes_order before && takes_positions (length rows) before) _ _ h4 in
+      let its : OrderRows = record { order = row; positions = rows } in
+      let is = gave_it (with_ids_used (length rows) put, its) (after, made) h5 in
+      let same = ap (λ (x : State × OrderRows). x.1) is in
+      record {
+        put = put;
+        is_order = ap (λ (r : OrderRows). r.order) same;
+        are_rows = subst (λ ps. rows_for draw before before.next.position 1 new.positions ≡ Ok ps) (ap (λ (r : OrderRows). r.positions) same) asked;
+        puts = subst (λ (r : OrderRows). with_positions r.positions (Ok (with_order_row r.order new.consume_carts before)) ≡ Ok put) same puts;
+        not_over = subst (λ (r : OrderRows). first_over before.lists put.lists before.moment (map (λ p. Position p.id) r.positions) ≡ None) same over;
+        takes = subst (λ (r : OrderRows). (takes_order before && takes_positions (length r.positions) before) ≡ true) same takes;
+        is_after = subst (λ (r : OrderRows). with_ids_used (length r.positions) put ≡ after) same (ap (λ (x : State × OrderRows). x.0) is);
+      }
 
   pub created_none_over : Gives (order_created new draw before) → first_over before.lists after.lists before.moment (map (λ p. Position p.id) made.positions) ≡ None
   created_none_over h =
@@ -144,26 +114,18 @@ abbrev pub IsOwn : Lists → ℕ → OrderPos → Type 0
 IsOwn lists number p = (p.order ≡ number) × ((is_fit lists p.product p.voucher ≡ true) × IsProduct lists.catalogue p.product)
 
 module _ (draw : Draw) (state : State) (order : AreInOrder (λ r. r.id) state.lists.vouchers) (of_varied : AllVaried state.lists) where
-  own_sold : (id number : ℕ) (asked : Asked) (sold : Result Sold VoucherRefusal) (row : OrderPos) → sold_for asked state ≡ sold → position_of_sold draw state.next.order id number sold ≡ Ok row → IsOwn state.lists state.next.order row
-  own_sold id number asked (Err refusal) row e h = absurd (cc (h))
-  own_sold id number asked (Ok sold) row e h =
-      let same : position_row draw state.next.order id number sold ≡ row = cc (h) in
-      subst (IsOwn state.lists state.next.order) same (refl, (sold_fits asked state order sold e, sold_is_product asked state of_varied sold e))
-
   own_row : (id number : ℕ) (asked : Asked) (row : OrderPos) → position_for draw state id number asked ≡ Ok row → IsOwn state.lists state.next.order row
   unfolding position_for
-  own_row id number asked row h = own_sold id number asked (sold_for asked state) row refl h
-
-  both : (id number : ℕ) (asked : Asked) (first : Result OrderPos OrderRefusal) → position_for draw state id number asked ≡ first → (rest : Result (List OrderPos) OrderRefusal) → ((rows : List OrderPos) → rest ≡ Ok rows → AllByRecursion (IsOwn state.lists state.next.order) rows) → (rows : List OrderPos) → and_rows first rest ≡ Ok rows → AllByRecursion (IsOwn state.lists state.next.order) rows
-  both id number asked (Err refusal) e rest more rows h = absurd (cc (h))
-  both id number asked (Ok row) e (Err refusal) more rows h = absurd (cc (h))
-  both id number asked (Ok row) e (Ok others) more rows h =
-      let same : (row ∷ others) ≡ rows = cc (h) in
-      subst (AllByRecursion (IsOwn state.lists state.next.order)) same (own_row id number asked row e, more others refl)
+  own_row id number asked row h =
+      let (sold, is, h1) = gave_below OfVoucher (sold_for asked state) _ h in
+      subst (IsOwn state.lists state.next.order) (gave_it (position_row draw state.next.order id number sold) row h1) (refl, (sold_fits asked state sold order is, sold_is_product asked state sold of_varied is))
 
   pub are_own : (id number : ℕ) (asked : List Asked) (rows : List OrderPos) → rows_for draw state id number asked ≡ Ok rows → AllByRecursion (IsOwn state.lists state.next.order) rows
-  are_own id number [] rows h = let same : [] ≡ rows = cc (h) in subst (AllByRecursion (IsOwn state.lists state.next.order)) same tt
-  are_own id number (entry ∷ more) rows h = both id number entry (position_for draw state id number entry) refl (rows_for draw state (id + 1) (number + 1) more) (are_own (id + 1) (number + 1) more) rows h
+  are_own id number [] rows h = subst (AllByRecursion (IsOwn state.lists state.next.order)) (gave_it [] rows h) tt
+  are_own id number (entry ∷ more) rows h =
+      let (row, first, h1) = gave (position_for draw state id number entry) _ h in
+      let (others, rest, h2) = gave (rows_for draw state (id + 1) (number + 1) more) _ h1 in
+      subst (AllByRecursion (IsOwn state.lists state.next.order)) (gave_it (row ∷ others) rows h2) (own_row id number entry row first, are_own (id + 1) (number + 1) more others rest)
 
 -- the order's id is used, and the next position gets this one
 abbrev pub numbered : ℕ → State → State

@@ -1,7 +1,7 @@
 -- What is known where a cart position was deleted.
 use Rattle.std.proofs.Common.{◌≡◌, ℕ, ◌≤◌, Option, Some, None, Ok, sym, ap, subst}
+use Rattle.bo_base.proofs.Decided.{found, gave_it}
 use Rattle.bo_catalogue.specs.declared.rows.Quota.{Quota}
-use Rattle.bo_lists.specs.declared.rows.CartPos.{CartPos}
 use Rattle.bo_lists.specs.declared.changes.Change.TheVariants.{DropCart}
 use Rattle.bo_lists.specs.Lists.{State, cart_at}
 use Rattle.bo_lists.specs.Change.{changed}
@@ -9,16 +9,14 @@ use Rattle.bo_sound.specs.Sound.{IsSound}
 use Rattle.bo_lists.specs.Takes.{used}
 use Rattle.bo_lists.proofs.Lowers.{drop_cart_lowers}
 use Rattle.bo_sound.proofs.Sound.{sound_drop_cart}
-use Rattle.bo_orders.specs.Dropped.{position_dropped, dropped_at}
+use Rattle.bo_orders.specs.Dropped.{position_dropped}
 
 module _ (id : ℕ) (before after : State) where
-  by_found : (found : Option CartPos) → dropped_at id before found ≡ Ok after → changed (DropCart id) before ≡ after
-  by_found None h = absurd (cc)
-  by_found (Some cart) h = cc
-
   pub dropped_is : position_dropped id before ≡ Ok after → changed (DropCart id) before ≡ after
   unfolding position_dropped
-  dropped_is h = by_found (cart_at id before.lists) h
+  dropped_is h =
+      let (cart, stood, h1) = found (cart_at id before.lists) _ _ h in
+      gave_it (changed (DropCart id) before) after h1
 
   pub dropped_moment : position_dropped id before ≡ Ok after → after.moment ≡ before.moment
   dropped_moment h = sym (ap (λ (s : State). s.moment) (dropped_is h))

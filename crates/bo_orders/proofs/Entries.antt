@@ -9,21 +9,7 @@ use Rattle.bo_commands.specs.declared.carts.Entry.{Entry}
 use Rattle.bo_commands.specs.declared.carts.Entry.TheVariants.{New, Faulty}
 use Rattle.bo_commands.specs.declared.carts.Outcome.{Outcome}
 use Rattle.bo_commands.specs.declared.orders.OrderRefusal.{OrderRefusal}
-use Rattle.bo_orders.specs.Bulk.{outcome_of, entry_added, with_outcome, after_outcomes, all_added}
-use Rattle.bo_orders.specs.Carts.{position_added}
-use Rattle.bo_orders.proofs.Added.{added_is}
-
--- an entry that is added changes no voucher
-module _ (new : NewCart) (draw : Draw) (state : State) where
-  one_vouchers : (made : Result (State × CartPos) OrderRefusal) → position_added new draw state ≡ made → (outcome_of state made).0.lists.vouchers ≡ state.lists.vouchers
-  one_vouchers (Err refusal) is = refl
-  one_vouchers (Ok (after, row)) is =
-      let a = added_is new draw state after row is in
-      sym (ap (λ (s : State). s.lists.vouchers) a.is_after)
-
-pub entry_vouchers : (entry : Entry) (draw : Draw) (state : State) → (entry_added entry draw state).0.lists.vouchers ≡ state.lists.vouchers
-entry_vouchers (New new) draw state = one_vouchers new draw state (position_added new draw state) refl
-entry_vouchers (Faulty fault) draw state = refl
+use Rattle.bo_orders.specs.Bulk.{entry_added, with_outcome, after_outcomes, all_added}
 
 -- entries one after another are those in front, and then the others
 pub all_joined : (xs ys : List Entry) (draw : Draw) (state : State) → all_added (xs ++ ys) draw state ≡ after_outcomes (all_added xs draw state).1 (all_added ys draw (all_added xs draw state).0)
@@ -38,6 +24,3 @@ entry_joined outcomes new outcome entry all rest draw before after left made joi
     ∙ ap (λ (os : List Outcome). (more.0, os)) (append_assoc outcomes (outcome ∷ []) more.1)
     ∙ ap (λ (m : State × Outcome). after_outcomes outcomes (with_outcome m.1 (all_added rest draw m.0))) (sym made)
     ∙ ap (λ (es : List Entry). after_outcomes outcomes (all_added es draw before)) (sym left)
-
-pub made_vouchers : (entry : Entry) (draw : Draw) (before after : State) (outcome : Outcome) → entry_added entry draw before ≡ (after, outcome) → after.lists.vouchers ≡ before.lists.vouchers
-made_vouchers entry draw before after outcome made = ap (λ (m : State × Outcome). m.0.lists.vouchers) (sym made) ∙ entry_vouchers entry draw before

@@ -16,7 +16,7 @@ use Rattle.bo_sound.specs.Sound.{IsSound}
 use Rattle.bo_sound.proofs.Changes.{carts_lead}
 use Rattle.bo_sound.proofs.OrderLowers.{moved_order_lowers}
 use Rattle.bo_sound.proofs.SoundOrders.{sound_ended_order, sound_drop_carts}
-use Rattle.bo_overlay.specs.Due.{due_orders, dead_carts}
+use Rattle.bo_lists.specs.Due.{due_orders, dead_carts}
 use Rattle.bo_orders.specs.Expired.{expired_row, put_expired, expired_in, with_orders, expired_at, each_expired, expired_rows, expired_changes, orders_expired, dropped_changes, carts_dropped}
 use Rattle.bo_orders.proofs.Overdue.{expired_at_once, expiry_leads_there, dropped_at_once}
 

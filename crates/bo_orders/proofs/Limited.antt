@@ -3,6 +3,7 @@ use Rattle.std.proofs.Common.{◌≡◌, ℕ, ◌+◌, ◌^◌, ◌<◌, min, Li
 use Rattle.std.specs.Prelude.{IfSome}
 use Rattle.std.specs.List.{AllByRecursion}
 use Rattle.hex.specs.Hex.{encode_lower}
+use Rattle.bo_base.proofs.Decided.{gave, gave_below, gave_it, gave_unit}
 use Rattle.bo_base.specs.Draws.{IsDraw}
 use Rattle.bo_base.specs.Moments.{last_moment, IsMoment}
 use Rattle.bo_base.specs.Texts.{IsText}
@@ -21,13 +22,11 @@ use Rattle.bo_commands.specs.declared.carts.NewCart.{NewCart}
 use Rattle.bo_commands.specs.declared.orders.Move.{Move}
 use Rattle.bo_commands.specs.declared.orders.Move.TheVariants as moves
 use Rattle.bo_commands.specs.declared.orders.NewOrder.{NewOrder}
-use Rattle.bo_commands.specs.declared.orders.OrderRefusal.{OrderRefusal}
-use Rattle.bo_commands.specs.declared.vouchers.VoucherRefusal.{VoucherRefusal}
+use Rattle.bo_commands.specs.declared.orders.OrderRefusal.TheVariants.{Voucher as OfVoucher}
 use Rattle.bo_vouchers.proofs.Limited.{given_or}
-use Rattle.bo_orders.specs.declared.sold.Sold.{Sold}
 use Rattle.bo_orders.specs.CartId.{cart_id_test, made_cart_id, cart_id_of}
-use Rattle.bo_orders.specs.Carts.{cart_row, row_in_cart, row_of_sold}
-use Rattle.bo_orders.specs.Created.{order_row, position_row, position_of_sold, position_for, and_rows, rows_for}
+use Rattle.bo_orders.specs.Carts.{cart_row, row_of_sold}
+use Rattle.bo_orders.specs.Created.{order_row, position_row, position_for, rows_for}
 use Rattle.bo_orders.specs.Moves.{end_after, moved_row}
 use Rattle.bo_orders.specs.Sold.{sold_for}
 use Rattle.bo_orders.proofs.Prices.{sold_money}
@@ -47,29 +46,19 @@ cart_text (Some given) draw id sixteen small its = its
 ends : (at : ℕ) → IsMoment (min at last_moment)
 ends at = omega arith
 
-ok_row : (a b : CartPos) → (let all : Result CartPos OrderRefusal = Ok a in all ≡ Ok b) → a ≡ b
-ok_row a b h = cc
-
 -- a new cart position
 module _ (new : NewCart) (draw : Draw) (state : State) (fit : IsFitCart new) (sixteen : IsDraw draw) (sound : IsSound state) (row : CartPos) where
-  cart_by_sold : (sold : Result Sold VoucherRefusal) → sold_for new.asked state ≡ sold → row_of_sold new draw state sold ≡ Ok row → IsLimitedCart row
-  cart_by_sold (Err refusal) is h = absurd (cc)
-  cart_by_sold (Ok sold) is h =
-      let same = ok_row _ row h in
-      subst IsLimitedCart same (record {
+  pub cart_limited : cart_row new draw state ≡ Ok row → IsLimitedCart row
+  unfolding cart_row
+  cart_limited h =
+      let (named, h1) = gave_unit (cart_id_test new.cart_id) _ h in
+      let (sold, is, h2) = gave_below OfVoucher (sold_for new.asked state) _ h1 in
+      subst IsLimitedCart (gave_it (row_of_sold new draw state sold) row h2) (record {
         cart_id = cart_text new.cart_id draw state.next.cart sixteen (omega (arith, sound.range.next_ids.carts.within)) fit.cart_id;
         price = sold_money new.asked fit.asked state sound.ids.vouchers.in_order sound.limits sold is;
         made_at = sound.range.moment;
         expires = given_or IsMoment new.expires (min (state.moment + 1800) last_moment) fit.expires (ends (state.moment + 1800));
       })
-
-  cart_by_test : (test : Result (Unit {0}) OrderRefusal) → row_in_cart new draw state test ≡ Ok row → IsLimitedCart row
-  cart_by_test (Err refusal) h = absurd (cc)
-  cart_by_test (Ok u) h = cart_by_sold (sold_for new.asked state) refl h
-
-  pub cart_limited : cart_row new draw state ≡ Ok row → IsLimitedCart row
-  unfolding cart_row
-  cart_limited h = cart_by_test (cart_id_test new.cart_id) h
 
 -- a new order
 pub order_limited : (new : NewOrder) (state : State) → IsFitOrder new → IsSound state → IsLimitedOrder (order_row new state)
@@ -81,29 +70,21 @@ order_limited new state fit sound = record {
 
 -- its positions
 module _ (draw : Draw) (state : State) (sixteen : IsDraw draw) (sound : IsSound state) where
-  limited_sold : (id number : ℕ) (asked : Asked) → IsFitAsked asked → number < 2 ^ 64 → (sold : Result Sold VoucherRefusal) (row : OrderPos) → sold_for asked state ≡ sold → position_of_sold draw state.next.order id number sold ≡ Ok row → IsLimitedPosition row
-  limited_sold id number asked fit small (Err refusal) row is h = absurd (cc (h))
-  limited_sold id number asked fit small (Ok sold) row is h =
-      let same : position_row draw state.next.order id number sold ≡ row = cc (h) in
-      subst IsLimitedPosition same (record {
+  limited_row : (id number : ℕ) (asked : Asked) → IsFitAsked asked → number < 2 ^ 64 → (row : OrderPos) → position_for draw state id number asked ≡ Ok row → IsLimitedPosition row
+  unfolding position_for
+  limited_row id number asked fit small row h =
+      let (sold, is, h1) = gave_below OfVoucher (sold_for asked state) _ h in
+      subst IsLimitedPosition (gave_it (position_row draw state.next.order id number sold) row h1) (record {
         price = sold_money asked fit state sound.ids.vouchers.in_order sound.limits sold is;
         secret = secret_text draw state.next.order number sixteen (omega (arith, sound.range.next_ids.orders.within)) small;
       })
 
-  limited_row : (id number : ℕ) (asked : Asked) → IsFitAsked asked → number < 2 ^ 64 → (row : OrderPos) → position_for draw state id number asked ≡ Ok row → IsLimitedPosition row
-  unfolding position_for
-  limited_row id number asked fit small row h = limited_sold id number asked fit small (sold_for asked state) row refl h
-
-  both : (id number : ℕ) (asked : Asked) → IsFitAsked asked → number < 2 ^ 64 → (first : Result OrderPos OrderRefusal) → position_for draw state id number asked ≡ first → (rest : Result (List OrderPos) OrderRefusal) → ((rows : List OrderPos) → rest ≡ Ok rows → AllByRecursion IsLimitedPosition rows) → (rows : List OrderPos) → and_rows first rest ≡ Ok rows → AllByRecursion IsLimitedPosition rows
-  both id number asked fit small (Err refusal) e rest more rows h = absurd (cc (h))
-  both id number asked fit small (Ok row) e (Err refusal) more rows h = absurd (cc (h))
-  both id number asked fit small (Ok row) e (Ok others) more rows h =
-      let same : (row ∷ others) ≡ rows = cc (h) in
-      subst (AllByRecursion IsLimitedPosition) same (limited_row id number asked fit small row e, more others refl)
-
   pub positions_limited : (id number : ℕ) (asked : List Asked) (rows : List OrderPos) → number + length asked < 2 ^ 64 → AllByRecursion IsFitAsked asked → rows_for draw state id number asked ≡ Ok rows → AllByRecursion IsLimitedPosition rows
-  positions_limited id number [] rows small fit h = let same : [] ≡ rows = cc (h) in subst (AllByRecursion IsLimitedPosition) same tt
-  positions_limited id number (entry ∷ more) rows small fit h = both id number entry fit.0 (omega (arith, small)) (position_for draw state id number entry) refl (rows_for draw state (id + 1) (number + 1) more) (λ rest is. positions_limited (id + 1) (number + 1) more rest (omega (arith, small)) fit.1 is) rows h
+  positions_limited id number [] rows small fit h = subst (AllByRecursion IsLimitedPosition) (gave_it [] rows h) tt
+  positions_limited id number (entry ∷ more) rows small fit h =
+      let (row, first, h1) = gave (position_for draw state id number entry) _ h in
+      let (others, rest, h2) = gave (rows_for draw state (id + 1) (number + 1) more) _ h1 in
+      subst (AllByRecursion IsLimitedPosition) (gave_it (row ∷ others) rows h2) (limited_row id number entry fit.0 (omega (arith, small)) row first, positions_limited (id + 1) (number + 1) more others (omega (arith, small)) fit.1 rest)
 
 -- an order that is moved
 end_limited : (change : Move) (old : ℕ) → IsFitMove change → IsMoment old → IsMoment (end_after change old)

@@ -1,13 +1,14 @@
 -- What is known where an order was moved.
 use Rattle.std.proofs.Common.{◌≡◌, ℕ, ◌≤◌, ◌⊎◌, inl, inr, Bool, true, false, map, Option, Some, None, Result, Ok, Err, refl, sym, ap, ◌∙◌, subst}
 use Rattle.std.specs.Prelude.{if◌then◌else◌}
+use Rattle.bo_base.proofs.Decided.{found, found_none, gave_it, passed}
 use Rattle.bo_catalogue.specs.declared.rows.Quota.{Quota}
 use Rattle.bo_catalogue.specs.CatalogueLists.{quota_at}
 use Rattle.bo_lists.specs.declared.rows.Order.{Order}
 use Rattle.bo_lists.specs.declared.rows.OrderRows.{OrderRows}
 use Rattle.bo_lists.specs.declared.rows.Own.TheVariants.{Position}
 use Rattle.bo_lists.specs.declared.changes.Change.TheVariants.{PutOrder}
-use Rattle.bo_lists.specs.Lists.{State, order_at, positions_of}
+use Rattle.bo_lists.specs.Lists.{State, order_at}
 use Rattle.bo_lists.specs.Change.{after_change, changed}
 use Rattle.std.specs.List.{AllByRecursion}
 use Rattle.bo_lists.specs.Over.{first_over, ignores}
@@ -23,21 +24,14 @@ use Rattle.bo_commands.specs.declared.orders.Move.{Move}
 use Rattle.bo_orders.specs.declared.moves.Turn.{Turn}
 use Rattle.bo_commands.specs.declared.orders.OrderRefusal.{OrderRefusal}
 use Rattle.bo_commands.specs.declared.orders.OrderRefusal.TheVariants.{Voucher as OfVoucher}
-use Rattle.bo_commands.specs.declared.vouchers.VoucherRefusal.TheVariants.{NoHeadroom}
-use Rattle.bo_orders.specs.Moves.{turned, moved_row, have_uses_again, order_rows, moved_to, revived_unless_over, revival, moved_by, moved_at, order_moved}
+use Rattle.bo_commands.specs.declared.vouchers.VoucherRefusal.TheVariants.{SoldOut}
+use Rattle.bo_orders.specs.Moves.{turned, moved_row, have_uses_again, order_rows, moved_to, over_again, revival, order_moved}
 use Rattle.bo_orders.proofs.Limited.{moved_limited}
 use Rattle.bo_orders.proofs.MoveLemmas.{found_id, kept_force}
 use Rattle.bo_orders.proofs.Revivals.{revival_takes_no_more}
 
-ok_moved : (a b : State × OrderRows) → (let all : Result (State × OrderRows) OrderRefusal = Ok a in all ≡ Ok b) → a ≡ b
-ok_moved a b h = cc
-
 some_order : (a b : Order) → (let found : Option Order = Some a in found ≡ Some b) → a ≡ b
 some_order a b h = cc
-
--- the least quota of which an order takes too much as it comes back
-abbrev pub over_again : Order → State → Option ℕ
-over_again row state = first_over state.lists (after_change (PutOrder row) state.lists) state.moment (map (λ p. Position p.id) (positions_of row.id state.lists))
 
 -- the tests that an order that comes back passed, and the box office with it
 record IsRevived (row : Order) (before after : State) (rows : OrderRows) : Type 0 where
@@ -61,17 +55,12 @@ module _ (number : ℕ) (change : Move) (before after : State) (rows : OrderRows
   abbrev Gives : Result (State × OrderRows) OrderRefusal → Type 0
   Gives result = result ≡ Ok (after, rows)
 
-  by_over : (row : Order) (over : Option ℕ) → over_again row before ≡ over → have_uses_again row before ≡ true → Gives (revived_unless_over row before over) → IsRevived row before after rows
-  by_over row (Some quota) e uses h = absurd (cc)
-  by_over row None e uses h = record { uses = uses; not_over = e; is = ok_moved (moved_to row before) (after, rows) h }
-
-  by_uses : (row : Order) (uses : Bool) → have_uses_again row before ≡ uses → Gives (if uses then revived_unless_over row before (over_again row before) else Err (OfVoucher NoHeadroom)) → IsRevived row before after rows
-  by_uses row false e h = absurd (cc)
-  by_uses row true e h = by_over row (over_again row before) refl e h
-
   revived_is : (row : Order) → Gives (revival row before) → IsRevived row before after rows
   unfolding revival
-  revived_is row h = by_uses row (have_uses_again row before) refl h
+  revived_is row h =
+      let (uses, h1) = passed (have_uses_again row before) _ _ h in
+      let (over, h2) = found_none (λ quota. OfVoucher (SoldOut quota)) (over_again row before) _ h1 in
+      record { uses = uses; not_over = over; is = gave_it (moved_to row before) (after, rows) h2 }
 
   module _ (old : Order) (stood : order_at number before.lists ≡ Some old) where
     abbrev asked : Turn → Order
@@ -97,19 +86,14 @@ module _ (number : ℕ) (change : Move) (before after : State) (rows : OrderRows
     by_revival turn turns true is h =
         let r = revived_is (asked turn) h in
         with_tests turn turns r.is (λ e. r.uses) (λ e. r.not_over)
-    by_revival turn turns false is h = with_tests turn turns (ok_moved (moved_to (asked turn) before) (after, rows) h) (λ e. absurd (cc (e, is))) (λ e. absurd (cc (e, is)))
-
-    by_turn : (turn : Option Turn) → turned old.status change ≡ turn → Gives (moved_by old change before turn) → IsMoved number change before after rows
-    by_turn None e h = absurd (cc)
-    by_turn (Some turn) e h = by_revival turn e turn.revival refl h
-
-  by_order : (found : Option Order) → order_at number before.lists ≡ found → Gives (moved_at change before found) → IsMoved number change before after rows
-  by_order None e h = absurd (cc)
-  by_order (Some old) e h = by_turn old e (turned old.status change) refl h
+    by_revival turn turns false is h = with_tests turn turns (gave_it (moved_to (asked turn) before) (after, rows) h) (λ e. absurd (cc (e, is))) (λ e. absurd (cc (e, is)))
 
   pub moved_is : Gives (order_moved number change before) → IsMoved number change before after rows
   unfolding order_moved
-  moved_is h = by_order (order_at number before.lists) refl h
+  moved_is h =
+      let (old, stood, h1) = found (order_at number before.lists) _ _ h in
+      let (turn, turns, h2) = found (turned old.status change) _ _ h1 in
+      by_revival old stood turn turns turn.revival refl h2
 
   pub moved_moment : Gives (order_moved number change before) → after.moment ≡ before.moment
   moved_moment h = sym (ap (λ (s : State). s.moment) (moved_is h).is_after)

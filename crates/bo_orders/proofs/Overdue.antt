@@ -12,7 +12,7 @@ use Rattle.bo_lists.specs.Change.{after_all, without_carts}
 use Rattle.bo_lists.specs.Conditions.{is_live_cart}
 use Rattle.bo_lists.specs.Lists.{Lists, State}
 use Rattle.bo_lists.proofs.EachRow.{all_weaker, key-row_at}
-use Rattle.bo_overlay.specs.Due.{is_due, due_orders, dead_carts}
+use Rattle.bo_lists.specs.Due.{is_due, due_orders, dead_carts}
 use Rattle.bo_orders.specs.Expired.{expired_row, expired_if_due, orders_expired, expired_changes, carts_dropped, put_expired, expired_in, with_orders, expired_at, each_expired, expiry_of, each_expiry}
 
 -- the ids of some of the rows, which are all from n on

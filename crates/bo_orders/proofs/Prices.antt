@@ -2,6 +2,7 @@
 use Rattle.std.proofs.Common.{◌≡◌, ℕ, ◌+◌, ◌-◌, ◌*◌, ◌/◌, ◌≤◌, List, Option, Some, None, Result, Ok, Err, refl, subst, arith}
 use Rattle.std.specs.Prelude.{IfSome}
 use Rattle.std.proofs.lemmas.Nat.{mul-le}
+use Rattle.bo_base.proofs.Decided.{found, gave_it, gave_unit}
 use Rattle.bo_base.specs.Money.{IsMoney}
 use Rattle.bo_base.specs.Percent.{whole, left_of}
 use Rattle.bo_base.specs.Price.{price}
@@ -12,7 +13,6 @@ use Rattle.bo_base.specs.declared.price_mode.PriceMode.TheVariants as modes
 use Rattle.bo_catalogue.specs.declared.rows.Item.{Item}
 use Rattle.bo_catalogue.specs.declared.rows.Product.{Product}
 use Rattle.bo_catalogue.specs.declared.rows.Variation.{Variation}
-use Rattle.bo_catalogue.specs.declared.refusal.CatalogueRefusal.{CatalogueRefusal}
 use Rattle.bo_catalogue.specs.CatalogueLists.{item_at, variation_at, priced, base_price_by, base_price}
 use Rattle.bo_lists.specs.declared.rows.Voucher.{Voucher}
 use Rattle.bo_lists.specs.Lists.{State}
@@ -22,12 +22,11 @@ use Rattle.bo_lists.proofs.Found.{row_at_found}
 use Rattle.bo_sound.specs.Limits.{IsValue, IsLimitedItem, IsLimitedVariation, IsLimitedVoucher, AllLimited}
 use Rattle.bo_commands.specs.FitRequests.{IsFitAsked}
 use Rattle.bo_commands.specs.declared.carts.Asked.{Asked}
-use Rattle.bo_commands.specs.declared.vouchers.VoucherRefusal.{VoucherRefusal}
 use Rattle.bo_vouchers.specs.Usable.{usable}
 use Rattle.bo_vouchers.proofs.Limited.{given_or}
 use Rattle.bo_orders.specs.declared.sold.Sold.{Sold}
-use Rattle.bo_orders.specs.Sold.{sold_for, sold_of, sold_with, sold_at, product_for_sale, voucher_asked, used_by, used_if, price_with, price_by}
-use Rattle.bo_orders.proofs.SoldLemmas.{ok_voucher, ok_sold}
+use Rattle.bo_orders.specs.Sold.{sold_for, voucher_asked, price_with}
+use Rattle.bo_orders.proofs.SoldLemmas.{sold_is}
 
 -- what a share leaves of an amount
 left_money : (hundredths amount : ℕ) → IsMoney amount → IsMoney (left_of hundredths amount)
@@ -66,35 +65,18 @@ module _ (asked : Asked) (fit : IsFitAsked asked) (state : State) (order : AreIn
   base_money product = by_item product.variation product.item (item_at product.item state.lists.catalogue) refl
 
   -- the voucher that is asked for
-  by_usable : (v : Voucher) → IsLimitedVoucher v → (test : Result (Unit {0}) VoucherRefusal) (voucher : Option Voucher) → used_if v test ≡ Ok voucher → IfSome voucher IsLimitedVoucher
-  by_usable v its (Err refusal) voucher h = absurd (cc)
-  by_usable v its (Ok u) voucher h = subst (λ (found : Option Voucher). IfSome found IsLimitedVoucher) (ok_voucher (Some v) voucher h) its
-
-  by_found : (product : Product) (code : List ℕ) (found : Option Voucher) → voucher_of code state.lists ≡ found → (voucher : Option Voucher) → used_by state product found ≡ Ok voucher → IfSome voucher IsLimitedVoucher
-  by_found product code None is voucher h = absurd (cc)
-  by_found product code (Some v) is voucher h =
-      let stands = row_at_found (λ (r : Voucher). r.id) (λ w. same_text w.code code) 0 state.lists.vouchers v order is in
-      by_usable v (all-row_at (λ (r : Voucher). r.id) IsLimitedVoucher v.id state.lists.vouchers v stands limits.vouchers) (usable state.lists.catalogue state.moment product v) voucher h
-
   asked_limited : (product : Product) (code : Option (List ℕ)) (voucher : Option Voucher) → voucher_asked code state product ≡ Ok voucher → IfSome voucher IsLimitedVoucher
   unfolding voucher_asked
-  asked_limited product None voucher h = subst (λ (found : Option Voucher). IfSome found IsLimitedVoucher) (ok_voucher None voucher h) tt
-  asked_limited product (Some code) voucher h = by_found product code (voucher_of code state.lists) refl voucher h
+  asked_limited product None voucher h = subst (λ (o : Option Voucher). IfSome o IsLimitedVoucher) (gave_it None voucher h) tt
+  asked_limited product (Some code) voucher h =
+      let (v, is, h1) = found (voucher_of code state.lists) _ _ h in
+      let (able, h2) = gave_unit (usable state.lists.catalogue state.moment product v) _ h1 in
+      let stands = row_at_found (λ (r : Voucher). r.id) (λ w. same_text w.code code) 0 state.lists.vouchers v order is in
+      subst (λ (o : Option Voucher). IfSome o IsLimitedVoucher) (gave_it (Some v) voucher h2) (all-row_at (λ (r : Voucher). r.id) IsLimitedVoucher v.id state.lists.vouchers v stands limits.vouchers)
 
-  module _ (sold : Sold) where
-    by_price : (product : Product) (voucher : Option Voucher) → IfSome voucher IsLimitedVoucher → (given base : Option ℕ) → IfSome given IsMoney → IfSome base IsMoney → sold_at product voucher (price_by given voucher base) ≡ Ok sold → IsMoney sold.price
-    by_price product voucher its (Some given) base money based h = subst (λ (s : Sold). IsMoney s.price) (ok_sold _ sold h) money
-    by_price product voucher its None (Some base) money based h = subst (λ (s : Sold). IsMoney s.price) (ok_sold _ sold h) (with_voucher voucher base its based)
-    by_price product voucher its None None money based h = absurd (cc)
-
-    by_voucher : (product : Product) (voucher : Result (Option Voucher) VoucherRefusal) → voucher_asked asked.voucher state product ≡ voucher → sold_with asked state product voucher ≡ Ok sold → IsMoney sold.price
-    by_voucher product (Err refusal) is h = absurd (cc)
-    by_voucher product (Ok voucher) is h = by_price product voucher (asked_limited product asked.voucher voucher is) asked.price (base_price product state.lists.catalogue) fit.price (base_money product) h
-
-    by_product : (product : Result Product CatalogueRefusal) → sold_of asked state product ≡ Ok sold → IsMoney sold.price
-    by_product (Err refusal) h = absurd (cc)
-    by_product (Ok product) h = by_voucher product (voucher_asked asked.voucher state product) refl h
-
-    pub sold_money : sold_for asked state ≡ Ok sold → IsMoney sold.price
-    unfolding sold_for
-    sold_money h = by_product (product_for_sale asked.item asked.variation state.lists.catalogue) h
+  pub sold_money : (sold : Sold) → sold_for asked state ≡ Ok sold → IsMoney sold.price
+  sold_money sold h =
+      let s = sold_is asked state sold h in
+      let money = subst (λ (o : Option ℕ). IfSome o IsMoney) s.based (base_money s.product) in
+      let its = with_voucher s.voucher s.base (asked_limited s.product asked.voucher s.voucher s.may_use) money in
+      subst (λ (x : Sold). IsMoney x.price) s.is (given_or IsMoney asked.price (price_with s.voucher s.base) fit.price its)

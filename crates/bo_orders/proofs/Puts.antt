@@ -1,14 +1,11 @@
 -- A position that is put, and cart positions that go.
 use Rattle.std.proofs.Common.{◌≡◌, ℕ, List, [], ◌∷◌, map, Bool, true, false, Result, Ok, Err, refl}
-use Rattle.std.specs.Prelude.{if◌then◌else◌}
+use Rattle.bo_base.proofs.Decided.{gave_it, passed}
 use Rattle.bo_lists.specs.declared.rows.OrderPos.{OrderPos}
 use Rattle.bo_lists.specs.declared.changes.Change.TheVariants.{PutPosition, DropCart}
 use Rattle.bo_lists.specs.Lists.{Lists, State}
 use Rattle.bo_lists.specs.Change.{after_change, after_all, changed}
 use Rattle.bo_lists.specs.Headroom.{has_use}
-use Rattle.bo_commands.specs.declared.vouchers.VoucherRefusal.TheVariants.{NoHeadroom}
-use Rattle.bo_commands.specs.declared.orders.OrderRefusal.{OrderRefusal}
-use Rattle.bo_commands.specs.declared.orders.OrderRefusal.TheVariants.{Voucher as OfVoucher}
 use Rattle.bo_orders.specs.Created.{position_put}
 
 -- a put of a position, which had a use of its voucher left
@@ -16,13 +13,11 @@ pub record IsPut (row : OrderPos) (state after : State) : Type 0 where
   pub left : has_use state.moment state.lists row.voucher ≡ true
   pub is : changed (PutPosition row) state ≡ after
 
-put_if : (row : OrderPos) (state after : State) (left : Bool) → has_use state.moment state.lists row.voucher ≡ left → (let put : Result State OrderRefusal = (if left then Ok (changed (PutPosition row) state) else Err (OfVoucher NoHeadroom)) in put ≡ Ok after) → IsPut row state after
-put_if row state after true e h = record { left = e; is = cc (h) }
-put_if row state after false e h = absurd (cc (h))
-
 pub put_is : (row : OrderPos) (state after : State) → position_put row state ≡ Ok after → IsPut row state after
 unfolding position_put
-put_is row state after h = put_if row state after (has_use state.moment state.lists row.voucher) refl h
+put_is row state after h =
+    let (left, h1) = passed (has_use state.moment state.lists row.voucher) _ _ h in
+    record { left = left; is = gave_it (changed (PutPosition row) state) after h1 }
 
 -- cart positions that go leave the rest
 pub carts_keep_catalogue : (ids : List ℕ) (lists : Lists) → (after_all (map DropCart ids) lists).catalogue ≡ lists.catalogue

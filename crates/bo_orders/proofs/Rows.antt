@@ -1,6 +1,7 @@
 -- The rows of a new order: their ids count on, and each of them can be put.
 use Rattle.std.proofs.Common.{◌≡◌, ℕ, ◌+◌, ◌<◌, ◌≤◌, Bool, true, false, List, [], ◌∷◌, None, Result, Ok, Err, refl, sym, ap, ◌∙◌, subst, arith}
-use Rattle.std.specs.Prelude.{◌||◌, ◌&&◌, not, if◌then◌else◌}
+use Rattle.std.specs.Prelude.{◌||◌, ◌&&◌, not}
+use Rattle.bo_base.proofs.Decided.{gave, gave_below, gave_it}
 use Rattle.bo_base.specs.declared.draw.Draw.{Draw}
 use Rattle.bo_lists.specs.declared.rows.Order.{Order}
 use Rattle.bo_lists.specs.declared.rows.OrderPos.{OrderPos}
@@ -21,11 +22,9 @@ use Rattle.bo_sound.proofs.SoundOrders.{new_order_headroom, sound_drop_carts}
 use Rattle.bo_commands.specs.declared.carts.Asked.{Asked}
 use Rattle.bo_commands.specs.declared.orders.OrderRefusal.{OrderRefusal}
 use Rattle.bo_commands.specs.declared.orders.OrderRefusal.TheVariants.{Voucher as OfVoucher}
-use Rattle.bo_orders.specs.declared.sold.Sold.{Sold}
-use Rattle.bo_commands.specs.declared.vouchers.VoucherRefusal.{VoucherRefusal}
-use Rattle.bo_commands.specs.declared.vouchers.VoucherRefusal.TheVariants.{NoHeadroom}
 use Rattle.bo_orders.specs.Sold.{sold_for}
-use Rattle.bo_orders.specs.Created.{IsReady, AreCounted, with_order_row, position_put, position_row, position_of_sold, position_for, and_rows, rows_for, with_positions}
+use Rattle.bo_orders.specs.Created.{IsReady, AreCounted, with_order_row, position_put, position_row, position_for, rows_for, with_positions}
+use Rattle.bo_orders.proofs.Puts.{put_is}
 
 -- an order of the next id can be put
 pub order_headroom : (row : Order) (ids : List ℕ) (state : State) → row.id ≡ state.next.order → IsSound state → AllHaveHeadroom state.moment (after_change (PutOrder row) (without_carts ids state).lists)
@@ -56,43 +55,29 @@ put_headroom row state h left = headroom_position state.moment row state.lists h
 ready_put : (row : OrderPos) (state : State) → IsReady row.id state → has_use state.moment state.lists row.voucher ≡ true → IsReady (row.id + 1) (changed (PutPosition row) state)
 ready_put row state h left = record { from_one = omega arith; positions = numbered_put (λ r. r.id) row row.id state.lists.positions refl h.from_one h.positions; vouchers = h.vouchers; headroom = put_headroom row state h left }
 
-ready_if : (row : OrderPos) (state after : State) (left : Bool) → has_use state.moment state.lists row.voucher ≡ left → (let put : Result State OrderRefusal = (if left then Ok (changed (PutPosition row) state) else Err (OfVoucher NoHeadroom)) in put ≡ Ok after) → IsReady row.id state → IsReady (row.id + 1) after
-ready_if row state after true e h ready = let same : changed (PutPosition row) state ≡ after = cc (h) in subst (IsReady (row.id + 1)) same (ready_put row state ready e)
-ready_if row state after false e h ready = absurd (cc (h))
-
 pub ready_next : (row : OrderPos) (state after : State) → position_put row state ≡ Ok after → IsReady row.id state → IsReady (row.id + 1) after
-unfolding position_put
-ready_next row state after h ready = ready_if row state after (has_use state.moment state.lists row.voucher) refl h ready
+ready_next row state after h ready =
+    let p = put_is row state after h in
+    subst (IsReady (row.id + 1)) p.is (ready_put row state ready p.left)
 
 -- the ids of the rows that are asked for count on
 module _ (draw : Draw) (state : State) where
-  counted_sold : (id number : ℕ) (sold : Result Sold VoucherRefusal) (row : OrderPos) → position_of_sold draw state.next.order id number sold ≡ Ok row → row.id ≡ id
-  counted_sold id number (Err refusal) row h = absurd (cc (h))
-  counted_sold id number (Ok sold) row h = let same : position_row draw state.next.order id number sold ≡ row = cc (h) in ap (λ (r : OrderPos). r.id) (sym same)
-
   counted_row : (id number : ℕ) (asked : Asked) (row : OrderPos) → position_for draw state id number asked ≡ Ok row → row.id ≡ id
   unfolding position_for
-  counted_row id number asked row h = counted_sold id number (sold_for asked state) row h
-
-  both : (id number : ℕ) (asked : Asked) (first : Result OrderPos OrderRefusal) → position_for draw state id number asked ≡ first → (rest : Result (List OrderPos) OrderRefusal) → ((rows : List OrderPos) → rest ≡ Ok rows → AreCounted (id + 1) rows) → (rows : List OrderPos) → and_rows first rest ≡ Ok rows → AreCounted id rows
-  both id number asked (Err refusal) e rest more rows h = absurd (cc (h))
-  both id number asked (Ok row) e (Err refusal) more rows h = absurd (cc (h))
-  both id number asked (Ok row) e (Ok rest_rows) more rows h =
-      let same : (row ∷ rest_rows) ≡ rows = cc (h) in
-      subst (AreCounted id) same (counted_row id number asked row e, more rest_rows refl)
+  counted_row id number asked row h =
+      let (sold, is, h1) = gave_below OfVoucher (sold_for asked state) _ h in
+      ap (λ (r : OrderPos). r.id) (sym (gave_it (position_row draw state.next.order id number sold) row h1))
 
   pub counted : (id number : ℕ) (asked : List Asked) (rows : List OrderPos) → rows_for draw state id number asked ≡ Ok rows → AreCounted id rows
-  counted id number [] rows h = let same : [] ≡ rows = cc (h) in subst (AreCounted id) same tt
-  counted id number (entry ∷ more) rows h = both id number entry (position_for draw state id number entry) refl (rows_for draw state (id + 1) (number + 1) more) (counted (id + 1) (number + 1) more) rows h
+  counted id number [] rows h = subst (AreCounted id) (gave_it [] rows h) tt
+  counted id number (entry ∷ more) rows h =
+      let (row, first, h1) = gave (position_for draw state id number entry) _ h in
+      let (others, rest, h2) = gave (rows_for draw state (id + 1) (number + 1) more) _ h1 in
+      subst (AreCounted id) (gave_it (row ∷ others) rows h2) (counted_row id number entry row first, counted (id + 1) (number + 1) more others rest)
 
 -- a put of a position leaves the next ids
-next_if : (row : OrderPos) (state after : State) (left : Bool) → (let put : Result State OrderRefusal = (if left then Ok (changed (PutPosition row) state) else Err (OfVoucher NoHeadroom)) in put ≡ Ok after) → after.next ≡ state.next
-next_if row state after true h = let same : changed (PutPosition row) state ≡ after = cc (h) in ap (λ (s : State). s.next) (sym same)
-next_if row state after false h = absurd (cc (h))
-
 put_next : (row : OrderPos) (state after : State) → position_put row state ≡ Ok after → after.next ≡ state.next
-unfolding position_put
-put_next row state after h = next_if row state after (has_use state.moment state.lists row.voucher) h
+put_next row state after h = ap (λ (s : State). s.next) (sym (put_is row state after h).is)
 
 -- and so do puts of several
 pub puts_next : (rows : List OrderPos) (state after : State) → with_positions rows (Ok state) ≡ Ok after → after.next ≡ state.next

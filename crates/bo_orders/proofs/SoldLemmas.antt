@@ -1,12 +1,11 @@
 -- What is known of what is sold: its product is named as its item is sold, and its voucher is for it.
 use Rattle.std.proofs.Common.{◌≡◌, ℕ, Bool, true, false, List, Option, Some, None, Result, Ok, Err, refl, sym, ap, ◌∙◌, subst}
-use Rattle.std.specs.Prelude.{if◌then◌else◌, option_map}
+use Rattle.std.specs.Prelude.{option_map}
 use Rattle.std.specs.List.{AllByRecursion}
 use Rattle.bo_base.specs.Tables.{AreInOrder}
+use Rattle.bo_base.proofs.Decided.{found, gave, gave_below, gave_it, gave_unit, passed}
 use Rattle.bo_base.specs.Texts.{same_text}
 use Rattle.bo_catalogue.specs.declared.rows.Product.{Product}
-use Rattle.bo_catalogue.specs.declared.refusal.CatalogueRefusal.{CatalogueRefusal}
-use Rattle.bo_catalogue.specs.declared.refusal.CatalogueRefusal.TheVariants.{Inactive, NotSold}
 use Rattle.bo_catalogue.specs.CatalogueLists.{CatalogueLists, product_of, base_price, is_active, is_sold}
 use Rattle.bo_lists.specs.declared.rows.Voucher.{Voucher}
 use Rattle.bo_lists.specs.Lists.{State}
@@ -15,88 +14,61 @@ use Rattle.bo_lists.specs.Fits.{fits, fits_if, is_fit}
 use Rattle.bo_lists.specs.Named.{voucher_of}
 use Rattle.bo_sound.specs.Varied.{is_of_varied, AllVaried, IsProduct}
 use Rattle.bo_lists.proofs.Found.{row_at_found}
-use Rattle.bo_sound.proofs.Products.{ok_product, product_is}
+use Rattle.bo_sound.proofs.Products.{product_is}
 use Rattle.bo_commands.specs.declared.vouchers.VoucherRefusal.{VoucherRefusal}
-use Rattle.bo_commands.specs.declared.vouchers.VoucherRefusal.TheVariants.{VoucherExpired, WrongProduct}
+use Rattle.bo_commands.specs.declared.vouchers.VoucherRefusal.TheVariants.{Catalogue}
 use Rattle.bo_commands.specs.declared.carts.Asked.{Asked}
 use Rattle.bo_orders.specs.declared.sold.Sold.{Sold}
-use Rattle.bo_orders.specs.Sold.{sold_for, sold_of, sold_with, sold_at, if_for_sale, product_for_sale, voucher_asked, used_by, used_if, price_by}
-
-pub ok_voucher : (a b : Option Voucher) → (let all : Result (Option Voucher) VoucherRefusal = Ok a in all ≡ Ok b) → a ≡ b
-ok_voucher a b h = cc
+use Rattle.bo_orders.specs.Sold.{sold_for, sold_at, product_for_sale, voucher_asked}
+use Rattle.bo_vouchers.specs.Usable.{usable}
 
 -- a voucher that may be used for a product stands, and is for it
-module _ (state : State) (order : AreInOrder (λ r. r.id) state.lists.vouchers) (product : Product) (asked : Option Voucher) where
-  by_tests : (v : Voucher) (live fit : Bool) → fits state.lists.catalogue v product ≡ fit → is_fit state.lists product (Some v.id) ≡ fit → used_if v (if live then (if fit then Ok tt else Err WrongProduct) else Err VoucherExpired) ≡ Ok asked → is_fit state.lists product (option_map (λ v. v.id) asked) ≡ true
-  by_tests v true true fit stands h = ap (λ a. is_fit state.lists product (option_map (λ v. v.id) a)) (sym (ok_voucher (Some v) asked h)) ∙ stands
-  by_tests v true false fit stands h = absurd (cc)
-  by_tests v false fit is stands h = absurd (cc)
+asked_fits : (state : State) (order : AreInOrder (λ r. r.id) state.lists.vouchers) (product : Product) (asked : Option Voucher) (code : Option (List ℕ)) → voucher_asked code state product ≡ Ok asked → is_fit state.lists product (option_map (λ v. v.id) asked) ≡ true
+unfolding voucher_asked
+asked_fits state order product asked None h = ap (λ a. is_fit state.lists product (option_map (λ v. v.id) a)) (sym (gave_it None asked h))
+asked_fits state order product asked (Some code) h =
+    let (v, is, h1) = found (voucher_of code state.lists) _ _ h in
+    let (able, h2) = gave_unit (usable state.lists.catalogue state.moment product v) _ h1 in
+    let (live, u1) = passed (is_live_voucher state.moment v) _ _ able in
+    let (fit, u2) = passed (fits state.lists.catalogue v product) _ _ u1 in
+    let stands = ap (fits_if state.lists.catalogue product) (row_at_found (λ (r : Voucher). r.id) (λ w. same_text w.code code) 0 state.lists.vouchers v order is) in
+    ap (λ a. is_fit state.lists product (option_map (λ v. v.id) a)) (sym (gave_it (Some v) asked h2)) ∙ stands ∙ fit
 
-  by_found : (code : List ℕ) (found : Option Voucher) → voucher_of code state.lists ≡ found → used_by state product found ≡ Ok asked → is_fit state.lists product (option_map (λ v. v.id) asked) ≡ true
-  by_found code None is h = absurd (cc)
-  by_found code (Some v) is h =
-      let stands = ap (fits_if state.lists.catalogue product) (row_at_found (λ (r : Voucher). r.id) (λ w. same_text w.code code) 0 state.lists.vouchers v order is) in
-      by_tests v (is_live_voucher state.moment v) (fits state.lists.catalogue v product) refl stands h
+-- what is for sale is a product
+for_sale_is_product : (lists : CatalogueLists) (of_varied : AllByRecursion (λ v. is_of_varied lists.items v ≡ true) lists.variations) (product : Product) (item : ℕ) (variation : Option ℕ) → product_for_sale item variation lists ≡ Ok product → IsProduct lists product
+for_sale_is_product lists of_varied product item variation h =
+    let (asked, is, h1) = gave (product_of item variation lists) _ h in
+    let (active, h2) = passed (is_active asked lists) _ _ h1 in
+    let (sold, h3) = passed (is_sold asked lists) _ _ h2 in
+    product_is lists of_varied product item variation (is ∙ ap (λ (p : Product). Ok p) (gave_it asked product h3))
 
-  asked_fits : (code : Option (List ℕ)) → voucher_asked code state product ≡ Ok asked → is_fit state.lists product (option_map (λ v. v.id) asked) ≡ true
-  unfolding voucher_asked
-  asked_fits None h = ap (λ a. is_fit state.lists product (option_map (λ v. v.id) a)) (sym (ok_voucher None asked h))
-  asked_fits (Some code) h = by_found code (voucher_of code state.lists) refl h
+-- the product, the voucher and the base price of what is sold
+pub record IsSoldFor (asked : Asked) (state : State) (sold : Sold) : Type 0 where
+  pub product : Product
+  pub voucher : Option Voucher
+  pub base : ℕ
+  pub for_sale : product_for_sale asked.item asked.variation state.lists.catalogue ≡ Ok product
+  pub may_use : voucher_asked asked.voucher state product ≡ Ok voucher
+  pub based : base_price product state.lists.catalogue ≡ Some base
+  pub is : sold_at asked.price product voucher base ≡ sold
 
-pub ok_sold : (a b : Sold) → (let all : Result Sold VoucherRefusal = Ok a in all ≡ Ok b) → a ≡ b
-ok_sold a b h = cc
-
-module _ (asked : Asked) (state : State) (order : AreInOrder (λ r. r.id) state.lists.vouchers) (sold : Sold) where
-  by_price : (product : Product) (voucher : Option Voucher) (price : Result ℕ VoucherRefusal) → is_fit state.lists product (option_map (λ v. v.id) voucher) ≡ true → sold_at product voucher price ≡ Ok sold → is_fit state.lists sold.product sold.voucher ≡ true
-  by_price product voucher (Err refusal) fit h = absurd (cc)
-  by_price product voucher (Ok price) fit h = sym (ap (λ (s : Sold). is_fit state.lists s.product s.voucher) (ok_sold _ sold h)) ∙ fit
-
-  by_voucher : (product : Product) (voucher : Result (Option Voucher) VoucherRefusal) → voucher_asked asked.voucher state product ≡ voucher → sold_with asked state product voucher ≡ Ok sold → is_fit state.lists sold.product sold.voucher ≡ true
-  by_voucher product (Err refusal) is h = absurd (cc)
-  by_voucher product (Ok voucher) is h = by_price product voucher (price_by asked.price voucher (base_price product state.lists.catalogue)) (asked_fits state order product voucher asked.voucher is) h
-
-  by_product : (product : Result Product CatalogueRefusal) → sold_of asked state product ≡ Ok sold → is_fit state.lists sold.product sold.voucher ≡ true
-  by_product (Err refusal) h = absurd (cc)
-  by_product (Ok product) h = by_voucher product (voucher_asked asked.voucher state product) refl h
+module _ (asked : Asked) (state : State) (sold : Sold) where
+  pub sold_is : sold_for asked state ≡ Ok sold → IsSoldFor asked state sold
+  unfolding sold_for
+  sold_is h =
+      let (product, for_sale, h1) = gave_below Catalogue (product_for_sale asked.item asked.variation state.lists.catalogue) _ h in
+      let (voucher, may_use, h2) = gave (voucher_asked asked.voucher state product) _ h1 in
+      let (base, based, h3) = found (base_price product state.lists.catalogue) _ _ h2 in
+      record { product = product; voucher = voucher; base = base; for_sale = for_sale; may_use = may_use; based = based; is = gave_it (sold_at asked.price product voucher base) sold h3 }
 
   -- the voucher of what is sold, if it has one, stands and is for the product
-  pub sold_fits : sold_for asked state ≡ Ok sold → is_fit state.lists sold.product sold.voucher ≡ true
-  unfolding sold_for
-  sold_fits h = by_product (product_for_sale asked.item asked.variation state.lists.catalogue) h
-
-module _ (lists : CatalogueLists) (of_varied : AllByRecursion (λ v. is_of_varied lists.items v ≡ true) lists.variations) (product : Product) where
-  abbrev GivesProduct : Result Product CatalogueRefusal → Type 0
-  GivesProduct result = result ≡ Ok product
-
-  by_sold : (asked : Product) (sold : Bool) → GivesProduct (if sold then Ok asked else Err NotSold) → asked ≡ product
-  by_sold asked true h = ok_product asked product h
-  by_sold asked false h = absurd (cc)
-
-  by_active : (asked : Product) (active : Bool) → GivesProduct (if active then (if is_sold asked lists then Ok asked else Err NotSold) else Err Inactive) → asked ≡ product
-  by_active asked true h = by_sold asked (is_sold asked lists) h
-  by_active asked false h = absurd (cc)
-
-  by_asked : (item : ℕ) (variation : Option ℕ) (asked : Result Product CatalogueRefusal) → product_of item variation lists ≡ asked → GivesProduct (if_for_sale lists asked) → IsProduct lists product
-  by_asked item variation (Err refusal) is h = absurd (cc)
-  by_asked item variation (Ok asked) is h = product_is lists of_varied product item variation (is ∙ ap (λ (p : Product). Ok p) (by_active asked (is_active asked lists) h))
-
-  for_sale_is_product : (item : ℕ) (variation : Option ℕ) → GivesProduct (product_for_sale item variation lists) → IsProduct lists product
-  for_sale_is_product item variation h = by_asked item variation (product_of item variation lists) refl h
-
-module _ (asked : Asked) (state : State) (of_varied : AllVaried state.lists) (sold : Sold) where
-  price_product : (product : Product) (voucher : Option Voucher) (price : Result ℕ VoucherRefusal) → sold_at product voucher price ≡ Ok sold → product ≡ sold.product
-  price_product product voucher (Err refusal) h = absurd (cc)
-  price_product product voucher (Ok price) h = ap (λ (s : Sold). s.product) (ok_sold _ sold h)
-
-  voucher_product : (product : Product) (voucher : Result (Option Voucher) VoucherRefusal) → sold_with asked state product voucher ≡ Ok sold → product ≡ sold.product
-  voucher_product product (Err refusal) h = absurd (cc)
-  voucher_product product (Ok voucher) h = price_product product voucher (price_by asked.price voucher (base_price product state.lists.catalogue)) h
-
-  by_for_sale : (product : Result Product CatalogueRefusal) → product_for_sale asked.item asked.variation state.lists.catalogue ≡ product → sold_of asked state product ≡ Ok sold → IsProduct state.lists.catalogue sold.product
-  by_for_sale (Err refusal) is h = absurd (cc)
-  by_for_sale (Ok product) is h = subst (IsProduct state.lists.catalogue) (voucher_product product (voucher_asked asked.voucher state product) h) (for_sale_is_product state.lists.catalogue of_varied product asked.item asked.variation is)
+  pub sold_fits : AreInOrder (λ r. r.id) state.lists.vouchers → sold_for asked state ≡ Ok sold → is_fit state.lists sold.product sold.voucher ≡ true
+  sold_fits order h =
+      let s = sold_is h in
+      subst (λ (x : Sold). is_fit state.lists x.product x.voucher ≡ true) s.is (asked_fits state order s.product s.voucher asked.voucher s.may_use)
 
   -- the product of what is sold is one
-  pub sold_is_product : sold_for asked state ≡ Ok sold → IsProduct state.lists.catalogue sold.product
-  unfolding sold_for
-  sold_is_product h = by_for_sale (product_for_sale asked.item asked.variation state.lists.catalogue) refl h
+  pub sold_is_product : AllVaried state.lists → sold_for asked state ≡ Ok sold → IsProduct state.lists.catalogue sold.product
+  sold_is_product of_varied h =
+      let s = sold_is h in
+      subst (λ (x : Sold). IsProduct state.lists.catalogue x.product) s.is (for_sale_is_product state.lists.catalogue of_varied s.product asked.item asked.variation s.for_sale)

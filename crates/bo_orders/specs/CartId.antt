@@ -1,8 +1,9 @@
 -- The ids of carts.
-use Rattle.std.specs.Prelude.{ℕ, Bool, List, ◌++◌, Option, Some, None, Result, Ok, Err, if◌then◌else◌, nat_eq, codes}
+use Rattle.std.specs.Prelude.{ℕ, Bool, List, ◌++◌, Option, Some, None, Result, Ok, nat_eq, codes}
 use Rattle.std.specs.List.{ends_with}
 use Rattle.std.specs.Fmt.{decimal}
 use Rattle.hex.specs.Hex.{encode_lower}
+use Rattle.bo_base.specs.Deciding.{check}
 use Rattle.bo_base.specs.declared.draw.Draw.{Draw}
 use Rattle.bo_commands.specs.declared.orders.OrderRefusal.{OrderRefusal}
 use Rattle.bo_commands.specs.declared.orders.OrderRefusal.TheVariants.{BadCart}
@@ -13,7 +14,7 @@ is_cart_id text = ends_with nat_eq text (codes "@api")
 
 abbrev pub cart_id_test : Option (List ℕ) → Result (Unit {0}) OrderRefusal
 cart_id_test None = Ok tt
-cart_id_test (Some given) = if is_cart_id given then Ok tt else Err BadCart
+cart_id_test (Some given) = check (is_cart_id given) BadCart
 
 -- the draw as 32 lower case hex digits, `z`, the position's id and `@api`
 unfoldable pub made_cart_id : Draw → ℕ → List ℕ

@@ -1,5 +1,6 @@
 -- Adding a cart position: the first refusal, or else the box office with the new row.
-use Rattle.std.specs.Prelude.{ℕ, ◌+◌, Bool, ◌||◌, not, [], ◌∷◌, Option, Some, None, Result, Ok, Err, if◌then◌else◌, unwrap_or, min}
+use Rattle.std.specs.Prelude.{ℕ, ◌+◌, Bool, ◌||◌, not, [], ◌∷◌, Result, Ok, unwrap_or, min}
+use Rattle.bo_base.specs.Deciding.{◌>>=◌, ◌>>◌, check, refuse_some, map_err}
 use Rattle.bo_base.specs.Moments.{last_moment}
 use Rattle.bo_base.specs.declared.draw.Draw.{Draw}
 use Rattle.bo_catalogue.specs.declared.refusal.CatalogueRefusal.TheVariants.{Full}
@@ -13,7 +14,6 @@ use Rattle.bo_lists.specs.Full.{takes_cart}
 use Rattle.bo_lists.specs.Headroom.{has_use}
 use Rattle.bo_lists.specs.Numbered.{with_cart}
 use Rattle.bo_lists.specs.Over.{first_over}
-use Rattle.bo_commands.specs.declared.vouchers.VoucherRefusal.{VoucherRefusal}
 use Rattle.bo_commands.specs.declared.vouchers.VoucherRefusal.TheVariants.{Catalogue, NoHeadroom, SoldOut}
 use Rattle.bo_orders.specs.CartId.{cart_id_test, cart_id_of}
 use Rattle.bo_orders.specs.Sold.{sold_for}
@@ -23,9 +23,8 @@ use Rattle.bo_commands.specs.declared.orders.OrderRefusal.{OrderRefusal}
 use Rattle.bo_commands.specs.declared.orders.OrderRefusal.TheVariants.{Voucher as OfVoucher}
 
 -- the row gets the next id, and is held for 1800 seconds where no end is given
-abbrev pub row_of_sold : NewCart → Draw → State → Result Sold VoucherRefusal → Result CartPos OrderRefusal
-row_of_sold new draw state (Err refusal) = Err (OfVoucher refusal)
-row_of_sold new draw state (Ok sold) = Ok (record {
+abbrev pub row_of_sold : NewCart → Draw → State → Sold → CartPos
+row_of_sold new draw state sold = record {
   id = state.next.cart;
   cart_id = cart_id_of new.cart_id draw state.next.cart;
   product = sold.product;
@@ -33,34 +32,29 @@ row_of_sold new draw state (Ok sold) = Ok (record {
   made_at = state.moment;
   expires = unwrap_or new.expires (min (state.moment + 1800) last_moment);
   voucher = sold.voucher;
-})
-
-abbrev pub row_in_cart : NewCart → Draw → State → Result (Unit {0}) OrderRefusal → Result CartPos OrderRefusal
-row_in_cart new draw state (Err refusal) = Err refusal
-row_in_cart new draw state (Ok _) = row_of_sold new draw state (sold_for new.asked state)
+}
 
 -- the row that is asked for
 unfoldable pub cart_row : NewCart → Draw → State → Result CartPos OrderRefusal
-cart_row new draw state = row_in_cart new draw state (cart_id_test new.cart_id)
+cart_row new draw state = do
+  cart_id_test new.cart_id
+  sold ← map_err OfVoucher (sold_for new.asked state)
+  Ok (row_of_sold new draw state sold)
 
 -- a row that is dead already takes no use of its voucher, and a live one needs one that is left
 abbrev pub has_use_for : CartPos → State → Bool
 has_use_for row state = not (is_live_cart state.moment row) || has_use state.moment state.lists row.voucher
 
-abbrev pub placed_by : CartPos → State → Option ℕ → Result (State × CartPos) OrderRefusal
-placed_by row state (Some quota) = Err (OfVoucher (SoldOut quota))
-placed_by row state None = if takes_cart state then Ok (with_cart row state, row) else Err (OfVoucher (Catalogue Full))
-
 -- its voucher needs a use that is left, no quota may be taken too much of, and the table has to take the row
 unfoldable pub placed : CartPos → State → Result (State × CartPos) OrderRefusal
-placed row state =
-    if has_use_for row state then placed_by row state (first_over state.lists (after_change (PutCart row) state.lists) state.moment (Cart row.id ∷ []))
-    else Err (OfVoucher NoHeadroom)
-
-abbrev pub placed_if : State → Result CartPos OrderRefusal → Result (State × CartPos) OrderRefusal
-placed_if state (Err refusal) = Err refusal
-placed_if state (Ok row) = placed row state
+placed row state = do
+  check (has_use_for row state) (OfVoucher NoHeadroom)
+  refuse_some (λ quota. OfVoucher (SoldOut quota)) (first_over state.lists (after_change (PutCart row) state.lists) state.moment (Cart row.id ∷ []))
+  check (takes_cart state) (OfVoucher (Catalogue Full))
+  Ok (with_cart row state, row)
 
 -- the box office with the new cart position, and that position, or the first refusal
 unfoldable pub position_added : NewCart → Draw → State → Result (State × CartPos) OrderRefusal
-position_added new draw state = placed_if state (cart_row new draw state)
+position_added new draw state = do
+  row ← cart_row new draw state
+  placed row state

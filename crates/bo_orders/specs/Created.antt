@@ -1,5 +1,6 @@
 -- Making an order out of carts.
-use Rattle.std.specs.Prelude.{◌≡◌, ℕ, ◌+◌, ◌≤◌, ◌&&◌, nat_lt, List, [], ◌∷◌, ◌++◌, ◌==◌, length, map, min, unwrap_or, Option, Some, None, Result, Ok, Err, if◌then◌else◌}
+use Rattle.std.specs.Prelude.{◌≡◌, ℕ, ◌+◌, ◌≤◌, ◌&&◌, nat_lt, List, [], ◌∷◌, ◌++◌, ◌==◌, length, map, min, unwrap_or, Result, Ok, Err}
+use Rattle.bo_base.specs.Deciding.{◌>>=◌, ◌>>◌, check, refuse_if, refuse_some, map_err}
 use Rattle.bo_base.specs.Moments.{last_moment}
 use Rattle.bo_base.specs.Secrets.{secret}
 use Rattle.bo_base.specs.Tables.{AreInOrder}
@@ -19,7 +20,6 @@ use Rattle.bo_lists.specs.Headroom.{has_use, AllHaveHeadroom}
 use Rattle.bo_lists.specs.Over.{first_over}
 use Rattle.bo_sound.specs.Ids.{AreNumbered}
 use Rattle.bo_sound.specs.Positions.{most_positions}
-use Rattle.bo_commands.specs.declared.vouchers.VoucherRefusal.{VoucherRefusal}
 use Rattle.bo_commands.specs.declared.vouchers.VoucherRefusal.TheVariants.{Catalogue, NoHeadroom, SoldOut}
 use Rattle.bo_commands.specs.declared.orders.NewOrder.{NewOrder}
 use Rattle.bo_commands.specs.Starts.{status_of}
@@ -51,31 +51,30 @@ position_row draw order id number sold = record {
   secret = secret draw order number;
 }
 
-abbrev pub position_of_sold : Draw → ℕ → ℕ → ℕ → Result Sold VoucherRefusal → Result OrderPos OrderRefusal
-position_of_sold draw order id number (Err refusal) = Err (OfVoucher refusal)
-position_of_sold draw order id number (Ok sold) = Ok (position_row draw order id number sold)
-
 -- the row of one position that is asked for
 unfoldable pub position_for : Draw → State → ℕ → ℕ → Asked → Result OrderPos OrderRefusal
-position_for draw state id number asked = position_of_sold draw state.next.order id number (sold_for asked state)
+position_for draw state id number asked = do
+  sold ← map_err OfVoucher (sold_for asked state)
+  Ok (position_row draw state.next.order id number sold)
 
 -- rows in front of others
 abbrev pub after_rows : List OrderPos → Result (List OrderPos) OrderRefusal → Result (List OrderPos) OrderRefusal
-after_rows rows (Ok more) = Ok (rows ++ more)
-after_rows rows (Err refusal) = Err refusal
-
-abbrev pub and_rows : Result OrderPos OrderRefusal → Result (List OrderPos) OrderRefusal → Result (List OrderPos) OrderRefusal
-and_rows (Ok row) rest = after_rows (row ∷ []) rest
-and_rows (Err refusal) rest = Err refusal
+after_rows rows rest = do
+  more ← rest
+  Ok (rows ++ more)
 
 -- the rows of what is asked, whose ids and numbers count on from these, or the first refusal
 abbrev pub rows_for : Draw → State → ℕ → ℕ → List Asked → Result (List OrderPos) OrderRefusal
 rows_for draw state id number [] = Ok []
-rows_for draw state id number (asked ∷ more) = and_rows (position_for draw state id number asked) (rows_for draw state (id + 1) (number + 1) more)
+rows_for draw state id number (asked ∷ more) = do
+  row ← position_for draw state id number asked
+  after_rows (row ∷ []) (rows_for draw state (id + 1) (number + 1) more)
 
 -- a position needs a use of its voucher that is left
 unfoldable pub position_put : OrderPos → State → Result State OrderRefusal
-position_put row state = if has_use state.moment state.lists row.voucher then Ok (changed (PutPosition row) state) else Err (OfVoucher NoHeadroom)
+position_put row state = do
+  check (has_use state.moment state.lists row.voucher) (OfVoucher NoHeadroom)
+  Ok (changed (PutPosition row) state)
 
 -- one position after another
 abbrev pub with_positions : List OrderPos → Result State OrderRefusal → Result State OrderRefusal
@@ -86,18 +85,6 @@ with_positions (row ∷ rows) (Ok state) = with_positions rows (position_put row
 -- the next ids, with the order's and its positions' counted as used
 abbrev pub with_ids_used : ℕ → State → State
 with_ids_used count state = record state { next = record state.next { order = state.next.order + 1; position = state.next.position + count } }
-
-abbrev pub if_taken : Order → List OrderPos → State → State → Result (State × OrderRows) OrderRefusal
-if_taken row rows before after =
-    if takes_order before && takes_positions (length rows) before then Ok (with_ids_used (length rows) after, record { order = row; positions = rows }) else Err (OfVoucher (Catalogue Full))
-
-abbrev pub unless_over : Order → List OrderPos → State → State → Option ℕ → Result (State × OrderRows) OrderRefusal
-unless_over row rows before after (Some quota) = Err (OfVoucher (SoldOut quota))
-unless_over row rows before after None = if_taken row rows before after
-
-abbrev pub placed_with : Order → List OrderPos → State → Result State OrderRefusal → Result (State × OrderRows) OrderRefusal
-placed_with row rows before (Err refusal) = Err refusal
-placed_with row rows before (Ok after) = unless_over row rows before after (first_over before.lists after.lists before.moment (map (λ p. Position p.id) rows))
 
 -- the next order position, of this id, can be put
 pub record IsReady (id : ℕ) (state : State) : Type 0 where
@@ -117,25 +104,25 @@ with_order_row row carts state = changed (PutOrder row) (without_carts (consumed
 
 -- without the carts that it consumes, each voucher needs its uses, and no quota may be taken too much of
 unfoldable pub order_placed : Order → List OrderPos → List (List ℕ) → State → Result (State × OrderRows) OrderRefusal
-order_placed row rows carts state = placed_with row rows state (with_positions rows (Ok (with_order_row row carts state)))
-
-abbrev pub created_of : NewOrder → State → Result (List OrderPos) OrderRefusal → Result (State × OrderRows) OrderRefusal
-created_of new state (Err refusal) = Err refusal
-created_of new state (Ok rows) = order_placed (order_row new state) rows new.consume_carts state
+order_placed row rows carts state = do
+  after ← with_positions rows (Ok (with_order_row row carts state))
+  refuse_some (λ quota. OfVoucher (SoldOut quota)) (first_over state.lists after.lists state.moment (map (λ p. Position p.id) rows))
+  check (takes_order state && takes_positions (length rows) state) (OfVoucher (Catalogue Full))
+  Ok (with_ids_used (length rows) after, record { order = row; positions = rows })
 
 abbrev pub counts_test : NewOrder → Result (Unit {0}) OrderRefusal
-counts_test new =
-    if length new.positions == 0 then Err Empty
-    else (if nat_lt most_positions (length new.positions) then Err TooMany
-    else (if nat_lt most_positions (length new.consume_carts) then Err TooMany else Ok tt))
-
-abbrev pub created_if : NewOrder → Draw → State → Result (Unit {0}) OrderRefusal → Result (State × OrderRows) OrderRefusal
-created_if new draw state (Err refusal) = Err refusal
-created_if new draw state (Ok _) = created_of new state (rows_for draw state state.next.position 1 new.positions)
+counts_test new = do
+  refuse_if (length new.positions == 0) Empty
+  refuse_if (nat_lt most_positions (length new.positions)) TooMany
+  refuse_if (nat_lt most_positions (length new.consume_carts)) TooMany
+  Ok tt
 
 -- the box office with the new order, and that order with its positions, or the first refusal
 unfoldable pub order_created : NewOrder → Draw → State → Result (State × OrderRows) OrderRefusal
-order_created new draw state = created_if new draw state (counts_test new)
+order_created new draw state = do
+  counts_test new
+  rows ← rows_for draw state state.next.position 1 new.positions
+  order_placed (order_row new state) rows new.consume_carts state
 
 -- the changes that make an order: the cart positions that it consumes go, then it is put, and then its positions
 abbrev pub order_changes : List (List ℕ) → Order → List OrderPos → Lists → List Change

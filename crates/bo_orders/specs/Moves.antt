@@ -1,5 +1,7 @@
 -- The moves of an order.
-use Rattle.std.specs.Prelude.{ℕ, Bool, true, false, map, Option, Some, None, Result, Ok, Err, if◌then◌else◌}
+use Rattle.std.specs.Prelude.{ℕ, Bool, true, false, map, Option, Some, None, Result, Ok, if◌then◌else◌}
+use Rattle.std.specs.Option.{ok_or}
+use Rattle.bo_base.specs.Deciding.{◌>>=◌, ◌>>◌, check, refuse_some}
 use Rattle.bo_lists.specs.declared.rows.Order.{Order}
 use Rattle.bo_lists.specs.declared.rows.OrderRows.{OrderRows}
 use Rattle.bo_lists.specs.declared.rows.Own.TheVariants.{Position}
@@ -60,29 +62,25 @@ order_rows row state = record { order = row; positions = positions_of row.id sta
 abbrev pub moved_to : Order → State → State × OrderRows
 moved_to row state = (changed (PutOrder row) state, order_rows row state)
 
-abbrev pub revived_unless_over : Order → State → Option ℕ → Result (State × OrderRows) OrderRefusal
-revived_unless_over row state (Some quota) = Err (OfVoucher (SoldOut quota))
-revived_unless_over row state None = Ok (moved_to row state)
+-- the least quota of which an order takes too much as it comes back
+abbrev pub over_again : Order → State → Option ℕ
+over_again row state = first_over state.lists (after_change (PutOrder row) state.lists) state.moment (map (λ p. Position p.id) (positions_of row.id state.lists))
 
 -- an order that comes back to life is tested for the uses and the places that it takes again
 unfoldable pub revival : Order → State → Result (State × OrderRows) OrderRefusal
-revival row state =
-    if have_uses_again row state then revived_unless_over row state (first_over state.lists (after_change (PutOrder row) state.lists) state.moment (map (λ p. Position p.id) (positions_of row.id state.lists)))
-    else Err (OfVoucher NoHeadroom)
+revival row state = do
+  check (have_uses_again row state) (OfVoucher NoHeadroom)
+  refuse_some (λ quota. OfVoucher (SoldOut quota)) (over_again row state)
+  Ok (moved_to row state)
 
 abbrev pub moved_as : Order → Move → State → Turn → Result (State × OrderRows) OrderRefusal
 moved_as order change state turn =
     let row = moved_row order turn.status change in
     if turn.revival then revival row state else Ok (moved_to row state)
 
-abbrev pub moved_by : Order → Move → State → Option Turn → Result (State × OrderRows) OrderRefusal
-moved_by order change state None = Err (WrongStatus order.status)
-moved_by order change state (Some turn) = moved_as order change state turn
-
-abbrev pub moved_at : Move → State → Option Order → Result (State × OrderRows) OrderRefusal
-moved_at change state None = Err NoOrder
-moved_at change state (Some order) = moved_by order change state (turned order.status change)
-
 -- the box office with the moved order, and that order with its positions, or the first refusal
 unfoldable pub order_moved : ℕ → Move → State → Result (State × OrderRows) OrderRefusal
-order_moved number change state = moved_at change state (order_at number state.lists)
+order_moved number change state = do
+  order ← ok_or (order_at number state.lists) NoOrder
+  turn ← ok_or (turned order.status change) (WrongStatus order.status)
+  moved_as order change state turn

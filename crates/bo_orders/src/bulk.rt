@@ -16,8 +16,8 @@ use std::alloc::{AllocError, Global};
 // How many entries one call may have.
 const MOST_ENTRIES: usize = 500;
 
-/// Adds a cart position for each entry, in a draft that has changed no voucher. Each entry is answered by itself, as a
-/// request of its own after those before it, and a refused one changes nothing.
+/// Adds a cart position for each entry. Each entry is answered by itself, as a request of its own after those before it,
+/// and a refused one changes nothing.
 /// Refusals of the whole call, which leave the draft as it was: 44 `TooMany` of more than 500 entries, 6 `Memory`.
 #[tactic(auto, unfolding(crate::specs::Bulk::many_added))]
 pub fn add_many<B: Book>(
@@ -26,7 +26,6 @@ pub fn add_many<B: Book>(
     draw: Draw,
     entries: &[Entry],
 ) -> Result<List<Outcome>, OrderRefusal>
-    requires { (now draft.old).lists.vouchers ≡ draft.old.log.base.vouchers }
     ensures done { IfOk result (λ outcomes. many_added entries.now draw (now draft.old) ≡ Ok (now draft.new, outcomes)) }
     ensures refused { IfErr result (λ e. e ≢ OrderRefusal.Memory → many_added entries.now draw (now draft.old) ≡ Err e) }
     ensures changes { IfOk result (λ outcomes. draft.new.log.changes ≡ draft.old.log.changes ++ bulk_changes outcomes) }
@@ -53,7 +52,6 @@ fn add_all<B: Book>(
     draw: Draw,
     entries: &[Entry],
 ) -> Result<Vec<Outcome>, AllocError>
-    requires { (now draft.old).lists.vouchers ≡ draft.old.log.base.vouchers }
     ensures done { IfOk result (λ outcomes. all_added entries.now draw (now draft.old) ≡ (now draft.new, outcomes.items)) }
     ensures changes { IfOk result (λ outcomes. draft.new.log.changes ≡ draft.old.log.changes ++ bulk_changes outcomes.items) }
     ensures extends { Extends draft.old draft.new }
@@ -72,7 +70,6 @@ fn add_entry<B: Book>(
     draw: Draw,
     entry: &Entry,
 ) -> Result<Outcome, AllocError>
-    requires { (now draft.old).lists.vouchers ≡ draft.old.log.base.vouchers }
     ensures done { IfOk result (λ outcome. entry_added entry.now draw (now draft.old) ≡ (now draft.new, outcome)) }
     ensures changes { IfOk result (λ outcome. draft.new.log.changes ≡ draft.old.log.changes ++ bulk_changes (outcome ∷ [])) }
     ensures extends { Extends draft.old draft.new }

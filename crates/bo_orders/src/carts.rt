@@ -16,7 +16,7 @@ use bo_lists::{CartPos, Own};
 use bo_usage::Book;
 use std::alloc::Global;
 
-/// Adds a cart position, in a draft that has changed no voucher, and answers a copy of it.
+/// Adds a cart position, and answers a copy of it.
 /// A refusal leaves the draft as it was.
 /// Refusals, in this order: 45 `BadCart`; 10 `NoItem`, 11 `NoVariation`, 12 `NeedsVariation`, 15 `Inactive`,
 /// 18 `NotSold`; 23 `NoVoucher`, 24 `VoucherExpired`, 26 `WrongProduct`; 25 `NoHeadroom`; 28 `SoldOut` with the
@@ -28,7 +28,6 @@ pub fn add_position<B: Book>(
     draw: Draw,
     new: &NewCart,
 ) -> Result<CartPos, OrderRefusal>
-    requires { (now draft.old).lists.vouchers ≡ draft.old.log.base.vouchers }
     ensures done { IfOk result (λ row. position_added new.now draw (now draft.old) ≡ Ok (now draft.new, row)) }
     ensures refused { IfErr result (λ e. e ≢ OrderRefusal.Memory → position_added new.now draw (now draft.old) ≡ Err e) }
     ensures changes { IfOk result (λ row. draft.new.log.changes ≡ draft.old.log.changes ++ PutCart row ∷ []) }
@@ -47,7 +46,6 @@ fn new_row<B: Book>(
     draw: Draw,
     new: &NewCart,
 ) -> Result<CartPos, OrderRefusal>
-    requires { (now draft.now).lists.vouchers ≡ draft.now.log.base.vouchers }
     ensures done { IfOk result (λ row. cart_row new.now draw (now draft.now) ≡ Ok row) }
     ensures refused { IfErr result (λ e. e ≢ OrderRefusal.Memory → cart_row new.now draw (now draft.now) ≡ Err e) }
 {

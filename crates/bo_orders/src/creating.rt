@@ -97,7 +97,6 @@ fn new_row<B: Book>(
     number: u32,
     asked: &Asked,
 ) -> Result<OrderPos, OrderRefusal>
-    requires { (now draft.now).lists.vouchers ≡ draft.now.log.base.vouchers }
     ensures done { IfOk result (λ row. position_for draw (now draft.now) id number asked.now ≡ Ok row) }
     ensures refused { IfErr result (λ e. e ≢ OrderRefusal.Memory → position_for draw (now draft.now) id number asked.now ≡ Err e) }
 {
@@ -121,8 +120,7 @@ fn new_rows<B: Book>(
     draw: Draw,
     asked: &[Asked],
 ) -> Result<Vec<OrderPos>, OrderRefusal>
-    requires vouchers { (now draft.now).lists.vouchers ≡ draft.now.log.base.vouchers }
-    requires few { length asked.now ≤ 500 }
+    requires { length asked.now ≤ 500 }
     ensures done { IfOk result (λ rows. rows_for draw (now draft.now) (now draft.now).next.position 1 asked.now ≡ Ok rows.items) }
     ensures refused { IfErr result (λ e. e ≢ OrderRefusal.Memory → rows_for draw (now draft.now) (now draft.now).next.position 1 asked.now ≡ Err e) }
 {

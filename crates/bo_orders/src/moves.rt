@@ -10,7 +10,7 @@ ghost use Rattle.bo_lists.specs.Lists.{order_at, positions_of};
 ghost use Rattle.bo_sound.specs.Sound.{IsSound};
 ghost use Rattle.bo_lists.specs.Conditions.{is_in_force, names};
 ghost use Rattle.bo_lists.specs.Usage.{stands_as, redeemed};
-ghost use Rattle.bo_orders.specs.Moves.{to, revived, turned, end_after, moved_row, moved_to, moved_as, moved_by, have_uses_again, revival, order_moved};
+ghost use Rattle.bo_orders.specs.Moves.{to, revived, turned, end_after, moved_row, moved_to, moved_as, have_uses_again, revival, order_moved};
 
 use bo_base::Moment;
 use bo_commands::{Move, OrderRefusal, VoucherRefusal};
@@ -81,7 +81,8 @@ pub fn move_order<B: Book>(
     ensures same { OnErr result (draft.new ≡ draft.old) }
 {
     let order = order_of(draft, alloc, number)?;
-    move_found(draft, alloc, order, &change)
+    let turn = turn_of(order.status, &change)?;
+    move_as(draft, alloc, order, &change, turn)
 }
 
 // A copy of the order of a number.
@@ -99,26 +100,6 @@ fn order_of<B: Book>(
         None => Err(OrderRefusal::NoOrder),
         Some(order) => Ok(order.copy(alloc)?),
     }
-}
-
-// Moves an order that stands, and answers it with its positions.
-fn move_found<B: Book>(
-    draft: &mut Draft<'_, B>,
-    alloc: Global,
-    order: Order,
-    change: &Move,
-) -> Result<OrderRows, OrderRefusal>
-    requires fresh { draft.old.log.changes ≡ [] }
-    requires sound { IsSound (now draft.old) }
-    requires stands { order_at order.id (now draft.old).lists ≡ Some order }
-    ensures done { IfOk result (λ rows. moved_by order change.now (now draft.old) (turned order.status change.now) ≡ Ok (now draft.new, rows)) }
-    ensures refused { IfErr result (λ e. e ≢ OrderRefusal.Memory → moved_by order change.now (now draft.old) (turned order.status change.now) ≡ Err e) }
-    ensures changes { IfOk result (λ rows. draft.new.log.changes ≡ draft.old.log.changes ++ PutOrder rows.order ∷ []) }
-    ensures extends { Extends draft.old draft.new }
-    ensures same { OnErr result (draft.new ≡ draft.old) }
-{
-    let turn = turn_of(order.status, change)?;
-    move_as(draft, alloc, order, change, turn)
 }
 
 // The turn of an order of this status, where the move is possible.

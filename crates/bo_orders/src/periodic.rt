@@ -3,7 +3,7 @@
 ghost use Rattle.std.specs.Prelude.{◌≡◌, ◌++◌, length, IfOk, OnOk, OnErr};
 ghost use Rattle.bo_draft.specs.DraftState.{now, Extends};
 ghost use Rattle.bo_lists.specs.Lists.{order_at};
-ghost use Rattle.bo_overlay.specs.Due.{due_orders, dead_carts};
+ghost use Rattle.bo_lists.specs.Due.{due_orders, dead_carts};
 ghost use Rattle.bo_sound.specs.Sound.{IsSound};
 ghost use Rattle.bo_orders.specs.Expired.{expired_row, expired_changes, orders_expired, expired_at, each_expired, expiry_of, each_expiry, dropped_changes, carts_dropped};
 

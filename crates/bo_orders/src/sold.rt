@@ -2,9 +2,8 @@
 
 ghost use Rattle.std.specs.Prelude.{◌≡◌, Ok, Err, IfOk, IfErr, option_map};
 ghost use Rattle.std.specs.Option.{option_copied};
-ghost use Rattle.bo_catalogue.specs.CatalogueLists.{base_price};
 ghost use Rattle.bo_draft.specs.DraftState.{now};
-ghost use Rattle.bo_orders.specs.Sold.{product_for_sale, voucher_asked, price_by, price_with, sold_for};
+ghost use Rattle.bo_orders.specs.Sold.{product_for_sale, voucher_asked, price_with, sold_for};
 
 use bo_base::{Cents, Text, price};
 use bo_catalogue::{CatalogueRefusal, Product};
@@ -14,28 +13,31 @@ use bo_lists::Voucher;
 use bo_usage::Book;
 use bo_vouchers::usable;
 
-/// What is sold: a product, at a price, with a voucher or without one.
+/// What is sold: a product, at a price, with a voucher or without one. Its base price is what it costs without a voucher.
 #[derive(Clone, Copy, Debug, PartialEq, Eq)]
 pub struct Sold {
     pub product: Product,
+    pub base: Cents,
     pub price: Cents,
     pub voucher: Option<u64>,
 }
 
-/// What is sold for what is asked, in a draft that has changed no voucher.
+/// What is sold for what is asked.
 /// Refusals, in this order: 10 `NoItem`, 11 `NoVariation`, 12 `NeedsVariation`, 15 `Inactive`, 18 `NotSold`;
 /// 23 `NoVoucher`, 24 `VoucherExpired`, 26 `WrongProduct`.
 #[tactic(auto, unfolding(crate::specs::Sold::sold_for))]
 pub fn sold_for<B: Book>(draft: &Draft<'_, B>, asked: &Asked) -> Result<Sold, VoucherRefusal>
-    requires { (now draft.now).lists.vouchers ≡ draft.now.log.base.vouchers }
     ensures { result ≡ sold_for asked.now (now draft.now) }
 {
     let product = product_for_sale(draft, asked)?;
     let voucher = voucher_asked(draft, asked.voucher.as_ref(), product)?;
-    let price = price_of(draft, asked.price, voucher, product)?;
+    let Some(base) = draft.catalogue().base_price(product) else {
+        return Err(VoucherRefusal::Catalogue(CatalogueRefusal::NoItem));
+    };
     Ok(Sold {
         product,
-        price,
+        base,
+        price: asked.price.unwrap_or(price_with(voucher, base)),
         voucher: id_of(voucher),
     })
 }
@@ -64,7 +66,6 @@ fn voucher_asked<'d, B: Book>(
     code: Option<&Text>,
     product: Product,
 ) -> Result<Option<&'d Voucher>, VoucherRefusal>
-    requires { (now draft.now).lists.vouchers ≡ draft.now.log.base.vouchers }
     ensures done { IfOk result (λ v. voucher_asked (option_copied code.entry) (now draft.now) product ≡ Ok (option_copied v)) }
     ensures refused { IfErr result (λ e. voucher_asked (option_copied code.entry) (now draft.now) product ≡ Err e) }
 {
@@ -95,23 +96,5 @@ fn price_with(voucher: Option<&Voucher>, base: Cents) -> Cents
     match voucher {
         None => base,
         Some(voucher) => price(voucher.price_mode, voucher.value, base),
-    }
-}
-
-// The price that is given, else the product's with the voucher.
-fn price_of<B: Book>(
-    draft: &Draft<'_, B>,
-    given: Option<Cents>,
-    voucher: Option<&Voucher>,
-    product: Product,
-) -> Result<Cents, VoucherRefusal>
-    ensures { result ≡ price_by given (option_copied voucher.entry) (base_price product (now draft.now).lists.catalogue) }
-{
-    match given {
-        Some(price) => Ok(price),
-        None => match draft.catalogue().base_price(product) {
-            Some(base) => Ok(price_with(voucher, base)),
-            None => Err(VoucherRefusal::Catalogue(CatalogueRefusal::NoItem)),
-        },
     }
 }

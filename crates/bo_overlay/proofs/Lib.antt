@@ -1,7 +1,6 @@
 pub mod Steps
 pub mod Sales
 pub mod Kept
-pub mod OrderSums
 pub mod Holds
 pub mod Redeems
 pub mod OfOrder

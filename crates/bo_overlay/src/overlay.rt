@@ -2,21 +2,19 @@
 
 ghost use Rattle.std.specs.Prelude.{◌≡◌, ◌++◌, [], ◌∷◌, IfOk, OnOk, OnErr, length, take, ◌≤◌, ◌<◌, ◌+◌, ◌-◌, ◌^◌, ◌==◌, ◌&&◌, count_by, if◌then◌else◌, find, option_map, is_none};
 ghost use Rattle.std.specs.Option.{option_copied};
-ghost use Rattle.bo_lists.specs.Lists.{voucher_at, cart_at, order_at, position_at, positions_of, waiting_at, checkin_list_at, checkin_at};
+ghost use Rattle.bo_lists.specs.Lists.{voucher_at, cart_at, order_at, position_at, waiting_at, checkin_list_at, checkin_at};
 ghost use Rattle.bo_lists.specs.Named.{voucher_of, is_used};
 ghost use Rattle.bo_usage.specs.Naming.{naming};
 ghost use Rattle.bo_overlay.specs.Names.{name_gone};
 ghost use Rattle.bo_overlay.specs.Coded.{IsLeast, lesser, IsPutBelow, IsUnchanged, is_place, put_if};
 ghost use Rattle.bo_log.specs.Places.{touches, last_place};
-ghost use Rattle.bo_overlay.specs.Due.{due_orders, dead_carts};
 ghost use Rattle.bo_base.specs.Texts.{same_text};
-ghost use Rattle.bo_lists.specs.Consumed.{consumed};
 ghost use Rattle.bo_lists.specs.Kept.{IsKept};
 ghost use Rattle.bo_base.specs.Tables.{sum_at};
 ghost use Rattle.bo_lists.specs.Headroom.{held, held_in};
 ghost use Rattle.bo_overlay.specs.Logs.{Log, rows_of, rows_at, IsSale, AreSales};
 ghost use Rattle.bo_lists.specs.Conditions.{is_in_force, names};
-ghost use Rattle.bo_overlay.specs.Ordered.{count_ordered};
+ghost use Rattle.bo_usage.specs.OfOrder.{count_ordered};
 ghost use Rattle.bo_overlay.specs.Tickets.{AreTicketsOf};
 ghost use Rattle.bo_lists.specs.Usage.{stands_as, uses, redeemed};
 ghost use Rattle.bo_overlay.specs.Steps.{voucher_put, cart_put, order_put, position_put, waiting_put, checkin_list_put, checkin_put, puts};
@@ -24,7 +22,7 @@ ghost use Rattle.bo_overlay.specs.Steps.{voucher_put, cart_put, order_put, posit
 use crate::cart_conditions::{CartCondition, Holds, HoldsIn};
 use crate::row_names::{cart_name, entry_name, is_name, name_put};
 use crate::tickets::{Ticket, copy_tickets, put_tickets};
-use bo_base::{List, Moment, Text};
+use bo_base::Moment;
 use bo_catalogue::{Catalogue, Quota};
 use bo_lists::{CartPos, Change, Checkin, CheckinList, Order, OrderPos, Voucher, Waiting};
 use bo_log::{ChangeLog, KeyLog, Table, code_key, digest};
@@ -206,96 +204,6 @@ impl<'a, B: Book> Overlay<'a, B> {
             None => self.book.entry(id),
             Some(place) => waiting_put(self.log.get(place)),
         }
-    }
-
-    /// All orders, by id, where none has changed.
-    pub fn orders(&self) -> &[Order]
-        requires { (rows_of self.now).orders ≡ self.now.base.orders }
-        ensures { result.now ≡ (rows_of self.now).orders }
-    {
-        self.book.orders()
-    }
-
-    /// All cart positions, by id, where none has changed.
-    pub fn carts(&self) -> &[CartPos]
-        requires { (rows_of self.now).carts ≡ self.now.base.carts }
-        ensures { result.now ≡ (rows_of self.now).carts }
-    {
-        self.book.carts()
-    }
-
-    /// The whole waiting list, by id, where none of it has changed.
-    pub fn waiting_list(&self) -> &[Waiting]
-        requires { (rows_of self.now).waiting ≡ self.now.base.waiting }
-        ensures { result.now ≡ (rows_of self.now).waiting }
-    {
-        self.book.waiting()
-    }
-
-    /// All order positions, by id, where none has changed.
-    pub fn positions(&self) -> &[OrderPos]
-        requires { (rows_of self.now).positions ≡ self.now.base.positions }
-        ensures { result.now ≡ (rows_of self.now).positions }
-    {
-        self.book.positions()
-    }
-
-    /// All check-in lists, by id, where none has changed.
-    pub fn checkin_lists(&self) -> &[CheckinList]
-        requires { (rows_of self.now).checkin_lists ≡ self.now.base.checkin_lists }
-        ensures { result.now ≡ (rows_of self.now).checkin_lists }
-    {
-        self.book.checkin_lists()
-    }
-
-    /// All check-ins, by id, where none has changed.
-    pub fn checkins(&self) -> &[Checkin]
-        requires { (rows_of self.now).checkins ≡ self.now.base.checkins }
-        ensures { result.now ≡ (rows_of self.now).checkins }
-    {
-        self.book.checkins()
-    }
-
-    /// The numbers of the pending orders that ended before a moment, in order, where no order has changed.
-    pub fn due_orders(&self, alloc: Global, at: Moment) -> Result<Vec<u64>, AllocError>
-        requires { (rows_of self.now).orders ≡ self.now.base.orders }
-        ensures { IfOk result (λ ids. ids.items ≡ due_orders at (rows_of self.now)) }
-    {
-        let orders = self.book.orders();
-        orders
-            .iter()
-            .filter(|o| o.status.is_pending() && o.expires < at)
-            .map(|o| o.id)
-            .collect(alloc)
-    }
-
-    /// The ids of the cart positions that are dead at a moment, in order, where no cart position has changed.
-    pub fn dead_carts(&self, alloc: Global, at: Moment) -> Result<Vec<u64>, AllocError>
-        requires { (rows_of self.now).carts ≡ self.now.base.carts }
-        ensures { IfOk result (λ ids. ids.items ≡ dead_carts at (rows_of self.now)) }
-    {
-        let carts = self.book.carts();
-        carts
-            .iter()
-            .filter(|c| !c.is_live(at))
-            .map(|c| c.id)
-            .collect(alloc)
-    }
-
-    /// Copies of the positions of an order, by id, where no order position has changed.
-    pub fn positions_of(&self, alloc: Global, order: u64) -> Result<List<OrderPos>, AllocError>
-        requires { (rows_of self.now).positions ≡ self.now.base.positions }
-        ensures { IfOk result (λ rows. rows ≡ positions_of order (rows_of self.now)) }
-    {
-        self.book.positions_of(alloc, order)
-    }
-
-    /// The ids of the cart positions of these carts, where no cart position has changed.
-    pub fn carts_in(&self, alloc: Global, carts: &[Text]) -> Result<Vec<u64>, AllocError>
-        requires { (rows_of self.now).carts ≡ self.now.base.carts }
-        ensures { IfOk result (λ ids. ids.items ≡ consumed carts.now (rows_of self.now)) }
-    {
-        self.book.carts_in(alloc, carts)
     }
 
     /// One more change, or a refusal where 2^32 stand or there is no memory: then the changes are as they were.

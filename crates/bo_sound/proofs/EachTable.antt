@@ -25,3 +25,9 @@ module _ {items variations quotas vouchers carts orders positions waiting checki
 
   pub set_waiting : EachTable items variations quotas vouchers carts orders positions waiting checkin_lists checkins → new → EachTable items variations quotas vouchers carts orders positions new checkin_lists checkins
   set_waiting each it = record { items = each.items; variations = each.variations; quotas = each.quotas; vouchers = each.vouchers; carts = each.carts; orders = each.orders; positions = each.positions; waiting = it; checkin_lists = each.checkin_lists; checkins = each.checkins }
+
+  pub set_checkin_lists : EachTable items variations quotas vouchers carts orders positions waiting checkin_lists checkins → new → EachTable items variations quotas vouchers carts orders positions waiting new checkins
+  set_checkin_lists each it = record { items = each.items; variations = each.variations; quotas = each.quotas; vouchers = each.vouchers; carts = each.carts; orders = each.orders; positions = each.positions; waiting = each.waiting; checkin_lists = it; checkins = each.checkins }
+
+  pub set_checkins : EachTable items variations quotas vouchers carts orders positions waiting checkin_lists checkins → new → EachTable items variations quotas vouchers carts orders positions waiting checkin_lists new
+  set_checkins each it = record { items = each.items; variations = each.variations; quotas = each.quotas; vouchers = each.vouchers; carts = each.carts; orders = each.orders; positions = each.positions; waiting = each.waiting; checkin_lists = each.checkin_lists; checkins = it }

@@ -20,4 +20,5 @@ pub mod SoundWaiting
 pub mod Exact
 pub mod OrderLowers
 pub mod Checkins
+pub mod SoundDoors
 pub mod Changes

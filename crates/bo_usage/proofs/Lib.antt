@@ -1,0 +1,3 @@
+pub mod OrderSums
+pub mod Redeemed
+pub mod VoucherCounts

@@ -1,2 +1,3 @@
 pub mod BookView
 pub mod Naming
+pub mod OfOrder

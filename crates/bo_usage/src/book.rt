@@ -1,21 +1,24 @@
 //! What keeps the rows.
 
-ghost use Rattle.std.specs.Prelude.{◌≡◌, ◌≤◌, ◌↔◌, ◌==◌, ◌&&◌, ℕ, Bool, IfOk, OnOk, IsTrue, count_by, Some};
+ghost use Rattle.std.specs.Prelude.{◌≡◌, ◌≤◌, ◌+◌, ◌↔◌, ◌==◌, ◌&&◌, ℕ, Bool, IfOk, OnOk, IsTrue, count_by, map, Some};
 ghost use Rattle.bo_catalogue.specs.CatalogueLists.{quota_at};
 ghost use Rattle.std.specs.Option.{option_copied};
 ghost use Rattle.bo_lists.specs.declared.rows.OrderPos.{OrderPos};
-ghost use Rattle.bo_lists.specs.Lists.{State, voucher_at, cart_at, order_at, position_at, positions_of, waiting_at, checkin_list_at, checkin_at};
+ghost use Rattle.bo_lists.specs.Lists.{State, voucher_at, cart_at, order_at, position_at, positions_of, waiting_at, checkin_list_at, checkin_at, checkins_by};
 ghost use Rattle.bo_lists.specs.Usage.{redeemed, usage_of};
 ghost use Rattle.bo_lists.specs.Change.{applied};
 ghost use Rattle.bo_lists.specs.Weight.{weight};
 ghost use Rattle.bo_lists.specs.Headroom.{held, held_in};
-ghost use Rattle.bo_lists.specs.Named.{voucher_of};
+ghost use Rattle.bo_lists.specs.Named.{voucher_of, with_secret, carts_naming};
+ghost use Rattle.bo_lists.specs.Waits.{waiters, is_waiting};
+ghost use Rattle.bo_lists.specs.Due.{due_orders, dead_carts};
+ghost use Rattle.bo_lists.specs.CameDue.{came_due, naming_due};
 ghost use Rattle.bo_usage.specs.Naming.{naming};
 ghost use Rattle.bo_lists.specs.Kept.{IsKept};
 ghost use Rattle.bo_lists.specs.Consumed.{consumed};
 
 use bo_base::{List, Moment, Steps, Text};
-use bo_catalogue::{Catalogue, Quota};
+use bo_catalogue::{Catalogue, Product, Quota};
 use bo_lists::{
     CartPos, Changes, Checkin, CheckinList, NextIds, Order, OrderPos, Usage, Voucher, Waiting,
 };
@@ -64,6 +67,10 @@ pub trait Book {
     fn voucher_of(&self, code: &str) -> Option<&Voucher>
         ensures { option_copied result ≡ voucher_of code.now (state self.now).lists };
 
+    /// The first order position with that secret.
+    fn position_with(&self, secret: &str) -> Option<&OrderPos>
+        ensures { option_copied result ≡ with_secret secret.now (state self.now).lists };
+
     /// How many order positions, cart positions and waiting entries name the voucher.
     fn naming(&self, voucher: u64) -> u64
         ensures value { result ≡ naming voucher (state self.now).lists }
@@ -106,6 +113,39 @@ pub trait Book {
     fn carts_in(&self, alloc: Global, carts: &[Text]) -> Result<Vec<u64>, AllocError>
         ensures { IfOk result (λ ids. ids.items ≡ consumed carts.now (state self.now).lists) };
 
+    /// The ids of the cart positions that name the voucher, dead ones too, in order.
+    fn carts_naming(&self, alloc: Global, voucher: u64) -> Result<Vec<u64>, AllocError>
+        ensures { IfOk result (λ ids. ids.items ≡ map (λ c. c.id) (carts_naming voucher (state self.now).lists)) };
+
+    /// Copies of the check-ins of a position by a list, by id.
+    fn checkins_of(
+        &self,
+        alloc: Global,
+        list: u64,
+        position: u64,
+    ) -> Result<List<Checkin>, AllocError>
+        ensures { IfOk result (λ rows. rows ≡ checkins_by list position (state self.now).lists) };
+
+    /// The ids of the waiting entries without voucher, in order.
+    fn waiters(&self, alloc: Global) -> Result<Vec<u64>, AllocError>
+        ensures { IfOk result (λ ids. ids.items ≡ map (λ e. e.id) (waiters (state self.now).lists)) };
+
+    /// Whether an entry of this email waits, without a voucher, for this product.
+    fn is_waiting(&self, email: &str, product: Product) -> bool
+        ensures { result ≡ is_waiting email.now product (state self.now).lists };
+
+    /// The numbers of the pending orders that ended before a moment, in order.
+    fn due_orders(&self, alloc: Global, at: Moment) -> Result<Vec<u64>, AllocError>
+        ensures { IfOk result (λ ids. ids.items ≡ due_orders at (state self.now).lists) };
+
+    /// The ids of the cart positions that are dead at a moment, in order.
+    fn dead_carts(&self, alloc: Global, at: Moment) -> Result<Vec<u64>, AllocError>
+        ensures { IfOk result (λ ids. ids.items ≡ dead_carts at (state self.now).lists) };
+
+    /// How many cart positions and vouchers ended, or end, at the book's moment or later, and before this one.
+    fn came_due(&self, at: Moment) -> u64
+        ensures { result ≡ came_due (state self.now).moment at (state self.now).lists };
+
     /// All vouchers, by id.
     fn vouchers(&self) -> &[Voucher]
         ensures { result.now ≡ (state self.now).lists.vouchers };
@@ -134,11 +174,14 @@ pub trait Book {
     fn waiting(&self) -> &[Waiting]
         ensures { result.now ≡ (state self.now).lists.waiting };
 
-    /// What uses a quota that stands, at a moment that isn't before the book's.
+    /// What uses a quota that stands, at a moment that isn't before the book's. It takes at most a step for each cart
+    /// position and voucher that came due since the book's moment, one for each cart position that names one of these
+    /// vouchers, and one more.
     fn usage_at<L: Ledger>(&self, quota: &Quota, at: Moment, steps: &mut Steps<L>) -> Usage
         requires moment { (state self.now).moment ≤ at }
         requires stands { quota_at quota.now.id (state self.now).lists.catalogue ≡ Some quota.now }
-        ensures { result ≡ usage_of (state self.now).lists at quota.now };
+        ensures value { result ≡ usage_of (state self.now).lists at quota.now }
+        ensures cost { steps.new ≤ steps.old + 1 + came_due (state self.now).moment at (state self.now).lists + naming_due (state self.now).moment at (state self.now).lists };
 
     /// How many positions of pending and paid orders name the voucher.
     fn redeemed(&self, voucher: u64) -> u64

@@ -10,7 +10,7 @@ ghost use Rattle.bo_lists.specs.Weight.{change_weight, weight};
 
 use crate::book::{Book, PositionTest};
 use bo_base::{List, Moment, Rows, Steps, Text};
-use bo_catalogue::{Catalogue, Quota};
+use bo_catalogue::{Catalogue, Product, Quota};
 use bo_lists::{
     CartPos, Change, Changes, Checkin, CheckinList, NextIds, Order, OrderPos, Usage, Voucher,
     Waiting,
@@ -276,6 +276,10 @@ impl Book for Recount {
         self.vouchers().iter().find(|v| v.code.same(code))
     }
 
+    fn position_with(&self, secret: &str) -> Option<&OrderPos> {
+        self.positions().iter().find(|p| p.secret.same(secret))
+    }
+
     fn naming(&self, voucher: u64) -> u64 {
         self.naming_positions(voucher) + self.naming_carts(voucher) + self.naming_entries(voucher)
     }
@@ -329,6 +333,73 @@ impl Book for Recount {
             .filter(|row| row.is_in_one_of(carts))
             .map(|row| row.id)
             .collect(alloc)
+    }
+
+    fn carts_naming(&self, alloc: Global, voucher: u64) -> Result<Vec<u64>, AllocError> {
+        self.carts
+            .as_slice()
+            .iter()
+            .filter(|row| row.voucher == Some(voucher))
+            .map(|row| row.id)
+            .collect(alloc)
+    }
+
+    fn checkins_of(
+        &self,
+        alloc: Global,
+        list: u64,
+        position: u64,
+    ) -> Result<List<Checkin>, AllocError> {
+        let mut rows = Vec::new(alloc);
+        for row in self.checkins.as_slice() {
+            if row.list == list && row.position == position {
+                rows.push(row.copy(alloc)?)?;
+            }
+        }
+        Ok(List::new(rows))
+    }
+
+    fn waiters(&self, alloc: Global) -> Result<Vec<u64>, AllocError> {
+        self.waiting
+            .as_slice()
+            .iter()
+            .filter(|row| row.voucher.is_none())
+            .map(|row| row.id)
+            .collect(alloc)
+    }
+
+    fn is_waiting(&self, email: &str, product: Product) -> bool {
+        self.waiting
+            .as_slice()
+            .iter()
+            .any(|row| row.waits_as(email, product))
+    }
+
+    fn due_orders(&self, alloc: Global, at: Moment) -> Result<Vec<u64>, AllocError> {
+        self.orders
+            .as_slice()
+            .iter()
+            .filter(|row| row.is_due(at))
+            .map(|row| row.id)
+            .collect(alloc)
+    }
+
+    fn dead_carts(&self, alloc: Global, at: Moment) -> Result<Vec<u64>, AllocError> {
+        self.carts
+            .as_slice()
+            .iter()
+            .filter(|row| !row.is_live(at))
+            .map(|row| row.id)
+            .collect(alloc)
+    }
+
+    fn came_due(&self, at: Moment) -> u64 {
+        let carts = self.carts.as_slice();
+        let vouchers = self.vouchers.as_slice();
+        let from = self.moment;
+        let carts = carts.iter().filter(|c| c.ends_between(from, at)).count();
+        let vouchers = vouchers.iter().filter(|v| v.ends_between(from, at)).count();
+        carts as u64 + vouchers as u64
     }
 
     fn vouchers(&self) -> &[Voucher] {

@@ -23,11 +23,8 @@ use Rattle.bo_sound.specs.Reserved.{is_lower_hex, ends_as_made, goes_on_as_made,
 use Rattle.bo_sound.proofs.Endings.{ends_own, decimal_digits}
 use Rattle.bo_sound.specs.Sound.{IsSound}
 use Rattle.bo_sound.proofs.OwnCodes.{own_other, own_ending, none_has, HasItsCode}
-use Rattle.bo_commands.specs.declared.vouchers.VoucherRefusal.TheVariants.{TooLarge, ReservedCode}
 use Rattle.bo_base.specs.Draws.{IsDraw}
 use Rattle.bo_vouchers.specs.Codes.{made_code, code_of, is_reserved_if, new_code}
-use Rattle.bo_vouchers.specs.Checks.{value_fits, taken_test, reserved_test, row_test}
-use Rattle.bo_vouchers.proofs.Passed.{Passed}
 
 -- a code that is made ends in its voucher's id
 pub made_ends : (draw : Draw) (id : ℕ) → ends_with nat_eq (made_code draw id) (code_ending id) ≡ true
@@ -76,20 +73,6 @@ made_reserved draw id sixteen small =
     let hex = encode_lower draw.bytes in
     let len : length hex ≡ 32 = omega (arith, length-encode_with lower_digits draw.bytes, sixteen.sixteen) in
     ap goes_on_as_made (append_assoc hex (codes "z") (decimal id)) ∙ goes_on hex (decimal id) len (hex_digits draw.bytes sixteen.bytes) (decimal_nonempty id small) (digits_pass (decimal id) (decimal_digits id small))
-
--- a code that is given anew isn't reserved
-module _ (given : Option (List ℕ)) (row : Voucher) (lists : Lists) where
-  by_form : (b : Bool) → is_reserved_if given ≡ b → Passed (if b then Err ReservedCode else taken_test row lists) → is_reserved_if given ≡ false
-  by_form true e h = absurd (cc)
-  by_form false e h = e
-
-  by_value : (b : Bool) → Passed (if b then reserved_test given row lists else Err TooLarge) → is_reserved_if given ≡ false
-  by_value true h = by_form (is_reserved_if given) refl h
-  by_value false h = absurd (cc)
-
-  pub passed_form : Passed (row_test given row lists) → is_reserved_if given ≡ false
-  unfolding row_test
-  passed_form h = by_value (value_fits row.price_mode row.value) h
 
 -- so the code of a new voucher is its own
 pub made_own : (given : Option (List ℕ)) (draw : Draw) (row : Voucher) → row.code ≡ code_of given draw row.id → is_reserved_if given ≡ false → has_own_code row ≡ true

@@ -1,6 +1,6 @@
 -- What is known where an entry was changed, and where one left.
 use Rattle.std.proofs.Common.{◌≡◌, ℕ, ◌≤◌, Bool, true, false, Option, Some, None, Result, Ok, Err, refl, sym, ap, ◌∙◌, subst}
-use Rattle.std.specs.Prelude.{if◌then◌else◌}
+use Rattle.bo_base.proofs.Decided.{found, gave_it, passed}
 use Rattle.bo_catalogue.specs.declared.rows.Product.{Product}
 use Rattle.bo_catalogue.specs.declared.rows.Quota.{Quota}
 use Rattle.bo_lists.specs.declared.rows.Waiting.{Waiting}
@@ -19,10 +19,9 @@ use Rattle.bo_sound.proofs.SoundWaiting.{sound_changed_waiting, sound_drop_waiti
 use Rattle.bo_commands.specs.FitRequests.{IsFitWaitingPatch}
 use Rattle.bo_commands.specs.declared.waiting.WaitingPatch.{WaitingPatch}
 use Rattle.bo_commands.specs.declared.waiting.WaitingRefusal.{WaitingRefusal}
-use Rattle.bo_commands.specs.declared.waiting.WaitingRefusal.TheVariants.{AlreadySent}
 use Rattle.bo_vouchers.proofs.Limited.{given_or}
-use Rattle.bo_waiting.specs.Changed.{changed_entry, changed_to, changed_if_waits, changed_at, entry_changed}
-use Rattle.bo_waiting.specs.Left.{left_at, entry_left}
+use Rattle.bo_waiting.specs.Changed.{changed_entry, entry_changed}
+use Rattle.bo_waiting.specs.Left.{entry_left}
 use Rattle.bo_waiting.proofs.WaitingUsage.{put_alike, drop_lowers}
 
 -- the entry of an id stands under its own
@@ -41,27 +40,20 @@ module _ (id : ℕ) (patch : WaitingPatch) (before after : State) (row : Waiting
   abbrev Gives : Result (State × Waiting) WaitingRefusal → Type 0
   Gives result = result ≡ Ok (after, row)
 
-  by_waits : (old : Waiting) → waiting_at id before.lists ≡ Some old → (b : Bool) → has_none old.voucher ≡ b → Gives (if b then Ok (changed_to (changed_entry patch old) before) else Err AlreadySent) → IsChanged id patch before after row
-  by_waits old stood false is h = absurd (cc)
-  by_waits old stood true is h =
-      let same : changed_to (changed_entry patch old) before ≡ (after, row) = cc in
-      let is_row : changed_entry patch old ≡ row = ap (λ (x : State × Waiting). x.1) same in
+  pub changed_is : Gives (entry_changed id patch before) → IsChanged id patch before after row
+  unfolding entry_changed
+  changed_is h =
+      let (old, stood, h1) = found (waiting_at id before.lists) _ _ h in
+      let (waits, h2) = passed (has_none old.voucher) _ _ h1 in
+      let same = gave_it (changed (PutWaiting (changed_entry patch old)) before, changed_entry patch old) (after, row) h2 in
+      let is_row = ap (λ (x : State × Waiting). x.1) same in
       record {
         old = old;
         stood = stood;
-        waits = is;
+        waits = waits;
         is_row = is_row;
         is_after = ap (λ (r : Waiting). changed (PutWaiting r) before) (sym is_row) ∙ ap (λ (x : State × Waiting). x.0) same;
       }
-
-  by_old : (found : Option Waiting) → waiting_at id before.lists ≡ found → Gives (changed_at patch before found) → IsChanged id patch before after row
-  unfolding changed_if_waits
-  by_old None e h = absurd (cc)
-  by_old (Some old) e h = by_waits old e (has_none old.voucher) refl h
-
-  pub changed_is : Gives (entry_changed id patch before) → IsChanged id patch before after row
-  unfolding entry_changed
-  changed_is h = by_old (waiting_at id before.lists) refl h
 
   pub changed_moment : Gives (entry_changed id patch before) → after.moment ≡ before.moment
   changed_moment h = sym (ap (λ (s : State). s.moment) (changed_is h).is_after)
@@ -97,17 +89,12 @@ module _ (id : ℕ) (before after : State) where
   abbrev Leaves : Result State WaitingRefusal → Type 0
   Leaves result = result ≡ Ok after
 
-  left_by_waits : (old : Waiting) → waiting_at id before.lists ≡ Some old → (b : Bool) → has_none old.voucher ≡ b → Leaves (if b then Ok (changed (DropWaiting id) before) else Err AlreadySent) → IsLeft id before after
-  left_by_waits old stood false is h = absurd (cc)
-  left_by_waits old stood true is h = record { old = old; stood = stood; waits = is; is_after = cc }
-
-  left_by_old : (found : Option Waiting) → waiting_at id before.lists ≡ found → Leaves (left_at id before found) → IsLeft id before after
-  left_by_old None e h = absurd (cc)
-  left_by_old (Some old) e h = left_by_waits old e (has_none old.voucher) refl h
-
   pub left_is : Leaves (entry_left id before) → IsLeft id before after
   unfolding entry_left
-  left_is h = left_by_old (waiting_at id before.lists) refl h
+  left_is h =
+      let (old, stood, h1) = found (waiting_at id before.lists) _ _ h in
+      let (waits, h2) = passed (has_none old.voucher) _ _ h1 in
+      record { old = old; stood = stood; waits = waits; is_after = gave_it (changed (DropWaiting id) before) after h2 }
 
   pub left_moment : Leaves (entry_left id before) → after.moment ≡ before.moment
   left_moment h = sym (ap (λ (s : State). s.moment) (left_is h).is_after)

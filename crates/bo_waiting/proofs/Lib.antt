@@ -3,6 +3,7 @@ pub mod Closed
 pub mod Joins
 pub mod Leaves
 pub mod Queue
+pub mod Waiters
 pub mod Order
 pub mod Trades
 pub mod Served

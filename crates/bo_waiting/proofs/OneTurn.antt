@@ -8,7 +8,7 @@ use Rattle.bo_lists.specs.Full.{takes_voucher}
 use Rattle.bo_lists.specs.Lists.{State}
 use Rattle.bo_commands.specs.declared.waiting.WaitingRefusal.{WaitingRefusal}
 use Rattle.bo_waiting.specs.Sending.{CanSend, sent_changes, voucher_sent}
-use Rattle.bo_waiting.specs.Serving.{Run, state_after, run_with, each_sent, noted, logged, run_after}
+use Rattle.bo_waiting.specs.Serving.{state_after, run_with, each_sent, noted, logged, run_after}
 use Rattle.bo_waiting.proofs.Trades.{sent_can_send}
 use Rattle.bo_waiting.proofs.Sent.{sent_is}
 
@@ -36,7 +36,7 @@ module _ (draw : Draw) where
   can_after id state can (Err refusal) e = can
   can_after id state can (Ok sent) e =
       let s = sent_is id draw state sent.0 sent.1 e in
-      subst CanSend s.is_after (sent_can_send draw state s.old can)
+      subst CanSend s.to.is_after (sent_can_send draw state s.old can)
 
   pub turn_can_send : (id : ℕ) (state : State) → CanSend state → CanSend (state_after state (voucher_sent id draw state))
   turn_can_send id state can = can_after id state can (voucher_sent id draw state) refl

@@ -1,9 +1,9 @@
 -- What is known where a voucher was sent, and what serving leaves as it was.
-use Rattle.std.proofs.Common.{map, ◌≡◌, ℕ, ◌≤◌, Bool, true, false, List, [], ◌∷◌, Option, Some, None, Result, Ok, Err, refl, sym, ap, ◌∙◌, subst}
+use Rattle.std.proofs.Common.{map, ◌≡◌, ℕ, Bool, true, false, List, [], ◌∷◌, Option, Some, None, Result, Ok, Err, refl, sym, ap, ◌∙◌, subst}
 use Rattle.std.specs.Prelude.{if◌then◌else◌}
+use Rattle.bo_base.proofs.Decided.{found, found_none, gave_it, passed}
 use Rattle.bo_base.specs.declared.draw.Draw.{Draw}
 use Rattle.bo_catalogue.specs.declared.rows.Quota.{Quota}
-use Rattle.bo_catalogue.specs.declared.refusal.CatalogueRefusal.TheVariants.{Inactive, NotSold, Full}
 use Rattle.bo_catalogue.specs.CatalogueLists.{is_active, is_sold}
 use Rattle.bo_lists.specs.declared.rows.Waiting.{Waiting}
 use Rattle.bo_lists.specs.Full.{takes_voucher}
@@ -13,20 +13,15 @@ use Rattle.bo_lists.specs.Takes.{used}
 use Rattle.bo_lists.specs.Usage.{usage_of, has_none}
 use Rattle.bo_lists.proofs.EachRow.{key-row_at}
 use Rattle.bo_commands.specs.declared.waiting.WaitingRefusal.{WaitingRefusal}
-use Rattle.bo_commands.specs.declared.waiting.WaitingRefusal.TheVariants.{Catalogue, AlreadySent}
+use Rattle.bo_commands.specs.declared.waiting.WaitingRefusal.TheVariants.{SoldOut}
 use Rattle.bo_waiting.specs.Places.{first_closed}
-use Rattle.bo_waiting.specs.Sending.{CanSend, with_its_voucher, with_sent, TradesPlace, sent_if_open, sent_if_sold, sent_if_active, sent_to, sent_at, voucher_sent}
+use Rattle.bo_waiting.specs.Sending.{CanSend, with_its_voucher, with_sent, TradesPlace, sent_to, voucher_sent}
 use Rattle.bo_waiting.specs.Serving.{Run, run_with, state_after, each_sent, served_in_turn, served, all_sent, all_served, queue}
 use Rattle.bo_waiting.proofs.Served.{Turn, sound_at_once}
 use Rattle.bo_waiting.proofs.Trades.{sent_can_send, sound_can_send, sent_trades, sent_used}
 
-some_waiting : (a b : Waiting) → (let found : Option Waiting = Some a in found ≡ Some b) → a ≡ b
-some_waiting a b h = cc
-
--- the entry as it was, and what it passed
-pub record IsSent (id : ℕ) (draw : Draw) (before after : State) (row : Waiting) : Type 0 where
-  pub old : Waiting
-  pub stands : waiting_at id before.lists ≡ Some old
+-- what an entry passed to which a voucher was sent
+pub record IsSentTo (old : Waiting) (draw : Draw) (before after : State) (row : Waiting) : Type 0 where
   pub waits : has_none old.voucher ≡ true
   pub active : is_active old.product before.lists.catalogue ≡ true
   pub sold : is_sold old.product before.lists.catalogue ≡ true
@@ -35,64 +30,43 @@ pub record IsSent (id : ℕ) (draw : Draw) (before after : State) (row : Waiting
   pub is_after : with_sent draw old before ≡ after
   pub is_row : with_its_voucher before old ≡ row
 
+-- the entry as it was, which stood
+pub record IsSent (id : ℕ) (draw : Draw) (before after : State) (row : Waiting) : Type 0 where
+  pub old : Waiting
+  pub stands : waiting_at id before.lists ≡ Some old
+  pub to : IsSentTo old draw before after row
+
 module _ (id : ℕ) (draw : Draw) (before after : State) (row : Waiting) where
   abbrev Gives : Result (State × Waiting) WaitingRefusal → Type 0
   Gives result = result ≡ Ok (after, row)
 
-  module _ (old : Waiting) (stands : waiting_at id before.lists ≡ Some old) where
-    by_room : (b : Bool) → takes_voucher before ≡ b → has_none old.voucher ≡ true → is_active old.product before.lists.catalogue ≡ true → is_sold old.product before.lists.catalogue ≡ true → first_closed before old.product ≡ None → Gives (if b then Ok (with_sent draw old before, with_its_voucher before old) else Err (Catalogue Full)) → IsSent id draw before after row
-    by_room false room waits active sold closed h = absurd (cc)
-    by_room true room waits active sold closed h =
-        let same : (let sent : State × Waiting = (with_sent draw old before, with_its_voucher before old) in sent ≡ (after, row)) = cc in
-        record {
-          old = old;
-          stands = stands;
-          waits = waits;
-          active = active;
-          sold = sold;
-          unclosed = closed;
-          room = room;
-          is_after = ap (λ (x : State × Waiting). x.0) same;
-          is_row = ap (λ (x : State × Waiting). x.1) same;
-        }
-
-    by_open : (o : Option ℕ) → first_closed before old.product ≡ o → has_none old.voucher ≡ true → is_active old.product before.lists.catalogue ≡ true → is_sold old.product before.lists.catalogue ≡ true → Gives (sent_if_open draw old before o) → IsSent id draw before after row
-    by_open (Some quota) closed waits active sold h = absurd (cc)
-    by_open None closed waits active sold h = by_room (takes_voucher before) refl waits active sold closed h
-
-    by_sold : (b : Bool) → is_sold old.product before.lists.catalogue ≡ b → has_none old.voucher ≡ true → is_active old.product before.lists.catalogue ≡ true → Gives (if b then sent_if_open draw old before (first_closed before old.product) else Err (Catalogue NotSold)) → IsSent id draw before after row
-    by_sold false sold waits active h = absurd (cc)
-    by_sold true sold waits active h = by_open (first_closed before old.product) refl waits active sold h
-
-    by_active : (b : Bool) → is_active old.product before.lists.catalogue ≡ b → has_none old.voucher ≡ true → Gives (if b then sent_if_sold draw old before else Err (Catalogue Inactive)) → IsSent id draw before after row
-    by_active false active waits h = absurd (cc)
-    by_active true active waits h = by_sold (is_sold old.product before.lists.catalogue) refl waits active h
-
-    by_waits : (b : Bool) → has_none old.voucher ≡ b → Gives (if b then sent_if_active draw old before else Err AlreadySent) → IsSent id draw before after row
-    by_waits false waits h = absurd (cc)
-    by_waits true waits h = by_active (is_active old.product before.lists.catalogue) refl waits h
-
-    by_entry : Gives (sent_to draw old before) → IsSent id draw before after row
-    unfolding sent_to
-    by_entry h = by_waits (has_none old.voucher) refl h
-
-    -- the entry waited, and the box office is with its voucher
-    pub sent_entry : Gives (sent_to draw old before) → (with_sent draw old before ≡ after) × (has_none old.voucher ≡ true)
-    sent_entry h =
-        let s = by_entry h in
-        let same : s.old ≡ old = some_waiting s.old old (sym s.stands ∙ stands) in
-        (ap (λ (e : Waiting). with_sent draw e before) (sym same) ∙ s.is_after, ap (λ (e : Waiting). has_none e.voucher) (sym same) ∙ s.waits)
-
-  by_found : (found : Option Waiting) → waiting_at id before.lists ≡ found → Gives (sent_at draw before found) → IsSent id draw before after row
-  by_found None e h = absurd (cc)
-  by_found (Some old) e h = by_entry old e h
+  pub sent_to_is : (old : Waiting) → Gives (sent_to draw old before) → IsSentTo old draw before after row
+  unfolding sent_to
+  sent_to_is old h =
+      let (waits, h1) = passed (has_none old.voucher) _ _ h in
+      let (active, h2) = passed (is_active old.product before.lists.catalogue) _ _ h1 in
+      let (sold, h3) = passed (is_sold old.product before.lists.catalogue) _ _ h2 in
+      let (unclosed, h4) = found_none SoldOut (first_closed before old.product) _ h3 in
+      let (room, h5) = passed (takes_voucher before) _ _ h4 in
+      let same = gave_it (with_sent draw old before, with_its_voucher before old) (after, row) h5 in
+      record {
+        waits = waits;
+        active = active;
+        sold = sold;
+        unclosed = unclosed;
+        room = room;
+        is_after = ap (λ (x : State × Waiting). x.0) same;
+        is_row = ap (λ (x : State × Waiting). x.1) same;
+      }
 
   pub sent_is : Gives (voucher_sent id draw before) → IsSent id draw before after row
   unfolding voucher_sent
-  sent_is h = by_found (waiting_at id before.lists) refl h
+  sent_is h =
+      let (old, stands, h1) = found (waiting_at id before.lists) _ _ h in
+      record { old = old; stands = stands; to = sent_to_is old h1 }
 
   pub sent_moment : Gives (voucher_sent id draw before) → after.moment ≡ before.moment
-  sent_moment h = sym (ap (λ (s : State). s.moment) (sent_is h).is_after)
+  sent_moment h = sym (ap (λ (s : State). s.moment) (sent_is h).to.is_after)
 
   module _ (sound : IsSound before) (h : Gives (voucher_sent id draw before)) where
     stands_own : (old : Waiting) → waiting_at id before.lists ≡ Some old → waiting_at old.id before.lists ≡ Some old
@@ -101,13 +75,13 @@ module _ (id : ℕ) (draw : Draw) (before after : State) (row : Waiting) where
     pub sending_trades : (quota : Quota) → TradesPlace quota row.product (usage_of before.lists before.moment quota) (usage_of after.lists after.moment quota)
     sending_trades quota =
         let s = sent_is h in
-        let is = sent_trades draw before s.old (sound_can_send before sound) quota (stands_own s.old s.stands) s.waits in
-        subst (λ (r : Waiting). TradesPlace quota r.product (usage_of before.lists before.moment quota) (usage_of after.lists after.moment quota)) s.is_row (subst (λ (a : State). TradesPlace quota s.old.product (usage_of before.lists before.moment quota) (usage_of a.lists a.moment quota)) s.is_after is)
+        let is = sent_trades draw before s.old (sound_can_send before sound) quota (stands_own s.old s.stands) s.to.waits in
+        subst (λ (r : Waiting). TradesPlace quota r.product (usage_of before.lists before.moment quota) (usage_of after.lists after.moment quota)) s.to.is_row (subst (λ (a : State). TradesPlace quota s.old.product (usage_of before.lists before.moment quota) (usage_of a.lists a.moment quota)) s.to.is_after is)
 
     pub sending_keeps_used : (quota : Quota) → used after quota ≡ used before quota
     sending_keeps_used quota =
         let s = sent_is h in
-        subst (λ (a : State). used a quota ≡ used before quota) s.is_after (sent_used draw before s.old (sound_can_send before sound) quota (stands_own s.old s.stands) s.waits)
+        subst (λ (a : State). used a quota ≡ used before quota) s.to.is_after (sent_used draw before s.old (sound_can_send before sound) quota (stands_own s.old s.stands) s.to.waits)
 
 -- serving leaves every quota's usage as it was
 module _ (draw : Draw) (quota : Quota) where
@@ -116,7 +90,7 @@ module _ (draw : Draw) (quota : Quota) where
   turn_keeps id state can (Ok sent) e =
       let s = sent_is id draw state sent.0 sent.1 e in
       let own = ap (λ (n : ℕ). waiting_at n state.lists) (key-row_at (λ (r : Waiting). r.id) id state.lists.waiting s.old s.stands) ∙ s.stands in
-      (subst CanSend s.is_after (sent_can_send draw state s.old can), subst (λ (a : State). used a quota ≡ used state quota) s.is_after (sent_used draw state s.old can quota own s.waits))
+      (subst CanSend s.to.is_after (sent_can_send draw state s.old can), subst (λ (a : State). used a quota ≡ used state quota) s.to.is_after (sent_used draw state s.old can quota own s.to.waits))
 
   same_state : (state : State) (r : Result (State × Waiting) WaitingRefusal) (rest : Run) → (run_with draw state r rest).state ≡ rest.state
   same_state state (Ok sent) rest = refl

@@ -1,5 +1,5 @@
 -- A box office stays sound where a voucher is sent, and where all are served; and the changes can be made one after another.
-use Rattle.std.proofs.Common.{◌≡◌, ℕ, ◌+◌, ◌<◌, ◌^◌, min, Bool, true, false, eqb, List, [], ◌∷◌, Option, Some, None, Result, Ok, Err, map, refl, sym, ap, ◌∙◌, subst, arith}
+use Rattle.std.proofs.Common.{◌≡◌, ℕ, ◌+◌, ◌<◌, ◌^◌, min, Bool, true, false, eqb, List, [], ◌∷◌, Option, Some, None, Result, Ok, Err, map, refl, ap, ◌∙◌, subst, arith}
 use Rattle.std.specs.Prelude.{◌||◌, not, is_some, if◌then◌else◌}
 use Rattle.bo_base.specs.Tables.{row_at, with_row}
 use Rattle.bo_base.specs.Draws.{IsDraw}
@@ -9,11 +9,9 @@ use Rattle.bo_base.proofs.Edits.{row_at-with_row}
 use Rattle.std.proofs.lemmas.Bool.Decides.{nat_tests}
 use Rattle.bo_catalogue.specs.declared.rows.Item.{Item}
 use Rattle.bo_catalogue.specs.declared.rows.Product.{Product}
-use Rattle.bo_catalogue.specs.CatalogueLists.{CatalogueLists}
 use Rattle.bo_lists.specs.declared.rows.Voucher.{Voucher}
 use Rattle.bo_lists.specs.declared.rows.Waiting.{Waiting}
 use Rattle.bo_lists.specs.declared.changes.Change.TheVariants.{PutVoucher, PutWaiting}
-use Rattle.bo_lists.specs.Change.{changed}
 use Rattle.bo_lists.specs.Full.{takes_voucher}
 use Rattle.bo_lists.specs.Lists.{State, waiting_at}
 use Rattle.bo_lists.specs.Numbered.{with_voucher}
@@ -107,7 +105,7 @@ module _ (draw : Draw) (sixteen : IsDraw draw) where
   pub sent_sound : (id : ℕ) (before after : State) (row : Waiting) → IsSound before → voucher_sent id draw before ≡ Ok (after, row) → IsSound after
   sent_sound id before after row sound h =
       let s = sent_is id draw before after row h in
-      subst IsSound s.is_after (both_sound id before s.old s.stands s.room sound)
+      subst IsSound s.to.is_after (both_sound id before s.old s.stands s.to.room sound)
 
   -- its two changes can be made one after another
   pub sent_leads : (id : ℕ) (before after : State) (row : Waiting) → IsSound before → voucher_sent id draw before ≡ Ok (after, row) → LeadTo (sent_changes draw before row) before.lists after.lists
@@ -117,10 +115,10 @@ module _ (draw : Draw) (sixteen : IsDraw draw) where
       let mid = with_voucher voucher before in
       let end = with_sent draw s.old before in
       let entry = with_its_voucher before s.old in
-      let first = leads_one (PutVoucher voucher) before mid refl (its_sound id before s.old s.stands s.room sound) in
-      let second = leads_one (PutWaiting entry) mid end refl (both_sound id before s.old s.stands s.room sound) in
+      let first = leads_one (PutVoucher voucher) before mid refl (its_sound id before s.old s.stands s.to.room sound) in
+      let second = leads_one (PutWaiting entry) mid end refl (both_sound id before s.old s.stands s.to.room sound) in
       let both : LeadTo (sent_changes draw before entry) before.lists end.lists = leads_joined (PutVoucher voucher ∷ []) (PutWaiting entry ∷ []) before.lists mid.lists end.lists first second in
-      subst (λ (r : Waiting). LeadTo (sent_changes draw before r) before.lists after.lists) s.is_row (subst (λ (a : State). LeadTo (sent_changes draw before entry) before.lists a.lists) s.is_after both)
+      subst (λ (r : Waiting). LeadTo (sent_changes draw before r) before.lists after.lists) s.to.is_row (subst (λ (a : State). LeadTo (sent_changes draw before entry) before.lists a.lists) s.to.is_after both)
 
   turn_sound : (id : ℕ) (state : State) (r : Result (State × Waiting) WaitingRefusal) → voucher_sent id draw state ≡ r → IsSound state → IsSound (state_after state r)
   turn_sound id state (Err refusal) e sound = sound

@@ -1,7 +1,9 @@
 -- Sending one after another is what was decided at once.
-use Rattle.std.proofs.Common.{◌≡◌, ℕ, ◌+◌, ◌<◌, ◌≤◌, Bool, true, false, ◌&&◌, eqb, List, [], ◌∷◌, ◌++◌, length, map, Option, Some, None, Result, Ok, Err, refl, sym, ap, ◌∙◌, subst, nat_lt, nat_le, arith}
+use Rattle.std.proofs.Common.{◌≡◌, ℕ, ◌+◌, ◌<◌, Bool, true, false, ◌&&◌, eqb, List, [], ◌∷◌, ◌++◌, length, map, Option, Some, None, Result, Ok, Err, refl, sym, ap, ◌∙◌, subst, nat_lt, nat_le, arith}
 use Rattle.std.specs.Prelude.{if◌then◌else◌, not, ◌||◌, is_none, find, option_map}
 use Rattle.std.specs.List.{AllByRecursion, list_all}
+use Rattle.std.specs.Option.{ok_or}
+use Rattle.bo_base.specs.Deciding.{◌>>=◌, ◌>>◌, check, refuse_some}
 use Rattle.std.proofs.lemmas.Bool.Decides.{nat_tests}
 use Rattle.std.proofs.lemmas.List.Sums.{sum_by-cons}
 use Rattle.bo_base.specs.declared.draw.Draw.{Draw}
@@ -18,13 +20,14 @@ use Rattle.bo_lists.specs.declared.rows.Waiting.{Waiting}
 use Rattle.bo_lists.specs.Available.{available}
 use Rattle.bo_lists.specs.Full.{takes_voucher}
 use Rattle.bo_lists.specs.Lists.{State, waiting_at}
+use Rattle.bo_lists.specs.Usage.{has_none}
 use Rattle.bo_sound.specs.Sound.{IsSound}
 use Rattle.bo_lists.proofs.EachRow.{all_weaker, all_both}
 use Rattle.bo_lists.proofs.Time.{one}
 use Rattle.bo_commands.specs.declared.waiting.WaitingRefusal.{WaitingRefusal}
-use Rattle.bo_commands.specs.declared.waiting.WaitingRefusal.TheVariants.{Catalogue, AlreadySent}
+use Rattle.bo_commands.specs.declared.waiting.WaitingRefusal.TheVariants.{Catalogue, SoldOut, AlreadySent, NoEntry}
 use Rattle.bo_waiting.specs.Places.{used_unwaited, is_closed, first_closed}
-use Rattle.bo_waiting.specs.Sending.{CanSend, sent_voucher, with_its_voucher, with_sent, sent_if_open, sent_if_sold, sent_if_active, sent_to, sent_at, voucher_sent}
+use Rattle.bo_waiting.specs.Sending.{CanSend, sent_voucher, with_its_voucher, with_sent, sent_to, voucher_sent}
 use Rattle.bo_waiting.specs.Serving.{queue, served_in, has_place, is_served, served_after, served, all_sent, all_served, all_changes, served_changes, Run, state_after, run_with, run_after, each_sent, run_in_turn, served_in_turn}
 use Rattle.bo_waiting.proofs.Trades.{sound_can_send, sent_can_send, sent_unwaited}
 use Rattle.bo_waiting.proofs.Queue.{AreApart, Waits, queue_apart, queue_waits}
@@ -84,21 +87,27 @@ module _ (draw : Draw) (start : State) where
     Sends true result = result ≡ Ok (with_sent draw entry state, with_its_voucher state entry)
     Sends false result = Refuses result
 
-    by_room : (room : Bool) → Sends room (if room then Ok (with_sent draw entry state, with_its_voucher state entry) else Err (Catalogue Full))
+    by_check : (holds more : Bool) (refusal : WaitingRefusal) (next : Result (State × Waiting) WaitingRefusal) → Sends more next → Sends (holds && more) (check holds refusal >> next)
+    by_check true more refusal next is = is
+    by_check false more refusal next is = tt
+
+    by_none : (closed : Option ℕ) (more : Bool) (next : Result (State × Waiting) WaitingRefusal) → Sends more next → Sends (is_none closed && more) (refuse_some SoldOut closed >> next)
+    by_none None more next is = is
+    by_none (Some quota) more next is = tt
+
+    by_room : (room : Bool) → Sends room (check room (Catalogue Full) >> Ok (with_sent draw entry state, with_its_voucher state entry))
     by_room true = refl
     by_room false = tt
 
-    by_open : (closed : Option ℕ) → Sends (is_none closed && takes_voucher state) (sent_if_open draw entry state closed)
-    by_open (Some quota) = tt
-    by_open None = by_room (takes_voucher state)
-
-    by_sold : (sold : Bool) → Sends (sold && (is_none (first_closed state entry.product) && takes_voucher state)) (if sold then sent_if_open draw entry state (first_closed state entry.product) else Err (Catalogue NotSold))
-    by_sold true = by_open (first_closed state entry.product)
-    by_sold false = tt
-
-    by_active : (active : Bool) → Sends (active && (is_sold entry.product state.lists.catalogue && (is_none (first_closed state entry.product) && takes_voucher state))) (if active then sent_if_sold draw entry state else Err (Catalogue Inactive))
-    by_active true = by_sold (is_sold entry.product state.lists.catalogue)
-    by_active false = tt
+    by_tests : has_none entry.voucher ≡ true → Sends (is_active entry.product state.lists.catalogue && (is_sold entry.product state.lists.catalogue && (is_none (first_closed state entry.product) && takes_voucher state))) (sent_to draw entry state)
+    unfolding sent_to
+    by_tests waits =
+        let active = is_active entry.product state.lists.catalogue in
+        let sold = is_sold entry.product state.lists.catalogue in
+        let closed = first_closed state entry.product in
+        let room = takes_voucher state in
+        subst (λ (b : Bool). Sends (active && (sold && (is_none closed && room))) (check b AlreadySent >> (check active (Catalogue Inactive) >> (check sold (Catalogue NotSold) >> (refuse_some SoldOut closed >> (check room (Catalogue Full) >> Ok (with_sent draw entry state, with_its_voucher state entry))))))) (sym waits)
+        (by_check active _ _ _ (by_check sold _ _ _ (by_none closed _ _ (by_room room))))
 
     same_test : is_served start before entry ≡ (is_active entry.product state.lists.catalogue && (is_sold entry.product state.lists.catalogue && (is_none (first_closed state entry.product) && takes_voucher state)))
     unfolding is_served
@@ -110,14 +119,10 @@ module _ (draw : Draw) (start : State) where
     module _ (waits : Waits state.lists entry) where
       found : voucher_sent entry.id draw state ≡ sent_to draw entry state
       unfolding voucher_sent
-      found = ap (sent_at draw state) waits.0
-
-      unsent : sent_to draw entry state ≡ sent_if_active draw entry state
-      unfolding sent_to
-      unsent = ap (λ b. if b then sent_if_active draw entry state else Err AlreadySent) waits.1
+      found = ap (λ (e : Option Waiting). ok_or e NoEntry >>= (λ e. sent_to draw e state)) waits.0
 
       decides : Sends (is_served start before entry) (voucher_sent entry.id draw state)
-      decides = subst (λ (b : Bool). Sends b (voucher_sent entry.id draw state)) (sym same_test) (subst (λ (r : Result (State × Waiting) WaitingRefusal). Sends (is_active entry.product state.lists.catalogue && (is_sold entry.product state.lists.catalogue && (is_none (first_closed state entry.product) && takes_voucher state))) r) (sym (found ∙ unsent)) (by_active (is_active entry.product state.lists.catalogue)))
+      decides = subst (λ (r : Result (State × Waiting) WaitingRefusal). Sends (is_served start before entry) r) (sym found) (subst (λ (b : Bool). Sends b (sent_to draw entry state)) (sym same_test) (by_tests waits.1))
 
       follows_sent : Follows start (entry ∷ before) (with_sent draw entry state)
       follows_sent = record {

@@ -26,7 +26,7 @@ use Rattle.bo_sound.proofs.Numbered.{numbered_put}
 use Rattle.bo_sound.proofs.Fit.{fit_voucher, carts_stay, positions_stay}
 use Rattle.bo_sound.proofs.Fresh.{none_redeemed, none_held}
 use Rattle.bo_lists.proofs.Time.{one}
-use Rattle.bo_draft.proofs.VoucherShifts.{carts_with}
+use Rattle.bo_usage.proofs.VoucherCounts.{carts_with}
 use Rattle.bo_waiting.specs.Places.{used_unwaited}
 use Rattle.bo_waiting.specs.Sending.{sent_voucher, with_its_voucher, with_sent, place_in, TradesPlace, CanSend}
 

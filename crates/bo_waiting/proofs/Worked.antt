@@ -9,7 +9,7 @@ use Rattle.bo_lists.specs.Usage.{usage_of, blocked_by}
 use Rattle.bo_commands.specs.declared.waiting.NewWaiting.{NewWaiting}
 use Rattle.bo_commands.specs.declared.waiting.WaitingRefusal.{WaitingRefusal}
 use Rattle.bo_commands.specs.declared.waiting.WaitingRefusal.TheVariants.{StillAvailable, AlreadyWaiting}
-use Rattle.bo_waiting.specs.Joined.{joined_for, entry_joined}
+use Rattle.bo_waiting.specs.Joined.{entry_joined}
 use Rattle.bo_waiting.specs.Places.{first_closed}
 use Rattle.bo_waiting.specs.Serving.{queue, is_served, served}
 
@@ -53,15 +53,15 @@ asks item = record { email = []; item = item; variation = None; priority = pos 0
 
 -- who waits for a product isn't told that it can be had
 twice : entry_joined (asks 1) (shop 1 0 (waits 1 (pos 0) 1 ∷ [])) ≡ Err AlreadyWaiting
-unfolding entry_joined joined_for
+unfolding entry_joined
 twice = refl
 
 -- one place is left, so nobody has to wait
 still_available : entry_joined (asks 1) (shop 1 0 []) ≡ Err StillAvailable
-unfolding entry_joined joined_for first_closed usage_of blocked_by
+unfolding entry_joined first_closed usage_of blocked_by
 still_available = refl
 
 -- no place is left, so one may
 sold_out : map (λ (e : Waiting). e.id) (joined_rows (entry_joined (asks 1) (shop 0 1 []))) ≡ 1 ∷ []
-unfolding entry_joined joined_for first_closed usage_of blocked_by
+unfolding entry_joined first_closed usage_of blocked_by
 sold_out = refl

@@ -1,6 +1,7 @@
 -- Leaving the waiting list.
-use Rattle.std.specs.Prelude.{ℕ, Option, Some, None, Result, Ok, Err, if◌then◌else◌}
-use Rattle.bo_lists.specs.declared.rows.Waiting.{Waiting}
+use Rattle.std.specs.Prelude.{ℕ, Result, Ok}
+use Rattle.std.specs.Option.{ok_or}
+use Rattle.bo_base.specs.Deciding.{◌>>=◌, ◌>>◌, check}
 use Rattle.bo_lists.specs.declared.changes.Change.TheVariants.{DropWaiting}
 use Rattle.bo_lists.specs.Change.{changed}
 use Rattle.bo_lists.specs.Lists.{State, waiting_at}
@@ -8,11 +9,10 @@ use Rattle.bo_lists.specs.Usage.{has_none}
 use Rattle.bo_commands.specs.declared.waiting.WaitingRefusal.{WaitingRefusal}
 use Rattle.bo_commands.specs.declared.waiting.WaitingRefusal.TheVariants.{NoEntry, AlreadySent}
 
--- one that has its voucher stays
-abbrev pub left_at : ℕ → State → Option Waiting → Result State WaitingRefusal
-left_at id state None = Err NoEntry
-left_at id state (Some entry) = if has_none entry.voucher then Ok (changed (DropWaiting id) state) else Err AlreadySent
-
 -- the box office without the entry, or the first refusal
 unfoldable pub entry_left : ℕ → State → Result State WaitingRefusal
-entry_left id state = left_at id state (waiting_at id state.lists)
+entry_left id state = do
+  entry ← ok_or (waiting_at id state.lists) NoEntry
+  -- one that has its voucher stays
+  check (has_none entry.voucher) AlreadySent
+  Ok (changed (DropWaiting id) state)

@@ -1,5 +1,5 @@
 -- Which products can be had, but for those who wait.
-use Rattle.std.specs.Prelude.{ℕ, ◌+◌, ◌-◌, Bool, true, false, ◌&&◌, not, ◌==◌, is_none, List, [], ◌∷◌, Option, Some, None, find, option_map, if◌then◌else◌}
+use Rattle.std.specs.Prelude.{ℕ, ◌+◌, ◌-◌, Bool, false, ◌&&◌, not, ◌==◌, is_none, List, [], ◌∷◌, Option, Some, None, find, option_map, if◌then◌else◌}
 use Rattle.bo_catalogue.specs.declared.rows.Product.{Product}
 use Rattle.bo_catalogue.specs.declared.rows.Quota.{Quota}
 use Rattle.bo_catalogue.specs.CatalogueLists.{is_sold, quota_at}

@@ -1,5 +1,7 @@
 -- Sending a voucher to an entry of the waiting list.
-use Rattle.std.specs.Prelude.{◌≡◌, ℕ, ◌+◌, ◌≤◌, List, [], ◌∷◌, true, false, Option, Some, None, Result, Ok, Err, if◌then◌else◌, min, codes}
+use Rattle.std.specs.Prelude.{◌≡◌, ℕ, ◌+◌, ◌≤◌, List, [], ◌∷◌, true, false, Some, None, Result, Ok, if◌then◌else◌, min, codes}
+use Rattle.std.specs.Option.{ok_or}
+use Rattle.bo_base.specs.Deciding.{◌>>=◌, ◌>>◌, check, refuse_some}
 use Rattle.bo_base.specs.Moments.{last_moment}
 use Rattle.bo_base.specs.Tables.{AreInOrder}
 use Rattle.bo_base.specs.declared.draw.Draw.{Draw}
@@ -56,31 +58,21 @@ with_sent draw entry state = changed (PutWaiting (with_its_voucher state entry))
 abbrev pub sent_changes : Draw → State → Waiting → List Change
 sent_changes draw state row = PutVoucher (sent_voucher draw state row.product) ∷ PutWaiting row ∷ []
 
--- one that waits is sent its voucher where the table takes it
-abbrev pub numbered_sent : Draw → Waiting → State → Result (State × Waiting) WaitingRefusal
-numbered_sent draw entry state = if takes_voucher state then Ok (with_sent draw entry state, with_its_voucher state entry) else Err (Catalogue Full)
-
-abbrev pub sent_if_open : Draw → Waiting → State → Option ℕ → Result (State × Waiting) WaitingRefusal
-sent_if_open draw entry state (Some quota) = Err (SoldOut quota)
-sent_if_open draw entry state None = numbered_sent draw entry state
-
-abbrev pub sent_if_sold : Draw → Waiting → State → Result (State × Waiting) WaitingRefusal
-sent_if_sold draw entry state = if is_sold entry.product state.lists.catalogue then sent_if_open draw entry state (first_closed state entry.product) else Err (Catalogue NotSold)
-
-abbrev pub sent_if_active : Draw → Waiting → State → Result (State × Waiting) WaitingRefusal
-sent_if_active draw entry state = if is_active entry.product state.lists.catalogue then sent_if_sold draw entry state else Err (Catalogue Inactive)
-
 -- to an entry that stands
 unfoldable pub sent_to : Draw → Waiting → State → Result (State × Waiting) WaitingRefusal
-sent_to draw entry state = if has_none entry.voucher then sent_if_active draw entry state else Err AlreadySent
-
-abbrev pub sent_at : Draw → State → Option Waiting → Result (State × Waiting) WaitingRefusal
-sent_at draw state None = Err NoEntry
-sent_at draw state (Some entry) = sent_to draw entry state
+sent_to draw entry state = do
+  check (has_none entry.voucher) AlreadySent
+  check (is_active entry.product state.lists.catalogue) (Catalogue Inactive)
+  check (is_sold entry.product state.lists.catalogue) (Catalogue NotSold)
+  refuse_some SoldOut (first_closed state entry.product)
+  check (takes_voucher state) (Catalogue Full)
+  Ok (with_sent draw entry state, with_its_voucher state entry)
 
 -- the box office with the voucher and the entry that has it, and that entry, or the first refusal
 unfoldable pub voucher_sent : ℕ → Draw → State → Result (State × Waiting) WaitingRefusal
-voucher_sent id draw state = sent_at draw state (waiting_at id state.lists)
+voucher_sent id draw state = do
+  entry ← ok_or (waiting_at id state.lists) NoEntry
+  sent_to draw entry state
 
 -- what one entry for the product takes of the quota
 abbrev pub place_in : Quota → Product → ℕ

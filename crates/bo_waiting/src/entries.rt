@@ -4,10 +4,10 @@ ghost use Rattle.std.specs.Prelude.{◌≡◌, ◌≢◌, ◌++◌, ◌∷◌, [
 ghost use Rattle.bo_draft.specs.DraftState.{now, Extends};
 ghost use Rattle.bo_lists.specs.Lists.{waiting_at};
 ghost use Rattle.bo_lists.specs.declared.changes.Change.TheVariants.{PutWaiting, DropWaiting};
-ghost use Rattle.bo_waiting.specs.Changed.{changed_if_waits, changed_entry, entry_changed};
+ghost use Rattle.bo_waiting.specs.Changed.{changed_entry, entry_changed};
 ghost use Rattle.bo_waiting.specs.Left.{entry_left};
 
-use crate::rows::{copy, patched};
+use crate::rows::patched;
 use bo_commands::{WaitingPatch, WaitingRefusal};
 use bo_draft::Draft;
 use bo_lists::Waiting;
@@ -32,30 +32,13 @@ pub fn change<B: Book>(
 {
     let entry = match draft.waiting(id) {
         None => return Err(WaitingRefusal::NoEntry),
-        Some(entry) => copy(alloc, entry)?,
+        Some(entry) => entry.copy(alloc)?,
     };
-    change_found(draft, alloc, entry, patch)
-}
-
-// The same for an entry that stands.
-#[tactic(auto, unfolding(crate::specs::Changed::changed_if_waits))]
-fn change_found<B: Book>(
-    draft: &mut Draft<'_, B>,
-    alloc: Global,
-    entry: Waiting,
-    patch: WaitingPatch,
-) -> Result<Waiting, WaitingRefusal>
-    ensures done { IfOk result (λ row. changed_if_waits patch (now draft.old) entry ≡ Ok (now draft.new, row)) }
-    ensures refused { IfErr result (λ e. e ≢ WaitingRefusal.Memory → changed_if_waits patch (now draft.old) entry ≡ Err e) }
-    ensures extends { Extends draft.old draft.new }
-    ensures same { OnErr result (draft.new ≡ draft.old) }
-    ensures changes { IfOk result (λ row. draft.new.log.changes ≡ draft.old.log.changes ++ PutWaiting row ∷ []) }
-{
     if entry.voucher.is_some() {
         return Err(WaitingRefusal::AlreadySent);
     }
     let row = patched(entry, patch);
-    let answer = copy(alloc, &row)?;
+    let answer = row.copy(alloc)?;
     draft.put_waiting(alloc, row)?;
     Ok(answer)
 }

@@ -1,46 +1,18 @@
 //! Joining the waiting list.
 
-ghost use Rattle.std.specs.Prelude.{◌≡◌, ◌≢◌, ◌++◌, ◌∷◌, [], Ok, Err, IfOk, IfErr, OnErr};
+ghost use Rattle.std.specs.Prelude.{◌≡◌, ◌≢◌, ◌<◌, ◌++◌, ◌∷◌, [], Ok, Err, IfOk, IfErr, OnOk, OnErr};
 ghost use Rattle.bo_draft.specs.DraftState.{now, Extends};
 ghost use Rattle.bo_lists.specs.declared.changes.Change.TheVariants.{PutWaiting};
-ghost use Rattle.bo_waiting.specs.Joined.{same_product, waits_as, is_waiting, waiting_row, numbered, joined_for, entry_joined};
+ghost use Rattle.bo_lists.specs.Numbered.{with_waiting};
+ghost use Rattle.bo_waiting.specs.Joined.{waiting_row, entry_joined};
 
 use crate::places::is_open;
-use crate::rows::copy;
-use bo_base::Text;
 use bo_catalogue::{CatalogueRefusal, Product};
 use bo_commands::{NewWaiting, WaitingRefusal};
 use bo_draft::Draft;
 use bo_lists::Waiting;
 use bo_usage::Book;
 use std::alloc::{AllocError, Global};
-
-// Whether both are one product.
-fn same_product(a: Product, b: Product) -> bool
-    ensures { result ≡ same_product a b }
-{
-    a.item == b.item && a.variation == b.variation
-}
-
-// Whether an entry of this email waits for this product.
-fn waits_as(email: &Text, product: Product, entry: &Waiting) -> bool
-    ensures { result ≡ waits_as email.now product entry.now }
-{
-    entry.voucher.is_none()
-        && same_product(entry.product, product)
-        && entry.email.same(email.as_str())
-}
-
-// Whether one of the entries does.
-fn is_waiting<B: Book>(draft: &Draft<'_, B>, email: &Text, product: Product) -> bool
-    requires { (now draft.now).lists.waiting ≡ draft.now.log.base.waiting }
-    ensures { result ≡ is_waiting email.now product (now draft.now).lists }
-{
-    draft
-        .waiting_list()
-        .iter()
-        .any(|entry| waits_as(email, product, entry))
-}
 
 // The new entry.
 fn new_row<B: Book>(
@@ -82,54 +54,36 @@ pub fn join<B: Book>(
     ensures changes { IfOk result (λ row. draft.new.log.changes ≡ draft.old.log.changes ++ PutWaiting row ∷ []) }
 {
     let product = draft.catalogue().product(new.item, new.variation)?;
-    join_for(draft, alloc, new, product)
-}
-
-// Adds an entry for a product that stands.
-#[tactic(auto, unfolding(crate::specs::Joined::joined_for))]
-fn join_for<B: Book>(
-    draft: &mut Draft<'_, B>,
-    alloc: Global,
-    new: &NewWaiting,
-    product: Product,
-) -> Result<Waiting, WaitingRefusal>
-    requires { (now draft.old).lists.waiting ≡ draft.old.log.base.waiting }
-    ensures done { IfOk result (λ row. joined_for new.now (now draft.old) product ≡ Ok (now draft.new, row)) }
-    ensures refused { IfErr result (λ e. e ≢ WaitingRefusal.Memory → joined_for new.now (now draft.old) product ≡ Err e) }
-    ensures extends { Extends draft.old draft.new }
-    ensures same { OnErr result (draft.new ≡ draft.old) }
-    ensures changes { IfOk result (λ row. draft.new.log.changes ≡ draft.old.log.changes ++ PutWaiting row ∷ []) }
-{
     if !draft.catalogue().is_active(product) {
         return Err(WaitingRefusal::Catalogue(CatalogueRefusal::Inactive));
     }
-    if is_waiting(draft, &new.email, product) {
+    if draft.is_waiting(new.email.as_str(), product) {
         return Err(WaitingRefusal::AlreadyWaiting);
     }
     if is_open(draft, product) {
         return Err(WaitingRefusal::StillAvailable);
     }
-    let row = new_row(draft, alloc, new, product)?;
-    number(draft, alloc, row)
-}
-
-// Puts the row, where the table takes it, and counts its id as used.
-fn number<B: Book>(
-    draft: &mut Draft<'_, B>,
-    alloc: Global,
-    row: Waiting,
-) -> Result<Waiting, WaitingRefusal>
-    requires { (now draft.old).lists.waiting ≡ draft.old.log.base.waiting }
-    ensures done { IfOk result (λ copy. numbered row (now draft.old) ≡ Ok (now draft.new, copy)) }
-    ensures refused { IfErr result (λ e. e ≢ WaitingRefusal.Memory → numbered row (now draft.old) ≡ Err e) }
-    ensures extends { Extends draft.old draft.new }
-    ensures same { OnErr result (draft.new ≡ draft.old) }
-    ensures changes { IfOk result (λ row. draft.new.log.changes ≡ draft.old.log.changes ++ PutWaiting row ∷ []) }
-{
     if !draft.takes_waiting() {
         return Err(WaitingRefusal::Catalogue(CatalogueRefusal::Full));
     }
-    let copy = copy(alloc, &row)?;
+    let row = new_row(draft, alloc, new, product)?;
+    Ok(put_new(draft, alloc, row)?)
+}
+
+// Puts the row, and counts its id as used.
+fn put_new<B: Book>(
+    draft: &mut Draft<'_, B>,
+    alloc: Global,
+    row: Waiting,
+) -> Result<Waiting, AllocError>
+    requires { (now draft.old).next.waiting < 9007199254740992 }
+    ensures after { OnOk result (now draft.new ≡ with_waiting row (now draft.old)) }
+    ensures copy { IfOk result (λ copy. copy ≡ row) }
+    ensures extends { Extends draft.old draft.new }
+    ensures same { OnErr result (draft.new ≡ draft.old) }
+    ensures changes { OnOk result (draft.new.log.changes ≡ draft.old.log.changes ++ PutWaiting row ∷ []) }
+{
+    let copy = row.copy(alloc)?;
     draft.put_waiting(alloc, row)?;
     draft.use_waiting_id();
     Ok(copy)

@@ -1,27 +1,15 @@
 //! The places of quotas that are left but for those who wait.
 
-ghost use Rattle.std.specs.Prelude.{◌≡◌, Some, None, IfOk, OnOk, length, map, count_by, ◌&&◌};
+ghost use Rattle.std.specs.Prelude.{◌≡◌, Some, None, IfOk, OnOk, length, map, ◌&&◌};
 ghost use Rattle.bo_catalogue.specs.CatalogueLists.{quota_at};
 ghost use Rattle.bo_catalogue.specs.Member.{is_in};
 ghost use Rattle.bo_draft.specs.DraftState.{now};
-ghost use Rattle.bo_lists.specs.Usage.{waits_for};
 ghost use Rattle.bo_waiting.specs.Places.{used_unwaited, is_full, is_full_at, first_closed, is_open, places_left, has_none_left, first_without_place, one_less, after_one, all_after_one};
 
 use bo_catalogue::{Product, Quota};
 use bo_draft::Draft;
-use bo_lists::Waiting;
 use bo_usage::Book;
 use std::alloc::{AllocError, Global};
-
-// How many entries wait for a place of the quota.
-fn waiting_for(quota: &Quota, waiting: &[Waiting]) -> usize
-    ensures { result ≡ count_by (waits_for quota.now) waiting.now }
-{
-    waiting
-        .iter()
-        .filter(|entry| entry.waits_for(quota))
-        .count()
-}
 
 // What is used of a quota that stands, without the entries that wait.
 fn used_unwaited<B: Book>(draft: &Draft<'_, B>, quota: &Quota) -> u128
@@ -29,7 +17,7 @@ fn used_unwaited<B: Book>(draft: &Draft<'_, B>, quota: &Quota) -> u128
     requires stands { quota_at quota.now.id (now draft.now).lists.catalogue ≡ Some quota.now }
     ensures { result ≡ used_unwaited (now draft.now) quota.now }
 {
-    let waits = waiting_for(quota, draft.waiting_list()) as u128;
+    let waits = u128::from(draft.waiting_for(quota));
     draft.used(quota).saturating_sub(waits)
 }
 

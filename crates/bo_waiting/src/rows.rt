@@ -1,25 +1,10 @@
 //! Rows of the waiting list.
 
-ghost use Rattle.std.specs.Prelude.{◌≡◌, Some, IfOk};
+ghost use Rattle.std.specs.Prelude.{◌≡◌, Some};
 ghost use Rattle.bo_waiting.specs.Changed.{changed_entry};
 
 use bo_commands::WaitingPatch;
 use bo_lists::Waiting;
-use std::alloc::{AllocError, Global};
-
-/// An equal entry.
-pub fn copy(alloc: Global, entry: &Waiting) -> Result<Waiting, AllocError>
-    ensures { IfOk result (λ row. row ≡ entry.now) }
-{
-    Ok(Waiting {
-        id: entry.id,
-        email: entry.email.copy(alloc)?,
-        product: entry.product,
-        priority: entry.priority,
-        created: entry.created,
-        voucher: entry.voucher,
-    })
-}
 
 /// The entry with this voucher.
 pub fn with_voucher(entry: Waiting, voucher: u64) -> Waiting

@@ -8,7 +8,7 @@ ghost use Rattle.bo_waiting.specs.Places.{first_closed};
 ghost use Rattle.bo_waiting.specs.Sending.{CanSend, sent_voucher, with_its_voucher, with_sent, sent_changes, sent_to, voucher_sent};
 
 use crate::places::first_closed;
-use crate::rows::{copy, with_voucher};
+use crate::rows::with_voucher;
 use bo_base::{Draw, PriceMode, Text, Uses};
 use bo_catalogue::{CatalogueRefusal, Product};
 use bo_commands::WaitingRefusal;
@@ -42,7 +42,7 @@ pub fn send<B: Book>(
 {
     let entry = match draft.waiting(id) {
         None => return Err(WaitingRefusal::NoEntry),
-        Some(entry) => copy(alloc, entry)?,
+        Some(entry) => entry.copy(alloc)?,
     };
     let closed = first_closed(draft, entry.product);
     let mark = draft.mark(alloc)?;
@@ -108,7 +108,7 @@ fn put_sent<B: Book>(
 {
     let voucher = new_voucher(draft, alloc, draw, entry.product)?;
     let row = with_voucher(entry, voucher.id);
-    let sent = copy(alloc, &row)?;
+    let sent = row.copy(alloc)?;
     draft.put_voucher(alloc, voucher)?;
     draft.use_voucher_id();
     draft.put_waiting(alloc, row)?;

@@ -5,10 +5,9 @@ ghost use Rattle.bo_draft.specs.DraftState.{now, Extends};
 ghost use Rattle.bo_sound.specs.Sound.{IsSound};
 ghost use Rattle.bo_waiting.specs.Places.{places_left};
 ghost use Rattle.bo_waiting.specs.Sending.{CanSend, voucher_sent};
-ghost use Rattle.bo_waiting.specs.Serving.{queue, all_served, served_changes, state_after, each_sent, run_after, noted, logged};
+ghost use Rattle.bo_waiting.specs.Serving.{all_served, served_changes, state_after, each_sent, run_after, noted, logged};
 
 use crate::places::{all_after_one, first_without_place, places_left};
-use crate::rows::copy;
 use crate::sending::send_to;
 use crate::turns::ids_in_turn;
 use bo_base::Draw;
@@ -32,7 +31,7 @@ pub fn serve_all<B: Book>(
     ensures same { OnErr result (draft.new ≡ draft.old) }
     ensures changes { OnOk result (draft.new.log.changes ≡ draft.old.log.changes ++ served_changes draw (now draft.old)) }
 {
-    let queue = queue_of(draft, alloc)?;
+    let queue = ids_in_turn(draft, alloc)?;
     if queue.is_empty() {
         return Ok(queue);
     }
@@ -45,15 +44,6 @@ pub fn serve_all<B: Book>(
             Err(refusal)
         }
     }
-}
-
-// The ids of the entries that wait, in their turn.
-#[tactic(auto, unfolding(crate::specs::Serving::queue))]
-fn queue_of<B: Book>(draft: &Draft<'_, B>, alloc: Global) -> Result<Vec<u64>, AllocError>
-    requires { (now draft.now).lists.waiting ≡ draft.now.log.base.waiting }
-    ensures { IfOk result (λ ids. ids.items ≡ map (λ e. e.id) (queue (now draft.now).lists)) }
-{
-    ids_in_turn(alloc, draft.waiting_list())
 }
 
 // Sends to each of these entries in turn, or skips it, until the table of vouchers is full.
@@ -100,7 +90,7 @@ fn serve_one<B: Book>(
 {
     let entry = match draft.waiting(id) {
         None => return Ok(()),
-        Some(entry) => copy(alloc, entry)?,
+        Some(entry) => entry.copy(alloc)?,
     };
     let product = entry.product;
     let closed = first_without_place(draft.catalogue().quotas(), left, product);

@@ -1,11 +1,14 @@
 //! The order of those who wait.
 
-ghost use Rattle.std.specs.Prelude.{◌≡◌, IfOk, map, filter};
-ghost use Rattle.bo_lists.specs.Usage.{has_none};
-ghost use Rattle.bo_waiting.specs.Serving.{in_turn};
+ghost use Rattle.std.specs.Prelude.{◌≡◌, IfOk, map};
+ghost use Rattle.bo_draft.specs.DraftState.{now};
+ghost use Rattle.bo_lists.specs.Waits.{waiters};
+ghost use Rattle.bo_waiting.specs.Serving.{queue};
 ghost use Rattle.bo_waiting.specs.Turns.{turn_of};
 
+use bo_draft::Draft;
 use bo_lists::Waiting;
+use bo_usage::Book;
 use std::alloc::{AllocError, Global};
 use std::cmp::Reverse;
 
@@ -17,24 +20,36 @@ pub struct Turn {
     pub id: u64,
 }
 
-/// The ids of the entries without voucher, in their turn. `Err` where there is no memory for them.
-pub fn ids_in_turn(alloc: Global, waiting: &[Waiting]) -> Result<Vec<u64>, AllocError>
-    ensures { IfOk result (λ ids. ids.items ≡ map (λ e. e.id) (in_turn (filter (λ e. has_none e.voucher) waiting.now))) }
+/// The ids of the entries without voucher, in their turn, in a draft that has changed no waiting entry.
+/// `Err` where there is no memory for them.
+#[tactic(auto, unfolding(crate::specs::Serving::queue))]
+pub fn ids_in_turn<B: Book>(draft: &Draft<'_, B>, alloc: Global) -> Result<Vec<u64>, AllocError>
+    requires { (now draft.now).lists.waiting ≡ draft.now.log.base.waiting }
+    ensures { IfOk result (λ ids. ids.items ≡ map (λ e. e.id) (queue (now draft.now).lists)) }
 {
-    let mut turns = turns_of(alloc, waiting)?;
+    let waiters = draft.waiters(alloc)?;
+    let mut turns = turns_of(draft, alloc, &waiters)?;
     turns.sort_unstable();
     ids_of(alloc, &turns)
 }
 
-// Where each entry without voucher stands.
-fn turns_of(alloc: Global, waiting: &[Waiting]) -> Result<Vec<Turn>, AllocError>
-    ensures { IfOk result (λ turns. turns.items ≡ map turn_of (filter (λ e. has_none e.voucher) waiting.now)) }
+// Where each entry without voucher stands, of which these are the ids.
+fn turns_of<B: Book>(
+    draft: &Draft<'_, B>,
+    alloc: Global,
+    ids: &[u64],
+) -> Result<Vec<Turn>, AllocError>
+    requires { ids.now ≡ map (λ e. e.id) (waiters (now draft.now).lists) }
+    ensures { IfOk result (λ turns. turns.items ≡ map turn_of (waiters (now draft.now).lists)) }
 {
-    waiting
-        .iter()
-        .filter(|entry| entry.voucher.is_none())
-        .map(turn_of)
-        .collect(alloc)
+    draft.known();
+    let mut turns = Vec::new(alloc);
+    for id in ids {
+        if let Some(entry) = draft.waiting(*id) {
+            turns.push(turn_of(entry))?;
+        }
+    }
+    Ok(turns)
 }
 
 // Where an entry stands.

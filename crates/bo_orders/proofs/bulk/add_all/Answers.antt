@@ -2,7 +2,7 @@ use Rattle.std.proofs.Common.{◌≡◌, ◌∷◌, ◌+◌, rules, sym, ap, ◌
 use Rattle.std.proofs.lemmas.List.{drop_more}
 use Rattle.bo_draft.specs.DraftState.{now}
 use Rattle.bo_commands.specs.declared.carts.Entry.{Entry}
-use Rattle.bo_orders.proofs.Entries.{entry_joined, made_vouchers}
+use Rattle.bo_orders.proofs.Entries.{entry_joined}
 use Rattle.bo_orders.proofs.Logs.{bulk_more}
 use Rattle.bo_orders.proofs.bulk.add_all.Goals as goal
 
@@ -18,7 +18,6 @@ loop-entry-preserved g c =
     let made = c.in_ok-add_entry.ensures.done in
     record {
       rest = entry_joined c.loop-entry.outcomes.items c.push.new.self.items c.in_ok-add_entry.field-0 entry (drop i all) (drop (i + 1) all) c.args.draw before after left made c.in_ok-push.ensures.items ∙ inv.rest;
-      vouchers = made_vouchers entry c.args.draw before after c.in_ok-add_entry.field-0 made ∙ inv.vouchers ∙ ap (λ l. l.vouchers) (sym c.add_entry.ensures.extends.base);
       changes = bulk_more c.args.draft.now.log.changes c.loop-entry.draft.log.changes c.add_entry.new.draft.log.changes c.loop-entry.outcomes.items c.push.new.self.items c.in_ok-add_entry.field-0 inv.changes c.in_ok-add_entry.ensures.changes c.in_ok-push.ensures.items;
       extends = search rules;
     }

@@ -7,7 +7,6 @@ use Rattle.bo_orders.proofs.bulk.add_all.Given as goal
 abbrev pub invariant-loop-entry : goal.invariant-loop-entry
 invariant-loop-entry g l = record {
   rest : after_outcomes l.outcomes.items (all_added (drop l.entry-index l.entries) l.draw (now l.draft)) ≡ all_added l.entries l.draw (now l.fn.draft);
-  vouchers : (now l.draft).lists.vouchers ≡ l.draft.log.base.vouchers;
   changes : l.draft.log.changes ≡ l.fn.draft.log.changes ++ bulk_changes l.outcomes.items;
   extends : Extends l.fn.draft l.draft;
 }

@@ -1,6 +1,6 @@
 use Rattle.std.proofs.Common.{◌≡◌, ℕ, List, ◌++◌, length, ap, ◌∙◌}
 use Rattle.bo_draft.specs.DraftState.{now}
-use Rattle.bo_overlay.specs.Due.{due_orders}
+use Rattle.bo_lists.specs.Due.{due_orders}
 use Rattle.bo_orders.specs.Expired.{each_expired, each_expiry}
 use Rattle.bo_orders.proofs.Overdue.{expired_at_once, expiry_at_once}
 use Rattle.bo_orders.proofs.periodic.expire_orders.Goals as goal

@@ -1,4 +1,4 @@
-use Rattle.std.proofs.Common.{◌≡◌, ap, ◌∙◌}
+use Rattle.std.proofs.Common.{ap, ◌∙◌}
 use Rattle.bo_draft.specs.DraftState.{now}
 use Rattle.bo_draft.proofs.Standing.{quota_stands}
 use Rattle.bo_waiting.proofs.places.places_left.Goals as goal

@@ -1,4 +1,4 @@
-use Rattle.std.proofs.Common.{ℕ, List, [], ◌+◌, get_or, drop, rules, sym, ap, ◌∙◌, subst}
+use Rattle.std.proofs.Common.{ℕ, List, ◌+◌, get_or, drop, rules, sym, ap, ◌∙◌, subst}
 use Rattle.std.proofs.lemmas.List.{drop_more}
 use Rattle.bo_draft.specs.DraftState.{now}
 use Rattle.bo_waiting.specs.Sending.{CanSend}

@@ -1,4 +1,4 @@
-use Rattle.std.proofs.Common.{◌≡◌, ◌+◌, Option, List, ℕ, Some, map, length, rules, sym, ap, ◌∙◌, subst}
+use Rattle.std.proofs.Common.{◌≡◌, ◌+◌, List, Some, map, length, rules, sym, ap, ◌∙◌, subst}
 use Rattle.bo_catalogue.specs.CatalogueLists.{CatalogueLists}
 use Rattle.bo_catalogue.specs.declared.rows.Quota.{Quota}
 use Rattle.bo_draft.specs.DraftState.{now}
@@ -7,7 +7,7 @@ use Rattle.bo_waiting.specs.Places.{used_unwaited, places_left, first_without_pl
 use Rattle.bo_waiting.specs.Sending.{place_in}
 use Rattle.bo_waiting.proofs.Closed.{first_by_left, all_left_after, left_long}
 use Rattle.bo_waiting.proofs.Leaves.{own_place}
-use Rattle.bo_waiting.proofs.Sent.{sent_entry}
+use Rattle.bo_waiting.proofs.Sent.{sent_to_is}
 use Rattle.bo_waiting.proofs.Trades.{sent_unwaited}
 use Rattle.bo_waiting.proofs.serving.serve_one.Goals as goal
 
@@ -24,10 +24,9 @@ all_after_one-requires g c =
     let state = now c.args.draft.now in
     let after = now c.send_to.new.draft in
     let entry = c.in_ok-entry-in-Some.entry in
-    let stands : waiting_at c.args.id state.lists ≡ Some entry = search rules in
-    let s = sent_entry c.args.id c.args.draw state after c.in-Ok.row entry stands c.in-Ok.ensures.done in
+    let s = sent_to_is c.args.id c.args.draw state after c.in-Ok.row entry c.in-Ok.ensures.done in
     let left = c.deref-in-Ok.ensures.value ∙ c.requires.left in
-    let quotas = c.quotas-in-Ok.ensures ∙ ap (λ (l : CatalogueLists). l.quotas) (c.catalogue-in-Ok.ensures ∙ ap (λ (s : State). s.lists.catalogue) (sym s.0)) in
+    let quotas = c.quotas-in-Ok.ensures ∙ ap (λ (l : CatalogueLists). l.quotas) (c.catalogue-in-Ok.ensures ∙ ap (λ (s : State). s.lists.catalogue) (sym s.is_after)) in
     ap length left ∙ left_long state state.lists.catalogue.quotas ∙ ap length (sym quotas)
 
 pub returns-in_ok-push-in-Ok-clause-left : goal.returns-in_ok-push-in-Ok-clause-left
@@ -37,11 +36,11 @@ returns-in_ok-push-in-Ok-clause-left g c =
     let entry = c.in_ok-entry-in-Some.entry in
     let product = entry.product in
     let stands : waiting_at c.args.id state.lists ≡ Some entry = search rules in
-    let s = sent_entry c.args.id c.args.draw state after c.in-Ok.row entry stands c.in-Ok.ensures.done in
+    let s = sent_to_is c.args.id c.args.draw state after c.in-Ok.row entry c.in-Ok.ensures.done in
     let left = c.deref-in-Ok.ensures.value ∙ c.requires.left in
-    let same = ap (λ (s : State). s.lists.catalogue.quotas) (sym s.0) in
+    let same = ap (λ (s : State). s.lists.catalogue.quotas) (sym s.is_after) in
     let quotas = c.quotas-in-Ok.ensures ∙ ap (λ (l : CatalogueLists). l.quotas) c.catalogue-in-Ok.ensures ∙ same in
-    let more : (q : Quota) → used_unwaited after q ≡ used_unwaited state q + place_in q product = λ q. subst (λ (a : State). used_unwaited a q ≡ used_unwaited state q + place_in q product) s.0 (sent_unwaited c.args.draw state entry c.requires.can q (own_place c.args.id state entry stands) s.1) in
+    let more : (q : Quota) → used_unwaited after q ≡ used_unwaited state q + place_in q product = λ q. subst (λ (a : State). used_unwaited a q ≡ used_unwaited state q + place_in q product) s.is_after (sent_unwaited c.args.draw state entry c.requires.can q (own_place c.args.id state entry stands) s.waits) in
     c.in_ok-left-in-Ok.ensures
     ∙ (λ i. all_after_one product (left i) (quotas i))
     ∙ all_left_after state product after more state.lists.catalogue.quotas

@@ -1,15 +1,18 @@
-use Rattle.std.proofs.Common.{◌≡◌, ℕ, List, map, filter, ap, ◌∙◌, subst}
+use Rattle.std.proofs.Common.{◌≡◌, ℕ, List, map, ap, ◌∙◌, subst}
 use Rattle.std.specs.Prelude.{IfOk}
 use Rattle.std.specs.List.Sorted.{IsPermutation}
+use Rattle.bo_draft.specs.DraftState.{now}
 use Rattle.bo_lists.specs.declared.rows.Waiting.{Waiting}
-use Rattle.bo_lists.specs.Usage.{has_none}
+use Rattle.bo_lists.specs.Waits.{waiters}
+use Rattle.bo_waiting.specs.Serving.{queue}
 use Rattle.bo_waiting.specs.declared.turns.Turn.{Turn}
 use Rattle.bo_waiting.proofs.Order.{sorted_is_queue}
 use Rattle.bo_waiting.proofs.turns.ids_in_turn.Goals as goal
 
 pub returns : goal.returns
-returns c =
-    let waits : List Waiting = filter (λ e. has_none e.voucher) c.args.waiting.now in
+unfolding queue
+returns g c =
+    let waits : List Waiting = waiters (now c.args.draft.now).lists in
     let moved = subst (λ (l : List Turn). IsPermutation l c.sort_unstable.new.self.items) c.in_ok-turns.ensures c.sort_unstable.ensures.permutation in
-    let same = ap (map (λ (t : Turn). t.id)) c.deref.ensures.value ∙ sorted_is_queue waits c.sort_unstable.new.self.items moved c.sort_unstable.ensures.sorted in
+    let same = ap (map (λ (t : Turn). t.id)) c.deref-2.ensures.value ∙ sorted_is_queue waits c.sort_unstable.new.self.items moved c.sort_unstable.ensures.sorted in
     subst (λ (l : List ℕ). IfOk c.ids_of.result (λ ids. ids.items ≡ l)) same c.ids_of.ensures

@@ -1,0 +1,149 @@
+-- What one statement makes of the tables.
+use Rattle.std.specs.Prelude.{◌≡◌, ℕ, true, not, ◌==◌, List, [], ◌∷◌, filter}
+use Rattle.sqlite.specs.State.{State}
+use Rattle.bo_columns.specs.declared.rows.Shop.{Shop}
+use Rattle.bo_catalogue.specs.declared.rows.Item.{Item}
+use Rattle.bo_catalogue.specs.declared.rows.Variation.{Variation}
+use Rattle.bo_columns.specs.declared.rows.QuotaRow.{QuotaRow}
+use Rattle.bo_catalogue.specs.declared.rows.Quota.{Quota}
+use Rattle.bo_columns.specs.declared.rows.QuotaItem.{QuotaItem}
+use Rattle.bo_columns.specs.declared.rows.QuotaVariation.{QuotaVariation}
+use Rattle.bo_columns.specs.declared.rows.VoucherRow.{VoucherRow}
+use Rattle.bo_lists.specs.declared.rows.CartPos.{CartPos}
+use Rattle.bo_lists.specs.declared.rows.Order.{Order}
+use Rattle.bo_lists.specs.declared.rows.OrderPos.{OrderPos}
+use Rattle.bo_lists.specs.declared.rows.Waiting.{Waiting}
+use Rattle.bo_columns.specs.declared.rows.ListRow.{ListRow}
+use Rattle.bo_lists.specs.declared.rows.CheckinList.{CheckinList}
+use Rattle.bo_columns.specs.declared.rows.ListItem.{ListItem}
+use Rattle.bo_lists.specs.declared.rows.Checkin.{Checkin}
+use Rattle.bo_lists.specs.declared.count_rows.QuotaCount.{QuotaCount}
+use Rattle.bo_columns.specs.declared.rows.Token.{Token}
+use Rattle.bo_columns.specs.declared.rows.KeptRow.{KeptRow}
+use Rattle.bo_schema.specs.Tables.{schema}
+use Rattle.bo_columns.specs.Tables.{Tables, Holds}
+
+-- inside a transaction over the schema
+pub record IsInside (s : State) : Type 0 where
+  pub known : s.now.schema ≡ schema
+  pub inside : s.in_transaction ≡ true
+
+-- the transaction goes on; and whatever the tables held, if it is fit for this change, they hold what the change makes of it
+pub record ChangesFit (Fits : Tables → Type 0) (change : Tables → Tables) (old new : State) : Type 0 where
+  pub known : new.now.schema ≡ schema
+  pub inside : new.in_transaction ≡ true
+  pub committed : new.committed ≡ old.committed
+  pub holds : (t : Tables) → Fits t → Holds old.now.trees t → Holds new.now.trees (change t)
+
+-- the same with nothing asked of the tables
+pub record Changes (change : Tables → Tables) (old new : State) : Type 0 where
+  pub known : new.now.schema ≡ schema
+  pub inside : new.in_transaction ≡ true
+  pub committed : new.committed ≡ old.committed
+  pub holds : (t : Tables) → Holds old.now.trees t → Holds new.now.trees (change t)
+
+-- ---- a row more, and no row of an id
+
+abbrev pub with_shop : Shop → Tables → Tables
+with_shop w t = record t { shop = w ∷ t.shop }
+
+abbrev pub without_shop : ℕ → Tables → Tables
+without_shop id t = record t { shop = filter (λ r. not (1 == id)) t.shop }
+
+abbrev pub with_item : Item → Tables → Tables
+with_item w t = record t { items = w ∷ t.items }
+
+abbrev pub without_item : ℕ → Tables → Tables
+without_item id t = record t { items = filter (λ r. not (r.id == id)) t.items }
+
+abbrev pub with_variation : Variation → Tables → Tables
+with_variation w t = record t { variations = w ∷ t.variations }
+
+abbrev pub without_variation : ℕ → Tables → Tables
+without_variation id t = record t { variations = filter (λ r. not (r.id == id)) t.variations }
+
+-- a quota without its members
+abbrev pub head_of_quota : Quota → QuotaRow
+head_of_quota w = record { id = w.id; name = w.name; size = w.size }
+
+abbrev pub with_quota : Quota → Tables → Tables
+with_quota w t = record t { quotas = head_of_quota w ∷ t.quotas }
+
+abbrev pub without_quota : ℕ → Tables → Tables
+without_quota id t = record t { quotas = filter (λ r. not (r.id == id)) t.quotas }
+
+abbrev pub with_quota_item : QuotaItem → Tables → Tables
+with_quota_item w t = record t { quota_items = w ∷ t.quota_items }
+
+abbrev pub without_quota_item : ℕ → Tables → Tables
+without_quota_item id t = record t { quota_items = filter (λ r. not (r.rowid == id)) t.quota_items }
+
+abbrev pub with_quota_variation : QuotaVariation → Tables → Tables
+with_quota_variation w t = record t { quota_variations = w ∷ t.quota_variations }
+
+abbrev pub without_quota_variation : ℕ → Tables → Tables
+without_quota_variation id t = record t { quota_variations = filter (λ r. not (r.rowid == id)) t.quota_variations }
+
+abbrev pub with_cart : CartPos → Tables → Tables
+with_cart w t = record t { carts = w ∷ t.carts }
+
+abbrev pub without_cart : ℕ → Tables → Tables
+without_cart id t = record t { carts = filter (λ r. not (r.id == id)) t.carts }
+
+abbrev pub with_order : Order → Tables → Tables
+with_order w t = record t { orders = w ∷ t.orders }
+
+abbrev pub without_order : ℕ → Tables → Tables
+without_order id t = record t { orders = filter (λ r. not (r.id == id)) t.orders }
+
+abbrev pub with_position : OrderPos → Tables → Tables
+with_position w t = record t { positions = w ∷ t.positions }
+
+abbrev pub without_position : ℕ → Tables → Tables
+without_position id t = record t { positions = filter (λ r. not (r.id == id)) t.positions }
+
+abbrev pub with_waiting : Waiting → Tables → Tables
+with_waiting w t = record t { waiting = w ∷ t.waiting }
+
+abbrev pub without_waiting : ℕ → Tables → Tables
+without_waiting id t = record t { waiting = filter (λ r. not (r.id == id)) t.waiting }
+
+-- a check-in list without its items
+abbrev pub head_of_list : CheckinList → ListRow
+head_of_list w = record { id = w.id; name = w.name; all_products = w.all_products; include_pending = w.include_pending; allow_multiple_entries = w.allow_multiple_entries; allow_entry_after_exit = w.allow_entry_after_exit }
+
+abbrev pub with_list : CheckinList → Tables → Tables
+with_list w t = record t { checkin_lists = head_of_list w ∷ t.checkin_lists }
+
+abbrev pub without_list : ℕ → Tables → Tables
+without_list id t = record t { checkin_lists = filter (λ r. not (r.id == id)) t.checkin_lists }
+
+abbrev pub with_list_item : ListItem → Tables → Tables
+with_list_item w t = record t { list_items = w ∷ t.list_items }
+
+abbrev pub without_list_item : ℕ → Tables → Tables
+without_list_item id t = record t { list_items = filter (λ r. not (r.rowid == id)) t.list_items }
+
+abbrev pub with_checkin : Checkin → Tables → Tables
+with_checkin w t = record t { checkins = w ∷ t.checkins }
+
+abbrev pub without_checkin : ℕ → Tables → Tables
+without_checkin id t = record t { checkins = filter (λ r. not (r.id == id)) t.checkins }
+
+abbrev pub with_count : QuotaCount → Tables → Tables
+with_count w t = record t { counts = w ∷ t.counts }
+
+abbrev pub without_count : ℕ → Tables → Tables
+without_count id t = record t { counts = filter (λ r. not (r.quota == id)) t.counts }
+
+abbrev pub with_token : Token → Tables → Tables
+with_token w t = record t { tokens = w ∷ t.tokens }
+
+abbrev pub without_token : ℕ → Tables → Tables
+without_token id t = record t { tokens = filter (λ r. not (r.id == id)) t.tokens }
+
+abbrev pub with_kept : KeptRow → Tables → Tables
+with_kept w t = record t { kept = w ∷ t.kept }
+
+abbrev pub without_kept : ℕ → Tables → Tables
+without_kept id t = record t { kept = filter (λ r. not (r.rowid == id)) t.kept }

@@ -1,0 +1,91 @@
+-- Each row as an INSERT of all columns writes it and a SELECT of them shows it.
+use Rattle.std.specs.Prelude.{ℕ, List, [], ◌∷◌}
+use Rattle.sqlite_value.specs.declared.value.Value.TheVariants.{Int, Text, Blob}
+use Rattle.sqlite_value.specs.Order.{Row}
+use Rattle.sqlite.specs.Values.{or_null}
+use Rattle.bo_columns.specs.declared.rows.Shop.{Shop}
+use Rattle.bo_catalogue.specs.declared.rows.Item.{Item}
+use Rattle.bo_catalogue.specs.declared.rows.Variation.{Variation}
+use Rattle.bo_columns.specs.declared.rows.QuotaRow.{QuotaRow}
+use Rattle.bo_columns.specs.declared.rows.QuotaItem.{QuotaItem}
+use Rattle.bo_columns.specs.declared.rows.QuotaVariation.{QuotaVariation}
+use Rattle.bo_columns.specs.declared.rows.VoucherRow.{VoucherRow}
+use Rattle.bo_lists.specs.declared.rows.CartPos.{CartPos}
+use Rattle.bo_lists.specs.declared.rows.Order.{Order}
+use Rattle.bo_lists.specs.declared.rows.OrderPos.{OrderPos}
+use Rattle.bo_lists.specs.declared.rows.Waiting.{Waiting}
+use Rattle.bo_columns.specs.declared.rows.ListRow.{ListRow}
+use Rattle.bo_columns.specs.declared.rows.ListItem.{ListItem}
+use Rattle.bo_lists.specs.declared.rows.Checkin.{Checkin}
+use Rattle.bo_lists.specs.declared.count_rows.QuotaCount.{QuotaCount}
+use Rattle.bo_columns.specs.declared.rows.Token.{Token}
+use Rattle.bo_columns.specs.declared.rows.KeptRow.{KeptRow}
+use Rattle.bo_columns.specs.Cells.{number, truth, mode, status, kind, methods}
+
+-- the shop itself: one row
+abbrev pub shop_row : Shop → Row
+shop_row w = number 1 ∷ number w.version ∷ Text w.organizer ∷ Text w.event ∷ number w.moment ∷ number w.next.item ∷ number w.next.variation ∷ number w.next.quota ∷ number w.next.voucher ∷ number w.next.cart ∷ number w.next.order ∷ number w.next.position ∷ number w.next.waiting ∷ number w.next.list ∷ number w.next.checkin ∷ number w.next_token ∷ []
+
+-- what is sold
+abbrev pub item_row : Item → Row
+item_row w = number w.id ∷ Text w.name ∷ number w.default_price ∷ truth w.active ∷ truth w.varied ∷ []
+
+-- kinds of items
+abbrev pub variation_row : Variation → Row
+variation_row w = number w.id ∷ number w.item ∷ Text w.name ∷ or_null number w.default_price ∷ truth w.active ∷ []
+
+-- quotas, without their members
+abbrev pub quota_row : QuotaRow → Row
+quota_row w = number w.id ∷ Text w.name ∷ or_null number w.size ∷ []
+
+-- the items of quotas
+abbrev pub quota_item_row : QuotaItem → Row
+quota_item_row w = number w.rowid ∷ number w.quota ∷ number w.item ∷ []
+
+-- the variations of quotas
+abbrev pub quota_variation_row : QuotaVariation → Row
+quota_variation_row w = number w.rowid ∷ number w.quota ∷ number w.variation ∷ []
+
+-- vouchers, each with how often it is redeemed
+abbrev pub voucher_row : VoucherRow → Row
+voucher_row w = number w.voucher.id ∷ Text w.voucher.code ∷ number w.voucher.max_usages ∷ or_null number w.voucher.valid_until ∷ truth w.voucher.block_quota ∷ truth w.voucher.allow_ignore_quota ∷ mode w.voucher.price_mode ∷ or_null number w.voucher.value ∷ or_null number w.voucher.item ∷ or_null number w.voucher.variation ∷ or_null number w.voucher.quota ∷ Text w.voucher.tag ∷ Text w.voucher.comment ∷ number w.redeemed ∷ []
+
+-- places that are held in carts
+abbrev pub cart_row : CartPos → Row
+cart_row w = number w.id ∷ Text w.cart_id ∷ number w.product.item ∷ or_null number w.product.variation ∷ number w.price ∷ number w.made_at ∷ number w.expires ∷ or_null number w.voucher ∷ []
+
+-- orders, by number
+abbrev pub order_row : Order → Row
+order_row w = number w.id ∷ or_null Text w.email ∷ status w.status ∷ number w.made_at ∷ number w.expires ∷ []
+
+-- the tickets of orders
+abbrev pub position_row : OrderPos → Row
+position_row w = number w.id ∷ number w.order ∷ number w.positionid ∷ number w.product.item ∷ or_null number w.product.variation ∷ number w.price ∷ or_null number w.voucher ∷ Text w.secret ∷ []
+
+-- the waiting list
+abbrev pub waiting_row : Waiting → Row
+waiting_row w = number w.id ∷ Text w.email ∷ number w.product.item ∷ or_null number w.product.variation ∷ Int w.priority ∷ number w.created ∷ or_null number w.voucher ∷ []
+
+-- lists by which doors check tickets in, without their items
+abbrev pub list_row : ListRow → Row
+list_row w = number w.id ∷ Text w.name ∷ truth w.all_products ∷ truth w.include_pending ∷ truth w.allow_multiple_entries ∷ truth w.allow_entry_after_exit ∷ []
+
+-- the items of check-in lists
+abbrev pub list_item_row : ListItem → Row
+list_item_row w = number w.rowid ∷ number w.list ∷ number w.item ∷ []
+
+-- who came in and went out
+abbrev pub checkin_row : Checkin → Row
+checkin_row w = number w.id ∷ number w.list ∷ number w.position ∷ kind w.kind ∷ number w.datetime ∷ or_null Text w.nonce ∷ []
+
+-- what uses each quota
+abbrev pub count_row : QuotaCount → Row
+count_row w = number w.quota ∷ number w.usage.paid ∷ number w.usage.pending ∷ number w.usage.blocked ∷ number w.usage.carts ∷ number w.usage.waiting ∷ []
+
+-- the digests of tokens
+abbrev pub token_row : Token → Row
+token_row w = number w.id ∷ Blob w.digest ∷ []
+
+-- kept answers
+abbrev pub kept_row : KeptRow → Row
+kept_row w = number w.rowid ∷ number w.kept.token ∷ Blob w.kept.key ∷ number w.kept.at ∷ number w.kept.response.status ∷ methods w.kept.response.allow ∷ Blob w.kept.response.body ∷ []

@@ -1,0 +1,75 @@
+-- What the tables of the file hold.
+use Rattle.std.specs.Prelude.{ℕ, List, [], ◌∷◌, map}
+use Rattle.sqlite_value.specs.Order.{Row}
+use Rattle.sqlite_trees.specs.Tree.{Trees}
+use Rattle.bo_columns.specs.declared.rows.Shop.{Shop}
+use Rattle.bo_catalogue.specs.declared.rows.Item.{Item}
+use Rattle.bo_catalogue.specs.declared.rows.Variation.{Variation}
+use Rattle.bo_columns.specs.declared.rows.QuotaRow.{QuotaRow}
+use Rattle.bo_columns.specs.declared.rows.QuotaItem.{QuotaItem}
+use Rattle.bo_columns.specs.declared.rows.QuotaVariation.{QuotaVariation}
+use Rattle.bo_columns.specs.declared.rows.VoucherRow.{VoucherRow}
+use Rattle.bo_lists.specs.declared.rows.CartPos.{CartPos}
+use Rattle.bo_lists.specs.declared.rows.Order.{Order}
+use Rattle.bo_lists.specs.declared.rows.OrderPos.{OrderPos}
+use Rattle.bo_lists.specs.declared.rows.Waiting.{Waiting}
+use Rattle.bo_columns.specs.declared.rows.ListRow.{ListRow}
+use Rattle.bo_columns.specs.declared.rows.ListItem.{ListItem}
+use Rattle.bo_lists.specs.declared.rows.Checkin.{Checkin}
+use Rattle.bo_lists.specs.declared.count_rows.QuotaCount.{QuotaCount}
+use Rattle.bo_columns.specs.declared.rows.Token.{Token}
+use Rattle.bo_columns.specs.declared.rows.KeptRow.{KeptRow}
+use Rattle.bo_schema.specs.Tables.{schema}
+use Rattle.bo_schema.specs.Parts.{Part, HoldParts}
+use Rattle.bo_columns.specs.Rows.{shop_row, item_row, variation_row, quota_row, quota_item_row, quota_variation_row, voucher_row, cart_row, order_row, position_row, waiting_row, list_row, list_item_row, checkin_row, count_row, token_row, kept_row}
+
+-- the rows of each table, in some order
+pub record Tables : Type 0 where
+  pub shop : List Shop
+  pub items : List Item
+  pub variations : List Variation
+  pub quotas : List QuotaRow
+  pub quota_items : List QuotaItem
+  pub quota_variations : List QuotaVariation
+  pub vouchers : List VoucherRow
+  pub carts : List CartPos
+  pub orders : List Order
+  pub positions : List OrderPos
+  pub waiting : List Waiting
+  pub checkin_lists : List ListRow
+  pub list_items : List ListItem
+  pub checkins : List Checkin
+  pub counts : List QuotaCount
+  pub tokens : List Token
+  pub kept : List KeptRow
+
+abbrev part : ℕ → List Row → Part
+part tree rows = record { tree = tree; rows = rows }
+
+-- each table by the number of its tree, in the order of the schema
+abbrev pub parts : Tables → List Part
+parts t =
+    part 0 (map shop_row t.shop)
+    ∷ part 1 (map item_row t.items)
+    ∷ part 2 (map variation_row t.variations)
+    ∷ part 3 (map quota_row t.quotas)
+    ∷ part 4 (map quota_item_row t.quota_items)
+    ∷ part 6 (map quota_variation_row t.quota_variations)
+    ∷ part 8 (map voucher_row t.vouchers)
+    ∷ part 10 (map cart_row t.carts)
+    ∷ part 11 (map order_row t.orders)
+    ∷ part 12 (map position_row t.positions)
+    ∷ part 15 (map waiting_row t.waiting)
+    ∷ part 16 (map list_row t.checkin_lists)
+    ∷ part 17 (map list_item_row t.list_items)
+    ∷ part 19 (map checkin_row t.checkins)
+    ∷ part 21 (map count_row t.counts)
+    ∷ part 22 (map token_row t.tokens)
+    ∷ part 24 (map kept_row t.kept) ∷ []
+
+-- the file's trees show these rows
+abbrev pub Holds : Trees → Tables → Type 0
+Holds db t = HoldParts schema db (parts t)
+
+abbrev pub no_rows : Tables
+no_rows = record { shop = []; items = []; variations = []; quotas = []; quota_items = []; quota_variations = []; vouchers = []; carts = []; orders = []; positions = []; waiting = []; checkin_lists = []; list_items = []; checkins = []; counts = []; tokens = []; kept = [] }

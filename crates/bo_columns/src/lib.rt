@@ -1,0 +1,14 @@
+//! What the columns of the file hold, and the rows of its tables.
+#![tactic(auto)]
+
+pub mod bytes;
+pub mod column;
+pub mod methods;
+pub mod numbers;
+pub mod rows;
+pub mod words;
+
+pub use column::Column;
+pub use rows::{
+    KeptRow, ListItem, ListRow, QuotaItem, QuotaRow, QuotaVariation, Shop, Token, VoucherRow,
+};

@@ -1,0 +1,113 @@
+//! Texts and words of a choice in columns.
+
+ghost use Rattle.sqlite_value.specs.declared.value.Value.TheVariants.{Text as Words};
+ghost use Rattle.bo_columns.specs.Cells as cell;
+
+use crate::column::Column;
+use bo_base::{PriceMode, Slug, Text, is_slug, is_text};
+use bo_lists::{CheckinKind, Status};
+use bo_schema::RowError;
+use sqlite::Row;
+use sqlite_value::value::ValueRef;
+use std::alloc::Global;
+
+impl Column for Text {
+    ghost cell = { Words };
+
+    fn bind(&self) -> Result<ValueRef<'_>, RowError> {
+        Ok(ValueRef::Text(self.as_str().as_bytes()))
+    }
+
+    fn read(_: Global, row: &Row, at: usize) -> Result<Text, RowError> {
+        let chars: String = row.get(at)?;
+        if !is_text(&chars) {
+            return Err(RowError::Damaged);
+        }
+        Ok(Text::new(chars))
+    }
+}
+
+impl Column for Slug {
+    ghost cell = { Words };
+
+    fn bind(&self) -> Result<ValueRef<'_>, RowError> {
+        Ok(ValueRef::Text(self.as_str().as_bytes()))
+    }
+
+    fn read(alloc: Global, row: &Row, at: usize) -> Result<Slug, RowError> {
+        let chars: String = row.get(at)?;
+        if !is_slug(&chars) {
+            return Err(RowError::Damaged);
+        }
+        let slug = Slug::copy_of(alloc, &chars)?;
+        Ok(slug)
+    }
+}
+
+impl Column for PriceMode {
+    ghost cell = { cell.mode };
+
+    fn bind(&self) -> Result<ValueRef<'_>, RowError> {
+        Ok(ValueRef::Text(match self {
+            PriceMode::None => b"none",
+            PriceMode::Set => b"set",
+            PriceMode::Subtract => b"subtract",
+            PriceMode::Percent => b"percent",
+        }))
+    }
+
+    fn read(_: Global, row: &Row, at: usize) -> Result<PriceMode, RowError> {
+        let word: String = row.get(at)?;
+        match word.as_str() {
+            "none" => Ok(PriceMode::None),
+            "set" => Ok(PriceMode::Set),
+            "subtract" => Ok(PriceMode::Subtract),
+            "percent" => Ok(PriceMode::Percent),
+            _ => Err(RowError::Damaged),
+        }
+    }
+}
+
+impl Column for Status {
+    ghost cell = { cell.status };
+
+    fn bind(&self) -> Result<ValueRef<'_>, RowError> {
+        Ok(ValueRef::Text(match self {
+            Status::Pending => b"n",
+            Status::Paid => b"p",
+            Status::Expired => b"e",
+            Status::Cancelled => b"c",
+        }))
+    }
+
+    fn read(_: Global, row: &Row, at: usize) -> Result<Status, RowError> {
+        let letter: String = row.get(at)?;
+        match letter.as_str() {
+            "n" => Ok(Status::Pending),
+            "p" => Ok(Status::Paid),
+            "e" => Ok(Status::Expired),
+            "c" => Ok(Status::Cancelled),
+            _ => Err(RowError::Damaged),
+        }
+    }
+}
+
+impl Column for CheckinKind {
+    ghost cell = { cell.kind };
+
+    fn bind(&self) -> Result<ValueRef<'_>, RowError> {
+        Ok(ValueRef::Text(match self {
+            CheckinKind::Entry => b"entry",
+            CheckinKind::Exit => b"exit",
+        }))
+    }
+
+    fn read(_: Global, row: &Row, at: usize) -> Result<CheckinKind, RowError> {
+        let word: String = row.get(at)?;
+        match word.as_str() {
+            "entry" => Ok(CheckinKind::Entry),
+            "exit" => Ok(CheckinKind::Exit),
+            _ => Err(RowError::Damaged),
+        }
+    }
+}

@@ -1,0 +1,4 @@
+pub mod Later
+pub mod Names
+pub mod Shifts
+pub mod Turns

@@ -1,0 +1,12 @@
+use Rattle.std.proofs.Common.{sym, ap, ◌∙◌}
+use Rattle.bo_counts.specs.Puts.{position_put}
+use Rattle.bo_counts.proofs.LookUps.{position_touched, position_kept}
+use Rattle.bo_counts.proofs.view.View.position.Goals as goal
+
+pub returns-in-None : goal.returns-in-None
+returns-in-None g c =
+    rw (← c.self.view_is) (c.position.ensures ∙ sym (position_kept c.args.id c.self.inside.log.now _ (sym c.last.ensures.value ∙ c.in-None.is)))
+
+pub returns-in-Some : goal.returns-in-Some
+returns-in-Some g c =
+    rw (← c.self.view_is) (c.position_put.ensures ∙ ap position_put c.get.ensures ∙ sym (position_touched c.args.id c.self.inside.log.now _ c.get.result.now c.in-Some.place (sym c.last.ensures.value ∙ c.in-Some.is)))

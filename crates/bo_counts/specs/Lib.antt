@@ -1,0 +1,4 @@
+pub mod Puts
+pub mod Touched
+pub mod Shares
+pub mod Told

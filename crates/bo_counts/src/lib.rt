@@ -1,0 +1,12 @@
+//! The counts of quotas and vouchers that changes change.
+#![tactic(auto)]
+
+mod copies;
+mod counts;
+mod shares;
+mod sides;
+mod told;
+mod touched;
+mod view;
+
+pub use counts::counts_after;

@@ -1,0 +1,10 @@
+pub mod Runs
+pub mod Repeats
+pub mod Stood
+pub mod Whole
+pub mod Again
+pub mod Apart
+pub mod OneEach
+pub mod Crashes
+pub mod NothingOver
+pub mod Running

@@ -1,0 +1,18 @@
+-- What the type of an arrival promises of it.
+use Rattle.bo_base.specs.Draws.{IsDraw}
+use Rattle.bo_commands.specs.Fit.{IsFit}
+use Rattle.bo_deliveries.specs.declared.arrival.Arrival.{Arrival}
+use Rattle.bo_deliveries.specs.declared.arrival.Request.{Request}
+use Rattle.bo_deliveries.specs.declared.arrival.Request.TheVariants.{Write, WriteRefused, Read, ReadRefused}
+
+-- what a command asks is within its limits
+abbrev pub IsFitRequest : Request → Type 0
+IsFitRequest (Write command) = IsFit command
+IsFitRequest (WriteRefused response) = Unit {0}
+IsFitRequest (Read query) = Unit {0}
+IsFitRequest (ReadRefused response) = Unit {0}
+
+-- what it asks is within its limits, and its draw is sixteen bytes
+pub record IsFitArrival (a : Arrival) : Type 0 where
+  pub request : IsFitRequest a.request
+  pub draw : IsDraw a.draw

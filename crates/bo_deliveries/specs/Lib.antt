@@ -1,0 +1,5 @@
+pub mod Deliveries
+pub mod Fit
+pub mod Headline
+pub mod Histories
+pub mod Shops

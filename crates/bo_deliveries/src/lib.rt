@@ -1,0 +1,7 @@
+//! Which requests are carried out, what each is told, and what is kept: definitions over lists of arrivals, and their laws.
+#![tactic(auto)]
+
+pub mod arrival;
+pub mod laws;
+
+pub use arrival::{Arrival, Request};

@@ -1,0 +1,3 @@
+pub mod Digests
+pub mod Keys
+pub mod Indexes

@@ -1,0 +1,13 @@
+//! Tables of rows that are found by keys, too: by the moment at which they end, by the voucher that they name, by a text,
+//! and by what they belong to.
+#![tactic(auto)]
+
+pub mod digests;
+pub mod indexed;
+pub mod keyed;
+pub mod keys;
+
+pub use digests::{digest, pair};
+pub use indexed::Indexed;
+pub use keyed::Keyed;
+pub use keys::Keys;

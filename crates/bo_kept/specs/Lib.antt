@@ -1,0 +1,2 @@
+pub mod KeptAnswers
+pub mod ShopView

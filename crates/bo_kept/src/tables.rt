@@ -1,0 +1,83 @@
+//! Where a shop keeps its rows and its answers.
+
+ghost use Rattle.std.specs.Prelude.{◌≡◌, ◌⊎◌, ℕ, List, Option, IfOk, OnOk, OnErr, IsPermutation};
+ghost use Rattle.bo_lists.specs.Lists.{State};
+ghost use Rattle.bo_lists.specs.Change.{applied};
+ghost use Rattle.bo_lists.specs.CountRows.{counts_after};
+ghost use Rattle.bo_kept.specs.declared.kept.Kept.{Kept};
+ghost use Rattle.bo_kept.specs.KeptAnswers.{AreOneForEachKey, told_by};
+ghost use Rattle.bo_kept.specs.ShopView.{ShopView, IsSame, committed};
+
+use crate::kept::Kept;
+use bo_base::{Moment, Response};
+use bo_lists::{Changes, CountRows};
+use std::alloc::Global;
+
+/// Why the tables refuse.
+#[derive(Clone, Copy, Debug, PartialEq, Eq)]
+pub enum TablesError {
+    /// 6: a growth was refused.
+    Memory,
+    /// 63: a call of the store was refused.
+    Store,
+}
+
+/// Tables that hold the rows of an office, the answers that are kept, and the tokens that are known. What they promise they
+/// promise of all rows, answers and tokens that they hold, where the store has returned what was written.
+pub trait Tables {
+    /// So far the store has returned what was written.
+    ghost sure: { Self → Type 0 };
+
+    /// The tables hold these rows and these answers, the answers in some order.
+    ghost holds: { Self → State → List Kept → Type 0 };
+
+    /// The tables know these tokens: the number of each digest that has one.
+    ghost knows: { Self → (List ℕ → Option ℕ) → Type 0 };
+
+    /// Tables that are opened after a crash may hold these.
+    ghost may_leave: { Self → ShopView → Type 0 };
+
+    /// In which order the answers are listed doesn't matter.
+    ghost reorders: { (t : Self) (s : State) (ks js : List Kept) → holds t s ks → IsPermutation ks js → holds t s js };
+
+    /// The number of the token with this SHA-256 digest, if it is known.
+    fn token_of(&mut self, digest: &[u8; 32]) -> Result<Option<u64>, TablesError>
+        ensures sure { sure self.new → sure self.old }
+        ensures found { sure self.new → (tokens : List ℕ → Option ℕ) → knows self.old tokens → IfOk result (λ number. number ≡ tokens digest.now) }
+        ensures same { sure self.new → (s : State) (ks : List Kept) → holds self.old s ks → holds self.new s ks }
+        ensures tokens { sure self.new → (tokens : List ℕ → Option ℕ) → knows self.old tokens → knows self.new tokens }
+        ensures crash { (left : ShopView) → may_leave self.new left → may_leave self.old left };
+
+    /// What was told under a key of a token that is still kept at a moment.
+    fn find_kept(
+        &mut self,
+        alloc: Global,
+        token: u64,
+        key: &[u8],
+        at: Moment,
+    ) -> Result<Option<Response>, TablesError>
+        ensures sure { sure self.new → sure self.old }
+        ensures found { sure self.new → (s : State) (ks : List Kept) → holds self.old s ks → AreOneForEachKey ks → IfOk result (λ response. response ≡ told_by token key.now at ks) }
+        ensures same { sure self.new → (s : State) (ks : List Kept) → holds self.old s ks → holds self.new s ks }
+        ensures tokens { sure self.new → (tokens : List ℕ → Option ℕ) → knows self.old tokens → knows self.new tokens }
+        ensures crash { (left : ShopView) → may_leave self.new left → may_leave self.old left };
+
+    /// Makes these changes at a moment, with the counts that they change, and keeps this answer, all of it or nothing; what is
+    /// past goes.
+    fn commit(
+        &mut self,
+        changes: &Changes,
+        counts: &CountRows,
+        at: Moment,
+        kept: Option<&Kept>,
+    ) -> Result<(), TablesError>
+        ensures sure { sure self.new → sure self.old }
+        ensures all { sure self.new → (s : State) (ks : List Kept) → holds self.old s ks → counts.now ≡ counts_after s (applied changes.now at s)
+            → OnOk result (holds self.new (committed changes.now at kept.entry s ks).state (committed changes.now at kept.entry s ks).kept) }
+        ensures none { sure self.new → (s : State) (ks : List Kept) → holds self.old s ks → OnErr result (holds self.new s ks) }
+        ensures tokens { sure self.new → (tokens : List ℕ → Option ℕ) → knows self.old tokens → knows self.new tokens }
+        ensures crash { (left : ShopView) → may_leave self.new left → may_leave self.old left
+            ⊎ ((s : State) (ks : List Kept) → holds self.old s ks → counts.now ≡ counts_after s (applied changes.now at s) → IsSame left (committed changes.now at kept.entry s ks)) }
+        ensures settled { sure self.new → OnOk result ((left : ShopView) → may_leave self.new left → (s : State) (ks : List Kept) → holds self.old s ks
+            → counts.now ≡ counts_after s (applied changes.now at s) → IsSame left (committed changes.now at kept.entry s ks)) };
+}

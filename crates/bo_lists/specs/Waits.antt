@@ -1,0 +1,24 @@
+-- Who waits.
+use Rattle.std.specs.Prelude.{ℕ, Bool, ◌&&◌, ◌==◌, List, filter, map}
+use Rattle.std.specs.List.{list_any}
+use Rattle.bo_base.specs.Texts.{same_text}
+use Rattle.bo_catalogue.specs.declared.rows.Product.{Product}
+use Rattle.bo_lists.specs.declared.rows.Waiting.{Waiting}
+use Rattle.bo_lists.specs.Conditions.{same_id}
+use Rattle.bo_lists.specs.Lists.{Lists}
+use Rattle.bo_lists.specs.Usage.{has_none}
+
+-- one item, and one variation or none
+abbrev pub same_product : Product → Product → Bool
+same_product a b = a.item == b.item && same_id a.variation b.variation
+
+-- an entry of this email waits, without a voucher, for this product
+abbrev pub waits_as : List ℕ → Product → Waiting → Bool
+waits_as email product entry = has_none entry.voucher && (same_product entry.product product && same_text entry.email email)
+
+abbrev pub is_waiting : List ℕ → Product → Lists → Bool
+is_waiting email product lists = list_any (waits_as email product) lists.waiting
+
+-- the entries without voucher, by id
+abbrev pub waiters : Lists → List Waiting
+waiters lists = filter (λ e. has_none e.voucher) lists.waiting

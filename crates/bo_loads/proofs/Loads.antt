@@ -1,0 +1,105 @@
+-- What a SELECT of all columns shows, and that it changes nothing.
+use Rattle.std.proofs.Common.{◌≡◌, ◌≢◌, ◌⊎◌, inl, inr, ℕ, zero, suc, List, [], ◌∷◌, length, map, filter, false, true, cond, Bool, Ok, Err, Result, IfOk, IsTrue, Option, Some, None, refl, ap, sym, subst, ◌∙◌, arith}
+use Rattle.std.specs.List.Sorted.{IsPermutation}
+use Rattle.std.proofs.lemmas.List.Sorted.{IsPermutation-sym}
+use Rattle.sqlite_value.specs.declared.value.Value.{Value}
+use Rattle.sqlite_value.specs.declared.keys.Key.{Key}
+use Rattle.sqlite_value.specs.Order.{Row, column}
+use Rattle.sqlite_sql.specs.Term.{Term, eval_all}
+use Rattle.sqlite_schema.specs.declared.command.Command.TheVariants.{Select}
+use Rattle.sqlite_schema.specs.declared.command.Returning.{Returning}
+use Rattle.sqlite_resolve.specs.declared.compiled.Compiled.{Compiled}
+use Rattle.sqlite.specs.Effect.{Database}
+use Rattle.sqlite.specs.declared.error.Error.{Error}
+use Rattle.sqlite.specs.Listing.{understood, reads_listing}
+use Rattle.sqlite.specs.State.{State, Shown, ShowsRows, KeepsCommit, IsNotRun, FailsToQuery, FailsToShow, IsTooLate}
+use Rattle.sqlite.proofs.Callers.{IsPlain, command_of, reads_as}
+use Rattle.bo_schema.specs.Tables.{schema}
+use Rattle.bo_schema.specs.Parts.{shown}
+use Rattle.bo_schema.specs.Shapes.{over, plainly}
+use Rattle.bo_schema.proofs.Answered.{passes, answered}
+
+-- ---- a row that is read column by column
+
+-- the row has these columns from a place on
+abbrev pub AreColumns : ℕ → Row → Row → Type 0
+AreColumns at r [] = Unit {0}
+AreColumns at r (x ∷ xs) = (column r at ≡ x) × AreColumns (suc at) r xs
+
+later : (at : ℕ) (y : Value) (r xs : Row) → AreColumns (suc at) (y ∷ r) xs → AreColumns at r xs
+later at y r [] h = tt
+later at y r (x ∷ xs) h = (h.0, later (suc at) y r xs h.1)
+
+pub is_row : (r xs : Row) → length r ≡ length xs → AreColumns 0 r xs → r ≡ xs
+is_row [] [] len h = refl
+is_row [] (x ∷ xs) len h = absurd (omega arith)
+is_row (y ∷ r) [] len h = absurd (omega arith)
+is_row (y ∷ r) (x ∷ xs) len h = let here : y ≡ x = h.0 in let rest = is_row r xs (omega arith) (later 0 y r xs h.1) in cc
+
+-- ---- all rows of a table
+
+-- the text is a SELECT of all columns of the table of this tree
+pub record IsSelect (sql : List ℕ) (tree : ℕ) : Type 0 where
+  pub project : List Term
+  pub order : List (Term × Key)
+  pub names : List (List ℕ)
+  pub command : command_of (understood schema sql) ≡ Select (plainly (over tree [] project order)) names
+  pub plain : IsPlain (understood schema sql)
+  pub unlisted : reads_listing schema sql ≡ false
+  pub shows : (r : Row) → eval_all project ([] ∷ r ∷ []) ≡ shown schema tree r
+
+keep_all : (rows : List Row) → filter (passes [] []) rows ≡ rows
+keep_all [] = refl
+keep_all (r ∷ rows) = ap (λ l. r ∷ l) (keep_all rows)
+
+map_same : (f g : Row → Row) → ((r : Row) → f r ≡ g r) → (rows : List Row) → map f rows ≡ map g rows
+map_same f g same [] = refl
+map_same f g same (r ∷ rows) = rw (same r, map_same f g same rows)
+
+pub loads : (sql : List ℕ) (tree : ℕ) → IsSelect sql tree → (old new : State) → old.now.schema ≡ schema → (rows : List Row) → Shown sql [] old new rows → IsPermutation rows (map (shown schema tree) (old.now.trees tree))
+loads sql tree is old new known rows h =
+    let read = reads_as sql [] old new schema known (Select (plainly (over tree [] is.project is.order)) is.names) is.command is.plain is.unlisted rows h in
+    let found = answered old.now tree [] is.project is.order [] rows read in
+    IsPermutation-sym _ _ (subst (λ l. IsPermutation l rows)
+    (ap (map (λ (r : Row). eval_all is.project ([] ∷ r ∷ []))) (keep_all (old.now.trees tree)) ∙ map_same (λ (r : Row). eval_all is.project ([] ∷ r ∷ [])) (shown schema tree) is.shows (old.now.trees tree)) found)
+
+-- a SELECT changes nothing
+pub unchanged : (sql : List ℕ) (params : Row) (old new : State) → IsPlain (understood schema sql) → old.now.schema ≡ schema → (rows : List Row) → Shown sql params old new rows → new.now ≡ old.now
+unfolding Shown
+unchanged sql params old new plain known rows h =
+    let none = (subst IsPlain (ap (λ s. understood s sql) (sym known) ∙ h.1.is) plain).0 in
+    let it = subst (ShowsRows old new sql h.0 _ rows) none h.2 in
+    it.3.0.now_is
+
+pub still : (sql : List ℕ) (tree : ℕ) → IsSelect sql tree → (old new : State) → old.now.schema ≡ schema → (rows : List Row) → Shown sql [] old new rows → new.now ≡ old.now
+still sql tree is old new known rows h = unchanged sql [] old new is.plain known rows h
+
+-- ---- a query inside a transaction keeps the last commit, whatever its text
+
+shows_keeps : (old new : State) (sql : List ℕ) (c : Compiled) (params : Row) (rows : List Row) (r : Option Returning) → old.in_transaction ≡ true → ShowsRows old new sql c params rows r → KeepsCommit old new
+shows_keeps old new sql c params rows None inside h = record { was_open = λ _. h.3.0.was_open; committed = λ _. h.3.0.committed_is }
+shows_keeps old new sql c params rows (Some what) inside h = record { was_open = λ _. h.1.shown.was_open; committed = λ _. h.1.shown.committed_is ∙ ap (λ b. cond b old.committed new.now) inside }
+
+pub shown_keeps : (old new : State) (sql : List ℕ) (params : Row) (rows : List Row) → old.in_transaction ≡ true → Shown sql params old new rows → KeepsCommit old new
+unfolding Shown
+shown_keeps old new sql params rows inside h = shows_keeps old new sql h.0 _ rows h.0.returning inside h.2
+
+not_run : (old new : State) (sql : List ℕ) (params : Row) (e : Error) → IsNotRun old new sql params e → KeepsCommit old new
+unfolding IsNotRun
+not_run old new sql params e (inl same) = record { was_open = λ _. same.1.0.was_open; committed = λ _. same.1.0.committed_is }
+not_run old new sql params e (inr fails) = record { was_open = fails.3.was_open; committed = λ o. (fails.3.undone o).1 }
+
+fails_keeps : (old new : State) (sql : List ℕ) (c : Compiled) (params : Row) (e : Error) (r : Option Returning) → FailsToShow old new sql c params e r → KeepsCommit old new
+fails_keeps old new sql c params e None h = record { was_open = λ _. h.3.0.was_open; committed = λ _. h.3.0.committed_is }
+fails_keeps old new sql c params e (Some what) (inl same) = record { was_open = λ _. same.1.0.was_open; committed = λ _. same.1.0.committed_is }
+fails_keeps old new sql c params e (Some what) (inr fails) = record { was_open = fails.3.was_open; committed = λ o. (fails.3.undone o).1 }
+
+pub failed_keeps : (old new : State) (sql : List ℕ) (params : Row) (e : Error) → FailsToQuery sql params old new e ⊎ IsTooLate sql params old new e → KeepsCommit old new
+unfolding FailsToQuery
+failed_keeps old new sql params e (inl (inl h)) = not_run old new sql params e h
+failed_keeps old new sql params e (inl (inr h)) = fails_keeps old new sql h.0 _ e h.0.returning h.2
+failed_keeps old new sql params e (inr h) = record { was_open = λ _. h.5.0.was_open; committed = λ _. h.5.0.committed_is }
+
+pub if_ok : {T E : Type 0} (r : Result T E) (P Q : T → Type 0) → IfOk r P → ((x : T) → P x → Q x) → IfOk r Q
+if_ok (Ok x) P Q h k = k x h
+if_ok (Err e) P Q h k = tt

@@ -1,0 +1,19 @@
+use Rattle.std.proofs.Common.{map}
+use Rattle.std.specs.Prelude.{Vec}
+use Rattle.std.specs.declared.alloc.Global.{Global}
+use Rattle.sqlite.specs.Held.{state}
+use Rattle.bo_catalogue.specs.declared.rows.Item.{Item}
+use Rattle.bo_columns.specs.Rows.{item_row}
+use Rattle.bo_loads.proofs.Loads.{if_ok, loads, still}
+use Rattle.bo_loads.proofs.ItemsLemmas.{select_text, select_is}
+use Rattle.bo_loads.proofs.items.load.Goals as goal
+
+pub returns-clause-loaded : goal.returns-clause-loaded
+returns-clause-loaded g c clean known =
+    if_ok c.rows_of.result _ _ (c.rows_of.ensures.shown clean)
+    (λ (all : Vec Item Global) shown. loads select_text 1 select_is (state g.S.Store c.args.tx.now.conn.now) (state g.S.Store c.rows_of.new.tx.conn.now) known (map item_row all.items) shown)
+
+pub returns-clause-still : goal.returns-clause-still
+returns-clause-still g c clean known =
+    if_ok c.rows_of.result _ _ (c.rows_of.ensures.shown clean)
+    (λ (all : Vec Item Global) shown. still select_text 1 select_is (state g.S.Store c.args.tx.now.conn.now) (state g.S.Store c.rows_of.new.tx.conn.now) known (map item_row all.items) shown)

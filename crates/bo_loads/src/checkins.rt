@@ -1,0 +1,63 @@
+//! The table `checkins`.
+
+ghost use Rattle.std.specs.Prelude.{◌≡◌, true, map, IfOk, OnOk, IsPermutation};
+ghost use Rattle.sqlite.specs.Held.{state};
+ghost use Rattle.sqlite.specs.State.{HasCleanDisk, Survives, KeepsCommit};
+ghost use Rattle.bo_schema.specs.Tables.{schema};
+ghost use Rattle.bo_schema.specs.Parts.{shown};
+ghost use Rattle.bo_columns.specs.Rows.{checkin_row};
+
+use crate::loaded::{Loaded, rows_of};
+use bo_base::{Moment, Text};
+use bo_columns::Column;
+use bo_lists::{Checkin, CheckinKind};
+use bo_schema::RowError;
+use sqlite::{Alter, Row, Transaction};
+use std::alloc::Global;
+
+fn read_row(alloc: Global, row: &Row) -> Result<Checkin, RowError>
+    ensures { IfOk result (λ w. row.now ≡ checkin_row w) }
+{
+    if row.column_count() != 6 {
+        return Err(RowError::Damaged);
+    }
+    let id = u64::read(alloc, row, 0)?;
+    let list_id = u64::read(alloc, row, 1)?;
+    let position_id = u64::read(alloc, row, 2)?;
+    let kind = CheckinKind::read(alloc, row, 3)?;
+    let at = Moment::read(alloc, row, 4)?;
+    let nonce = Option::<Text>::read(alloc, row, 5)?;
+    Ok(Checkin {
+        id,
+        list: list_id,
+        position: position_id,
+        kind,
+        datetime: at,
+        nonce,
+    })
+}
+
+impl Loaded for Checkin {
+    ghost as_row = { checkin_row };
+
+    fn read(alloc: Global, row: &Row) -> Result<Checkin, RowError> {
+        read_row(alloc, row)
+    }
+}
+
+/// All rows by id. Nothing changes.
+/// Refusals: 6, 60 where the file has no such table with these columns, 62, 63.
+pub fn load<S: Alter>(alloc: Global, tx: &mut Transaction<'_, S>) -> Result<Vec<Checkin>, RowError>
+    ensures same { tx.new.conn.ghost_name ≡ tx.old.conn.ghost_name }
+    ensures loaded { HasCleanDisk (state S.Store tx.new.conn.now) → (state S.Store tx.old.conn.now).now.schema ≡ schema → IfOk result (λ all. IsPermutation (map checkin_row all.items) (map (shown schema 19) ((state S.Store tx.old.conn.now).now.trees 19))) }
+    ensures still { HasCleanDisk (state S.Store tx.new.conn.now) → (state S.Store tx.old.conn.now).now.schema ≡ schema → OnOk result ((state S.Store tx.new.conn.now).now ≡ (state S.Store tx.old.conn.now).now) }
+    ensures kept { HasCleanDisk (state S.Store tx.new.conn.now) → (state S.Store tx.old.conn.now).in_transaction ≡ true → KeepsCommit (state S.Store tx.old.conn.now) (state S.Store tx.new.conn.now) }
+    ensures crash { Survives (state S.Store tx.old.conn.now) (state S.Store tx.new.conn.now) (λ _. ⊥) }
+{
+    rows_of(
+        alloc,
+        tx,
+        "SELECT id, list_id, position_id, kind, at, nonce FROM checkins ORDER BY id",
+        &[],
+    )
+}

@@ -1,0 +1,54 @@
+//! A row that a table of the file shows.
+
+ghost use Rattle.std.specs.Prelude.{◌≡◌, map, take, true, IfOk};
+ghost use Rattle.sqlite_value.specs.Order.{Row as Shown};
+ghost use Rattle.sqlite.specs.Held.{state};
+ghost use Rattle.sqlite.specs.Values.{bound};
+ghost use Rattle.sqlite.specs.State.{HasCleanDisk, Survives, KeepsCommit, Shown as Shows};
+
+use bo_schema::RowError;
+use sqlite::{Alter, Row, Transaction};
+use sqlite_value::value::ValueRef;
+use std::alloc::Global;
+
+/// A row that a table of the file shows.
+pub trait Loaded {
+    // the row as a SELECT of all columns shows it
+    ghost as_row: { Self → Shown };
+
+    /// From a row that is shown. Refusals: 62 where a column's value can't be one of such a row, 6.
+    fn read(alloc: Global, row: &Row) -> Result<Self, RowError>
+        ensures { IfOk result (λ w. row.now ≡ as_row w) };
+}
+
+fn read_rows<T: Loaded + Drop>(alloc: Global, rows: &[Row]) -> Result<Vec<T>, RowError>
+    ensures { IfOk result (λ all. map T.Loaded.as_row all.items ≡ rows.now) }
+{
+    let mut all = Vec::new(alloc);
+    'rows: for row in rows {
+        let item = T::read(alloc, row)?;
+        match all.push(item) {
+            Ok(()) => {}
+            Err(_) => return Err(RowError::Memory),
+        }
+    }
+    Ok(all)
+}
+
+/// The rows that a SELECT shows.
+pub(crate) fn rows_of<S: Alter, T: Loaded + Drop>(
+    alloc: Global,
+    tx: &mut Transaction<'_, S>,
+    sql: &str,
+    params: &[ValueRef<'_>],
+) -> Result<Vec<T>, RowError>
+    ensures same { tx.new.conn.ghost_name ≡ tx.old.conn.ghost_name }
+    ensures shown { HasCleanDisk (state S.Store tx.new.conn.now) → IfOk result (λ all. Shows sql.now (bound params.now) (state S.Store tx.old.conn.now) (state S.Store tx.new.conn.now) (map T.Loaded.as_row all.items)) }
+    ensures kept { HasCleanDisk (state S.Store tx.new.conn.now) → (state S.Store tx.old.conn.now).in_transaction ≡ true → KeepsCommit (state S.Store tx.old.conn.now) (state S.Store tx.new.conn.now) }
+    ensures crash { Survives (state S.Store tx.old.conn.now) (state S.Store tx.new.conn.now) (λ _. ⊥) }
+{
+    match tx.query_all(sql, params) {
+        Ok(rows) => read_rows(alloc, rows.as_slice()),
+        Err(error) => Err(RowError::of(error)),
+    }
+}

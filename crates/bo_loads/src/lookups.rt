@@ -1,0 +1,57 @@
+//! Rows are looked up by other columns than their number.
+
+ghost use Rattle.std.specs.Prelude.{◌≡◌, true, filter, IfOk, OnOk, IsPermutation};
+ghost use Rattle.sqlite.specs.Held.{state};
+ghost use Rattle.sqlite.specs.State.{HasCleanDisk, Survives, KeepsCommit};
+ghost use Rattle.bo_schema.specs.Tables.{schema};
+ghost use Rattle.bo_columns.specs.Tables.{Tables, Holds};
+ghost use Rattle.bo_loads.specs.Lookups.{is_under, has_digest};
+
+use crate::loaded::rows_of;
+use bo_columns::{Column, KeptRow, Token};
+use bo_schema::RowError;
+use sqlite::{Alter, Transaction};
+use sqlite_value::value::ValueRef;
+use std::alloc::Global;
+
+/// The answers that are kept under a key of a token, past ones too. Nothing changes. Refusals: 6, 60, 62, 63.
+pub fn find_kept<S: Alter>(
+    alloc: Global,
+    tx: &mut Transaction<'_, S>,
+    token: u64,
+    key: &[u8],
+) -> Result<Vec<KeptRow>, RowError>
+    ensures same { tx.new.conn.ghost_name ≡ tx.old.conn.ghost_name }
+    ensures found { HasCleanDisk (state S.Store tx.new.conn.now) → (state S.Store tx.old.conn.now).now.schema ≡ schema → IfOk result (λ all. (t : Tables) → Holds (state S.Store tx.old.conn.now).now.trees t → IsPermutation all.items (filter (is_under token key.now) t.kept)) }
+    ensures still { HasCleanDisk (state S.Store tx.new.conn.now) → (state S.Store tx.old.conn.now).now.schema ≡ schema → OnOk result ((state S.Store tx.new.conn.now).now ≡ (state S.Store tx.old.conn.now).now) }
+    ensures kept { HasCleanDisk (state S.Store tx.new.conn.now) → (state S.Store tx.old.conn.now).in_transaction ≡ true → KeepsCommit (state S.Store tx.old.conn.now) (state S.Store tx.new.conn.now) }
+    ensures crash { Survives (state S.Store tx.old.conn.now) (state S.Store tx.new.conn.now) (λ _. ⊥) }
+{
+    let id = token.bind()?;
+    rows_of(
+        alloc,
+        tx,
+        "SELECT rowid, token_id, request_key, first_moment, status, allow, body FROM kept WHERE token_id = ?1 AND request_key = ?2",
+        &[id, ValueRef::Blob(key)],
+    )
+}
+
+/// The token of a digest, if there is one. Nothing changes. Refusals: 6, 60, 62, 63.
+pub fn find_token<S: Alter>(
+    alloc: Global,
+    tx: &mut Transaction<'_, S>,
+    digest: &[u8; 32],
+) -> Result<Vec<Token>, RowError>
+    ensures same { tx.new.conn.ghost_name ≡ tx.old.conn.ghost_name }
+    ensures found { HasCleanDisk (state S.Store tx.new.conn.now) → (state S.Store tx.old.conn.now).now.schema ≡ schema → IfOk result (λ all. (t : Tables) → Holds (state S.Store tx.old.conn.now).now.trees t → IsPermutation all.items (filter (has_digest digest.now) t.tokens)) }
+    ensures still { HasCleanDisk (state S.Store tx.new.conn.now) → (state S.Store tx.old.conn.now).now.schema ≡ schema → OnOk result ((state S.Store tx.new.conn.now).now ≡ (state S.Store tx.old.conn.now).now) }
+    ensures kept { HasCleanDisk (state S.Store tx.new.conn.now) → (state S.Store tx.old.conn.now).in_transaction ≡ true → KeepsCommit (state S.Store tx.old.conn.now) (state S.Store tx.new.conn.now) }
+    ensures crash { Survives (state S.Store tx.old.conn.now) (state S.Store tx.new.conn.now) (λ _. ⊥) }
+{
+    rows_of(
+        alloc,
+        tx,
+        "SELECT id, digest FROM tokens WHERE digest = ?1",
+        &[ValueRef::Blob(digest)],
+    )
+}

@@ -1,0 +1,155 @@
+//! Kept answers and tokens in memory.
+
+ghost use Rattle.std.specs.Prelude.{◌≡◌, ◌++◌, ℕ, [], List, Option, IfOk, OnOk, OnErr, IsPermutation, ⊤, find, filter, option_map};
+ghost use Rattle.std.proofs.lemmas.List.Sorted.{IsPermutation-trans};
+ghost use Rattle.bo_kept.specs.KeptAnswers.{is_for, told_by};
+ghost use Rattle.bo_kept.specs.ShopView.{listed, with_kept};
+ghost use Rattle.bo_memory.specs.Memory.{lasting, number_of};
+
+use crate::token::{Token, number_of};
+use bo_base::{Moment, Response};
+use bo_kept::{Kept, Tables, TablesError, copy_response};
+use bo_lists::{Changes, CountRows};
+use std::alloc::{AllocError, Global};
+use std::marker::Model;
+
+/// The answers that are kept, and the tokens that are known. Contracts see both as lists.
+#[derive(Drop)]
+pub struct MemoryTables {
+    alloc: Global,
+    kept: Vec<Kept>,
+    tokens: Vec<Token>,
+}
+
+impl Model for MemoryTables {
+    ghost use Rattle.bo_memory.specs.Memory.{MemoryView};
+
+    ghost Value = { MemoryView };
+
+    ghost view = { λ t. record { kept = t.kept.items; tokens = t.tokens.items } };
+}
+
+impl MemoryTables {
+    /// Tables that keep nothing yet, and know these tokens.
+    pub fn new(alloc: Global, tokens: Vec<Token>) -> Self
+        ensures kept { result.kept ≡ [] }
+        ensures tokens { result.tokens ≡ tokens.items }
+    {
+        MemoryTables {
+            alloc,
+            kept: Vec::new(alloc),
+            tokens,
+        }
+    }
+
+    // What was told under this key of this token that is still kept at a moment.
+    fn told_for(
+        &self,
+        alloc: Global,
+        token: u64,
+        key: &[u8],
+        at: Moment,
+    ) -> Result<Option<Response>, AllocError>
+        ensures { IfOk result (λ told. told ≡ told_by token key.now at self.now.kept) }
+    {
+        match find_for(self.kept.as_slice(), token, key, at) {
+            None => Ok(None),
+            Some(kept) => Ok(Some(copy_response(alloc, &kept.response)?)),
+        }
+    }
+
+    // Keeps one more answer, if there is one, and drops what is past at a moment.
+    fn keep(&mut self, at: Moment, more: Option<&Kept>) -> Result<(), AllocError>
+        ensures kept { OnOk result (self.new.kept ≡ with_kept at self.old.kept (listed more.entry)) }
+        ensures tokens { self.new.tokens ≡ self.old.tokens }
+        ensures same { OnErr result (self.new ≡ self.old) }
+    {
+        self.kept = kept_after(self.alloc, self.kept.as_slice(), at, more)?;
+        Ok(())
+    }
+}
+
+// The answer under this key of this token that is still kept at a moment.
+fn find_for<'a>(kept: &'a [Kept], token: u64, key: &[u8], at: Moment) -> Option<&'a Kept>
+    ensures { option_map (λ k. k.now) result ≡ find (is_for token key.now at) kept.now }
+{
+    for k in kept {
+        if k.is_for(token, key, at) {
+            return Some(k);
+        }
+    }
+    None
+}
+
+// Copies of what isn't past.
+fn lasting_copies(alloc: Global, kept: &[Kept], at: Moment) -> Result<Vec<Kept>, AllocError>
+    ensures { IfOk result (λ copies. copies.items ≡ filter (lasting at) kept.now) }
+{
+    let mut copies = Vec::new(alloc);
+    for k in kept {
+        if k.lasts(at) {
+            copies.push(k.copy(alloc)?)?;
+        }
+    }
+    Ok(copies)
+}
+
+// The same, with one more row, if there is one and it isn't past.
+fn kept_after(
+    alloc: Global,
+    kept: &[Kept],
+    at: Moment,
+    more: Option<&Kept>,
+) -> Result<Vec<Kept>, AllocError>
+    ensures { IfOk result (λ all. all.items ≡ with_kept at kept.now (listed more.entry)) }
+{
+    let mut all = lasting_copies(alloc, kept, at)?;
+    if let Some(k) = more {
+        if k.lasts(at) {
+            all.push(k.copy(alloc)?)?;
+        }
+    }
+    Ok(all)
+}
+
+impl Tables for MemoryTables {
+    ghost sure = { λ t. ⊤ };
+
+    ghost holds = { λ t s ks. IsPermutation t.kept ks };
+
+    ghost knows = { λ t tokens. (digest : List ℕ) → tokens digest ≡ number_of t.tokens digest };
+
+    ghost may_leave = { λ t left. ⊥ };
+
+    ghost reorders = { λ t s ks js same more. IsPermutation-trans t.kept ks js same more };
+
+    fn token_of(&mut self, digest: &[u8; 32]) -> Result<Option<u64>, TablesError> {
+        Ok(number_of(self.tokens.as_slice(), digest))
+    }
+
+    fn find_kept(
+        &mut self,
+        alloc: Global,
+        token: u64,
+        key: &[u8],
+        at: Moment,
+    ) -> Result<Option<Response>, TablesError> {
+        match self.told_for(alloc, token, key, at) {
+            Ok(told) => Ok(told),
+            Err(_) => Err(TablesError::Memory),
+        }
+    }
+
+    fn commit(
+        &mut self,
+        _changes: &Changes,
+        _counts: &CountRows,
+        at: Moment,
+        kept: Option<&Kept>,
+    ) -> Result<(), TablesError> {
+        match self.keep(at, kept) {
+            Ok(()) => Ok(()),
+            Err(_) => Err(TablesError::Memory),
+        }
+    }
+}

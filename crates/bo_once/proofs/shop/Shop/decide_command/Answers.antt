@@ -1,0 +1,7 @@
+use Rattle.bo_once.proofs.ShopLemmas.{done-command}
+use Rattle.bo_once.proofs.shop.Shop.decide_command.Goals as goal
+
+pub returns-clause-done : goal.returns-clause-done
+returns-clause-done g c =
+    rw (← c.self.view_is) (done-command (g.W.Wording.words c.self.inside.wording) c.args.command.now c.args.at c.args.draw c.self.inside.office.state _ c.in_ok-changes.reply c.in_ok-response.response
+    c.in_ok-changes.ensures.step c.in_ok-response.ensures)

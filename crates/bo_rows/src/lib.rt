@@ -1,0 +1,27 @@
+//! Rows of the file are put and removed, one statement a row.
+#![tactic(auto)]
+
+pub mod carts;
+pub mod checkin_lists;
+pub mod checkins;
+pub mod counts;
+pub mod items;
+pub mod kept;
+pub mod list_items;
+pub mod members;
+pub mod orders;
+pub mod positions;
+pub mod quota_items;
+pub mod quota_variations;
+pub mod quotas;
+pub mod shop;
+pub mod stored;
+pub mod tokens;
+pub mod variations;
+pub mod vouchers;
+pub mod waiting;
+
+pub use kept::{forget, keep};
+pub use members::{remove_items_of, remove_limits_of, remove_variations_of};
+pub use stored::{Stored, put};
+pub use vouchers::{put_redeemed, put_voucher, remove_voucher};

@@ -1,0 +1,13 @@
+-- The order in which broken rules are told.
+use Rattle.std.specs.Prelude.{ℕ}
+use Rattle.bo_rules.specs.declared.rule.Rule.{Rule}
+use Rattle.bo_rules.specs.declared.rule.Rule.TheVariants.{Shop, Limits, Ids, Names, Positions, Headroom, Counters}
+
+abbrev pub number : Rule → ℕ
+number Shop = 1
+number Limits = 2
+number Ids = 3
+number Names = 4
+number Positions = 5
+number Headroom = 6
+number Counters = 7

@@ -1,0 +1,9 @@
+pub mod Acts
+pub mod Generic
+pub mod Answered
+pub mod Keyed
+pub mod Writes
+pub mod Casts
+pub mod Parts
+pub mod Inside
+pub mod Creating

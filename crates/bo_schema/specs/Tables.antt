@@ -1,0 +1,322 @@
+-- The schema of the file: the text of each table, and the record that its text defines.
+use Rattle.std.specs.Prelude.{true, false, [], ◌∷◌, None, Some, codes, List, ℕ, pos, map, Bool, take}
+use Rattle.sqlite.specs.Collation.TheVariants.{Binary}
+use Rattle.sqlite_value.specs.declared.value.Value.TheVariants.{Null, Int}
+use Rattle.sqlite_value.specs.Keys.{plain}
+use Rattle.sqlite_sql.specs.Term.{Term, lit, col, op2}
+use Rattle.sqlite_sql.specs.declared.ops.BinaryOp.TheVariants.{Compare, Or}
+use Rattle.sqlite_sql.specs.declared.ops.CompareOp.TheVariants.{Eq}
+use Rattle.sqlite_schema.specs.declared.schema.Column.{Column}
+use Rattle.sqlite_schema.specs.declared.schema.Table.{Table}
+use Rattle.sqlite_schema.specs.declared.schema.Index.{Index}
+use Rattle.sqlite_schema.specs.declared.schema.Schema.{Schema}
+use Rattle.sqlite_schema.specs.declared.schema.Reference.{Reference}
+use Rattle.sqlite_schema.specs.declared.schema.Action.TheVariants.{Restrict, NoAction}
+use Rattle.sqlite_schema.specs.declared.schema.Kind.{Kind}
+use Rattle.sqlite_schema.specs.declared.schema.Kind.TheVariants.{Integer, Text, Blob}
+
+-- ---- columns of STRICT tables
+
+abbrev column : Kind → Bool → List ℕ → Column
+column kind needed name = record { name = name; kind = kind; is_strict = true; not_null = needed; default = Null; collation = Binary }
+
+-- the INTEGER PRIMARY KEY
+abbrev id : List ℕ → Column
+id = column Integer false
+
+abbrev number : List ℕ → Column
+number = column Integer true
+
+abbrev number_or_null : List ℕ → Column
+number_or_null = column Integer false
+
+abbrev text : List ℕ → Column
+text = column Text true
+
+abbrev text_or_null : List ℕ → Column
+text_or_null = column Text false
+
+abbrev blob : List ℕ → Column
+blob = column Blob true
+
+-- ---- rules of a table; a column is named by its place from 1, the INTEGER PRIMARY KEY is 0
+
+abbrev is_number : ℕ → ℕ → Term
+is_number at n = op2 (Compare Eq Binary) (col 1 at) (lit (Int (pos n)))
+
+-- CHECK (.. IN (0, 1))
+abbrev is_truth : ℕ → Term
+is_truth at = op2 Or (is_number at 0) (is_number at 1)
+
+-- REFERENCES .. ON DELETE RESTRICT
+abbrev refers : ℕ → List ℕ → Reference
+refers at parent = record { columns = at ∷ []; parent = parent; parent_columns = []; on_delete = Restrict; on_update = NoAction; is_deferred = false }
+
+-- a table with an INTEGER PRIMARY KEY first
+abbrev keyed : List ℕ → ℕ → List Column → List (List ℕ) → List Term → List Reference → Table
+keyed name tree columns uniques checks references = record {
+  name = name;
+  tree = tree;
+  columns = columns;
+  key = Some 0;
+  primary = 0 ∷ [];
+  uniques = uniques;
+  orders = map (λ _. plain) uniques;
+  checks = checks;
+  references = references;
+  computed = [];
+  stamps = record { places = []; terms = []; formats = [] };
+  is_counted = false;
+}
+
+-- a table whose primary key is made of these columns
+abbrev paired : List ℕ → ℕ → List Column → List ℕ → List Reference → Table
+paired name tree columns primary references = record {
+  name = name;
+  tree = tree;
+  columns = columns;
+  key = None;
+  primary = primary;
+  uniques = primary ∷ [];
+  orders = plain ∷ [];
+  checks = [];
+  references = references;
+  computed = [];
+  stamps = record { places = []; terms = []; formats = [] };
+  is_counted = false;
+}
+
+-- ---- the tables
+
+-- the shop itself: one row
+abbrev pub shop_text : List ℕ
+shop_text = codes "CREATE TABLE shop (id INTEGER PRIMARY KEY CHECK (id = 1), version INTEGER NOT NULL, organizer TEXT NOT NULL, event TEXT NOT NULL, moment INTEGER NOT NULL, next_item INTEGER NOT NULL, next_variation INTEGER NOT NULL, next_quota INTEGER NOT NULL, next_voucher INTEGER NOT NULL, next_cart INTEGER NOT NULL, next_order INTEGER NOT NULL, next_position INTEGER NOT NULL, next_waiting INTEGER NOT NULL, next_list INTEGER NOT NULL, next_checkin INTEGER NOT NULL, next_token INTEGER NOT NULL) STRICT"
+
+abbrev pub shop_table : Table
+shop_table =
+    keyed (codes "shop") 0
+    (id (codes "id") ∷ number (codes "version") ∷ text (codes "organizer") ∷ text (codes "event") ∷ number (codes "moment") ∷ number (codes "next_item") ∷ number (codes "next_variation") ∷ number (codes "next_quota") ∷ number (codes "next_voucher") ∷ number (codes "next_cart") ∷ number (codes "next_order") ∷ number (codes "next_position") ∷ number (codes "next_waiting") ∷ number (codes "next_list") ∷ number (codes "next_checkin") ∷ number (codes "next_token") ∷ [])
+    ([]) (is_number 0 1 ∷ [])
+    ([])
+
+-- what is sold
+abbrev pub items_text : List ℕ
+items_text = codes "CREATE TABLE items (id INTEGER PRIMARY KEY, name TEXT NOT NULL, default_price INTEGER NOT NULL, active INTEGER NOT NULL CHECK (active IN (0, 1)), varied INTEGER NOT NULL CHECK (varied IN (0, 1))) STRICT"
+
+abbrev pub items_table : Table
+items_table =
+    keyed (codes "items") 1
+    (id (codes "id") ∷ text (codes "name") ∷ number (codes "default_price") ∷ number (codes "active") ∷ number (codes "varied") ∷ [])
+    ([]) (is_truth 4 ∷ is_truth 5 ∷ [])
+    ([])
+
+-- kinds of items
+abbrev pub variations_text : List ℕ
+variations_text = codes "CREATE TABLE variations (id INTEGER PRIMARY KEY, item_id INTEGER NOT NULL REFERENCES items ON DELETE RESTRICT, name TEXT NOT NULL, default_price INTEGER, active INTEGER NOT NULL CHECK (active IN (0, 1))) STRICT"
+
+abbrev pub variations_table : Table
+variations_table =
+    keyed (codes "variations") 2
+    (id (codes "id") ∷ number (codes "item_id") ∷ text (codes "name") ∷ number_or_null (codes "default_price") ∷ number (codes "active") ∷ [])
+    ([]) (is_truth 5 ∷ [])
+    (refers 2 (codes "items") ∷ [])
+
+-- quotas, without their members
+abbrev pub quotas_text : List ℕ
+quotas_text = codes "CREATE TABLE quotas (id INTEGER PRIMARY KEY, name TEXT NOT NULL, size INTEGER) STRICT"
+
+abbrev pub quotas_table : Table
+quotas_table =
+    keyed (codes "quotas") 3
+    (id (codes "id") ∷ text (codes "name") ∷ number_or_null (codes "size") ∷ [])
+    ([]) ([])
+    ([])
+
+-- the items of quotas
+abbrev pub quota_items_text : List ℕ
+quota_items_text = codes "CREATE TABLE quota_items (quota_id INTEGER NOT NULL REFERENCES quotas ON DELETE RESTRICT, item_id INTEGER NOT NULL REFERENCES items ON DELETE RESTRICT, PRIMARY KEY (quota_id, item_id)) STRICT"
+
+abbrev pub quota_items_table : Table
+quota_items_table =
+    paired (codes "quota_items") 4
+    (number (codes "quota_id") ∷ number (codes "item_id") ∷ [])
+    (1 ∷ 2 ∷ [])
+    (refers 1 (codes "quotas") ∷ refers 2 (codes "items") ∷ [])
+
+-- the variations of quotas
+abbrev pub quota_variations_text : List ℕ
+quota_variations_text = codes "CREATE TABLE quota_variations (quota_id INTEGER NOT NULL REFERENCES quotas ON DELETE RESTRICT, variation_id INTEGER NOT NULL REFERENCES variations ON DELETE RESTRICT, PRIMARY KEY (quota_id, variation_id)) STRICT"
+
+abbrev pub quota_variations_table : Table
+quota_variations_table =
+    paired (codes "quota_variations") 6
+    (number (codes "quota_id") ∷ number (codes "variation_id") ∷ [])
+    (1 ∷ 2 ∷ [])
+    (refers 1 (codes "quotas") ∷ refers 2 (codes "variations") ∷ [])
+
+-- vouchers, each with how often it is redeemed
+abbrev pub vouchers_text : List ℕ
+vouchers_text = codes "CREATE TABLE vouchers (id INTEGER PRIMARY KEY, code TEXT NOT NULL UNIQUE, max_usages INTEGER NOT NULL, valid_until INTEGER, block_quota INTEGER NOT NULL CHECK (block_quota IN (0, 1)), allow_ignore_quota INTEGER NOT NULL CHECK (allow_ignore_quota IN (0, 1)), price_mode TEXT NOT NULL, amount INTEGER, item_id INTEGER REFERENCES items ON DELETE RESTRICT, variation_id INTEGER REFERENCES variations ON DELETE RESTRICT, quota_id INTEGER REFERENCES quotas ON DELETE RESTRICT, tag TEXT NOT NULL, comment TEXT NOT NULL, redeemed INTEGER NOT NULL) STRICT"
+
+abbrev pub vouchers_table : Table
+vouchers_table =
+    keyed (codes "vouchers") 8
+    (id (codes "id") ∷ text (codes "code") ∷ number (codes "max_usages") ∷ number_or_null (codes "valid_until") ∷ number (codes "block_quota") ∷ number (codes "allow_ignore_quota") ∷ text (codes "price_mode") ∷ number_or_null (codes "amount") ∷ number_or_null (codes "item_id") ∷ number_or_null (codes "variation_id") ∷ number_or_null (codes "quota_id") ∷ text (codes "tag") ∷ text (codes "comment") ∷ number (codes "redeemed") ∷ [])
+    ((2 ∷ []) ∷ []) (is_truth 5 ∷ is_truth 6 ∷ [])
+    (refers 9 (codes "items") ∷ refers 10 (codes "variations") ∷ refers 11 (codes "quotas") ∷ [])
+
+-- places that are held in carts
+abbrev pub cart_positions_text : List ℕ
+cart_positions_text = codes "CREATE TABLE cart_positions (id INTEGER PRIMARY KEY, cart_id TEXT NOT NULL, item_id INTEGER NOT NULL REFERENCES items ON DELETE RESTRICT, variation_id INTEGER REFERENCES variations ON DELETE RESTRICT, price INTEGER NOT NULL, made_at INTEGER NOT NULL, expires INTEGER NOT NULL, voucher_id INTEGER REFERENCES vouchers ON DELETE RESTRICT) STRICT"
+
+abbrev pub cart_positions_table : Table
+cart_positions_table =
+    keyed (codes "cart_positions") 10
+    (id (codes "id") ∷ text (codes "cart_id") ∷ number (codes "item_id") ∷ number_or_null (codes "variation_id") ∷ number (codes "price") ∷ number (codes "made_at") ∷ number (codes "expires") ∷ number_or_null (codes "voucher_id") ∷ [])
+    ([]) ([])
+    (refers 3 (codes "items") ∷ refers 4 (codes "variations") ∷ refers 8 (codes "vouchers") ∷ [])
+
+-- orders, by number
+abbrev pub orders_text : List ℕ
+orders_text = codes "CREATE TABLE orders (id INTEGER PRIMARY KEY, email TEXT, status TEXT NOT NULL, made_at INTEGER NOT NULL, expires INTEGER NOT NULL) STRICT"
+
+abbrev pub orders_table : Table
+orders_table =
+    keyed (codes "orders") 11
+    (id (codes "id") ∷ text_or_null (codes "email") ∷ text (codes "status") ∷ number (codes "made_at") ∷ number (codes "expires") ∷ [])
+    ([]) ([])
+    ([])
+
+-- the tickets of orders
+abbrev pub order_positions_text : List ℕ
+order_positions_text = codes "CREATE TABLE order_positions (id INTEGER PRIMARY KEY, order_id INTEGER NOT NULL REFERENCES orders ON DELETE RESTRICT, positionid INTEGER NOT NULL, item_id INTEGER NOT NULL REFERENCES items ON DELETE RESTRICT, variation_id INTEGER REFERENCES variations ON DELETE RESTRICT, price INTEGER NOT NULL, voucher_id INTEGER REFERENCES vouchers ON DELETE RESTRICT, secret TEXT NOT NULL UNIQUE, UNIQUE (order_id, positionid)) STRICT"
+
+abbrev pub order_positions_table : Table
+order_positions_table =
+    keyed (codes "order_positions") 12
+    (id (codes "id") ∷ number (codes "order_id") ∷ number (codes "positionid") ∷ number (codes "item_id") ∷ number_or_null (codes "variation_id") ∷ number (codes "price") ∷ number_or_null (codes "voucher_id") ∷ text (codes "secret") ∷ [])
+    ((8 ∷ []) ∷ (2 ∷ 3 ∷ []) ∷ []) ([])
+    (refers 2 (codes "orders") ∷ refers 4 (codes "items") ∷ refers 5 (codes "variations") ∷ refers 7 (codes "vouchers") ∷ [])
+
+-- the waiting list
+abbrev pub waiting_text : List ℕ
+waiting_text = codes "CREATE TABLE waiting (id INTEGER PRIMARY KEY, email TEXT NOT NULL, item_id INTEGER NOT NULL REFERENCES items ON DELETE RESTRICT, variation_id INTEGER REFERENCES variations ON DELETE RESTRICT, priority INTEGER NOT NULL, created INTEGER NOT NULL, voucher_id INTEGER REFERENCES vouchers ON DELETE RESTRICT) STRICT"
+
+abbrev pub waiting_table : Table
+waiting_table =
+    keyed (codes "waiting") 15
+    (id (codes "id") ∷ text (codes "email") ∷ number (codes "item_id") ∷ number_or_null (codes "variation_id") ∷ number (codes "priority") ∷ number (codes "created") ∷ number_or_null (codes "voucher_id") ∷ [])
+    ([]) ([])
+    (refers 3 (codes "items") ∷ refers 4 (codes "variations") ∷ refers 7 (codes "vouchers") ∷ [])
+
+-- lists by which doors check tickets in, without their items
+abbrev pub checkin_lists_text : List ℕ
+checkin_lists_text = codes "CREATE TABLE checkin_lists (id INTEGER PRIMARY KEY, name TEXT NOT NULL, all_products INTEGER NOT NULL CHECK (all_products IN (0, 1)), include_pending INTEGER NOT NULL CHECK (include_pending IN (0, 1)), multiple INTEGER NOT NULL CHECK (multiple IN (0, 1)), after_exit INTEGER NOT NULL CHECK (after_exit IN (0, 1))) STRICT"
+
+abbrev pub checkin_lists_table : Table
+checkin_lists_table =
+    keyed (codes "checkin_lists") 16
+    (id (codes "id") ∷ text (codes "name") ∷ number (codes "all_products") ∷ number (codes "include_pending") ∷ number (codes "multiple") ∷ number (codes "after_exit") ∷ [])
+    ([]) (is_truth 3 ∷ is_truth 4 ∷ is_truth 5 ∷ is_truth 6 ∷ [])
+    ([])
+
+-- the items of check-in lists
+abbrev pub list_items_text : List ℕ
+list_items_text = codes "CREATE TABLE list_items (list_id INTEGER NOT NULL REFERENCES checkin_lists ON DELETE RESTRICT, item_id INTEGER NOT NULL REFERENCES items ON DELETE RESTRICT, PRIMARY KEY (list_id, item_id)) STRICT"
+
+abbrev pub list_items_table : Table
+list_items_table =
+    paired (codes "list_items") 17
+    (number (codes "list_id") ∷ number (codes "item_id") ∷ [])
+    (1 ∷ 2 ∷ [])
+    (refers 1 (codes "checkin_lists") ∷ refers 2 (codes "items") ∷ [])
+
+-- who came in and went out
+abbrev pub checkins_text : List ℕ
+checkins_text = codes "CREATE TABLE checkins (id INTEGER PRIMARY KEY, list_id INTEGER NOT NULL REFERENCES checkin_lists ON DELETE RESTRICT, position_id INTEGER NOT NULL REFERENCES order_positions ON DELETE RESTRICT, kind TEXT NOT NULL, at INTEGER NOT NULL, nonce TEXT, UNIQUE (list_id, position_id, nonce)) STRICT"
+
+abbrev pub checkins_table : Table
+checkins_table =
+    keyed (codes "checkins") 19
+    (id (codes "id") ∷ number (codes "list_id") ∷ number (codes "position_id") ∷ text (codes "kind") ∷ number (codes "at") ∷ text_or_null (codes "nonce") ∷ [])
+    ((2 ∷ 3 ∷ 6 ∷ []) ∷ []) ([])
+    (refers 2 (codes "checkin_lists") ∷ refers 3 (codes "order_positions") ∷ [])
+
+-- what uses each quota
+abbrev pub quota_count_text : List ℕ
+quota_count_text = codes "CREATE TABLE quota_count (quota_id INTEGER PRIMARY KEY REFERENCES quotas ON DELETE RESTRICT, paid INTEGER NOT NULL, pending INTEGER NOT NULL, blocked INTEGER NOT NULL, carts INTEGER NOT NULL, waiting INTEGER NOT NULL) STRICT"
+
+abbrev pub quota_count_table : Table
+quota_count_table =
+    keyed (codes "quota_count") 21
+    (id (codes "quota_id") ∷ number (codes "paid") ∷ number (codes "pending") ∷ number (codes "blocked") ∷ number (codes "carts") ∷ number (codes "waiting") ∷ [])
+    ([]) ([])
+    (refers 0 (codes "quotas") ∷ [])
+
+-- the digests of tokens
+abbrev pub tokens_text : List ℕ
+tokens_text = codes "CREATE TABLE tokens (id INTEGER PRIMARY KEY, digest BLOB NOT NULL UNIQUE) STRICT"
+
+abbrev pub tokens_table : Table
+tokens_table =
+    keyed (codes "tokens") 22
+    (id (codes "id") ∷ blob (codes "digest") ∷ [])
+    ((2 ∷ []) ∷ []) ([])
+    ([])
+
+-- kept answers
+abbrev pub kept_text : List ℕ
+kept_text = codes "CREATE TABLE kept (token_id INTEGER NOT NULL REFERENCES tokens ON DELETE RESTRICT, request_key BLOB NOT NULL, first_moment INTEGER NOT NULL, status INTEGER NOT NULL, allow TEXT NOT NULL, body BLOB NOT NULL, PRIMARY KEY (token_id, request_key)) STRICT"
+
+abbrev pub kept_table : Table
+kept_table =
+    paired (codes "kept") 24
+    (number (codes "token_id") ∷ blob (codes "request_key") ∷ number (codes "first_moment") ∷ number (codes "status") ∷ text (codes "allow") ∷ blob (codes "body") ∷ [])
+    (1 ∷ 2 ∷ [])
+    (refers 1 (codes "tokens") ∷ [])
+
+-- ---- the whole
+
+-- a table stands behind those to which it refers
+abbrev pub all_tables : List Table
+all_tables =
+    shop_table
+    ∷ items_table
+    ∷ variations_table
+    ∷ quotas_table
+    ∷ quota_items_table
+    ∷ quota_variations_table
+    ∷ vouchers_table
+    ∷ cart_positions_table
+    ∷ orders_table
+    ∷ order_positions_table
+    ∷ waiting_table
+    ∷ checkin_lists_table
+    ∷ list_items_table
+    ∷ checkins_table
+    ∷ quota_count_table
+    ∷ tokens_table
+    ∷ kept_table ∷ []
+
+-- the index of what is UNIQUE, which has a tree of its own
+abbrev index : List ℕ → ℕ → ℕ → List ℕ → Index
+index name tree table columns = record { name = name; tree = tree; table = table; columns = columns; order = plain; is_unique = true }
+
+abbrev pub all_indexes : List Index
+all_indexes =
+    index (codes "sqlite_autoindex_quota_items_1") 5 4 (1 ∷ 2 ∷ [])
+    ∷ index (codes "sqlite_autoindex_quota_variations_1") 7 6 (1 ∷ 2 ∷ [])
+    ∷ index (codes "sqlite_autoindex_vouchers_1") 9 8 (2 ∷ [])
+    ∷ index (codes "sqlite_autoindex_order_positions_1") 13 12 (8 ∷ [])
+    ∷ index (codes "sqlite_autoindex_order_positions_2") 14 12 (2 ∷ 3 ∷ [])
+    ∷ index (codes "sqlite_autoindex_list_items_1") 18 17 (1 ∷ 2 ∷ [])
+    ∷ index (codes "sqlite_autoindex_checkins_1") 20 19 (2 ∷ 3 ∷ 6 ∷ [])
+    ∷ index (codes "sqlite_autoindex_tokens_1") 23 22 (2 ∷ [])
+    ∷ index (codes "sqlite_autoindex_kept_1") 25 24 (1 ∷ 2 ∷ []) ∷ []
+
+-- the first tables, with the indexes of them
+abbrev pub schema_of : ℕ → ℕ → Schema
+schema_of tables indexes = record { tables = take tables all_tables; indexes = take indexes all_indexes; views = [] }
+
+abbrev pub schema : Schema
+schema = record { tables = all_tables; indexes = all_indexes; views = [] }

@@ -1,0 +1,10 @@
+pub mod Order
+pub mod Links
+pub mod Counts
+pub mod EachRow
+pub mod Changed
+pub mod Told
+pub mod Counting
+pub mod Follow
+pub mod Made
+pub mod Carried

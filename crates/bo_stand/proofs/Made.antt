@@ -1,0 +1,192 @@
+-- What the statements make of the tables is what the change makes of the office's rows.
+use Rattle.std.proofs.Common.{◌≡◌, ℕ, ◌+◌, ◌==◌, ◌<◌, Bool, true, false, cond, not, ◌||◌, List, [], ◌∷◌, ◌++◌, length, map, filter, refl, sym, ap, ap₂, subst, ◌∙◌, arith}
+use Rattle.std.specs.List.{list_any, AllByRecursion}
+use Rattle.std.specs.List.Sorted.{IsPermutation}
+use Rattle.std.proofs.lemmas.Bool.Decides.{nat_tests}
+use Rattle.std.proofs.lemmas.List.Sorted.{IsPermutation-refl, IsPermutation-sym, IsPermutation-trans, IsPermutation-cons, IsPermutation-middle}
+use Rattle.sqlite_trees.proofs.ListLemmas.{filter-map, IsPermutation-same}
+use Rattle.bo_catalogue.specs.declared.rows.Quota.{Quota}
+use Rattle.bo_lists.specs.declared.rows.CheckinList.{CheckinList}
+use Rattle.bo_lists.specs.declared.changes.Change.{Change}
+use Rattle.bo_lists.specs.declared.changes.Change.TheVariants.{PutItem, PutVariation, PutQuota, PutVoucher, PutCart, PutOrder, PutPosition, PutWaiting, DropVoucher, DropCart, DropWaiting, PutCheckinList, PutCheckin}
+use Rattle.bo_columns.specs.declared.rows.QuotaItem.{QuotaItem}
+use Rattle.bo_columns.specs.declared.rows.QuotaVariation.{QuotaVariation}
+use Rattle.bo_columns.specs.declared.rows.ListItem.{ListItem}
+use Rattle.bo_columns.specs.declared.rows.VoucherRow.{VoucherRow}
+use Rattle.bo_columns.specs.Tables.{Tables}
+use Rattle.bo_stand.specs.Free.{AreApart, AreBelow, IsFree}
+use Rattle.bo_stand.specs.Links.{Link, links, links_but}
+use Rattle.bo_stand.specs.Made.{made_by, next_by, made, next_after, numbered}
+use Rattle.bo_stand.specs.Rows.{rows_of, redeemed_in}
+use Rattle.bo_stand.specs.RowsAfter.{rows_after, redeemed_of}
+use Rattle.bo_stand.specs.Stands.{AreSameRows}
+use Rattle.bo_stand.specs.Turned.{IsTurned, AreTurned}
+use Rattle.bo_stand.proofs.EachRow.{set_quota_items, set_quota_variations, set_list_items, set_vouchers}
+use Rattle.bo_stand.proofs.Follow.{same_rows}
+
+-- ---- row numbers
+
+neither : (a b : Bool) → (a || b) ≡ false → (a ≡ false) × (b ≡ false)
+neither true b e = absurd cc
+neither false b e = (refl, e)
+
+nor : (a b : Bool) → a ≡ false → b ≡ false → (a || b) ≡ false
+nor a b e f = rw (e, f)
+
+none_named : (n from : ℕ) (ns : List ℕ) → from < n + 1 → AllByRecursion (λ m. m < from) ns → list_any (λ m. n == m) ns ≡ false
+none_named n from [] le h = refl
+none_named n from (m ∷ ns) le h = nor (n == m) (list_any (λ m. n == m) ns) (grind (arith, nat_tests, h.0, le)) (none_named n from ns le h.1)
+
+below_more : (n m : ℕ) (ns : List ℕ) → n < m + 1 → AllByRecursion (λ k. k < n) ns → AllByRecursion (λ k. k < m) ns
+below_more n m [] le h = tt
+below_more n m (k ∷ ns) le h = (omega (arith, h.0, le), below_more n m ns le h.1)
+
+pub below_later : (n m : ℕ) (ns : List ℕ) → n < m + 1 → AreBelow n ns → AreBelow m ns
+below_later n m ns le h = record { apart = h.apart; below = below_more n m ns le h.below }
+
+pub below_new : (n : ℕ) (ns : List ℕ) → AreBelow n ns → AreBelow (n + 1) (n ∷ ns)
+below_new n ns h = record { apart = (none_named n n ns (omega arith) h.below, h.apart); below = (omega arith, below_more n (n + 1) ns (omega arith) h.below) }
+
+none_of_some : {A : Type 0} (key : A → ℕ) (n : ℕ) (p : A → Bool) (xs : List A) → list_any (λ m. n == m) (map key xs) ≡ false → list_any (λ m. n == m) (map key (filter p xs)) ≡ false
+none_of_some key n p [] e = refl
+none_of_some {A} key n p (x ∷ xs) e =
+    let parts = neither (n == key x) (list_any (λ m. n == m) (map key xs)) e in
+    elim (p x) as (λ b. list_any (λ m. n == m) (map key (cond b (x ∷ filter p xs) (filter p xs))) ≡ false) [
+      | true ↦ nor (n == key x) (list_any (λ m. n == m) (map key (filter p xs))) parts.0 (none_of_some key n p xs parts.1)
+      | false ↦ none_of_some key n p xs parts.1
+    ]
+
+apart_some : {A : Type 0} (key : A → ℕ) (p : A → Bool) (xs : List A) → AreApart (map key xs) → AreApart (map key (filter p xs))
+apart_some key p [] h = tt
+apart_some key p (x ∷ xs) h = elim (p x) as (λ b. AreApart (map key (cond b (x ∷ filter p xs) (filter p xs)))) [
+  | true ↦ (none_of_some key (key x) p xs h.0, apart_some key p xs h.1)
+  | false ↦ apart_some key p xs h.1
+]
+
+below_some : {A : Type 0} (key : A → ℕ) (n : ℕ) (p : A → Bool) (xs : List A) → AllByRecursion (λ k. k < n) (map key xs) → AllByRecursion (λ k. k < n) (map key (filter p xs))
+below_some key n p [] h = tt
+below_some key n p (x ∷ xs) h = elim (p x) as (λ b. AllByRecursion (λ k. k < n) (map key (cond b (x ∷ filter p xs) (filter p xs)))) [
+  | true ↦ (h.0, below_some key n p xs h.1)
+  | false ↦ below_some key n p xs h.1
+]
+
+pub below_fewer : {A : Type 0} (key : A → ℕ) (n : ℕ) (p : A → Bool) (xs : List A) → AreBelow n (map key xs) → AreBelow n (map key (filter p xs))
+below_fewer key n p xs h = record { apart = apart_some key p xs h.apart; below = below_some key n p xs h.below }
+
+pub free_later : (n m : ℕ) (t : Tables) → n < m + 1 → IsFree n t → IsFree m t
+free_later n m t le h = record {
+  quota_items = below_later n m _ le h.quota_items;
+  quota_variations = below_later n m _ le h.quota_variations;
+  list_items = below_later n m _ le h.list_items;
+  kept = below_later n m _ le h.kept;
+}
+
+-- ---- links, one after another
+
+abbrev of_owner : ℕ → List ℕ → List Link
+of_owner owner ids = map (λ id. record { owner = owner; member = id }) ids
+
+module _ {R : Type 0} (row : ℕ → ℕ → R) (rowid : R → ℕ) (link : R → Link) (owner : ℕ) (named : (n id : ℕ) → rowid (row n id) ≡ n) (owned : (n id : ℕ) → link (row n id) ≡ record { owner = owner; member = id }) where
+  linked : (from : ℕ) (ids : List ℕ) (rows : List R) → IsPermutation (map link (numbered row from ids rows)) (of_owner owner ids ++ map link rows)
+  linked from [] rows = IsPermutation-refl _
+  linked from (id ∷ ids) rows =
+      IsPermutation-trans _ _ _ (linked (from + 1) ids (row from id ∷ rows))
+      (subst (λ l. IsPermutation (of_owner owner ids ++ l ∷ map link rows) (record { owner = owner; member = id } ∷ (of_owner owner ids ++ map link rows))) (sym (owned from id))
+      (IsPermutation-middle (of_owner owner ids) (record { owner = owner; member = id }) (map link rows)))
+
+  below_all : (from : ℕ) (ids : List ℕ) (rows : List R) → AreBelow from (map rowid rows) → AreBelow (from + length ids) (map rowid (numbered row from ids rows))
+  below_all from [] rows h = subst (λ n. AreBelow n (map rowid rows)) (let e : from ≡ from + 0 = omega arith in e) h
+  below_all from (id ∷ ids) rows h =
+      subst (λ n. AreBelow n (map rowid (numbered row (from + 1) ids (row from id ∷ rows)))) (let e : from + 1 + length ids ≡ from + length (id ∷ ids) = omega arith in e)
+      (below_all (from + 1) ids (row from id ∷ rows) (subst (λ n. AreBelow (from + 1) (n ∷ map rowid rows)) (sym (named from id)) (below_new from (map rowid rows) h)))
+
+  -- the links of an owner in the place of those that it had
+  relinked : (from : ℕ) (ids : List ℕ) (p : R → Bool) (rows : List R) → map link (filter p rows) ≡ links_but owner (map link rows) → IsPermutation (map link (numbered row from ids (filter p rows))) (of_owner owner ids ++ links_but owner (map link rows))
+  relinked from ids p rows is = subst (λ l. IsPermutation (map link (numbered row from ids (filter p rows))) (of_owner owner ids ++ l)) is (linked from ids (filter p rows))
+
+-- ---- one change
+
+pub one_turned : (change : Change) (from : ℕ) (t : Tables) → IsFree from t → IsTurned change (next_by change from) t (made_by change from t)
+one_turned (PutItem w) from t h = record { rows = same_rows (rows_after (PutItem w) (rows_of t)); redeemed = IsPermutation-refl _; shop = refl; counts = refl; tokens = refl; kept = refl; free = record { quota_items = h.quota_items; quota_variations = h.quota_variations; list_items = h.list_items; kept = h.kept } }
+one_turned (PutVariation w) from t h = record { rows = same_rows (rows_after (PutVariation w) (rows_of t)); redeemed = IsPermutation-refl _; shop = refl; counts = refl; tokens = refl; kept = refl; free = record { quota_items = h.quota_items; quota_variations = h.quota_variations; list_items = h.list_items; kept = h.kept } }
+one_turned (PutQuota w) from t h =
+    let p : QuotaItem → Bool = λ r. not (r.quota == w.id) in
+    let q : QuotaVariation → Bool = λ r. not (r.quota == w.id) in
+    let mid = from + length w.items in
+    let items = below_fewer (λ (r : QuotaItem). r.rowid) from p t.quota_items h.quota_items in
+    let variations = below_later from mid (map (λ (r : QuotaVariation). r.rowid) (filter q t.quota_variations)) (omega arith) (below_fewer (λ (r : QuotaVariation). r.rowid) from q t.quota_variations h.quota_variations) in
+    record {
+      rows =
+          set_quota_variations
+          (set_quota_items (same_rows (rows_after (PutQuota w) (rows_of t)))
+          (relinked (λ n id. record { rowid = n; quota = w.id; item = id }) (λ (r : QuotaItem). r.rowid) (λ (r : QuotaItem). record { owner = r.quota; member = r.item }) w.id (λ n id. refl) (λ n id. refl) from w.items p t.quota_items
+          (sym (filter-map (λ (l : Link). not (l.owner == w.id)) (λ (r : QuotaItem). record { owner = r.quota; member = r.item }) t.quota_items))))
+          (relinked (λ n id. record { rowid = n; quota = w.id; variation = id }) (λ (r : QuotaVariation). r.rowid) (λ (r : QuotaVariation). record { owner = r.quota; member = r.variation }) w.id (λ n id. refl) (λ n id. refl) mid w.variations q t.quota_variations
+          (sym (filter-map (λ (l : Link). not (l.owner == w.id)) (λ (r : QuotaVariation). record { owner = r.quota; member = r.variation }) t.quota_variations)));
+      redeemed = IsPermutation-refl _;
+      shop = refl;
+      counts = refl;
+      tokens = refl;
+      kept = refl;
+      free = record {
+        quota_items = below_later mid (mid + length w.variations) _ (omega arith)
+            (below_all (λ n id. record { rowid = n; quota = w.id; item = id }) (λ (r : QuotaItem). r.rowid) (λ (r : QuotaItem). record { owner = r.quota; member = r.item }) w.id (λ n id. refl) (λ n id. refl) from w.items (filter p t.quota_items) items);
+        quota_variations =
+            below_all (λ n id. record { rowid = n; quota = w.id; variation = id }) (λ (r : QuotaVariation). r.rowid) (λ (r : QuotaVariation). record { owner = r.quota; member = r.variation }) w.id (λ n id. refl) (λ n id. refl) mid w.variations (filter q t.quota_variations) variations;
+        list_items = below_later from (mid + length w.variations) _ (omega arith) h.list_items;
+        kept = below_later from (mid + length w.variations) _ (omega arith) h.kept;
+      };
+    }
+one_turned (PutVoucher w) from t h = record {
+  rows = set_vouchers (same_rows (rows_after (PutVoucher w) (rows_of t))) (IsPermutation-same _ _ (ap (λ l. w ∷ l) (sym (filter-map (λ v. not (v.id == w.id)) (λ (r : VoucherRow). r.voucher) t.vouchers))));
+  redeemed = IsPermutation-same _ _
+      (ap (λ l. record { voucher = w.id; redeemed = redeemed_of w.id (redeemed_in t) } ∷ l) (sym (filter-map (λ c. not (c.voucher == w.id)) (λ (r : VoucherRow). record { voucher = r.voucher.id; redeemed = r.redeemed }) t.vouchers)));
+  shop = refl;
+  counts = refl;
+  tokens = refl;
+  kept = refl;
+  free = record { quota_items = h.quota_items; quota_variations = h.quota_variations; list_items = h.list_items; kept = h.kept };
+}
+one_turned (PutCart w) from t h = record { rows = same_rows (rows_after (PutCart w) (rows_of t)); redeemed = IsPermutation-refl _; shop = refl; counts = refl; tokens = refl; kept = refl; free = record { quota_items = h.quota_items; quota_variations = h.quota_variations; list_items = h.list_items; kept = h.kept } }
+one_turned (PutOrder w) from t h = record { rows = same_rows (rows_after (PutOrder w) (rows_of t)); redeemed = IsPermutation-refl _; shop = refl; counts = refl; tokens = refl; kept = refl; free = record { quota_items = h.quota_items; quota_variations = h.quota_variations; list_items = h.list_items; kept = h.kept } }
+one_turned (PutPosition w) from t h = record { rows = same_rows (rows_after (PutPosition w) (rows_of t)); redeemed = IsPermutation-refl _; shop = refl; counts = refl; tokens = refl; kept = refl; free = record { quota_items = h.quota_items; quota_variations = h.quota_variations; list_items = h.list_items; kept = h.kept } }
+one_turned (PutWaiting w) from t h = record { rows = same_rows (rows_after (PutWaiting w) (rows_of t)); redeemed = IsPermutation-refl _; shop = refl; counts = refl; tokens = refl; kept = refl; free = record { quota_items = h.quota_items; quota_variations = h.quota_variations; list_items = h.list_items; kept = h.kept } }
+one_turned (DropVoucher id) from t h = record {
+  rows = set_vouchers (same_rows (rows_after (DropVoucher id) (rows_of t))) (IsPermutation-same _ _ (sym (filter-map (λ v. not (v.id == id)) (λ (r : VoucherRow). r.voucher) t.vouchers)));
+  redeemed = IsPermutation-same _ _ (sym (filter-map (λ c. not (c.voucher == id)) (λ (r : VoucherRow). record { voucher = r.voucher.id; redeemed = r.redeemed }) t.vouchers));
+  shop = refl;
+  counts = refl;
+  tokens = refl;
+  kept = refl;
+  free = record { quota_items = h.quota_items; quota_variations = h.quota_variations; list_items = h.list_items; kept = h.kept };
+}
+one_turned (DropCart id) from t h = record { rows = same_rows (rows_after (DropCart id) (rows_of t)); redeemed = IsPermutation-refl _; shop = refl; counts = refl; tokens = refl; kept = refl; free = record { quota_items = h.quota_items; quota_variations = h.quota_variations; list_items = h.list_items; kept = h.kept } }
+one_turned (DropWaiting id) from t h = record { rows = same_rows (rows_after (DropWaiting id) (rows_of t)); redeemed = IsPermutation-refl _; shop = refl; counts = refl; tokens = refl; kept = refl; free = record { quota_items = h.quota_items; quota_variations = h.quota_variations; list_items = h.list_items; kept = h.kept } }
+one_turned (PutCheckinList w) from t h =
+    let p : ListItem → Bool = λ r. not (r.list == w.id) in
+    let to = from + length w.limit_products in
+    let items = below_fewer (λ (r : ListItem). r.rowid) from p t.list_items h.list_items in
+    record {
+      rows =
+          set_list_items (same_rows (rows_after (PutCheckinList w) (rows_of t)))
+          (relinked (λ n id. record { rowid = n; list = w.id; item = id }) (λ (r : ListItem). r.rowid) (λ (r : ListItem). record { owner = r.list; member = r.item }) w.id (λ n id. refl) (λ n id. refl) from w.limit_products p t.list_items
+          (sym (filter-map (λ (l : Link). not (l.owner == w.id)) (λ (r : ListItem). record { owner = r.list; member = r.item }) t.list_items)));
+      redeemed = IsPermutation-refl _;
+      shop = refl;
+      counts = refl;
+      tokens = refl;
+      kept = refl;
+      free = record {
+        quota_items = below_later from to _ (omega arith) h.quota_items;
+        quota_variations = below_later from to _ (omega arith) h.quota_variations;
+        list_items = below_all (λ n id. record { rowid = n; list = w.id; item = id }) (λ (r : ListItem). r.rowid) (λ (r : ListItem). record { owner = r.list; member = r.item }) w.id (λ n id. refl) (λ n id. refl) from w.limit_products (filter p t.list_items) items;
+        kept = below_later from to _ (omega arith) h.kept;
+      };
+    }
+one_turned (PutCheckin w) from t h = record { rows = same_rows (rows_after (PutCheckin w) (rows_of t)); redeemed = IsPermutation-refl _; shop = refl; counts = refl; tokens = refl; kept = refl; free = record { quota_items = h.quota_items; quota_variations = h.quota_variations; list_items = h.list_items; kept = h.kept } }
+
+pub all_turned : (changes : List Change) (from : ℕ) (t : Tables) → IsFree from t → AreTurned changes from (next_after changes from) t (made changes from t)
+all_turned [] from t h = (refl, refl)
+all_turned (change ∷ changes) from t h =
+    let one = one_turned change from t h in
+    (next_by change from, made_by change from t, one, all_turned changes (next_by change from) (made_by change from t) one.free)

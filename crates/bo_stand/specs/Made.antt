@@ -1,0 +1,114 @@
+-- What the statements of a commit make of the tables.
+use Rattle.std.specs.Prelude.{ℕ, ◌+◌, not, ◌==◌, if◌then◌else◌, List, [], ◌∷◌, length, map, filter}
+use Rattle.bo_catalogue.specs.declared.rows.Quota.{Quota}
+use Rattle.bo_lists.specs.declared.rows.CheckinList.{CheckinList}
+use Rattle.bo_lists.specs.declared.rows.Voucher.{Voucher}
+use Rattle.bo_lists.specs.declared.count_rows.QuotaCount.{QuotaCount}
+use Rattle.bo_lists.specs.declared.count_rows.VoucherCount.{VoucherCount}
+use Rattle.bo_lists.specs.declared.changes.Change.{Change}
+use Rattle.bo_lists.specs.declared.changes.Change.TheVariants.{PutItem, PutVariation, PutQuota, PutVoucher, PutCart, PutOrder, PutPosition, PutWaiting, DropVoucher, DropCart, DropWaiting, PutCheckinList, PutCheckin}
+use Rattle.bo_lists.specs.CountRows.{CountRows}
+use Rattle.bo_kept.specs.declared.kept.Kept.{Kept}
+use Rattle.bo_kept.specs.KeptAnswers.{lasts}
+use Rattle.bo_columns.specs.declared.rows.Shop.{Shop}
+use Rattle.bo_columns.specs.Changes.{with_shop, without_shop, with_item, without_item, with_variation, without_variation, with_quota, without_quota, with_cart, without_cart, with_order, without_order, with_position, without_position, with_waiting, without_waiting, with_list, without_list, with_checkin, without_checkin, with_count, without_count, with_kept}
+use Rattle.bo_columns.specs.Tables.{Tables}
+use Rattle.bo_stand.specs.Rows.{redeemed_in}
+use Rattle.bo_stand.specs.RowsAfter.{redeemed_of}
+
+-- ---- vouchers, whose rows have a counter
+
+abbrev pub put_voucher : Voucher → Tables → Tables
+put_voucher w t = record t { vouchers = record { voucher = w; redeemed = redeemed_of w.id (redeemed_in t) } ∷ filter (λ r. not (r.voucher.id == w.id)) t.vouchers }
+
+abbrev pub without_voucher : ℕ → Tables → Tables
+without_voucher id t = record t { vouchers = filter (λ r. not (r.voucher.id == id)) t.vouchers }
+
+abbrev pub set_redeemed : VoucherCount → Tables → Tables
+set_redeemed c t = record t { vouchers = map (λ r. if r.voucher.id == c.voucher then record { voucher = r.voucher; redeemed = c.redeemed } else r) t.vouchers }
+
+-- ---- links, whose rows are numbered from this number on
+
+abbrev pub numbered : {R : Type 0} → (ℕ → ℕ → R) → ℕ → List ℕ → List R → List R
+numbered row from [] rows = rows
+numbered row from (id ∷ ids) rows = numbered row (from + 1) ids (row from id ∷ rows)
+
+abbrev pub with_items : ℕ → ℕ → List ℕ → Tables → Tables
+with_items quota from ids t = record t { quota_items = numbered (λ n id. record { rowid = n; quota = quota; item = id }) from ids t.quota_items }
+
+abbrev pub with_variations : ℕ → ℕ → List ℕ → Tables → Tables
+with_variations quota from ids t = record t { quota_variations = numbered (λ n id. record { rowid = n; quota = quota; variation = id }) from ids t.quota_variations }
+
+abbrev pub with_limits : ℕ → ℕ → List ℕ → Tables → Tables
+with_limits list from ids t = record t { list_items = numbered (λ n id. record { rowid = n; list = list; item = id }) from ids t.list_items }
+
+abbrev pub without_members : ℕ → Tables → Tables
+without_members quota t = record t { quota_items = filter (λ r. not (r.quota == quota)) t.quota_items; quota_variations = filter (λ r. not (r.quota == quota)) t.quota_variations }
+
+abbrev pub without_limits : ℕ → Tables → Tables
+without_limits list t = record t { list_items = filter (λ r. not (r.list == list)) t.list_items }
+
+-- a quota with its members in the place of those that it had
+abbrev pub put_quota : Quota → ℕ → Tables → Tables
+put_quota w from t = with_variations w.id (from + length w.items) w.variations (with_items w.id from w.items (without_members w.id (with_quota w (without_quota w.id t))))
+
+abbrev pub put_list : CheckinList → ℕ → Tables → Tables
+put_list w from t = with_limits w.id from w.limit_products (without_limits w.id (with_list w (without_list w.id t)))
+
+-- ---- changes
+
+abbrev pub made_by : Change → ℕ → Tables → Tables
+made_by (PutItem w) from t = with_item w (without_item w.id t)
+made_by (PutVariation w) from t = with_variation w (without_variation w.id t)
+made_by (PutQuota w) from t = put_quota w from t
+made_by (PutVoucher w) from t = put_voucher w t
+made_by (PutCart w) from t = with_cart w (without_cart w.id t)
+made_by (PutOrder w) from t = with_order w (without_order w.id t)
+made_by (PutPosition w) from t = with_position w (without_position w.id t)
+made_by (PutWaiting w) from t = with_waiting w (without_waiting w.id t)
+made_by (DropVoucher id) from t = without_voucher id t
+made_by (DropCart id) from t = without_cart id t
+made_by (DropWaiting id) from t = without_waiting id t
+made_by (PutCheckinList w) from t = put_list w from t
+made_by (PutCheckin w) from t = with_checkin w (without_checkin w.id t)
+
+-- the row number that is free after a change
+abbrev pub next_by : Change → ℕ → ℕ
+next_by (PutQuota w) from = from + length w.items + length w.variations
+next_by (PutCheckinList w) from = from + length w.limit_products
+next_by _ from = from
+
+abbrev pub made : List Change → ℕ → Tables → Tables
+made [] from t = t
+made (change ∷ changes) from t = made changes (next_by change from) (made_by change from t)
+
+abbrev pub next_after : List Change → ℕ → ℕ
+next_after [] from = from
+next_after (change ∷ changes) from = next_after changes (next_by change from)
+
+-- ---- the rest of a commit
+
+abbrev pub put_shop : Shop → Tables → Tables
+put_shop w t = with_shop w (without_shop 1 t)
+
+abbrev pub put_count : QuotaCount → Tables → Tables
+put_count c t = with_count c (without_count c.quota t)
+
+-- one after another
+abbrev pub each : {X : Type 0} → (X → Tables → Tables) → List X → Tables → Tables
+each step [] t = t
+each step (x ∷ xs) t = each step xs (step x t)
+
+abbrev pub counted : CountRows → Tables → Tables
+counted counts t = each put_count counts.quotas (each set_redeemed counts.vouchers t)
+
+abbrev pub with_listed : ℕ → List Kept → Tables → Tables
+with_listed rowid [] t = t
+with_listed rowid (k ∷ ks) t = with_kept (record { rowid = rowid; kept = k }) t
+
+abbrev pub without_past : ℕ → Tables → Tables
+without_past at t = record t { kept = filter (λ r. lasts at r.kept.at) t.kept }
+
+-- what a commit makes of the tables
+abbrev pub done : Shop → List Change → CountRows → ℕ → List Kept → ℕ → Tables → Tables
+done shop changes counts from kept at t = without_past at (with_listed (next_after changes from) kept (without_past at (counted counts (made changes from (put_shop shop t)))))

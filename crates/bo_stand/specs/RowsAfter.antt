@@ -1,0 +1,50 @@
+-- What a change makes of the rows of a file.
+use Rattle.std.specs.Prelude.{ℕ, List, ◌∷◌, ◌++◌, Option, Some, None}
+use Rattle.bo_base.specs.Tables.{row_at, without_row}
+use Rattle.bo_lists.specs.declared.count_rows.VoucherCount.{VoucherCount}
+use Rattle.bo_lists.specs.declared.changes.Change.{Change}
+use Rattle.bo_lists.specs.declared.changes.Change.TheVariants.{PutItem, PutVariation, PutQuota, PutVoucher, PutCart, PutOrder, PutPosition, PutWaiting, DropVoucher, DropCart, DropWaiting, PutCheckinList, PutCheckin}
+use Rattle.bo_stand.specs.Links.{links, links_but}
+use Rattle.bo_columns.specs.Changes.{head_of_quota, head_of_list}
+use Rattle.bo_stand.specs.Rows.{OfficeRows}
+
+-- the row goes before the others, and the one that had its id goes away
+abbrev pub put_row : {T : Type 0} → (T → ℕ) → T → List T → List T
+put_row key row rows = row ∷ without_row key (key row) rows
+
+-- a row that is put stands in the place of its id, its links in the place of those that it had, and one that is dropped is gone
+abbrev pub rows_after : Change → OfficeRows → OfficeRows
+rows_after (PutItem row) rows = record rows { items = put_row (λ r. r.id) row rows.items }
+rows_after (PutVariation row) rows = record rows { variations = put_row (λ r. r.id) row rows.variations }
+rows_after (PutQuota row) rows = record rows {
+  quotas = put_row (λ r. r.id) (head_of_quota row) rows.quotas;
+  quota_items = links (λ q. q.id) (λ q. q.items) row ++ links_but row.id rows.quota_items;
+  quota_variations = links (λ q. q.id) (λ q. q.variations) row ++ links_but row.id rows.quota_variations;
+}
+rows_after (PutVoucher row) rows = record rows { vouchers = put_row (λ r. r.id) row rows.vouchers }
+rows_after (PutCart row) rows = record rows { carts = put_row (λ r. r.id) row rows.carts }
+rows_after (PutOrder row) rows = record rows { orders = put_row (λ r. r.id) row rows.orders }
+rows_after (PutPosition row) rows = record rows { positions = put_row (λ r. r.id) row rows.positions }
+rows_after (PutWaiting row) rows = record rows { waiting = put_row (λ r. r.id) row rows.waiting }
+rows_after (DropVoucher id) rows = record rows { vouchers = without_row (λ r. r.id) id rows.vouchers }
+rows_after (DropCart id) rows = record rows { carts = without_row (λ r. r.id) id rows.carts }
+rows_after (DropWaiting id) rows = record rows { waiting = without_row (λ r. r.id) id rows.waiting }
+rows_after (PutCheckinList row) rows = record rows {
+  checkin_lists = put_row (λ r. r.id) (head_of_list row) rows.checkin_lists;
+  list_items = links (λ l. l.id) (λ l. l.limit_products) row ++ links_but row.id rows.list_items;
+}
+rows_after (PutCheckin row) rows = record rows { checkins = put_row (λ r. r.id) row rows.checkins }
+
+abbrev pub redeemed_by : Option VoucherCount → ℕ
+redeemed_by None = 0
+redeemed_by (Some count) = count.redeemed
+
+-- how often a voucher is redeemed; 0 where it has no count
+abbrev pub redeemed_of : ℕ → List VoucherCount → ℕ
+redeemed_of id counts = redeemed_by (row_at (λ c. c.voucher) id counts)
+
+-- a voucher that is put keeps its count, a new one begins with 0, and one that is dropped loses it
+abbrev pub redeemed_after : Change → List VoucherCount → List VoucherCount
+redeemed_after (PutVoucher row) counts = put_row (λ c. c.voucher) (record { voucher = row.id; redeemed = redeemed_of row.id counts }) counts
+redeemed_after (DropVoucher id) counts = without_row (λ c. c.voucher) id counts
+redeemed_after _ counts = counts

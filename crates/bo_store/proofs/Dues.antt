@@ -1,0 +1,76 @@
+-- What came due, and what is in some carts.
+use Rattle.std.proofs.Common.{◌≡◌, ℕ, ◌+◌, ◌<◌, Bool, true, false, List, [], ◌∷◌, ◌++◌, Option, Some, None, map, length, get_or, drop, append_assoc, ◌≤◌, refl, sym, ap, ◌∙◌, count_by, cond, arith}
+use Rattle.std.specs.Prelude.{if◌then◌else◌, filter, ◌||◌}
+use Rattle.std.proofs.lemmas.Bool.Decides.{nat_tests}
+use Rattle.std.proofs.lemmas.List.Sums.{sum_by-cons}
+use Rattle.bo_base.specs.Rising.{rising}
+use Rattle.bo_base.specs.Tables.{has, AreInOrder}
+use Rattle.bo_base.specs.Texts.{same_text}
+use Rattle.bo_base.proofs.RisingLemmas.{has-rising, rising_in_order}
+use Rattle.bo_index.proofs.Sorted.{same_ids}
+use Rattle.bo_indexed.proofs.Selected.{selected_in_order}
+use Rattle.bo_lists.specs.declared.rows.CartPos.{CartPos}
+use Rattle.bo_lists.specs.CameDue.{ends_between, is_due_cart, is_due_voucher, came_due}
+use Rattle.bo_lists.specs.Consumed.{is_consumed}
+use Rattle.bo_lists.specs.Lists.{Lists}
+use Rattle.bo_store.proofs.Listed.{drop_next, drop_end, nothing_behind}
+
+abbrev one : Bool → ℕ
+one b = if b then 1 else 0
+
+none_counted : {T : Type 0} (test : T → Bool) (rows : List T) → ((r : T) → test r ≡ false) → count_by test rows ≡ 0
+none_counted test [] none = refl
+none_counted test (r ∷ rs) none = omega (arith, none_counted test rs none, ap one (none r), sum_by-cons (λ s. if test s then 1 else 0) r rs)
+
+-- nothing ends between a moment and an earlier one
+pub none_due : (from to : ℕ) (lists : Lists) → to < from → came_due from to lists ≡ 0
+none_due from to lists lt = omega (arith, none_counted (is_due_cart from to) lists.carts (λ c. never (Some c.expires)), none_counted (is_due_voucher from to) lists.vouchers (λ v. never v.valid_until))
+  where
+    never : (o : Option ℕ) → ends_between from to o ≡ false
+    never None = refl
+    never (Some end) = grind (arith, nat_tests, lt)
+
+-- the ids of what is in each of some carts
+abbrev pub each_cart : List (List ℕ) → List CartPos → List ℕ
+each_cart [] rows = []
+each_cart (cart ∷ carts) rows = map (λ c. c.id) (filter (λ c. same_text c.cart_id cart) rows) ++ each_cart carts rows
+
+-- one cart more
+pub next_cart : (carts : List (List ℕ)) (rows : List CartPos) (i : ℕ) (cart had now total : List ℕ) → i < length carts → cart ≡ get_or carts i cart → had ++ each_cart (drop i carts) rows ≡ total → now ≡ had ++ map (λ c. c.id) (filter (λ c. same_text c.cart_id cart) rows) → now ++ each_cart (drop (i + 1) carts) rows ≡ total
+next_cart carts rows i cart had now total lt is left grown =
+    let ids : List ℕ = map (λ c. c.id) (filter (λ c. same_text c.cart_id cart) rows) in
+    let rest : List ℕ = each_cart (drop (i + 1) carts) rows in
+    let next : each_cart (drop i carts) rows ≡ ids ++ rest = ap (λ l. each_cart l rows) (drop_next carts i cart lt) ∙ ap (λ t. map (λ c. c.id) (filter (λ c. same_text c.cart_id t) rows) ++ rest) (sym is) in
+    ap (λ l. l ++ rest) grown ∙ append_assoc had ids rest ∙ ap (λ l. had ++ l) (sym next) ∙ left
+
+pub no_cart : (carts : List (List ℕ)) (rows : List CartPos) (i : ℕ) (had total : List ℕ) → length carts ≤ i → had ++ each_cart (drop i carts) rows ≡ total → had ≡ total
+no_cart carts rows i had total le left = sym (nothing_behind had (each_cart (drop i carts) rows) (ap (λ l. each_cart l rows) (drop_end carts i le))) ∙ left
+
+has_append : (k : ℕ) (xs ys : List ℕ) → has k (xs ++ ys) ≡ (has k xs || has k ys)
+has_append k [] ys = refl
+has_append k (x ∷ xs) ys = grind (arith, nat_tests, has_append k xs ys)
+
+has_either : (k : ℕ) (a b : CartPos → Bool) (rows : List CartPos) → has k (map (λ c. c.id) (filter (λ c. a c || b c) rows)) ≡ (has k (map (λ c. c.id) (filter a rows)) || has k (map (λ c. c.id) (filter b rows)))
+has_either k a b [] = refl
+has_either k a b (r ∷ rs) = by_tests (a r) (b r) (has_either k a b rs)
+  where
+    by_tests : (p q : Bool) → has k (map (λ c. c.id) (filter (λ c. a c || b c) rs)) ≡ (has k (map (λ c. c.id) (filter a rs)) || has k (map (λ c. c.id) (filter b rs))) → has k (map (λ c. c.id) (cond (p || q) (r ∷ filter (λ c. a c || b c) rs) (filter (λ c. a c || b c) rs))) ≡ (has k (map (λ c. c.id) (cond p (r ∷ filter a rs) (filter a rs))) || has k (map (λ c. c.id) (cond q (r ∷ filter b rs) (filter b rs))))
+    by_tests true true more = grind (arith, nat_tests, more)
+    by_tests true false more = grind (arith, nat_tests, more)
+    by_tests false true more = grind (arith, nat_tests, more)
+    by_tests false false more = more
+
+none_has : (k : ℕ) (rows : List CartPos) → has k (map (λ c. c.id) (filter (is_consumed []) rows)) ≡ false
+none_has k [] = refl
+none_has k (r ∷ rs) = none_has k rs
+
+has_each : (k : ℕ) (carts : List (List ℕ)) (rows : List CartPos) → has k (each_cart carts rows) ≡ has k (map (λ c. c.id) (filter (is_consumed carts) rows))
+has_each k [] rows = sym (none_has k rows)
+has_each k (cart ∷ carts) rows =
+    has_append k (map (λ c. c.id) (filter (λ c. same_text c.cart_id cart) rows)) (each_cart carts rows)
+    ∙ ap (λ b. has k (map (λ c. c.id) (filter (λ c. same_text c.cart_id cart) rows)) || b) (has_each k carts rows)
+    ∙ sym (has_either k (λ c. same_text c.cart_id cart) (is_consumed carts) rows)
+
+-- sorted, they are those that are in one of them
+pub each_sorted : (carts : List (List ℕ)) (rows : List CartPos) → AreInOrder (λ c. c.id) rows → rising (each_cart carts rows) ≡ map (λ c. c.id) (filter (is_consumed carts) rows)
+each_sorted carts rows order = same_ids (rising (each_cart carts rows)) (map (λ c. c.id) (filter (is_consumed carts) rows)) (rising_in_order (each_cart carts rows)) (selected_in_order (λ c. c.id) (is_consumed carts) 0 rows order) (λ k. has-rising k (each_cart carts rows) ∙ has_each k carts rows)

@@ -1,0 +1,14 @@
+//! The rows of a box office, found by id and by key.
+#![tactic(auto)]
+
+pub mod carts;
+pub mod door;
+pub mod ids;
+pub mod naming;
+pub mod orders;
+pub mod queue;
+pub mod recounts;
+pub mod store;
+pub mod vouchers;
+
+pub use store::Store;

@@ -1,0 +1,164 @@
+//! Orders and their positions.
+
+ghost use Rattle.std.specs.Prelude.{◌≡◌, ◌≤◌, ◌&&◌, ◌==◌, ◌++◌, length, map, count_by, is_some, IfOk};
+ghost use Rattle.std.specs.Option.{option_copied};
+ghost use Rattle.bo_base.specs.Texts.{same_text};
+ghost use Rattle.bo_catalogue.specs.Member.{is_in};
+ghost use Rattle.bo_lists.specs.Conditions.{is_paid, is_pending, is_in_force};
+ghost use Rattle.bo_lists.specs.Lists.{order_at, position_at, positions_of};
+ghost use Rattle.bo_lists.specs.Named.{with_secret};
+ghost use Rattle.bo_lists.specs.Due.{due_orders};
+ghost use Rattle.bo_lists.specs.Usage.{stands_as};
+ghost use Rattle.bo_indexed.specs.Indexes.{Finds};
+ghost use Rattle.bo_store.specs.Walks.{listed, passing, one_if};
+
+use crate::ids::{count_one, sorted};
+use crate::store::Store;
+use bo_base::{List, Moment};
+use bo_catalogue::Quota;
+use bo_index::Found;
+use bo_indexed::digest;
+use bo_lists::OrderPos;
+use bo_usage::PositionTest;
+use std::alloc::{AllocError, Global};
+
+impl Store {
+    /// Whether the order stands and is paid.
+    pub fn is_paid(&self, order: u64) -> bool
+        ensures { result ≡ stands_as is_paid (order_at order self.now.state.lists) }
+    {
+        self.order(order).is_some_and(|o| o.status.is_paid())
+    }
+
+    /// Whether the order stands and waits for its payment.
+    pub fn is_pending(&self, order: u64) -> bool
+        ensures { result ≡ stands_as is_pending (order_at order self.now.state.lists) }
+    {
+        self.order(order).is_some_and(|o| o.status.is_pending())
+    }
+
+    /// Whether the order stands and its positions use vouchers.
+    pub fn is_in_force(&self, order: u64) -> bool
+        ensures { result ≡ stands_as is_in_force (order_at order self.now.state.lists) }
+    {
+        self.order(order).is_some_and(|o| o.status.is_in_force())
+    }
+
+    /// The ids of the positions of an order, rising.
+    pub fn positions_ordered(&self, order: u64) -> Found<'_>
+        ensures finds { Finds (λ r. r.id) (λ p. order == p.order) self.now.state.lists.positions result }
+        ensures all { result ≡ map (λ p. p.id) (positions_of order self.now.state.lists) }
+        ensures few { length result ≤ 4294967296 }
+    {
+        self.positions().in_group(order)
+    }
+
+    /// Copies of the positions of an order, by id: a walk over them.
+    pub fn positions_of(&self, alloc: Global, order: u64) -> Result<List<OrderPos>, AllocError>
+        ensures { IfOk result (λ rows. rows ≡ positions_of order self.now.state.lists) }
+    {
+        self.known();
+        let mut rows = Vec::new(alloc);
+        let ids = self.positions_ordered(order);
+        for place in 0..ids.len() {
+            self.push_position(alloc, &mut rows, ids.at(place))?;
+        }
+        Ok(List::new(rows))
+    }
+
+    // Adds a copy of the order position of an id, if there is one.
+    fn push_position(
+        &self,
+        alloc: Global,
+        rows: &mut Vec<OrderPos>,
+        id: u64,
+    ) -> Result<(), AllocError>
+        ensures { IfOk result (λ _. rows.new.items ≡ rows.old.items ++ listed (position_at id self.now.state.lists)) }
+    {
+        if let Some(row) = self.position(id) {
+            rows.push(row.copy(alloc)?)?;
+        }
+        Ok(())
+    }
+
+    // 1 where the order position of an id passes.
+    #[tactic(auto, unfolding(crate::specs::Walks::one_if))]
+    fn pass_of<T: PositionTest>(&self, test: &T, id: u64) -> u64
+        ensures value { result ≡ one_if (T.passes test.now) (position_at id self.now.state.lists) }
+        ensures small { result ≤ 1 }
+    {
+        match self.position(id) {
+            None => 0,
+            Some(row) => count_one(test.passes(row)),
+        }
+    }
+
+    /// How many positions of the order pass the test: a walk over its positions.
+    pub fn count_ordered<T: PositionTest>(&self, order: u64, test: &T) -> u64
+        ensures value { result ≡ count_by (λ p. order == p.order && T.passes test.now p) self.now.state.lists.positions }
+        ensures few { result ≤ 4294967296 }
+    {
+        let mut count = 0;
+        let ids = self.positions_ordered(order);
+        for place in 0..ids.len() {
+            count += self.pass_of(test, ids.at(place));
+        }
+        count
+    }
+
+    // 1 where the order position of an id is for a product of the quota.
+    #[tactic(auto, unfolding(crate::specs::Walks::one_if))]
+    fn in_quota_of(&self, quota: &Quota, id: u64) -> u64
+        ensures value { result ≡ one_if (λ p. is_in quota.now p.product) (position_at id self.now.state.lists) }
+        ensures small { result ≤ 1 }
+    {
+        match self.position(id) {
+            None => 0,
+            Some(row) => count_one(quota.has(row.product)),
+        }
+    }
+
+    /// How many positions of the order are for products of the quota: a walk over its positions.
+    pub fn ordered_in(&self, quota: &Quota, order: u64) -> u64
+        ensures value { result ≡ count_by (λ p. order == p.order && is_in quota.now p.product) self.now.state.lists.positions }
+        ensures few { result ≤ 4294967296 }
+    {
+        let mut count = 0;
+        let ids = self.positions_ordered(order);
+        for place in 0..ids.len() {
+            count += self.in_quota_of(quota, ids.at(place));
+        }
+        count
+    }
+
+    // The order position of an id, if it has the secret.
+    fn secret_at(&self, id: u64, secret: &str) -> Option<&OrderPos>
+        ensures found { option_copied result ≡ passing (λ p. same_text p.secret secret.now) (position_at id self.now.state.lists) }
+        ensures some { is_some result ≡ is_some (passing (λ p. same_text p.secret secret.now) (position_at id self.now.state.lists)) }
+    {
+        self.position(id).filter(|row| row.secret.same(secret))
+    }
+
+    /// The first order position with that secret: a walk over those whose secrets have its digest.
+    pub fn position_with(&self, secret: &str) -> Option<&OrderPos>
+        ensures { option_copied result ≡ with_secret secret.now self.now.state.lists }
+    {
+        self.known();
+        let ids = self.positions().with_text(digest(secret));
+        for place in 0..ids.len() {
+            let found = self.secret_at(ids.at(place), secret);
+            if found.is_some() {
+                return found;
+            }
+        }
+        None
+    }
+
+    /// The numbers of the pending orders that ended before a moment, in order.
+    pub fn due_orders(&self, alloc: Global, at: Moment) -> Result<Vec<u64>, AllocError>
+        ensures { IfOk result (λ ids. ids.items ≡ due_orders at self.now.state.lists) }
+    {
+        let ids = self.orders().ending(0, at.get()).to_vec(alloc)?;
+        Ok(sorted(ids))
+    }
+}

@@ -1,0 +1,73 @@
+//! Vouchers by their codes, and what came due.
+
+ghost use Rattle.std.specs.Prelude.{◌≡◌, ◌≤◌, length, is_some};
+ghost use Rattle.std.specs.Option.{option_copied};
+ghost use Rattle.bo_base.specs.Texts.{same_text};
+ghost use Rattle.bo_lists.specs.Lists.{voucher_at};
+ghost use Rattle.bo_lists.specs.Named.{voucher_of};
+ghost use Rattle.bo_lists.specs.CameDue.{is_due_cart, is_due_voucher, came_due};
+ghost use Rattle.bo_indexed.specs.Indexes.{Finds};
+ghost use Rattle.bo_store.specs.Walks.{passing};
+
+use crate::store::Store;
+use bo_base::Moment;
+use bo_index::Found;
+use bo_indexed::digest;
+use bo_lists::Voucher;
+
+impl Store {
+    // The voucher of an id, if it has the code.
+    fn coded_at(&self, id: u64, code: &str) -> Option<&Voucher>
+        ensures found { option_copied result ≡ passing (λ v. same_text v.code code.now) (voucher_at id self.now.state.lists) }
+        ensures some { is_some result ≡ is_some (passing (λ v. same_text v.code code.now) (voucher_at id self.now.state.lists)) }
+    {
+        self.voucher(id).filter(|row| row.code.same(code))
+    }
+
+    /// The first voucher with that code: a walk over those whose codes have its digest.
+    pub fn voucher_of(&self, code: &str) -> Option<&Voucher>
+        ensures { option_copied result ≡ voucher_of code.now self.now.state.lists }
+    {
+        self.known();
+        let ids = self.vouchers().with_text(digest(code));
+        for place in 0..ids.len() {
+            let found = self.coded_at(ids.at(place), code);
+            if found.is_some() {
+                return found;
+            }
+        }
+        None
+    }
+
+    /// The ids of the vouchers that end at one moment or later, and before another.
+    pub fn vouchers_due(&self, from: Moment, to: Moment) -> Found<'_>
+        requires { from ≤ to }
+        ensures finds { Finds (λ r. r.id) (is_due_voucher from to) self.now.state.lists.vouchers result }
+        ensures few { length result ≤ 4294967296 }
+    {
+        self.vouchers().ending(from.get(), to.get())
+    }
+
+    /// The ids of the cart positions that end at one moment or later, and before another.
+    pub fn carts_due(&self, from: Moment, to: Moment) -> Found<'_>
+        requires { from ≤ to }
+        ensures finds { Finds (λ r. r.id) (is_due_cart from to) self.now.state.lists.carts result }
+        ensures few { length result ≤ 4294967296 }
+    {
+        self.carts().ending(from.get(), to.get())
+    }
+
+    /// How many cart positions and vouchers ended, or end, at the moment of the last changes or later, and before this
+    /// one. Nothing is walked for it.
+    pub fn came_due(&self, at: Moment) -> u64
+        ensures { result ≡ came_due self.now.state.moment at self.now.state.lists }
+    {
+        let from = self.moment();
+        if at.is_before(from) {
+            return 0;
+        }
+        let carts = self.carts_due(from, at).len() as u64;
+        let vouchers = self.vouchers_due(from, at).len() as u64;
+        carts + vouchers
+    }
+}
