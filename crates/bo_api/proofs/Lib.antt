@@ -7,3 +7,4 @@ pub mod Seeking
 pub mod RoutePaths
 pub mod ShopPaths
 pub mod PagePaths
+pub mod Keys

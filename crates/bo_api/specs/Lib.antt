@@ -5,6 +5,7 @@ pub mod Path
 pub mod Page
 pub mod Tickets
 pub mod Token
+pub mod Key
 pub mod Verbs
 pub mod Endpoints
 pub mod Call

@@ -1,8 +1,11 @@
-//! Laws of the routes, and of the pages of lists.
+//! Laws of the routes, of the pages of lists, and of keys.
 
-ghost use Rattle.std.specs.Prelude.{◌≡◌, ◌∷◌, ◌++◌, ◌<◌, ◌^◌, false, List, [], ℕ, Some, None, codes};
+ghost use Rattle.std.specs.Prelude.{◌≡◌, ◌∷◌, ◌++◌, ◌<◌, ◌^◌, true, false, List, [], ℕ, Some, None, codes};
+ghost use Rattle.std.specs.List.{AllByRecursion};
 ghost use Rattle.bo_commands.specs.declared.requests.Resource.{Resource};
+ghost use Rattle.bo_http.specs.Messages.{Header, Message, same_word};
 ghost use Rattle.bo_words.specs.Pages.{page_path};
+ghost use Rattle.bo_api.specs.Key.{key_name, key_of};
 ghost use Rattle.bo_api.specs.Page.{IsNamed, page_of};
 ghost use Rattle.bo_api.specs.Path.{in_shop, target_by, target_of, ticket_named};
 ghost use Rattle.bo_api.specs.Routes.{route_of};
@@ -64,4 +67,14 @@ pub fn pages_read_back()
     ensures list { (organizer event : List ℕ) (resource : Resource) (number : ℕ) →
         IsNamed resource → has 63 organizer ≡ false → has 63 event ≡ false →
         target_of organizer event (page_path organizer event resource number) ≡ Some (Target.All resource) }
+{}
+
+/// The first of a message's key fields counts, whatever follows it, and in whatever case its name is written. A message
+/// without such a field has no key.
+pub fn the_first_key_counts()
+    ensures first { (m : Message) (before after : List Header) (field : Header) → AllByRecursion (λ h. same_word h.0 key_name ≡ false) before → same_word field.0 key_name ≡ true
+        → m.fields ≡ before ++ field ∷ after → key_of m ≡ field.1 }
+    ensures none { (m : Message) → AllByRecursion (λ h. same_word h.0 key_name ≡ false) m.fields → key_of m ≡ [] }
+    ensures any_case { same_word (codes "X-IDEMPOTENCY-Key") key_name ≡ true }
+    ensures other_word { same_word (codes "Idempotency-Key") key_name ≡ false }
 {}

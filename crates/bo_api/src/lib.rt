@@ -3,6 +3,7 @@
 
 pub mod call;
 mod endpoint;
+pub mod key;
 pub mod laws;
 mod page;
 mod path;
@@ -13,4 +14,5 @@ mod verb;
 pub mod words;
 
 pub use call::Call;
+pub use key::key_of;
 pub use words::Words;

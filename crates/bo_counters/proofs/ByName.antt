@@ -1,5 +1,5 @@
 -- What rows that name others add up to, by those that they name.
-use Rattle.std.proofs.Common.{◌≡◌, ℕ, ◌+◌, ◌<◌, Bool, true, false, eqb, List, [], ◌∷◌, Option, Some, None, refl, sym, ap, ◌∙◌, sum_by, arith}
+use Rattle.std.proofs.Common.{◌≡◌, ℕ, ◌+◌, Bool, true, false, eqb, List, [], ◌∷◌, Option, Some, None, refl, sym, ap, ◌∙◌, sum_by, arith}
 use Rattle.std.specs.Prelude.{if◌then◌else◌}
 use Rattle.std.proofs.lemmas.Bool.Decides.{nat_tests}
 use Rattle.std.proofs.lemmas.List.Sums.{sum_by-cons}
@@ -8,7 +8,6 @@ use Rattle.bo_base.proofs.Edits.{row_at_above}
 use Rattle.bo_lists.specs.Conditions.{names}
 use Rattle.bo_lists.proofs.Time.{sum_by_split, eqb_flip}
 use Rattle.bo_counters.specs.Names.{passes_if, names_one}
-use Rattle.bo_indexed.proofs.EntryLemmas.{sums_like}
 
 module _ {V C : Type 0} (id : V → ℕ) (name : C → Option ℕ) (test : V → Bool) (g : C → ℕ) (cs : List C) where
   -- what those add up to that name this one

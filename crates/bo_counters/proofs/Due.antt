@@ -1,18 +1,16 @@
 -- The usage at a later moment, by what has ended since: for counters that stand at a moment.
-use Rattle.std.proofs.Common.{◌≡◌, ℕ, suc, ◌+◌, ◌-◌, ◌<◌, ◌≤◌, Bool, true, false, not, ◌&&◌, eqb, leb, List, [], ◌∷◌, Option, Some, None, refl, sym, ap, ◌∙◌, subst, count_by, sum_by, arith}
+use Rattle.std.proofs.Common.{◌≡◌, ℕ, ◌+◌, ◌-◌, ◌≤◌, Bool, true, false, not, ◌&&◌, leb, List, Option, Some, None, refl, count_by, sum_by, arith}
 use Rattle.std.specs.Prelude.{if◌then◌else◌}
 use Rattle.std.proofs.lemmas.Bool.Decides.{nat_tests}
-use Rattle.std.proofs.lemmas.List.Sums.{sum_by-cons}
-use Rattle.bo_base.specs.Tables.{row_at, InOrderFrom}
-use Rattle.bo_base.proofs.Edits.{row_at_above}
+use Rattle.bo_base.specs.Tables.{row_at}
 use Rattle.bo_catalogue.specs.declared.rows.Quota.{Quota}
 use Rattle.bo_catalogue.specs.Member.{is_in}
 use Rattle.bo_lists.specs.declared.rows.Voucher.{Voucher}
 use Rattle.bo_lists.specs.declared.rows.CartPos.{CartPos}
-use Rattle.bo_lists.specs.Conditions.{is_live_voucher, is_live_cart, has_not_ended, hits, blocks, names}
+use Rattle.bo_lists.specs.Conditions.{is_live_voucher, is_live_cart, has_not_ended, hits, blocks}
 use Rattle.bo_lists.specs.Lists.{Lists, voucher_at}
-use Rattle.bo_lists.specs.Usage.{redeemed, blocked_by, blocks_if, is_covered_by, is_covered, cart_counts}
-use Rattle.bo_lists.proofs.Time.{one, gated, sum_by_split, same_sums, eqb_flip}
+use Rattle.bo_lists.specs.Usage.{redeemed, blocked_by, blocks_if, is_covered_by, cart_counts}
+use Rattle.bo_lists.proofs.Time.{one, sum_by_split}
 use Rattle.bo_lists.proofs.Orders.{sum_by_swap}
 
 module _ (quota : Quota) (lists : Lists) (at later : ℕ) (le : at ≤ later) where

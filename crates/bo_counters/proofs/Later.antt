@@ -1,6 +1,6 @@
 -- The usage at a later moment, by what a walk over what came due adds up to.
-use Rattle.std.proofs.Common.{◌≡◌, ℕ, ◌+◌, ◌-◌, ◌≤◌, min, Bool, true, false, not, ◌&&◌, eqb, leb, ltb, List, [], ◌∷◌, Option, Some, None, refl, sym, ap, ◌∙◌, subst, count_by, sum_by, length, arith}
-use Rattle.std.specs.Prelude.{if◌then◌else◌}
+use Rattle.std.proofs.Common.{◌≡◌, ℕ, ◌-◌, ◌≤◌, Bool, true, false, not, ◌&&◌, leb, ltb, List, Option, Some, None, refl, sym, ap, ◌∙◌, count_by, sum_by, arith}
+use Rattle.std.specs.Prelude.{if◌then◌else◌, is_some}
 use Rattle.std.proofs.lemmas.Bool.Decides.{nat_tests}
 use Rattle.std.proofs.lemmas.List.Sums.{count_by-le-length}
 use Rattle.bo_base.specs.Tables.{row_at}
@@ -9,14 +9,15 @@ use Rattle.bo_catalogue.specs.Member.{is_in}
 use Rattle.bo_lists.specs.declared.rows.Voucher.{Voucher}
 use Rattle.bo_lists.specs.declared.rows.CartPos.{CartPos}
 use Rattle.bo_lists.specs.declared.rows.Usage.{Usage}
-use Rattle.bo_lists.specs.Conditions.{is_live_voucher, is_live_cart, has_not_ended, hits, blocks, names, holds}
-use Rattle.bo_lists.specs.Lists.{Lists}
+use Rattle.bo_lists.specs.Conditions.{is_live_cart, has_not_ended, hits, names, holds}
+use Rattle.bo_lists.specs.Lists.{Lists, voucher_at}
+use Rattle.bo_lists.proofs.EachRow.{key-row_at}
 use Rattle.bo_lists.specs.Kept.{IsKept}
 use Rattle.bo_lists.specs.Usage.{redeemed, cart_counts, usage_of}
 use Rattle.bo_lists.specs.Headroom.{held_in}
-use Rattle.bo_lists.specs.CameDue.{ends_between, is_due_cart, is_due_voucher, is_due_if, names_due_by, names_due, came_due, naming_due}
+use Rattle.bo_lists.specs.CameDue.{ends_between, is_due_cart, is_due_voucher, is_due_if, names_due_by, names_due, naming_due}
 use Rattle.bo_counters.specs.Names.{passes_if, names_one}
-use Rattle.bo_counters.specs.Later.{may_block, release_if, free_if, naming_if}
+use Rattle.bo_counters.specs.Later.{Stands, release_if, free_if, naming_if}
 use Rattle.bo_counters.specs.Shifts.{moved, released, freed, lapsed, time_shift}
 use Rattle.bo_counters.proofs.Due.{has_lapsed, has_released, released_if, released_by, is_freed, carts_later, blocked_later}
 use Rattle.bo_indexed.proofs.EntryLemmas.{sums_like}
@@ -24,6 +25,15 @@ use Rattle.bo_counters.proofs.ByName.{sum_by_name}
 
 abbrev one : Bool → ℕ
 one b = if b then 1 else 0
+
+-- what is found by an id stands
+pub stands_at : (lists : Lists) (id : ℕ) (found : Option Voucher) → found ≡ voucher_at id lists → Stands lists found
+stands_at lists id None is = tt
+stands_at lists id (Some v) is = ap (λ x. voucher_at x lists) (key-row_at (λ r. r.id) id lists.vouchers v (sym is)) ∙ sym is
+
+-- one that doesn't stand isn't there
+pub none_stands : (found : Option Voucher) → found ≡ None → is_some found ≡ true → ⊥
+none_stands found none some = cc (sym (ap is_some none) ∙ some)
 
 module _ (quota : Quota) (lists : Lists) (from to : ℕ) (le : from ≤ to) where
   due_cart_is : (c : CartPos) → is_due_cart from to c ≡ has_lapsed quota lists from to le c

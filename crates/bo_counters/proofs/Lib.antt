@@ -8,3 +8,6 @@ pub mod ShiftLemmas
 pub mod Kept
 pub mod TurnLemmas
 pub mod Positions
+pub mod Ending
+pub mod Resized
+pub mod PlaceLemmas

@@ -1,5 +1,5 @@
 -- What a row that comes or goes does to the quotas that have its product, and to no other.
-use Rattle.std.proofs.Common.{◌≡◌, ℕ, ◌+◌, ◌-◌, Bool, true, false, not, ◌&&◌, List, length, Option, Some, None, refl, sym, ap, ◌∙◌, arith}
+use Rattle.std.proofs.Common.{◌≡◌, ℕ, ◌-◌, Bool, true, false, not, ◌&&◌, List, length, Option, Some, None, refl, sym, ap, arith}
 use Rattle.std.specs.Prelude.{if◌then◌else◌}
 use Rattle.bo_catalogue.specs.declared.rows.Quota.{Quota}
 use Rattle.bo_catalogue.specs.Member.{is_in}
@@ -10,10 +10,11 @@ use Rattle.bo_lists.specs.declared.rows.OrderPos.{OrderPos}
 use Rattle.bo_lists.specs.declared.rows.Status.{Status}
 use Rattle.bo_lists.specs.declared.rows.Voucher.{Voucher}
 use Rattle.bo_lists.specs.Conditions.{is_live_cart, is_live_voucher, is_paid, is_pending, hits}
+use Rattle.bo_lists.specs.Headroom.{held_in}
 use Rattle.bo_lists.specs.Lists.{Lists, order_at}
-use Rattle.bo_lists.specs.Usage.{cart_counts, is_covered, waits_for, has_none, stands_as}
+use Rattle.bo_lists.specs.Usage.{is_covered, has_none, stands_as}
 use Rattle.bo_counters.specs.Turns.{status_share, position_shift, turn_shift}
-use Rattle.bo_counters.specs.Shifts.{map_beside, only, moved, cart_share, cart_shift, waiting_share, waiting_shift, blocked_share}
+use Rattle.bo_counters.specs.Shifts.{map_beside, only, moved, cart_share, cart_shift, waiting_share, waiting_shift, blocked_share, covered_share, leave_shift, enter_shift}
 use Rattle.bo_counters.proofs.TouchedLemmas.{beside_beside, beside_alike, beside_same}
 
 pub stays : (n : ℕ) → moved n 0 0 ≡ n
@@ -36,7 +37,7 @@ cart_none : (lists : Lists) (at : ℕ) (quota : Quota) (cart : CartPos) → is_i
 unfolding cart_share
 cart_none lists at quota cart none = none_of (is_live_cart at cart) (is_in quota cart.product) (not (is_covered lists at quota cart)) none
 
-no_cart : (lists : Lists) (at : ℕ) (quota : Quota) → cart_share lists at quota None ≡ 0
+pub no_cart : (lists : Lists) (at : ℕ) (quota : Quota) → cart_share lists at quota None ≡ 0
 unfolding cart_share
 no_cart lists at quota = refl
 
@@ -162,3 +163,49 @@ turn_hits at was now voucher quotas us = beside_alike (only (λ q. hits q vouche
     still q u none =
         let same : moved u.blocked (blocked_share at q now (Some voucher)) (blocked_share at q was (Some voucher)) ≡ u.blocked = omega (arith, blocked_none at q now voucher none, blocked_none at q was voucher none) in
         ap (λ (n : ℕ). record u { blocked = n }) same
+
+-- a voucher that comes or goes touches the quotas that it hits
+covered_none : (lists : Lists) (from to : ℕ) (quota : Quota) (voucher : Voucher) → hits quota voucher ≡ false → covered_share lists from to quota (Some voucher) ≡ 0
+unfolding covered_share
+covered_none lists from to quota voucher none = by_tests voucher.block_quota (is_live_voucher from voucher) (hits quota voucher) none
+  where
+    by_tests : (a b d : Bool) → d ≡ false → ◌≡◌ {A = ℕ} (if a && b && d then held_in to quota voucher.id lists else 0) 0
+    by_tests true true true h = absurd (cc h)
+    by_tests true true false h = refl
+    by_tests true false d h = refl
+    by_tests false b d h = refl
+
+no_block : (at : ℕ) (quota : Quota) (spent : ℕ) → blocked_share at quota spent None ≡ 0
+unfolding blocked_share
+no_block at quota spent = refl
+
+nothing_covered : (lists : Lists) (from to : ℕ) (quota : Quota) → covered_share lists from to quota None ≡ 0
+unfolding covered_share
+nothing_covered lists from to quota = refl
+
+module _ (lists : Lists) (quotas : List Quota) (us : List Usage) where
+  leave_still : (from to spent : ℕ) (o : Option Voucher) (q : Quota) (u : Usage) → blocked_share from q spent o ≡ 0 → covered_share lists from to q o ≡ 0 → leave_shift lists from to spent o q u ≡ u
+  leave_still from to spent o q u b h =
+      let blocked : moved u.blocked 0 (blocked_share from q spent o) ≡ u.blocked = omega (arith, b) in
+      let carts : moved u.carts (covered_share lists from to q o) 0 ≡ u.carts = omega (arith, h) in
+      λ i. record u { blocked = blocked i; carts = carts i }
+
+  enter_still : (at spent : ℕ) (o : Option Voucher) (q : Quota) (u : Usage) → blocked_share at q spent o ≡ 0 → covered_share lists at at q o ≡ 0 → enter_shift lists at spent o q u ≡ u
+  enter_still at spent o q u b h =
+      let blocked : moved u.blocked (blocked_share at q spent o) 0 ≡ u.blocked = omega (arith, b) in
+      let carts : moved u.carts 0 (covered_share lists at at q o) ≡ u.carts = omega (arith, h) in
+      λ i. record u { blocked = blocked i; carts = carts i }
+
+  pub leave_hits : (from to spent : ℕ) (voucher : Voucher) → map_beside (only (λ q. hits q voucher) (leave_shift lists from to spent (Some voucher))) quotas us ≡ map_beside (leave_shift lists from to spent (Some voucher)) quotas us
+  leave_hits from to spent voucher = beside_alike (only (λ q. hits q voucher) (leave_shift lists from to spent (Some voucher))) (leave_shift lists from to spent (Some voucher)) quotas us
+      (λ q u. either (hits q voucher) (leave_shift lists from to spent (Some voucher) q u) u (λ none. leave_still from to spent (Some voucher) q u (blocked_none from q spent voucher none) (covered_none lists from to q voucher none)))
+
+  pub leave_none : (from to spent : ℕ) → length us ≡ length quotas → us ≡ map_beside (leave_shift lists from to spent None) quotas us
+  leave_none from to spent len = sym (beside_same (leave_shift lists from to spent None) quotas us len (λ q u. leave_still from to spent None q u (no_block from q spent) (nothing_covered lists from to q)))
+
+  pub enter_hits : (at spent : ℕ) (voucher : Voucher) → map_beside (only (λ q. hits q voucher) (enter_shift lists at spent (Some voucher))) quotas us ≡ map_beside (enter_shift lists at spent (Some voucher)) quotas us
+  enter_hits at spent voucher = beside_alike (only (λ q. hits q voucher) (enter_shift lists at spent (Some voucher))) (enter_shift lists at spent (Some voucher)) quotas us
+      (λ q u. either (hits q voucher) (enter_shift lists at spent (Some voucher) q u) u (λ none. enter_still at spent (Some voucher) q u (blocked_none at q spent voucher none) (covered_none lists at at q voucher none)))
+
+  pub enter_none : (at spent : ℕ) → length us ≡ length quotas → us ≡ map_beside (enter_shift lists at spent None) quotas us
+  enter_none at spent len = sym (beside_same (enter_shift lists at spent None) quotas us len (λ q u. enter_still at spent None q u (no_block at q spent) (nothing_covered lists at at q)))

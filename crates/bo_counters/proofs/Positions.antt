@@ -1,11 +1,11 @@
 -- The numbers after an order position or an order was put.
-use Rattle.std.proofs.Common.{◌≡◌, ℕ, ◌+◌, ◌-◌, ◌≤◌, min, Bool, true, false, not, ◌&&◌, eqb, List, length, map, Option, Some, None, refl, sym, ap, ◌∙◌, sum_by, count_by, arith}
+use Rattle.std.proofs.Common.{◌≡◌, ℕ, ◌+◌, ◌≤◌, Bool, true, false, not, ◌&&◌, eqb, List, length, map, Option, Some, None, refl, sym, ap, ◌∙◌, sum_by, count_by, arith}
 use Rattle.std.specs.Prelude.{if◌then◌else◌}
 use Rattle.std.specs.List.{AllByRecursion}
 use Rattle.std.specs.Bool.{beq}
 use Rattle.std.proofs.lemmas.List.Sums.{count_by-le-length}
 use Rattle.bo_base.specs.Tables.{sum_at, with_row}
-use Rattle.bo_base.proofs.Edits.{sum_by-with_row, length-with_row}
+use Rattle.bo_base.proofs.Edits.{sum_by-with_row}
 use Rattle.bo_catalogue.specs.declared.rows.Quota.{Quota}
 use Rattle.bo_catalogue.specs.CatalogueLists.{CatalogueLists}
 use Rattle.bo_catalogue.specs.Member.{is_in}
@@ -16,20 +16,19 @@ use Rattle.bo_lists.specs.declared.rows.Checkin.{Checkin}
 use Rattle.bo_lists.specs.declared.rows.Status.{Status}
 use Rattle.bo_lists.specs.declared.rows.Usage.{Usage}
 use Rattle.bo_lists.specs.declared.changes.Change.TheVariants.{PutOrder, PutPosition}
-use Rattle.bo_lists.specs.Conditions.{is_paid, is_pending, is_in_force, names, blocks}
+use Rattle.bo_lists.specs.Conditions.{is_paid, is_pending, is_in_force, names}
 use Rattle.bo_lists.specs.Lists.{Lists, State, order_at, position_at}
 use Rattle.bo_lists.specs.Kept.{IsKept}
 use Rattle.bo_lists.specs.Change.{after_change}
 use Rattle.bo_lists.specs.Usage.{usage_of, stands_as, position_counts, blocked_by, uses, redeemed}
 use Rattle.bo_lists.proofs.Time.{one}
-use Rattle.bo_lists.proofs.Orders.{counts, of_order, order_step, position_step}
+use Rattle.bo_lists.proofs.Orders.{counts, of_order, order_step}
 use Rattle.bo_usage.specs.OfOrder.{count_ordered, if_stands}
 use Rattle.bo_usage.proofs.OrderSums.{of_one, order_put_is}
 use Rattle.bo_usage.proofs.Redeemed.{redeemed_order, redeemed_le}
 use Rattle.bo_counters.specs.Later.{IsCounted}
 use Rattle.bo_counters.specs.Shifts.{map_beside, moved}
 use Rattle.bo_counters.specs.Turns.{blocked_part, turned, turn, with_blocked, IsCountedBy, status_share, position_shift, order_shift, used_name, after_order}
-use Rattle.bo_indexed.proofs.EntryLemmas.{sums_like}
 use Rattle.bo_counters.proofs.ShiftLemmas.{map_beside_map, moves, at_most_one, same_map}
 use Rattle.bo_counters.proofs.TurnLemmas.{counted_like}
 

@@ -1,5 +1,5 @@
 -- Usages that are kept through changes.
-use Rattle.std.proofs.Common.{◌≡◌, ℕ, zero, suc, ◌+◌, ◌-◌, ◌*◌, ◌<◌, ◌≤◌, min, Bool, true, false, ◌&&◌, List, [], ◌∷◌, length, get_or, set, take, map, Option, Some, None, refl, sym, ap, ◌∙◌, add-one, sum_by, count_by, arith}
+use Rattle.std.proofs.Common.{◌≡◌, ℕ, ◌+◌, ◌-◌, ◌*◌, ◌≤◌, Bool, true, false, ◌&&◌, List, [], ◌∷◌, length, get_or, map, Option, Some, None, refl, sym, ap, ◌∙◌, sum_by, count_by, arith}
 use Rattle.std.specs.Prelude.{if◌then◌else◌}
 use Rattle.std.specs.List.{AllByRecursion}
 use Rattle.std.proofs.lemmas.List.Sums.{count_by-le-length, sum_by-cons}
@@ -7,7 +7,7 @@ use Rattle.bo_base.specs.Tables.{row_at, with_row, without_row, AreInOrder, sum_
 use Rattle.bo_base.proofs.Places.{row_at_place}
 use Rattle.bo_indexed.proofs.EntryLemmas.{map_at}
 use Rattle.bo_counters.proofs.Later.{time_is}
-use Rattle.bo_base.proofs.Edits.{sum_by-with_row, sum_by-without_row, length-with_row, length-without_row}
+use Rattle.bo_base.proofs.Edits.{sum_by-with_row, sum_by-without_row}
 use Rattle.bo_catalogue.specs.declared.rows.Quota.{Quota}
 use Rattle.bo_lists.specs.declared.rows.CartPos.{CartPos}
 use Rattle.bo_lists.specs.declared.rows.Waiting.{Waiting}
@@ -26,22 +26,9 @@ use Rattle.bo_lists.specs.Headroom.{held_in}
 use Rattle.bo_lists.specs.Change.{after_change}
 use Rattle.bo_lists.specs.Usage.{usage_of, cart_counts, blocked_by, waits_for, redeemed}
 use Rattle.bo_counters.specs.Later.{IsCounted}
-use Rattle.bo_counters.specs.Shifts.{map_beside, moved, cart_share, cart_shift, waiting_share, waiting_shift, blocked_share, uncovered_share, voucher_shift, time_shift}
+use Rattle.bo_counters.specs.Shifts.{map_beside, moved, cart_share, cart_shift, waiting_share, waiting_shift, blocked_share, covered_share, voucher_shift, time_shift}
 
 module _ {X Y : Type 0} (f : X → Y → Y) where
-  pub length_beside : (xs : List X) (ys : List Y) (i : ℕ) → length ys ≡ length xs → length (map_beside f (take i xs) ys) ≡ length ys
-  length_beside [] ys zero e = refl
-  length_beside [] ys (suc i) e = refl
-  length_beside (x ∷ xs) ys zero e = refl
-  length_beside (x ∷ xs) [] (suc i) e = absurd (omega (arith, e))
-  length_beside (x ∷ xs) (y ∷ ys) (suc i) e = omega (arith, length_beside xs ys i (omega (arith, e)))
-
-  pub one_beside : (xs : List X) (ys : List Y) (i : ℕ) (d : X) (e : Y) → length ys ≡ length xs → i < length xs → set (map_beside f (take i xs) ys) i (f (get_or xs i d) (get_or (map_beside f (take i xs) ys) i e)) ≡ map_beside f (take (i + 1) xs) ys
-  one_beside [] ys i d e same lt = absurd (omega arith)
-  one_beside (x ∷ xs) [] i d e same lt = absurd (omega (arith, same))
-  one_beside (x ∷ xs) (y ∷ ys) zero d e same lt = refl
-  one_beside (x ∷ xs) (y ∷ ys) (suc i) d e same lt = rw add-one (ap (λ l. f x y ∷ l) (rw add-one at (one_beside xs ys i d e (omega (arith, same)) (omega arith))))
-
   pub map_beside_map : (a b : X → Y) (xs : List X) → ((x : X) → f x (a x) ≡ b x) → map_beside f xs (map a xs) ≡ map b xs
   map_beside_map a b [] h = refl
   map_beside_map a b (x ∷ xs) h = λ i. h x i ∷ map_beside_map a b xs h i
@@ -139,18 +126,24 @@ abbrev id_or : ℕ → Option Voucher → ℕ
 id_or n None = n
 id_or n (Some v) = v.id
 
-share_is : (lists : Lists) (at : ℕ) (quota : Quota) (id spent : ℕ) → spent ≡ redeemed id lists → (o : Option Voucher) → ((v : Voucher) → o ≡ Some v → v.id ≡ id) → blocked_share at quota spent o ≡ sum_at (blocked_by lists at quota) o
+pub share_is : (lists : Lists) (at : ℕ) (quota : Quota) (id spent : ℕ) → spent ≡ redeemed id lists → (o : Option Voucher) → ((v : Voucher) → o ≡ Some v → v.id ≡ id) → blocked_share at quota spent o ≡ sum_at (blocked_by lists at quota) o
 unfolding blocked_share blocked_by
 share_is lists at quota id spent is None own = refl
 share_is lists at quota id spent is (Some v) own = ap (λ n. if blocks at quota v then v.max_usages - n else 0) (is ∙ ap (λ x. redeemed x lists) (sym (own v refl)))
 
--- no more cart positions are covered than there are
-uncovered_few : (lists : Lists) (at : ℕ) (quota : Quota) (id : ℕ) (voucher : Option Voucher) → uncovered_share at quota (held_in at quota id lists) voucher ≤ length lists.carts
-uncovered_few lists at quota id voucher = by_test (blocks_if at quota voucher)
+-- of the cart positions that name a voucher those count that it doesn't cover
+covered_is : (lists : Lists) (at : ℕ) (quota : Quota) (id : ℕ) (o : Option Voucher) → ((v : Voucher) → o ≡ Some v → v.id ≡ id) → covered_share lists at at quota o + (if blocks_if at quota o then 0 else held_in at quota id lists) ≡ held_in at quota id lists
+unfolding covered_share
+covered_is lists at quota id None own = omega arith
+covered_is lists at quota id (Some v) own = by_test (blocks at quota v) (ap (λ x. held_in at quota x lists) (own v refl))
   where
-    by_test : (b : Bool) → (if b then 0 else held_in at quota id lists) ≤ length lists.carts
-    by_test true = omega arith
-    by_test false = count_by-le-length (λ c. holds at id c && is_in quota c.product) lists.carts
+    by_test : (b : Bool) → held_in at quota v.id lists ≡ held_in at quota id lists → (if b then held_in at quota v.id lists else 0) + (if b then 0 else held_in at quota id lists) ≡ held_in at quota id lists
+    by_test true same = omega (arith, same)
+    by_test false same = omega arith
+
+-- no more than there are
+held_few : (lists : Lists) (at : ℕ) (quota : Quota) (id : ℕ) → held_in at quota id lists ≤ length lists.carts
+held_few lists at quota id = count_by-le-length (λ c. holds at id c && is_in quota c.product) lists.carts
 
 -- what is blocked where the vouchers are others
 blocked_with : (lists : Lists) (at : ℕ) (quota : Quota) (vouchers : List Voucher) → (usage_of (record lists { vouchers = vouchers }) at quota).blocked ≡ sum_by (blocked_by lists at quota) vouchers
@@ -166,28 +159,32 @@ unfolding usage_of blocked_by
 with_vouchers lists at quota vouchers blocked carts b n = λ i. record (usage_of lists at quota) { blocked = b i; carts = n i }
 
 module _ (lists : Lists) (at : ℕ) (kept : IsKept 4294967296 lists) (small : AllByRecursion (λ v. v.max_usages ≤ 4294967295) lists.vouchers) (quota : Quota) where
-  pub voucher_put : (row : Voucher) (spent : ℕ) → row.max_usages ≤ 4294967295 → spent ≡ redeemed row.id lists → voucher_shift lists at row.id spent (Some row) (voucher_at row.id lists) quota (usage_of lists at quota) ≡ usage_of (after_change (PutVoucher row) lists) at quota
+  pub voucher_put : (row : Voucher) (spent : ℕ) → row.max_usages ≤ 4294967295 → spent ≡ redeemed row.id lists → voucher_shift lists at spent (Some row) (voucher_at row.id lists) quota (usage_of lists at quota) ≡ usage_of (after_change (PutVoucher row) lists) at quota
   voucher_put row spent most is =
       let vouchers = with_row (λ r. r.id) row lists.vouchers in
       let after = after_change (PutVoucher row) lists in
-      let come = share_is lists at quota row.id spent is (Some row) (λ v same. ap (λ (o : Option Voucher). id_or row.id o) (sym same)) in
-      let left = share_is lists at quota row.id spent is (voucher_at row.id lists) (λ v same. key-row_at (λ r. r.id) row.id lists.vouchers v same) in
-      let b : moved (usage_of lists at quota).blocked (blocked_share at quota spent (Some row)) (blocked_share at quota spent (voucher_at row.id lists)) ≡ (usage_of after at quota).blocked =
-      omega (arith, come, left, sum_by-with_row (λ r. r.id) (blocked_by lists at quota) 0 row lists.vouchers kept.vouchers.in_order, blocked_with lists at quota lists.vouchers, blocked_with lists at quota vouchers, blocked_few lists at quota lists.vouchers small, one_few lists at quota row most, kept.vouchers.few) in
-      let n : moved (usage_of lists at quota).carts (uncovered_share at quota (held_in at quota row.id lists) (Some row)) (uncovered_share at quota (held_in at quota row.id lists) (voucher_at row.id lists)) ≡ (usage_of after at quota).carts =
-      omega (arith, carts_with lists at quota row.id (Some row) vouchers (λ x. row_at-with_row (λ r. r.id) x row lists.vouchers), carts_of lists at quota, carts_of after at quota, count_by-le-length (cart_counts lists at quota) lists.carts, kept.carts.few, uncovered_few lists at quota row.id (Some row)) in
+      let own = λ (v : Voucher) (same : voucher_at row.id lists ≡ Some v). key-row_at (λ r. r.id) row.id lists.vouchers v same in
+      let new = λ (v : Voucher) (same : Some row ≡ Some v). ap (λ (o : Option Voucher). id_or row.id o) (sym same) in
+      let come = share_is lists at quota row.id spent is (Some row) new in
+      let left = share_is lists at quota row.id spent is (voucher_at row.id lists) own in
+      let b : moved (moved (usage_of lists at quota).blocked 0 (blocked_share at quota spent (voucher_at row.id lists))) (blocked_share at quota spent (Some row)) 0 ≡ (usage_of after at quota).blocked =
+      omega (arith, come, left, sum_by-with_row (λ r. r.id) (blocked_by lists at quota) 0 row lists.vouchers kept.vouchers.in_order, sum_by-without_row (λ r. r.id) (blocked_by lists at quota) 0 row.id lists.vouchers kept.vouchers.in_order, blocked_with lists at quota lists.vouchers, blocked_with lists at quota vouchers, blocked_few lists at quota lists.vouchers small, one_few lists at quota row most, kept.vouchers.few) in
+      let n : moved (moved (usage_of lists at quota).carts (covered_share lists at at quota (voucher_at row.id lists)) 0) 0 (covered_share lists at at quota (Some row)) ≡ (usage_of after at quota).carts =
+      omega (arith, carts_with lists at quota row.id (Some row) vouchers (λ x. row_at-with_row (λ r. r.id) x row lists.vouchers), carts_of lists at quota, carts_of after at quota, count_by-le-length (cart_counts lists at quota) lists.carts, kept.carts.few, held_few lists at quota row.id, covered_is lists at quota row.id (Some row) new, covered_is lists at quota row.id (voucher_at row.id lists) own) in
       with_vouchers lists at quota vouchers _ _ b n
 
-  pub voucher_drop : (id spent : ℕ) → spent ≡ redeemed id lists → voucher_shift lists at id spent None (voucher_at id lists) quota (usage_of lists at quota) ≡ usage_of (after_change (DropVoucher id) lists) at quota
+  pub voucher_drop : (id spent : ℕ) → spent ≡ redeemed id lists → voucher_shift lists at spent None (voucher_at id lists) quota (usage_of lists at quota) ≡ usage_of (after_change (DropVoucher id) lists) at quota
   voucher_drop id spent is =
       let vouchers = without_row (λ r. r.id) id lists.vouchers in
       let after = after_change (DropVoucher id) lists in
-      let come = share_is lists at quota id spent is None (λ v same. absurd (cc)) in
-      let left = share_is lists at quota id spent is (voucher_at id lists) (λ v same. key-row_at (λ r. r.id) id lists.vouchers v same) in
-      let b : moved (usage_of lists at quota).blocked (blocked_share at quota spent None) (blocked_share at quota spent (voucher_at id lists)) ≡ (usage_of after at quota).blocked =
+      let own = λ (v : Voucher) (same : voucher_at id lists ≡ Some v). key-row_at (λ r. r.id) id lists.vouchers v same in
+      let none = λ (v : Voucher) (same : None ≡ Some v). absurd (cc same) in
+      let come = share_is lists at quota id spent is None none in
+      let left = share_is lists at quota id spent is (voucher_at id lists) own in
+      let b : moved (moved (usage_of lists at quota).blocked 0 (blocked_share at quota spent (voucher_at id lists))) (blocked_share at quota spent None) 0 ≡ (usage_of after at quota).blocked =
       omega (arith, come, left, sum_by-without_row (λ r. r.id) (blocked_by lists at quota) 0 id lists.vouchers kept.vouchers.in_order, blocked_with lists at quota lists.vouchers, blocked_with lists at quota vouchers, blocked_few lists at quota lists.vouchers small, kept.vouchers.few) in
-      let n : moved (usage_of lists at quota).carts (uncovered_share at quota (held_in at quota id lists) None) (uncovered_share at quota (held_in at quota id lists) (voucher_at id lists)) ≡ (usage_of after at quota).carts =
-      omega (arith, carts_with lists at quota id None vouchers (λ x. row_at-without_row (λ r. r.id) x id lists.vouchers), carts_of lists at quota, carts_of after at quota, count_by-le-length (cart_counts lists at quota) lists.carts, kept.carts.few, uncovered_few lists at quota id None) in
+      let n : moved (moved (usage_of lists at quota).carts (covered_share lists at at quota (voucher_at id lists)) 0) 0 (covered_share lists at at quota None) ≡ (usage_of after at quota).carts =
+      omega (arith, carts_with lists at quota id None vouchers (λ x. row_at-without_row (λ r. r.id) x id lists.vouchers), carts_of lists at quota, carts_of after at quota, count_by-le-length (cart_counts lists at quota) lists.carts, kept.carts.few, held_few lists at quota id, covered_is lists at quota id None none, covered_is lists at quota id (voucher_at id lists) own) in
       with_vouchers lists at quota vouchers _ _ b n
 
 used_few : (lists : Lists) (at : ℕ) (quota : Quota) → IsKept 4294967296 lists → AllByRecursion (λ v. v.max_usages ≤ 4294967295) lists.vouchers → (usage_of lists at quota).blocked ≤ 18446744073709551615
@@ -212,18 +209,18 @@ module _ (old new : State) (us more : List Usage) (rs spent : List ℕ) (kept : 
         small = counted.small;
       })
 
-  pub counted_put_voucher : (row : Voucher) (count : ℕ) (gone : Option Voucher) → row.max_usages ≤ 4294967295 → count ≡ redeemed row.id old.lists → gone ≡ voucher_at row.id old.lists → new ≡ record old { lists = after_change (PutVoucher row) old.lists } → more ≡ map_beside (voucher_shift old.lists old.moment row.id count (Some row) gone) old.lists.catalogue.quotas us → ((f : Voucher → ℕ) (row' : Voucher) → row'.id ≡ row.id → count ≡ f row' → rs ≡ map f old.lists.vouchers → spent ≡ map f (with_row (λ r. r.id) row' old.lists.vouchers)) → IsCounted new.lists new.moment more spent
+  pub counted_put_voucher : (row : Voucher) (count : ℕ) (gone : Option Voucher) → row.max_usages ≤ 4294967295 → count ≡ redeemed row.id old.lists → gone ≡ voucher_at row.id old.lists → new ≡ record old { lists = after_change (PutVoucher row) old.lists } → more ≡ map_beside (voucher_shift old.lists old.moment count (Some row) gone) old.lists.catalogue.quotas us → ((f : Voucher → ℕ) (row' : Voucher) → row'.id ≡ row.id → count ≡ f row' → rs ≡ map f old.lists.vouchers → spent ≡ map f (with_row (λ r. r.id) row' old.lists.vouchers)) → IsCounted new.lists new.moment more spent
   counted_put_voucher row count gone most count_is gone_is is more_is keeps =
       rw is (record {
-        usages = more_is ∙ rw (gone_is, counted.usages) (map_beside_map (voucher_shift old.lists old.moment row.id count (Some row) (voucher_at row.id old.lists)) (usage_of old.lists old.moment) (usage_of (after_change (PutVoucher row) old.lists) old.moment) old.lists.catalogue.quotas (λ q. voucher_put old.lists old.moment kept counted.small q row count most count_is));
+        usages = more_is ∙ rw (gone_is, counted.usages) (map_beside_map (voucher_shift old.lists old.moment count (Some row) (voucher_at row.id old.lists)) (usage_of old.lists old.moment) (usage_of (after_change (PutVoucher row) old.lists) old.moment) old.lists.catalogue.quotas (λ q. voucher_put old.lists old.moment kept counted.small q row count most count_is));
         redeems = keeps (λ v. redeemed v.id old.lists) row refl count_is counted.redeems;
         small = all-with_row (λ r. r.id) (λ v. v.max_usages ≤ 4294967295) row old.lists.vouchers most counted.small;
       })
 
-  pub counted_drop_voucher : (id count : ℕ) (gone : Option Voucher) → count ≡ redeemed id old.lists → gone ≡ voucher_at id old.lists → new ≡ record old { lists = after_change (DropVoucher id) old.lists } → more ≡ map_beside (voucher_shift old.lists old.moment id count None gone) old.lists.catalogue.quotas us → ((f : Voucher → ℕ) → rs ≡ map f old.lists.vouchers → spent ≡ map f (without_row (λ r. r.id) id old.lists.vouchers)) → IsCounted new.lists new.moment more spent
+  pub counted_drop_voucher : (id count : ℕ) (gone : Option Voucher) → count ≡ redeemed id old.lists → gone ≡ voucher_at id old.lists → new ≡ record old { lists = after_change (DropVoucher id) old.lists } → more ≡ map_beside (voucher_shift old.lists old.moment count None gone) old.lists.catalogue.quotas us → ((f : Voucher → ℕ) → rs ≡ map f old.lists.vouchers → spent ≡ map f (without_row (λ r. r.id) id old.lists.vouchers)) → IsCounted new.lists new.moment more spent
   counted_drop_voucher id count gone count_is gone_is is more_is forgets =
       rw is (record {
-        usages = more_is ∙ rw (gone_is, counted.usages) (map_beside_map (voucher_shift old.lists old.moment id count None (voucher_at id old.lists)) (usage_of old.lists old.moment) (usage_of (after_change (DropVoucher id) old.lists) old.moment) old.lists.catalogue.quotas (λ q. voucher_drop old.lists old.moment kept counted.small q id count count_is));
+        usages = more_is ∙ rw (gone_is, counted.usages) (map_beside_map (voucher_shift old.lists old.moment count None (voucher_at id old.lists)) (usage_of old.lists old.moment) (usage_of (after_change (DropVoucher id) old.lists) old.moment) old.lists.catalogue.quotas (λ q. voucher_drop old.lists old.moment kept counted.small q id count count_is));
         redeems = forgets (λ v. redeemed v.id old.lists) counted.redeems;
         small = all-without_row (λ r. r.id) (λ v. v.max_usages ≤ 4294967295) id old.lists.vouchers counted.small;
       })

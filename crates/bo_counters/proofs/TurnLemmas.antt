@@ -1,11 +1,11 @@
 -- Uses of vouchers that come and go.
-use Rattle.std.proofs.Common.{◌≡◌, ℕ, zero, suc, ◌+◌, ◌-◌, ◌*◌, ◌<◌, ◌≤◌, ◌≢◌, ◌⊎◌, inl, inr, min, Bool, true, false, ◌&&◌, eqb, List, [], ◌∷◌, ◌++◌, length, get_or, set, take, map, Option, Some, None, refl, sym, ap, ◌∙◌, add-one, sum_by, count_by, arith}
+use Rattle.std.proofs.Common.{◌≡◌, ℕ, zero, suc, ◌+◌, ◌-◌, ◌*◌, ◌<◌, ◌≤◌, ◌≢◌, ◌⊎◌, inl, inr, Bool, true, false, ◌&&◌, eqb, List, [], ◌∷◌, ◌++◌, length, get_or, set, take, map, Option, Some, None, refl, sym, ap, ◌∙◌, add-one, sum_by, arith}
 use Rattle.std.specs.Prelude.{if◌then◌else◌}
 use Rattle.std.specs.List.{AllByRecursion}
 use Rattle.std.proofs.lemmas.Bool.Decides.{nat_tests, eqb_tells}
 use Rattle.std.proofs.lemmas.List.Sums.{sum_by-cons}
 use Rattle.std.proofs.lemmas.Grind.{common_steps}
-use Rattle.bo_base.specs.Tables.{row_at, InOrderFrom, AreInOrder, sum_at, IsPlace, IsGap}
+use Rattle.bo_base.specs.Tables.{row_at, InOrderFrom, sum_at, IsPlace, IsGap}
 use Rattle.bo_base.proofs.Places.{row_at_place, row_at_gap, at_least}
 use Rattle.bo_base.proofs.Edits.{row_at_above}
 use Rattle.bo_catalogue.specs.declared.rows.Quota.{Quota}
@@ -14,7 +14,7 @@ use Rattle.bo_lists.specs.declared.rows.Usage.{Usage}
 use Rattle.bo_lists.specs.Conditions.{names, blocks}
 use Rattle.bo_lists.specs.Lists.{Lists}
 use Rattle.bo_lists.specs.Kept.{IsKept}
-use Rattle.bo_counters.specs.Shifts.{map_beside, moved, blocked_share}
+use Rattle.bo_counters.specs.Shifts.{map_beside, blocked_share}
 use Rattle.bo_counters.specs.Turns.{blocked_part, turned, turn, turn_each, with_blocked, IsCountedBy, turn_shift, name_of, after_order}
 use Rattle.bo_counters.proofs.ShiftLemmas.{map_beside_map, moves, same_map}
 use Rattle.bo_indexed.proofs.EntryLemmas.{map_at, sums_like, sum_map}

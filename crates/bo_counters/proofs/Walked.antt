@@ -29,6 +29,18 @@ walk_more f ids i x lt at = rw add-one (omega (arith, ap f (at 0), taken_one f i
 pub one_walked : (f : ℕ → ℕ) (ids : List ℕ) (i x total more : ℕ) → i < length ids → ((d : ℕ) → get_or ids i d ≡ x) → total ≡ sum_by f (take i ids) → more ≡ f x → total + more ≡ sum_by f (take (i + 1) ids)
 one_walked f ids i x total more lt at is more_is = omega (arith, is, more_is, walk_more f ids i x lt at)
 
+get_or_any : (ids : List ℕ) (i d e : ℕ) → i < length ids → get_or ids i d ≡ get_or ids i e
+get_or_any [] i d e lt = absurd (omega arith)
+get_or_any (x ∷ xs) zero d e lt = refl
+get_or_any (x ∷ xs) (suc i) d e lt = get_or_any xs i d e (omega arith)
+
+-- the same, by what is found under the id
+pub one_found : {R : Type 0} (find : ℕ → R) (f : R → ℕ) (ids : List ℕ) (i : ℕ) (found : R) (total more : ℕ) → i < length ids → ((d : ℕ) → found ≡ find (get_or ids i d)) → total ≡ sum_by (λ k. f (find k)) (take i ids) → more ≡ f found → total + more ≡ sum_by (λ k. f (find k)) (take (i + 1) ids)
+one_found find f ids i found total more lt at is more_is = one_walked (λ k. f (find k)) ids i (get_or ids i 0) total more lt (λ d. get_or_any ids i d 0 lt) is (more_is ∙ ap f (at 0))
+
+pub found_more : {R : Type 0} (find : ℕ → R) (f : R → ℕ) (ids : List ℕ) (i : ℕ) (found : R) → i < length ids → ((d : ℕ) → found ≡ find (get_or ids i d)) → sum_by (λ k. f (find k)) (take (i + 1) ids) ≡ sum_by (λ k. f (find k)) (take i ids) + f found
+found_more find f ids i found lt at = walk_more (λ k. f (find k)) ids i (get_or ids i 0) lt (λ d. get_or_any ids i d 0 lt) ∙ ap (λ n. sum_by (λ k. f (find k)) (take i ids) + n) (ap f (sym (at 0)))
+
 pub taken : (f : ℕ → ℕ) (ids : List ℕ) (i : ℕ) → length ids ≤ i → sum_by f (take i ids) ≡ sum_by f ids
 taken f ids i le = ap (sum_by f) (take_all ids i le)
   where

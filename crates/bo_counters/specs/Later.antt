@@ -1,18 +1,23 @@
 -- What a walk over what came due counts of each row.
-use Rattle.std.specs.Prelude.{◌≡◌, ◌≤◌, ℕ, ◌-◌, Bool, ◌&&◌, List, map, Option, count_by, if◌then◌else◌}
+use Rattle.std.specs.Prelude.{◌≡◌, ◌≤◌, ℕ, ◌-◌, Bool, ◌&&◌, List, map, Option, Some, None, count_by, if◌then◌else◌}
 use Rattle.std.specs.List.{AllByRecursion}
 use Rattle.bo_base.specs.Tables.{sum_at}
 use Rattle.bo_catalogue.specs.declared.rows.Quota.{Quota}
 use Rattle.bo_lists.specs.declared.rows.Voucher.{Voucher}
 use Rattle.bo_lists.specs.declared.rows.Usage.{Usage}
 use Rattle.bo_lists.specs.Conditions.{names, hits}
-use Rattle.bo_lists.specs.Lists.{Lists}
+use Rattle.bo_lists.specs.Lists.{Lists, voucher_at}
 use Rattle.bo_lists.specs.Usage.{redeemed, usage_of}
 use Rattle.bo_lists.specs.Headroom.{held_in}
 
 -- the cart positions that name a voucher
 abbrev pub named_in : ℕ → Lists → ℕ
 named_in id lists = count_by (λ c. names id c.voucher) lists.carts
+
+-- the voucher, if there is one, is the one of its id
+abbrev pub Stands : Lists → Option Voucher → Type 0
+Stands lists None = Unit {0}
+Stands lists (Some v) = voucher_at v.id lists ≡ Some v
 
 -- it blocks places of the quota while it is live
 abbrev pub may_block : Quota → Voucher → Bool

@@ -9,7 +9,7 @@ use Rattle.bo_lists.specs.Lists.{Lists, cart_at, voucher_at}
 use Rattle.bo_lists.specs.declared.rows.Voucher.{Voucher}
 use Rattle.bo_lists.specs.Conditions.{blocks}
 use Rattle.bo_lists.specs.Headroom.{held_in}
-use Rattle.bo_lists.specs.Usage.{cart_counts, waits_for, blocks_if}
+use Rattle.bo_lists.specs.Usage.{blocked_by, cart_counts, waits_for}
 use Rattle.bo_lists.specs.CameDue.{is_due_cart, is_due_voucher}
 use Rattle.bo_counters.specs.Later.{release_if, free_if}
 
@@ -60,17 +60,6 @@ lapsed lists from to quota = count_by (λ c. is_due_cart from to c && cart_count
 abbrev pub lapse_shift : Lists → ℕ → List ℕ → Quota → Usage → Usage
 lapse_shift lists from ids quota usage = record usage { carts = moved usage.carts 0 (sum_by (λ i. cart_share lists from quota (cart_at i lists)) ids) }
 
--- the vouchers of these ids have ended
-abbrev pub end_shift : Lists → ℕ → List ℕ → Quota → Usage → Usage
-end_shift lists to ids quota usage = record usage {
-  blocked = moved usage.blocked 0 (sum_by (λ i. release_if lists quota (voucher_at i lists)) ids);
-  carts = moved usage.carts (sum_by (λ i. free_if lists to quota (voucher_at i lists)) ids) 0;
-}
-
--- one voucher has ended
-abbrev pub ended_shift : Lists → ℕ → Option Voucher → Quota → Usage → Usage
-ended_shift lists to voucher quota usage = record usage { blocked = moved usage.blocked 0 (release_if lists quota voucher); carts = moved usage.carts (free_if lists to quota voucher) 0 }
-
 -- time passes
 abbrev pub time_shift : Lists → ℕ → ℕ → Quota → Usage → Usage
 time_shift lists from to quota usage = record usage {
@@ -82,12 +71,31 @@ time_shift lists from to quota usage = record usage {
 unfoldable pub blocked_share : ℕ → Quota → ℕ → Option Voucher → ℕ
 blocked_share at quota spent voucher = sum_at (λ v. if blocks at quota v then v.max_usages - spent else 0) voucher
 
--- the cart positions that name it count where it doesn't cover them
-abbrev pub uncovered_share : ℕ → Quota → ℕ → Option Voucher → ℕ
-uncovered_share at quota held voucher = if blocks_if at quota voucher then 0 else held
+-- the cart positions that it covers at one moment, as far as they are live at another
+unfoldable pub covered_share : Lists → ℕ → ℕ → Quota → Option Voucher → ℕ
+covered_share lists from to quota voucher = sum_at (λ v. if blocks from quota v then held_in to quota v.id lists else 0) voucher
 
-abbrev pub voucher_shift : Lists → ℕ → ℕ → ℕ → Option Voucher → Option Voucher → Quota → Usage → Usage
-voucher_shift lists at id spent come gone quota usage = record usage {
-  blocked = moved usage.blocked (blocked_share at quota spent come) (blocked_share at quota spent gone);
-  carts = moved usage.carts (uncovered_share at quota (held_in at quota id lists) come) (uncovered_share at quota (held_in at quota id lists) gone);
+-- a voucher that is redeemed so often no longer blocks, and the cart positions that it covered count
+abbrev pub leave_shift : Lists → ℕ → ℕ → ℕ → Option Voucher → Quota → Usage → Usage
+leave_shift lists from to spent voucher quota usage = record usage {
+  blocked = moved usage.blocked 0 (blocked_share from quota spent voucher);
+  carts = moved usage.carts (covered_share lists from to quota voucher) 0;
+}
+
+-- a voucher that is redeemed so often blocks, and covers cart positions
+abbrev pub enter_shift : Lists → ℕ → ℕ → Option Voucher → Quota → Usage → Usage
+enter_shift lists at spent voucher quota usage = record usage {
+  blocked = moved usage.blocked (blocked_share at quota spent voucher) 0;
+  carts = moved usage.carts 0 (covered_share lists at at quota voucher);
+}
+
+-- one comes in the place of another
+abbrev pub voucher_shift : Lists → ℕ → ℕ → Option Voucher → Option Voucher → Quota → Usage → Usage
+voucher_shift lists at spent come gone quota usage = enter_shift lists at spent come quota (leave_shift lists at at spent gone quota usage)
+
+-- the vouchers of these ids have ended
+abbrev pub end_shift : Lists → ℕ → ℕ → List ℕ → Quota → Usage → Usage
+end_shift lists from to ids quota usage = record usage {
+  blocked = moved usage.blocked 0 (sum_by (λ i. sum_at (blocked_by lists from quota) (voucher_at i lists)) ids);
+  carts = moved usage.carts (sum_by (λ i. covered_share lists from to quota (voucher_at i lists)) ids) 0;
 }

@@ -1,5 +1,5 @@
 -- Uses of vouchers that come and go, one after another.
-use Rattle.std.specs.Prelude.{◌≡◌, ℕ, ◌+◌, ◌-◌, min, Bool, true, false, ◌&&◌, List, [], ◌∷◌, map, Option, Some, None, sum_by, if◌then◌else◌}
+use Rattle.std.specs.Prelude.{◌≡◌, ℕ, ◌+◌, ◌-◌, min, Bool, true, false, List, [], ◌∷◌, map, Option, Some, None, sum_by, if◌then◌else◌}
 use Rattle.bo_base.specs.Tables.{sum_at}
 use Rattle.bo_catalogue.specs.declared.rows.Quota.{Quota}
 use Rattle.bo_catalogue.specs.Member.{is_in}
@@ -55,6 +55,18 @@ position_shift lists come gone quota usage = record usage {
 
 abbrev pub in_it : Quota → ℕ → Lists → ℕ
 in_it quota id lists = count_ordered id (λ p. is_in quota p.product) lists
+
+-- so many more, or less
+abbrev pub placed : Bool → ℕ → ℕ → ℕ
+placed true count places = moved count places 0
+placed false count places = moved count 0 places
+
+-- so many positions count by the status of an order, or no longer count
+abbrev pub place_shift : Bool → Option Order → (Quota → ℕ) → Quota → Usage → Usage
+place_shift up order places quota usage = record usage {
+  paid = placed up usage.paid (if_stands is_paid order (places quota));
+  pending = placed up usage.pending (if_stands is_pending order (places quota));
+}
 
 abbrev pub order_shift : Lists → Order → Option Order → Quota → Usage → Usage
 order_shift lists come gone quota usage = record usage {

@@ -1,29 +1,31 @@
 //! A book that keeps counters.
 
-ghost use Rattle.std.specs.Prelude.{◌≡◌, ◌≤◌, ◌<◌, ◌+◌, ◌-◌, ℕ, min, map, length, vec_capacity, count_by, sum_by, if◌then◌else◌, ◌&&◌, Some, None, OnOk, IsTrue, ◌↔◌};
+ghost use Rattle.std.specs.Prelude.{◌≡◌, ◌≤◌, ◌<◌, ◌+◌, ◌-◌, min, map, length, vec_capacity, Some, None, OnOk, IsTrue, ◌↔◌, true};
+ghost use Rattle.std.specs.Bool.{Decides};
 ghost use Rattle.std.specs.Option.{option_copied};
 ghost use Rattle.bo_catalogue.specs.CatalogueLists.{quota_at};
-ghost use Rattle.bo_lists.specs.Lists.{voucher_at, cart_at, empty};
-ghost use Rattle.bo_lists.specs.Conditions.{names};
-ghost use Rattle.bo_lists.specs.Usage.{redeemed, usage_of, cart_counts};
-ghost use Rattle.bo_lists.specs.Headroom.{held_in};
+ghost use Rattle.bo_lists.specs.Lists.{empty};
+ghost use Rattle.bo_lists.specs.Usage.{redeemed, usage_of};
 ghost use Rattle.bo_lists.specs.Change.{after_change, after_all, applied};
 ghost use Rattle.bo_lists.specs.Weight.{change_weight, weight};
 ghost use Rattle.bo_catalogue.specs.Members.{quota_weight};
-ghost use Rattle.bo_lists.specs.CameDue.{is_due_cart, is_due_voucher, came_due, naming_due};
-ghost use Rattle.bo_counters.specs.Shifts.{map_beside, moved, cart_shift, waiting_shift, time_shift, voucher_shift};
-ghost use Rattle.bo_counters.specs.Later.{named_in, release_if, free_if, naming_if, IsCounted};
+ghost use Rattle.bo_lists.specs.CameDue.{came_due, naming_due};
+ghost use Rattle.bo_counters.specs.Shifts.{map_beside, waiting_shift};
 
-use crate::shift::{CartShift, Shift, VoucherShift, WaitingShift, forget, keep, shift_all};
+use crate::blocking::shift_voucher;
+use crate::carts::shift_cart;
+use crate::passing::count_at;
+use crate::shift::{WaitingShift, forget, keep};
 use crate::touched::shift_product;
-use crate::turns::{count_order, count_position, vouchers};
+use crate::turns::{count_order, count_position, redeemed_in, vouchers};
+use crate::usage_later::later;
 use bo_base::{Moment, Steps, place_of};
 use bo_catalogue::{Item, Quota, Variation};
 use bo_lists::{
     CartPos, Change, Changes, Checkin, CheckinList, NextIds, Order, OrderPos, Usage, Voucher,
     Waiting,
 };
-use bo_store::Store;
+use bo_store::{Ended, Store};
 use std::alloc::{AllocError, Global};
 use std::marker::{Brand, Model};
 use std::sync::ledger::{Blank, Ledger};
@@ -51,13 +53,6 @@ impl Model for Counters {
     ghost invariant = { λ c. IsCounted c.store.state.lists c.store.state.moment c.usages.items c.redeems.items };
 }
 
-/// What vouchers that ended no longer block, and the cart positions that count in their place.
-#[derive(Clone, Copy, Debug)]
-pub struct Release {
-    pub blocked: u64,
-    pub carts: u64,
-}
-
 impl Counters {
     /// The rows.
     pub fn store(&self) -> &Store
@@ -73,197 +68,6 @@ impl Counters {
     {
         redeemed_in(&self.store, &self.redeems, voucher)
     }
-}
-
-// How many positions of pending and paid orders name the voucher.
-fn redeemed_in(store: &Store, redeems: &[u64], voucher: u64) -> u64
-    requires { redeems.now ≡ map (λ v. redeemed v.id store.now.state.lists) store.now.state.lists.vouchers }
-    ensures value { result ≡ redeemed voucher store.now.state.lists }
-    ensures few { result ≤ 4294967296 }
-{
-    store.known();
-    match place_of(vouchers(store), voucher) {
-        Ok(at) => redeems[at],
-        Err(_) => store.redeemed(voucher),
-    }
-}
-
-// What the voucher of an id blocked, and how many live cart positions it covered.
-#[tactic(auto, unfolding(crate::specs::Later::release_if, crate::specs::Later::free_if, crate::specs::Later::naming_if))]
-fn release_of<L: Ledger>(
-    store: &Store,
-    redeems: &[u64],
-    quota: &Quota,
-    at: Moment,
-    id: u64,
-    steps: &mut Steps<L>,
-) -> Release
-    requires { redeems.now ≡ map (λ v. redeemed v.id store.now.state.lists) store.now.state.lists.vouchers }
-    ensures blocked { result.blocked ≡ release_if store.now.state.lists quota.now (voucher_at id store.now.state.lists) }
-    ensures carts { result.carts ≡ free_if store.now.state.lists at quota.now (voucher_at id store.now.state.lists) }
-    ensures small { result.blocked ≤ 4294967295 }
-    ensures few { result.carts ≤ 4294967296 }
-    ensures cost { steps.new ≤ steps.old + naming_if store.now.state.lists (voucher_at id store.now.state.lists) }
-{
-    match store.voucher(id) {
-        None => Release {
-            blocked: 0,
-            carts: 0,
-        },
-        Some(voucher) => {
-            if voucher.block_quota && voucher.hits(quota) {
-                Release {
-                    blocked: u64::from(voucher.max_usages.get()).saturating_sub(redeemed_in(
-                        store, redeems, voucher.id,
-                    )),
-                    carts: freed_by(store, voucher.id, quota, at, steps),
-                }
-            } else {
-                Release {
-                    blocked: 0,
-                    carts: 0,
-                }
-            }
-        }
-    }
-}
-
-// How many cart positions that are live at a moment name the voucher and are for a product of the quota.
-fn freed_by<L: Ledger>(
-    store: &Store,
-    voucher: u64,
-    quota: &Quota,
-    at: Moment,
-    steps: &mut Steps<L>,
-) -> u64
-    ensures value { result ≡ held_in at quota.now voucher store.now.state.lists }
-    ensures few { result ≤ 4294967296 }
-    ensures cost { steps.new ≡ steps.old + named_in voucher store.now.state.lists }
-{
-    let mut count = 0;
-    let ids = store.carts_naming(voucher);
-    for place in 0..ids.len() {
-        steps.tick();
-        count += store.hold_in_of(at, quota, ids.at(place));
-    }
-    count
-}
-
-// How many cart positions counted in the quota at the moment of the store, and have ended since.
-fn lapsed<L: Ledger>(store: &Store, quota: &Quota, at: Moment, steps: &mut Steps<L>) -> u64
-    requires { store.now.state.moment ≤ at }
-    ensures value { result ≡ count_by (λ c. is_due_cart store.now.state.moment at c && cart_counts store.now.state.lists store.now.state.moment quota.now c) store.now.state.lists.carts }
-    ensures few { result ≤ 4294967296 }
-    ensures cost { steps.new ≡ steps.old + count_by (is_due_cart store.now.state.moment at) store.now.state.lists.carts }
-{
-    let from = store.moment();
-    let mut count = 0;
-    let ids = store.carts_due(from, at);
-    for place in 0..ids.len() {
-        steps.tick();
-        count += store.count_of(from, quota, ids.at(place));
-    }
-    count
-}
-
-// What a count is after some came and some went, at most 2^64 - 1.
-fn moved_far(count: u64, come: u128, gone: u128) -> u64
-    requires { come ≤ 18446744073709551616 }
-    ensures value { result ≡ moved count come gone }
-    ensures fits { count ≤ 18446744073709551615 }
-{
-    (u128::from(count) + come)
-        .min(18_446_744_073_709_551_615)
-        .saturating_sub(gone) as u64
-}
-
-/// What all vouchers that ended no longer block, and the cart positions that count in their place.
-#[derive(Clone, Copy, Debug)]
-pub struct Releases {
-    pub blocked: u128,
-    pub carts: u128,
-}
-
-// What the vouchers that have ended since the moment of the store blocked, and how many live cart positions they covered.
-fn released<L: Ledger>(
-    store: &Store,
-    redeems: &[u64],
-    quota: &Quota,
-    at: Moment,
-    steps: &mut Steps<L>,
-) -> Releases
-    requires moment { store.now.state.moment ≤ at }
-    requires redeems { redeems.now ≡ map (λ v. redeemed v.id store.now.state.lists) store.now.state.lists.vouchers }
-    ensures blocked { result.blocked ≡ sum_by (λ v. if is_due_voucher store.now.state.moment at v then release_if store.now.state.lists quota.now (Some v) else 0) store.now.state.lists.vouchers }
-    ensures carts { result.carts ≡ sum_by (λ v. if is_due_voucher store.now.state.moment at v then free_if store.now.state.lists at quota.now (Some v) else 0) store.now.state.lists.vouchers }
-    ensures few { result.carts ≤ 18446744073709551616 }
-    ensures cost { steps.new ≤ steps.old + count_by (is_due_voucher store.now.state.moment at) store.now.state.lists.vouchers + sum_by (λ v. if is_due_voucher store.now.state.moment at v then naming_if store.now.state.lists (Some v) else 0) store.now.state.lists.vouchers }
-{
-    let from = store.moment();
-    let mut blocked = 0;
-    let mut carts = 0;
-    let ids = store.vouchers_due(from, at);
-    for place in 0..ids.len() {
-        steps.tick();
-        let release = release_of(store, redeems, quota, at, ids.at(place), steps);
-        blocked += u128::from(release.blocked);
-        carts += u128::from(release.carts);
-    }
-    Releases { blocked, carts }
-}
-
-// The usage of a quota at a moment, by that at the moment of the store.
-fn later<L: Ledger>(
-    store: &Store,
-    redeems: &[u64],
-    quota: &Quota,
-    usage: Usage,
-    at: Moment,
-    steps: &mut Steps<L>,
-) -> Usage
-    requires moment { store.now.state.moment ≤ at }
-    requires redeems { redeems.now ≡ map (λ v. redeemed v.id store.now.state.lists) store.now.state.lists.vouchers }
-    ensures value { result ≡ time_shift store.now.state.lists store.now.state.moment at quota.now usage }
-    ensures fits { usage.blocked ≤ 18446744073709551615 }
-    ensures cost { steps.new ≤ steps.old + came_due store.now.state.moment at store.now.state.lists + naming_due store.now.state.moment at store.now.state.lists }
-{
-    store.known();
-    let lapsed = lapsed(store, quota, at, steps);
-    let released = released(store, redeems, quota, at, steps);
-    Usage {
-        blocked: moved_far(usage.blocked, 0, released.blocked),
-        carts: moved_far(usage.carts, released.carts, u128::from(lapsed)),
-        ..usage
-    }
-}
-
-// The same, where nobody counts steps.
-fn later_at(store: &Store, redeems: &[u64], quota: &Quota, usage: Usage, at: Moment) -> Usage
-    requires moment { store.now.state.moment ≤ at }
-    requires redeems { redeems.now ≡ map (λ v. redeemed v.id store.now.state.lists) store.now.state.lists.vouchers }
-    ensures { result ≡ time_shift store.now.state.lists store.now.state.moment at quota.now usage }
-{
-    later_in::<Brand>(store, redeems, quota, usage, at, Blank::new(1))
-}
-
-// The same, in a ledger of steps that nobody reads.
-fn later_in<L: Ledger>(
-    store: &Store,
-    redeems: &[u64],
-    quota: &Quota,
-    usage: Usage,
-    at: Moment,
-    blank: Blank,
-) -> Usage
-    requires name { blank.name ≡ L.name }
-    requires parts { blank.parts ≡ L.parts }
-    requires some { 0 < blank.parts }
-    requires moment { store.now.state.moment ≤ at }
-    requires redeems { redeems.now ≡ map (λ v. redeemed v.id store.now.state.lists) store.now.state.lists.vouchers }
-    ensures { result ≡ time_shift store.now.state.lists store.now.state.moment at quota.now usage }
-{
-    let mut steps = Steps::<L>::new(blank);
-    later(store, redeems, quota, usage, at, &mut steps)
 }
 
 const NOTHING: Usage = Usage {
@@ -286,14 +90,10 @@ impl Counters {
         let catalogue = self.store.catalogue();
         catalogue.known();
         match place_of(catalogue.quotas(), quota.id) {
-            Ok(place) => later(
-                &self.store,
-                &self.redeems,
-                quota,
-                self.usages[place],
-                at,
-                steps,
-            ),
+            Ok(place) => {
+                let ended = Ended::of(&self.store);
+                later(&ended, &self.redeems, quota, self.usages[place], at, steps)
+            }
             Err(_) => NOTHING,
         }
     }
@@ -418,83 +218,6 @@ fn shift_waiting<'s>(
     entry_goes(store, usages, gone);
 }
 
-// The usages where a cart position comes.
-fn cart_comes<'s>(store: &'s Store, usages: &mut Vec<Usage>, at: Moment, come: Option<&'s CartPos>)
-    requires { length usages.old.items ≡ length store.now.state.lists.catalogue.quotas }
-    ensures items { usages.new.items ≡ map_beside (cart_shift store.now.state.lists at (option_copied come.entry) None) store.now.state.lists.catalogue.quotas usages.old.items }
-    ensures room { vec_capacity usages.new ≡ vec_capacity usages.old }
-    ensures same { length usages.new.items ≡ length usages.old.items }
-{
-    match come {
-        None => {}
-        Some(cart) => {
-            let shift = CartShift {
-                store,
-                at,
-                come: Some(cart),
-                gone: None,
-            };
-            shift_product(store.catalogue(), usages, cart.product, &shift);
-        }
-    }
-}
-
-// The usages where a cart position goes.
-fn cart_goes<'s>(store: &'s Store, usages: &mut Vec<Usage>, at: Moment, gone: Option<&'s CartPos>)
-    requires { length usages.old.items ≡ length store.now.state.lists.catalogue.quotas }
-    ensures items { usages.new.items ≡ map_beside (cart_shift store.now.state.lists at None (option_copied gone.entry)) store.now.state.lists.catalogue.quotas usages.old.items }
-    ensures room { vec_capacity usages.new ≡ vec_capacity usages.old }
-    ensures same { length usages.new.items ≡ length usages.old.items }
-{
-    match gone {
-        None => {}
-        Some(cart) => {
-            let shift = CartShift {
-                store,
-                at,
-                come: None,
-                gone: Some(cart),
-            };
-            shift_product(store.catalogue(), usages, cart.product, &shift);
-        }
-    }
-}
-
-// The usages where a cart position comes and one goes: those of the quotas that have their products.
-fn shift_cart<'s>(
-    store: &'s Store,
-    usages: &mut Vec<Usage>,
-    at: Moment,
-    come: Option<&'s CartPos>,
-    gone: Option<&'s CartPos>,
-)
-    requires { length usages.old.items ≡ length store.now.state.lists.catalogue.quotas }
-    ensures items { usages.new.items ≡ map_beside (cart_shift store.now.state.lists at (option_copied come.entry) (option_copied gone.entry)) store.now.state.lists.catalogue.quotas usages.old.items }
-    ensures room { vec_capacity usages.new ≡ vec_capacity usages.old }
-    ensures same { length usages.new.items ≡ length usages.old.items }
-{
-    cart_comes(store, usages, at, come);
-    cart_goes(store, usages, at, gone);
-}
-
-// Time passes for all usages.
-#[derive(Drop)]
-struct TimeShift<'s> {
-    store: &'s Store,
-    redeems: &'s [u64],
-    at: Moment,
-}
-
-impl<'s> Shift for TimeShift<'s> {
-    ghost shift = { λ s. time_shift s.store.now.state.lists s.store.now.state.moment s.at };
-
-    ghost ready = { λ s. (s.store.now.state.moment ≤ s.at) × (s.redeems.now ≡ map (λ v. redeemed v.id s.store.now.state.lists) s.store.now.state.lists.vouchers) };
-
-    fn shifted(&self, quota: &Quota, usage: Usage) -> Usage {
-        later_at(self.store, self.redeems, quota, usage, self.at)
-    }
-}
-
 impl Counters {
     /// Sets the ids that new rows get, and the moment, and counts what that changes.
     fn pass(&mut self, next: NextIds, at: Moment)
@@ -515,7 +238,7 @@ impl Counters {
         self.store.known();
         let catalogue = self.store.catalogue();
         catalogue.known();
-        let usage = recount_at(&self.store, self.store.moment(), &row);
+        let usage = usage_for(&self.store, &self.usages, &row);
         keep(catalogue.quotas(), &mut self.usages, row.id, usage);
         self.store.apply_one(Change::PutQuota(row));
     }
@@ -527,19 +250,16 @@ impl Counters {
         ensures room { self.old.room ≤ self.new.room + 1 }
     {
         self.store.known();
-        let most = row.max_usages.get();
         let spent = redeemed_in(&self.store, &self.redeems, row.id);
         shift_voucher(
             &self.store,
             &mut self.usages,
-            row.id,
             spent,
             Some(&row),
             self.store.voucher(row.id),
         );
         keep(vouchers(&self.store), &mut self.redeems, row.id, spent);
         self.store.apply_one(Change::PutVoucher(row));
-        let _ = most;
     }
 
     /// Removes the voucher of an id, if there is one.
@@ -553,7 +273,6 @@ impl Counters {
         shift_voucher(
             &self.store,
             &mut self.usages,
-            id,
             spent,
             None,
             self.store.voucher(id),
@@ -561,6 +280,38 @@ impl Counters {
         forget(vouchers(&self.store), &mut self.redeems, id);
         self.store.apply_one(Change::DropVoucher(id));
     }
+}
+
+// What uses a quota that is put: what used it before, unless its products change.
+fn usage_for(store: &Store, usages: &[Usage], quota: &Quota) -> Usage
+    requires { usages.now ≡ map (usage_of store.now.state.lists store.now.state.moment) store.now.state.lists.catalogue.quotas }
+    ensures { result ≡ usage_of store.now.state.lists store.now.state.moment quota.now }
+{
+    let catalogue = store.catalogue();
+    catalogue.known();
+    let quotas = catalogue.quotas();
+    if let Ok(place) = place_of(quotas, quota.id) {
+        if has_same_members(&quotas[place], quota) {
+            return usages[place];
+        }
+    }
+    recount_at(store, store.moment(), quota)
+}
+
+// Whether two quotas have the same products.
+fn has_same_members(a: &Quota, b: &Quota) -> bool
+    ensures items { result ≡ true → a.now.items ≡ b.now.items }
+    ensures variations { result ≡ true → a.now.variations ≡ b.now.variations }
+{
+    are_same(a.items.as_slice(), b.items.as_slice())
+        && are_same(a.variations.as_slice(), b.variations.as_slice())
+}
+
+// Whether these are the same ids.
+fn are_same(a: &[u64], b: &[u64]) -> bool
+    ensures { Decides result (a.now ≡ b.now) }
+{
+    a == b
 }
 
 // What uses a quota, counted afresh.
@@ -579,56 +330,6 @@ fn recount_in<L: Ledger>(store: &Store, at: Moment, quota: &Quota, blank: Blank)
 {
     let mut steps = Steps::<L>::new(blank);
     store.recount(at, quota, &mut steps)
-}
-
-// The usages at a later moment.
-fn count_at(store: &Store, usages: &mut Vec<Usage>, redeems: &[u64], at: Moment)
-    requires moment { store.now.state.moment ≤ at }
-    requires counted { IsCounted store.now.state.lists store.now.state.moment usages.old.items redeems.now }
-    ensures counted { IsCounted store.now.state.lists at usages.new.items redeems.now }
-    ensures room { vec_capacity usages.new ≡ vec_capacity usages.old }
-    ensures same { length usages.new.items ≡ length usages.old.items }
-{
-    store.known();
-    shift_time(store, usages, redeems, at);
-}
-
-// The usages at a later moment.
-fn shift_time(store: &Store, usages: &mut Vec<Usage>, redeems: &[u64], at: Moment)
-    requires same { length usages.old.items ≡ length store.now.state.lists.catalogue.quotas }
-    requires moment { store.now.state.moment ≤ at }
-    requires redeems { redeems.now ≡ map (λ v. redeemed v.id store.now.state.lists) store.now.state.lists.vouchers }
-    ensures items { usages.new.items ≡ map_beside (time_shift store.now.state.lists store.now.state.moment at) store.now.state.lists.catalogue.quotas usages.old.items }
-    ensures room { vec_capacity usages.new ≡ vec_capacity usages.old }
-    ensures same { length usages.new.items ≡ length usages.old.items }
-{
-    let shift = TimeShift { store, redeems, at };
-    shift_all(store.catalogue().quotas(), usages, &shift);
-}
-
-// The usages where a voucher comes and one goes.
-fn shift_voucher<'s>(
-    store: &'s Store,
-    usages: &mut Vec<Usage>,
-    id: u64,
-    spent: u64,
-    come: Option<&'s Voucher>,
-    gone: Option<&'s Voucher>,
-)
-    requires { length usages.old.items ≡ length store.now.state.lists.catalogue.quotas }
-    ensures items { usages.new.items ≡ map_beside (voucher_shift store.now.state.lists store.now.state.moment id spent (option_copied come.entry) (option_copied gone.entry)) store.now.state.lists.catalogue.quotas usages.old.items }
-    ensures room { vec_capacity usages.new ≡ vec_capacity usages.old }
-    ensures same { length usages.new.items ≡ length usages.old.items }
-{
-    let shift = VoucherShift {
-        store,
-        at: store.moment(),
-        id,
-        spent,
-        come,
-        gone,
-    };
-    shift_all(store.catalogue().quotas(), usages, &shift);
 }
 
 impl Counters {

@@ -6,7 +6,7 @@ ghost use Rattle.bo_base.specs.Tables.{with_row, without_row, AreInOrder};
 ghost use Rattle.std.specs.Option.{option_copied};
 ghost use Rattle.bo_catalogue.specs.declared.rows.Quota.{Quota};
 ghost use Rattle.bo_lists.specs.declared.rows.Usage.{Usage};
-ghost use Rattle.bo_counters.specs.Shifts.{map_beside, moved, cart_share, cart_shift, waiting_share, waiting_shift, blocked_share, uncovered_share, voucher_shift};
+ghost use Rattle.bo_counters.specs.Shifts.{map_beside, moved, cart_share, cart_shift, waiting_share, waiting_shift, blocked_share};
 
 use bo_base::{Moment, Row, place_of};
 use bo_catalogue::Quota;
@@ -26,19 +26,6 @@ pub trait Shift {
     fn shifted(&self, quota: &Quota, usage: Usage) -> Usage
         requires { ready self.now }
         ensures { result ≡ shift self.now quota.now usage };
-}
-
-/// Shifts the usage of each quota.
-pub fn shift_all<S: Shift>(quotas: &[Quota], usages: &mut Vec<Usage>, shift: &S)
-    requires same { length usages.old.items ≡ length quotas.now }
-    requires ready { S.ready shift.now }
-    ensures items { usages.new.items ≡ map_beside (S.shift shift.now) quotas.now usages.old.items }
-    ensures room { vec_capacity usages.new ≡ vec_capacity usages.old }
-    ensures same { length usages.new.items ≡ length usages.old.items }
-{
-    for i in 0..quotas.len() {
-        usages[i] = shift.shifted(&quotas[i], usages[i]);
-    }
 }
 
 /// A count after some came, at most 2^64 - 1, and some went.
@@ -120,40 +107,6 @@ fn waiting_share(quota: &Quota, entry: Option<&Waiting>) -> u64
     }
 }
 
-/// A voucher that is redeemed so often comes, and one goes. Both have the id.
-#[derive(Drop)]
-pub struct VoucherShift<'s> {
-    pub store: &'s Store,
-    pub at: Moment,
-    pub id: u64,
-    pub spent: u64,
-    pub come: Option<&'s Voucher>,
-    pub gone: Option<&'s Voucher>,
-}
-
-impl<'s> Shift for VoucherShift<'s> {
-    ghost shift = { λ s. voucher_shift s.store.now.state.lists s.at s.id s.spent (option_copied s.come) (option_copied s.gone) };
-
-    ghost ready = { λ s. Unit {0} };
-
-    fn shifted(&self, quota: &Quota, usage: Usage) -> Usage {
-        let held = self.store.held_in(self.id, quota, self.at);
-        Usage {
-            blocked: moved(
-                usage.blocked,
-                blocked_share(self.at, quota, self.spent, self.come),
-                blocked_share(self.at, quota, self.spent, self.gone),
-            ),
-            carts: moved(
-                usage.carts,
-                uncovered_share(self.at, quota, held, self.come),
-                uncovered_share(self.at, quota, held, self.gone),
-            ),
-            ..usage
-        }
-    }
-}
-
 /// What a voucher that is redeemed so often blocks.
 #[tactic(auto, unfolding(crate::specs::Shifts::blocked_share))]
 pub fn blocked_share(at: Moment, quota: &Quota, spent: u64, voucher: Option<&Voucher>) -> u64
@@ -169,17 +122,6 @@ pub fn blocked_share(at: Moment, quota: &Quota, spent: u64, voucher: Option<&Vou
             }
         }
     }
-}
-
-// How many of the cart positions that name a voucher count.
-fn uncovered_share(at: Moment, quota: &Quota, held: u64, voucher: Option<&Voucher>) -> u64
-    ensures { result ≡ uncovered_share at quota.now held (option_copied voucher.entry) }
-{
-    let covers = match voucher {
-        None => false,
-        Some(voucher) => voucher.blocks(at, quota),
-    };
-    if covers { 0 } else { held }
 }
 
 /// Keeps a value for the row of an id that is put.

@@ -6,17 +6,19 @@ ghost use Rattle.bo_counters.specs.Later.{IsCounted};
 ghost use Rattle.std.specs.List.{AllByRecursion};
 ghost use Rattle.std.specs.Option.{option_copied};
 ghost use Rattle.bo_catalogue.specs.declared.rows.Quota.{Quota};
+ghost use Rattle.bo_catalogue.specs.Member.{is_in};
+ghost use Rattle.bo_store.specs.Walks.{one_if};
 ghost use Rattle.bo_lists.specs.declared.rows.Usage.{Usage};
 ghost use Rattle.bo_lists.specs.Lists.{position_at};
 ghost use Rattle.bo_lists.specs.Conditions.{is_paid, is_pending, is_in_force};
-ghost use Rattle.bo_lists.specs.Usage.{stands_as};
+ghost use Rattle.bo_lists.specs.Usage.{stands_as, redeemed};
 ghost use Rattle.bo_counters.specs.Shifts.{map_beside};
-ghost use Rattle.bo_counters.specs.Turns.{turned, turn, turn_each, IsCountedBy, turn_shift, status_share, position_shift, order_shift, used_name, name_of, after_order};
+ghost use Rattle.bo_counters.specs.Turns.{turned, turn, turn_each, IsCountedBy, turn_shift, status_share, position_shift, placed, place_shift, in_it, order_shift, used_name, name_of, after_order};
 
-use crate::shift::{Shift, blocked_share, moved, shift_all};
+use crate::shift::{Shift, blocked_share, moved};
 use crate::touched::{shift_hit, shift_product};
 use bo_base::{Moment, place_of};
-use bo_catalogue::Quota;
+use bo_catalogue::{Product, Quota};
 use bo_lists::{Change, Order, OrderPos, Usage, Voucher};
 use bo_store::Store;
 use bo_store::ids::count_one;
@@ -26,6 +28,19 @@ pub fn vouchers(store: &Store) -> &[Voucher]
     ensures { result.now ≡ store.now.state.lists.vouchers }
 {
     store.vouchers().as_slice()
+}
+
+/// How many positions of pending and paid orders name the voucher: as it is kept, or else counted afresh.
+pub fn redeemed_in(store: &Store, redeems: &[u64], voucher: u64) -> u64
+    requires { redeems.now ≡ map (λ v. redeemed v.id store.now.state.lists) store.now.state.lists.vouchers }
+    ensures value { result ≡ redeemed voucher store.now.state.lists }
+    ensures few { result ≤ 4294967296 }
+{
+    store.known();
+    match place_of(vouchers(store), voucher) {
+        Ok(at) => redeems[at],
+        Err(_) => store.redeemed(voucher),
+    }
 }
 
 // One more, or one less.
@@ -288,34 +303,37 @@ pub fn count_position(
     turn(store, usages, redeems, goes, false);
 }
 
-// An order comes in the place of another, or none.
+// A position of an order counts by the order's status, or no longer counts.
 #[derive(Drop)]
-struct OrderShift<'s> {
-    store: &'s Store,
-    come: &'s Order,
-    gone: Option<&'s Order>,
+struct PlaceShift<'s> {
+    order: Option<&'s Order>,
+    up: bool,
+    product: Product,
 }
 
-impl<'s> Shift for OrderShift<'s> {
-    ghost shift = { λ s. order_shift s.store.now.state.lists s.come.now (option_copied s.gone) };
+impl<'s> Shift for PlaceShift<'s> {
+    ghost shift = { λ s. place_shift s.up (option_copied s.order) (λ q. if is_in q s.product then 1 else 0) };
 
     ghost ready = { λ s. Unit {0} };
 
     fn shifted(&self, quota: &Quota, usage: Usage) -> Usage {
-        let here = self.store.ordered_in(quota, self.come.id);
+        let here = count_one(quota.has(self.product));
         Usage {
-            paid: moved(
-                usage.paid,
-                if_so(self.come.status.is_paid(), here),
-                if_so(is_paid(self.gone), here),
-            ),
-            pending: moved(
-                usage.pending,
-                if_so(self.come.status.is_pending(), here),
-                if_so(is_pending(self.gone), here),
-            ),
+            paid: placed(self.up, usage.paid, if_so(is_paid(self.order), here)),
+            pending: placed(self.up, usage.pending, if_so(is_pending(self.order), here)),
             ..usage
         }
+    }
+}
+
+// So many more, or less.
+fn placed(up: bool, count: u64, places: u64) -> u64
+    ensures { result ≡ placed up count places }
+{
+    if up {
+        moved(count, places, 0)
+    } else {
+        moved(count, 0, places)
     }
 }
 
@@ -346,7 +364,55 @@ fn if_so(is: bool, count: u64) -> u64
     if is { count } else { 0 }
 }
 
-// The usages where an order comes, but for what vouchers block.
+// The usages where a position counts by the status of an order, or no longer counts: those of the quotas that have its
+// product.
+fn shift_place<'s>(
+    store: &'s Store,
+    usages: &mut Vec<Usage>,
+    position: Option<&'s OrderPos>,
+    order: Option<&'s Order>,
+    up: bool,
+)
+    requires { length usages.old.items ≡ length store.now.state.lists.catalogue.quotas }
+    ensures items { usages.new.items ≡ map_beside (place_shift up (option_copied order.entry) (λ q. one_if (λ p. is_in q p.product) (option_copied position.entry))) store.now.state.lists.catalogue.quotas usages.old.items }
+    ensures room { vec_capacity usages.new ≡ vec_capacity usages.old }
+    ensures same { length usages.new.items ≡ length usages.old.items }
+{
+    match position {
+        None => {}
+        Some(row) => {
+            let shift = PlaceShift {
+                order,
+                up,
+                product: row.product,
+            };
+            shift_product(store.catalogue(), usages, row.product, &shift);
+        }
+    }
+}
+
+// The usages where all positions of an id's order count by the status of an order, or no longer count.
+fn shift_places<'s>(
+    store: &'s Store,
+    usages: &mut Vec<Usage>,
+    id: u64,
+    order: Option<&'s Order>,
+    up: bool,
+)
+    requires { length usages.old.items ≡ length store.now.state.lists.catalogue.quotas }
+    ensures items { usages.new.items ≡ map_beside (place_shift up (option_copied order.entry) (λ q. in_it q id store.now.state.lists)) store.now.state.lists.catalogue.quotas usages.old.items }
+    ensures room { vec_capacity usages.new ≡ vec_capacity usages.old }
+    ensures same { length usages.new.items ≡ length usages.old.items }
+{
+    let ids = store.positions_ordered(id);
+    for place in 0..ids.len() {
+        let position = store.position(ids.at(place));
+        shift_place(store, usages, position, order, up);
+    }
+}
+
+// The usages where an order comes in the place of another, or none, but for what vouchers block: those of the quotas that
+// have its positions.
 fn shift_order<'s>(
     store: &'s Store,
     usages: &mut Vec<Usage>,
@@ -358,8 +424,8 @@ fn shift_order<'s>(
     ensures room { vec_capacity usages.new ≡ vec_capacity usages.old }
     ensures same { length usages.new.items ≡ length usages.old.items }
 {
-    let shift = OrderShift { store, come, gone };
-    shift_all(store.catalogue().quotas(), usages, &shift);
+    shift_places(store, usages, come.id, Some(come), true);
+    shift_places(store, usages, come.id, gone, false);
 }
 
 /// The numbers where an order is put.

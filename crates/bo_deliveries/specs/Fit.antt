@@ -1,9 +1,11 @@
 -- What the type of an arrival promises of it.
+use Rattle.std.specs.Prelude.{◌≡◌, false}
 use Rattle.bo_base.specs.Draws.{IsDraw}
 use Rattle.bo_commands.specs.Fit.{IsFit}
 use Rattle.bo_deliveries.specs.declared.arrival.Arrival.{Arrival}
 use Rattle.bo_deliveries.specs.declared.arrival.Request.{Request}
 use Rattle.bo_deliveries.specs.declared.arrival.Request.TheVariants.{Write, WriteRefused, Read, ReadRefused}
+use Rattle.bo_deliveries.specs.Deliveries.{Delivery}
 
 -- what a command asks is within its limits
 abbrev pub IsFitRequest : Request → Type 0
@@ -16,3 +18,7 @@ IsFitRequest (ReadRefused response) = Unit {0}
 pub record IsFitArrival (a : Arrival) : Type 0 where
   pub request : IsFitRequest a.request
   pub draw : IsDraw a.draw
+
+-- of an arrival that was answered 503 nothing is promised: it may not have been read
+abbrev pub IsFitDelivery : Delivery → Type 0
+IsFitDelivery d = d.unavailable ≡ false → IsFitArrival d.arrival

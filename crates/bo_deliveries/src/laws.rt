@@ -9,11 +9,11 @@ ghost use Rattle.bo_sound.specs.Sound.{IsSound};
 ghost use Rattle.bo_commands.specs.declared.replies.Reply.{Reply};
 ghost use Rattle.bo_deliveries.specs.declared.arrival.Arrival.{Arrival};
 ghost use Rattle.bo_kept.specs.declared.kept.Kept.{Kept};
-ghost use Rattle.bo_deliveries.specs.Deliveries.{Delivery, Opening, firsts, kept, told_after};
+ghost use Rattle.bo_deliveries.specs.Deliveries.{Delivery, Opening, firsts, kept, office, told_after};
 ghost use Rattle.bo_kept.specs.KeptAnswers.{told_by, AreOneForEachKey};
 ghost use Rattle.bo_kept.specs.ShopView.{ShopView};
 ghost use Rattle.bo_deliveries.specs.Shops.{ServesAll, Stands, delivered_all, stood};
-ghost use Rattle.bo_deliveries.specs.Fit.{IsFitArrival};
+ghost use Rattle.bo_deliveries.specs.Fit.{IsFitDelivery};
 ghost use Rattle.bo_deliveries.specs.Headline.{ToldAgain, ExecutedAnew, AreADayApart, TakesNothingTooMuch, steps};
 ghost use Rattle.bo_deliveries.specs.Histories.{Event, Running, Happens, ComesTo, MayLeave, IsRunning, Reopened, opened};
 
@@ -54,9 +54,10 @@ pub fn one_answer_for_each_key()
 {}
 
 /// Whatever arrivals come to a sound office, each executed command takes too much of no quota, as the laws of the office say
-/// it, a bulk call by its entries; it uses no id again, and leaves the office sound.
+/// it, a bulk call by its entries; it uses no id again, and leaves the office sound; and so the office is after all of them.
 pub fn nothing_is_taken_too_much()
-    ensures { (words : Reply → Response) (p : Opening) (ds : List Delivery) → AllByRecursion (λ d. IsFitArrival d.arrival) ds → IsSound p.state → AllByRecursion TakesNothingTooMuch (steps words p.state (firsts p ds)) }
+    ensures each { (words : Reply → Response) (p : Opening) (ds : List Delivery) → AllByRecursion IsFitDelivery ds → IsSound p.state → AllByRecursion TakesNothingTooMuch (steps words p.state (firsts p ds)) }
+    ensures all { (words : Reply → Response) (p : Opening) (ds : List Delivery) → AllByRecursion IsFitDelivery ds → IsSound p.state → IsSound (office words p (firsts p ds)) }
 {}
 
 /// Whatever happens to a shop, with crashes at any moments, after each of which it is opened again: it stands for the list

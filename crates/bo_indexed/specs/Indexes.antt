@@ -33,3 +33,8 @@ without_entry id (Some key) entries = without_row (λ n. n) (entry key id) entri
 -- the ids are those of the rows that pass: what is added up over them, by their rows, is what adds up over these rows
 abbrev pub Finds : {T : Type 0} → (T → ℕ) → (T → Bool) → List T → List ℕ → Type 0
 Finds {T} id test rows ids = (G : Option T → ℕ) → sum_by (λ i. G (row_at id i rows)) ids ≡ sum_by (λ r. if test r then G (Some r) else 0) rows
+
+-- what a walk goes over: the rows of a table that have these ids
+pub record Walked (T : Type 0) : Type 0 where
+  pub rows : List T
+  pub ids : List ℕ

@@ -6,8 +6,10 @@ pub mod digests;
 pub mod indexed;
 pub mod keyed;
 pub mod keys;
+pub mod walk;
 
 pub use digests::{digest, pair};
 pub use indexed::Indexed;
 pub use keyed::Keyed;
 pub use keys::Keys;
+pub use walk::Walk;

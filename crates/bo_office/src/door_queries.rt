@@ -4,11 +4,11 @@ ghost use Rattle.std.specs.Prelude.{◌≡◌, IfOk, map, take, drop};
 ghost use Rattle.bo_office.specs.Answer.{list_of, one_of, status_told, ticket_if};
 ghost use Rattle.bo_door.specs.Belongs.{belonging};
 ghost use Rattle.bo_lists.specs.Lists.{checkin_list_at};
-ghost use Rattle.bo_office.specs.ShownRows.{show_checkin_list, show_ticket};
+ghost use Rattle.bo_office.specs.ShownRows.{show_ticket};
 
 use crate::lists::no_page;
 use crate::office::Office;
-use crate::pages::{is_page, page_rows, rows_before};
+use crate::pages::{is_page, rows_before};
 use bo_base::List;
 use bo_commands::{DoorRefusal, Kind, ListedTicket, Page, Refusal, Reply, Resource, Shown};
 use bo_door::{belongs, position_count, positions, status, ticket_of};
@@ -52,22 +52,6 @@ impl<B: Book> Office<B> {
         }
         let ticket = ticket_of(self.book(), alloc, list, position)?;
         Ok(Reply::Found(Shown::Ticket(ticket)))
-    }
-
-    pub(crate) fn checkin_lists_page(&self, alloc: Global, number: u64) -> Result<Reply, AllocError>
-        ensures { IfOk result (λ reply. reply ≡ list_of Resource.CheckinLists number self.now.state.lists) }
-    {
-        let lists = self.book().checkin_lists();
-        if !is_page(number, lists.len()) {
-            return Ok(no_page());
-        }
-        let rows = shown_checkin_lists(alloc, page_rows(lists, number))?;
-        Ok(Reply::Listed(Page {
-            resource: Resource::CheckinLists,
-            number,
-            count: lists.len() as u64,
-            rows,
-        }))
     }
 
     // A page of the positions that belong to a check-in list.
@@ -117,16 +101,6 @@ impl<B: Book> Office<B> {
             Some(list) => Ok(Reply::Status(status(self.book(), alloc, list)?)),
         }
     }
-}
-
-fn shown_checkin_lists(alloc: Global, lists: &[CheckinList]) -> Result<List<Shown>, AllocError>
-    ensures { IfOk result (λ rows. rows ≡ map show_checkin_list lists.now) }
-{
-    let mut rows = Vec::new(alloc);
-    for list in lists {
-        rows.push(Shown::CheckinList(list.copy(alloc)?))?;
-    }
-    Ok(List::new(rows))
 }
 
 fn all_shown(alloc: Global, tickets: Vec<ListedTicket>) -> Result<Vec<Shown>, AllocError>

@@ -10,6 +10,7 @@ pub mod office;
 mod pages;
 mod queries;
 mod sales_commands;
+mod shown_rows;
 mod waiting_commands;
 
 pub use office::Office;

@@ -7,17 +7,18 @@ ghost use Rattle.bo_sound.specs.Sound.{IsSound};
 ghost use Rattle.bo_deliveries.specs.declared.arrival.Request.TheVariants.{Write};
 ghost use Rattle.bo_deliveries.specs.Deliveries.{is_write, done};
 
-use crate::counting::Counting;
 use crate::shop::Shop;
 use crate::wording::Wording;
 use bo_base::{Draw, Moment, Response};
 use bo_commands::Command;
+use bo_counts::counts_after;
 use bo_deliveries::Request;
 use bo_kept::Tables;
 use bo_lists::{Changes, CountRows};
+use bo_usage::Book;
 use std::alloc::{AllocError, Global};
 
-impl<T: Tables, B: Counting, W: Wording> Shop<T, B, W> {
+impl<T: Tables, B: Book, W: Wording> Shop<T, B, W> {
     // What a command changes at a moment, and what is told.
     fn decide_command(
         &self,
@@ -79,6 +80,6 @@ impl<T: Tables, B: Counting, W: Wording> Shop<T, B, W> {
         requires { self.now.state.moment ≤ at }
         ensures { IfOk result (λ rows. rows ≡ counts_after self.now.state (applied changes.now at self.now.state)) }
     {
-        self.office.book().counts_after(alloc, changes, at)
+        counts_after(self.office.book(), alloc, changes, at)
     }
 }

@@ -1,13 +1,11 @@
 //! A shop that carries each request out once: an office, the tables that hold its rows and its answers, and its wording.
 #![tactic(auto)]
 
-pub mod counting;
 mod deciding;
 mod reading;
 pub mod shop;
 pub mod wording;
 mod writing;
 
-pub use counting::Counting;
 pub use shop::Shop;
 pub use wording::Wording;

@@ -7,15 +7,15 @@ ghost use Rattle.bo_deliveries.specs.Deliveries.{Opening, Delivery, is_write, do
 ghost use Rattle.bo_deliveries.specs.Histories.{Running, IsRunning, TellsIt, after_act};
 ghost use Rattle.bo_deliveries.specs.Shops.{Views, StandsFor, IsAnswered, delivered};
 
-use crate::counting::Counting;
 use crate::shop::Shop;
 use crate::wording::Wording;
 use bo_base::{Answer, Response};
 use bo_deliveries::{Arrival, Request};
 use bo_kept::Tables;
+use bo_usage::Book;
 use std::alloc::{AllocError, Global};
 
-impl<T: Tables, B: Counting, W: Wording> Shop<T, B, W> {
+impl<T: Tables, B: Book, W: Wording> Shop<T, B, W> {
     // What a read is told, in words.
     #[tactic(auto, unfolding(bo_deliveries::specs::Deliveries::done))]
     fn show(&self, alloc: Global, arrival: Arrival) -> Result<Response, AllocError>

@@ -5,23 +5,23 @@ ghost use Rattle.bo_office.specs.Runs.{moment_at};
 ghost use Rattle.bo_kept.specs.ShopView.{ShopView};
 ghost use Rattle.bo_deliveries.specs.Shops.{Views};
 
-use crate::counting::Counting;
 use crate::wording::Wording;
 use bo_base::Moment;
 use bo_kept::{Tables, TablesError};
 use bo_office::Office;
+use bo_usage::Book;
 use std::marker::Model;
 
 /// A shop: an office whose rows stand in tables, beside the answers that are kept there.
 /// Contracts see the tables, the office's rows and the wording.
 #[derive(Drop)]
-pub struct Shop<T: Tables, B: Counting, W: Wording> {
+pub struct Shop<T: Tables, B: Book, W: Wording> {
     pub(crate) tables: T,
     pub(crate) office: Office<B>,
     pub(crate) wording: W,
 }
 
-impl<T: Tables, B: Counting, W: Wording> Model for Shop<T, B, W> {
+impl<T: Tables, B: Book, W: Wording> Model for Shop<T, B, W> {
     ghost use Rattle.bo_once.specs.OpenShop.{OpenShop};
 
     ghost Value = { OpenShop T W };
@@ -29,7 +29,7 @@ impl<T: Tables, B: Counting, W: Wording> Model for Shop<T, B, W> {
     ghost view = { λ s. record { tables = s.tables; state = s.office.state; wording = s.wording } };
 }
 
-impl<T: Tables, B: Counting, W: Wording> Shop<T, B, W> {
+impl<T: Tables, B: Book, W: Wording> Shop<T, B, W> {
     /// The shop of an office, over tables that hold its rows.
     pub fn over(tables: T, office: Office<B>, wording: W) -> Self
         ensures tables { result.tables ≡ tables }
@@ -78,7 +78,7 @@ impl<T: Tables, B: Counting, W: Wording> Shop<T, B, W> {
     }
 }
 
-impl<T: Tables, B: Counting + Drop, W: Wording + Drop> Shop<T, B, W> {
+impl<T: Tables, B: Book + Drop, W: Wording + Drop> Shop<T, B, W> {
     /// The tables.
     pub fn into_tables(self) -> T
         ensures { result ≡ self.tables }

@@ -7,15 +7,15 @@ ghost use Rattle.bo_deliveries.specs.Deliveries.{Opening, Delivery, is_write, to
 ghost use Rattle.bo_deliveries.specs.Histories.{Running, IsRunning, TellsIt, after_act};
 ghost use Rattle.bo_deliveries.specs.Shops.{Views, StandsFor, IsAnswered, IsDecided, delivered, served, executes, executed_at};
 
-use crate::counting::Counting;
 use crate::shop::Shop;
 use crate::wording::Wording;
 use bo_base::{Answer, Moment, Response};
 use bo_deliveries::Arrival;
 use bo_kept::{Kept, Tables, TablesError};
+use bo_usage::Book;
 use std::alloc::Global;
 
-impl<T: Tables, B: Counting, W: Wording> Shop<T, B, W> {
+impl<T: Tables, B: Book, W: Wording> Shop<T, B, W> {
     // Carries a write out: decides, words, counts, takes memory, commits with the answer to keep, adopts.
     fn execute(
         &mut self,

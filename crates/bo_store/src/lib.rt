@@ -3,6 +3,7 @@
 
 pub mod carts;
 pub mod door;
+pub mod ended;
 pub mod ids;
 pub mod naming;
 pub mod orders;
@@ -11,4 +12,5 @@ pub mod recounts;
 pub mod store;
 pub mod vouchers;
 
+pub use ended::Ended;
 pub use store::Store;

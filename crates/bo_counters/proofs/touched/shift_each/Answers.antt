@@ -1,4 +1,4 @@
-use Rattle.std.proofs.Common.{◌≡◌, refl, sym, ◌∙◌, take}
+use Rattle.std.proofs.Common.{refl, sym, ◌∙◌, take}
 use Rattle.std.proofs.lemmas.List.{take_all}
 use Rattle.bo_base.specs.Tables.{has}
 use Rattle.bo_counters.specs.Shifts.{only}

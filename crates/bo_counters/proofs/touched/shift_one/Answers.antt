@@ -1,4 +1,4 @@
-use Rattle.std.proofs.Common.{◌≡◌, List, ap, ◌∙◌, get_or, set}
+use Rattle.std.proofs.Common.{ap, ◌∙◌, get_or, set}
 use Rattle.bo_catalogue.specs.declared.rows.Quota.{Quota}
 use Rattle.bo_lists.specs.declared.rows.Usage.{Usage}
 use Rattle.bo_counters.proofs.TouchedLemmas.{beside_one, beside_gap}

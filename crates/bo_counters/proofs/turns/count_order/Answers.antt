@@ -1,4 +1,4 @@
-use Rattle.std.proofs.Common.{ℕ, sym, ap, ◌∙◌}
+use Rattle.std.proofs.Common.{ℕ, sym, ◌∙◌}
 use Rattle.bo_lists.specs.Usage.{redeemed, usage_of}
 use Rattle.bo_lists.specs.Change.{after_change}
 use Rattle.bo_lists.specs.declared.changes.Change.TheVariants.{PutOrder}

@@ -1,5 +1,4 @@
-use Rattle.std.proofs.Common.{ap, ◌∙◌}
-use Rattle.bo_counters.specs.Turns.{turn_shift}
+use Rattle.std.proofs.Common.{◌∙◌}
 use Rattle.bo_counters.proofs.OfProducts.{turn_hits}
 use Rattle.bo_counters.proofs.turns.shift_turn.Goals as goal
 

@@ -1,4 +1,4 @@
-use Rattle.std.proofs.Common.{◌≡◌, ℕ, sym, ap, subst, ◌∙◌, take, map}
+use Rattle.std.proofs.Common.{ℕ, sym, ap, subst, ◌∙◌, take, map}
 use Rattle.bo_lists.specs.Lists.{position_at}
 use Rattle.bo_counters.specs.Turns.{turn_each, IsCountedBy, name_of, after_order}
 use Rattle.bo_counters.proofs.TurnLemmas.{pushed, all_taken, counted_like, turned_order}

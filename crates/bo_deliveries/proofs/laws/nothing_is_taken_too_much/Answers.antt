@@ -1,5 +1,8 @@
 use Rattle.bo_deliveries.proofs.NothingOver.{nothing_over}
 use Rattle.bo_deliveries.proofs.laws.nothing_is_taken_too_much.Goals as goal
 
-pub returns : goal.returns
-returns c = nothing_over
+pub returns-clause-each : goal.returns-clause-each
+returns-clause-each c = λ words p ds fit sound. (nothing_over words p ds fit sound).0
+
+pub returns-clause-all : goal.returns-clause-all
+returns-clause-all c = λ words p ds fit sound. (nothing_over words p ds fit sound).1

@@ -1,4 +1,4 @@
-use Rattle.std.proofs.Common.{◌≡◌, ◌≤◌, length, reverse, vec_len}
+use Rattle.std.proofs.Common.{◌≡◌, ◌≤◌, reverse, vec_len}
 use Rattle.bo_lists.specs.Change.{after_all}
 use Rattle.bo_lists.specs.Weight.{weight}
 use Rattle.bo_counters.proofs.counters.Counters.apply_list.Given as goal

@@ -1,4 +1,4 @@
-use Rattle.std.proofs.Common.{ap, ◌∙◌}
+use Rattle.std.proofs.Common.{ap, refl, ◌∙◌}
 use Rattle.bo_catalogue.specs.CatalogueLists.{CatalogueLists}
 use Rattle.bo_counters.proofs.ShiftLemmas.{counted_put_quota}
 use Rattle.bo_counters.proofs.counters.Counters.put_quota.Goals as goal
@@ -7,4 +7,4 @@ pub invariant_of-self : goal.invariant_of-self
 invariant_of-self c =
     let quotas = c.quotas.ensures ∙ ap (λ (catalogue : CatalogueLists). catalogue.quotas) c.catalogue-catalogue.ensures in
     let keeps = rw quotas at c.keep.ensures.kept in
-    counted_put_quota c.self.inside.store.state c.apply_one.new.self.state c.self.inside.usages.items c.keep.new.kept.items c.self.inside.redeems.items c.self.inside.redeems.items c.known.ensures c.self.invariant c.args.row c.moment.result c.recount_at-usage.result c.moment.ensures c.recount_at-usage.ensures keeps c.apply_one.ensures.lists
+    counted_put_quota c.self.inside.store.state c.apply_one.new.self.state c.self.inside.usages.items c.keep.new.kept.items c.self.inside.redeems.items c.self.inside.redeems.items c.known.ensures c.self.invariant c.args.row c.self.inside.store.state.moment c.usage_for-usage.result refl c.usage_for-usage.ensures keeps c.apply_one.ensures.lists

@@ -2,7 +2,6 @@ use Rattle.std.proofs.Common.{◌≡◌, ap, sym, ◌∙◌, arith}
 use Rattle.bo_base.specs.Tables.{AreInOrder}
 use Rattle.bo_base.proofs.Places.{row_at_gap}
 use Rattle.bo_catalogue.specs.CatalogueLists.{CatalogueLists}
-use Rattle.bo_lists.specs.declared.rows.Usage.{Usage}
 use Rattle.bo_lists.specs.Usage.{usage_of}
 use Rattle.bo_counters.proofs.Later.{time_is}
 use Rattle.bo_counters.proofs.ShiftLemmas.{kept_usage}
@@ -19,7 +18,8 @@ returns-in-Ok-clause-value g c =
     let stands = rw (← c.self.view_is) at c.requires.stands in
     let moment = rw (← c.self.view_is) at c.requires.moment in
     let kept : c.index.result.now ≡ usage_of lists state.moment quota = c.index.ensures ∙ kept_usage (usage_of lists state.moment) lists.catalogue.quotas c.self.inside.usages.items quota c.in-Ok.place _ c.self.invariant.usages order place stands in
-    rw (← c.self.view_is) (c.later.ensures.value ∙ time_is quota lists state.moment c.args.at moment c.known.ensures c.index.result.now kept c.later.ensures.fits)
+    let value = rw c.of-ended.ensures at c.later.ensures.value in
+    rw (← c.self.view_is) (value ∙ time_is quota lists state.moment c.args.at moment c.known.ensures c.index.result.now kept c.later.ensures.fits)
 
 pub returns-in-Err-clause-value : goal.returns-in-Err-clause-value
 returns-in-Err-clause-value g c =
@@ -30,4 +30,6 @@ returns-in-Err-clause-value g c =
     absurd (cc (sym (row_at_gap (λ r. r.id) lists.catalogue.quotas c.args.quota.now.id _ gap) ∙ stands))
 
 pub returns-in-Ok-clause-cost : goal.returns-in-Ok-clause-cost
-returns-in-Ok-clause-cost g c = rw (← c.self.view_is) (omega (arith, c.later.ensures.cost))
+returns-in-Ok-clause-cost g c =
+    let cost = rw c.of-ended.ensures at c.later.ensures.cost in
+    rw (← c.self.view_is) (omega (arith, cost))

@@ -1,0 +1,159 @@
+//! The tests of what rows name in the catalogue.
+
+ghost use Rattle.std.specs.Prelude.{◌≡◌, ◌↔◌, IsTrue};
+ghost use Rattle.std.specs.List.{AllByRecursion};
+ghost use Rattle.bo_sound.specs.Sent.{voucher_stands, AllSent};
+ghost use Rattle.bo_sound.specs.Targets.{is_of_item, variation_stands};
+ghost use Rattle.bo_sound.specs.Varied.{is_of_varied, is_named_as_sold, IsProduct, AllVaried, AllProducts};
+ghost use Rattle.bo_lists.specs.Fits.{is_fit, AllFit};
+
+use bo_catalogue::{Catalogue, Product, Variation};
+use bo_usage::Book;
+
+// Whether a variation is of the item, if one is named.
+fn is_of_item(item: Option<u64>, variation: &Variation) -> bool
+    ensures { result ≡ is_of_item item variation.now }
+{
+    match item {
+        None => true,
+        Some(item) => variation.item == item,
+    }
+}
+
+/// Whether the variation that is named stands, and is of the item that is named.
+pub(crate) fn variation_stands(
+    catalogue: &Catalogue,
+    item: Option<u64>,
+    variation: Option<u64>,
+) -> bool
+    ensures { result ≡ variation_stands catalogue.now.lists item variation }
+{
+    let Some(id) = variation else {
+        return true;
+    };
+    match catalogue.variation(id) {
+        None => false,
+        Some(row) => is_of_item(item, row),
+    }
+}
+
+// Whether a variation's item stands, and is sold by variation.
+fn is_of_varied(catalogue: &Catalogue, row: &Variation) -> bool
+    ensures { result ≡ is_of_varied catalogue.now.lists.items row.now }
+{
+    match catalogue.item(row.item) {
+        None => false,
+        Some(item) => item.varied,
+    }
+}
+
+/// Whether each variation is of an item that stands and is sold by variation.
+pub fn all_varied<B: Book>(book: &B) -> bool
+    ensures { IsTrue result ↔ AllVaried (B.state book.now).lists }
+{
+    let catalogue = book.catalogue();
+    let variations = catalogue.variations();
+    variations.iter().all(|row| is_of_varied(catalogue, row))
+}
+
+// Whether a product's item stands, and the product names a variation exactly where the item is sold by variation.
+fn is_named_as_sold(catalogue: &Catalogue, product: Product) -> bool
+    ensures { result ≡ is_named_as_sold catalogue.now.lists.items product }
+{
+    match catalogue.item(product.item) {
+        None => false,
+        Some(item) if item.varied => product.variation.is_some(),
+        Some(_) => product.variation.is_none(),
+    }
+}
+
+// Whether that is so, and the variation stands and is of the item.
+fn is_product(catalogue: &Catalogue, product: Product) -> bool
+    ensures { IsTrue result ↔ IsProduct catalogue.now.lists product }
+{
+    is_named_as_sold(catalogue, product)
+        && variation_stands(catalogue, Some(product.item), product.variation)
+}
+
+// Whether it is so of the product of each cart position.
+fn carts_have_products<B: Book>(book: &B) -> bool
+    ensures { IsTrue result ↔ AllByRecursion (λ c. IsProduct (B.state book.now).lists.catalogue c.product) (B.state book.now).lists.carts }
+{
+    let catalogue = book.catalogue();
+    book.carts()
+        .iter()
+        .all(|row| is_product(catalogue, row.product))
+}
+
+// Whether it is so of the product of each order position.
+fn positions_have_products<B: Book>(book: &B) -> bool
+    ensures { IsTrue result ↔ AllByRecursion (λ p. IsProduct (B.state book.now).lists.catalogue p.product) (B.state book.now).lists.positions }
+{
+    let catalogue = book.catalogue();
+    book.positions()
+        .iter()
+        .all(|row| is_product(catalogue, row.product))
+}
+
+// Whether it is so of the product of each waiting entry.
+fn entries_have_products<B: Book>(book: &B) -> bool
+    ensures { IsTrue result ↔ AllByRecursion (λ w. IsProduct (B.state book.now).lists.catalogue w.product) (B.state book.now).lists.waiting }
+{
+    let catalogue = book.catalogue();
+    book.waiting()
+        .iter()
+        .all(|row| is_product(catalogue, row.product))
+}
+
+/// Whether the product of each cart position, order position and waiting entry is one: its item stands, and it names a
+/// variation, of that item, exactly where the item is sold by variation.
+pub fn all_products<B: Book>(book: &B) -> bool
+    ensures { IsTrue result ↔ AllProducts (B.state book.now).lists }
+{
+    carts_have_products(book) && positions_have_products(book) && entries_have_products(book)
+}
+
+// Whether the voucher that is named stands.
+fn voucher_stands<B: Book>(book: &B, voucher: Option<u64>) -> bool
+    ensures { result ≡ voucher_stands (B.state book.now).lists.vouchers voucher }
+{
+    match voucher {
+        None => true,
+        Some(id) => book.voucher(id).is_some(),
+    }
+}
+
+/// Whether the voucher that a waiting entry names stands.
+pub fn all_sent<B: Book>(book: &B) -> bool
+    ensures { IsTrue result ↔ AllSent (B.state book.now).lists }
+{
+    book.waiting()
+        .iter()
+        .all(|row| voucher_stands(book, row.voucher))
+}
+
+// Whether a row names no voucher, or one that stands and is for the row's product.
+fn is_fit<B: Book>(book: &B, product: Product, voucher: Option<u64>) -> bool
+    ensures { result ≡ is_fit (B.state book.now).lists product voucher }
+{
+    let Some(id) = voucher else {
+        return true;
+    };
+    match book.voucher(id) {
+        None => false,
+        Some(row) => row.fits(book.catalogue(), product),
+    }
+}
+
+/// Whether each cart position and each order position names no voucher, or one that stands and is for its product.
+pub fn all_fit<B: Book>(book: &B) -> bool
+    ensures { IsTrue result ↔ AllFit (B.state book.now).lists }
+{
+    book.carts()
+        .iter()
+        .all(|row| is_fit(book, row.product, row.voucher))
+        && book
+            .positions()
+            .iter()
+            .all(|row| is_fit(book, row.product, row.voucher))
+}

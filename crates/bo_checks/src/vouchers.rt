@@ -1,0 +1,92 @@
+//! The tests of what vouchers name.
+
+ghost use Rattle.std.specs.Prelude.{◌≡◌, ◌↔◌, IsTrue};
+ghost use Rattle.bo_sound.specs.Targets.{item_stands, quota_stands, has_one_target, HasTarget, AllHaveTargets};
+ghost use Rattle.bo_sound.specs.Varied.{is_plain, is_whole, AllWhole};
+
+use crate::products::variation_stands;
+use bo_catalogue::Catalogue;
+use bo_lists::Voucher;
+use bo_usage::Book;
+
+// Whether the item that is named stands.
+fn item_stands(catalogue: &Catalogue, item: Option<u64>) -> bool
+    ensures { result ≡ item_stands catalogue.now.lists item }
+{
+    match item {
+        None => true,
+        Some(id) => catalogue.item(id).is_some(),
+    }
+}
+
+// Whether the quota that is named stands.
+fn quota_stands(catalogue: &Catalogue, quota: Option<u64>) -> bool
+    ensures { result ≡ quota_stands catalogue.now.lists quota }
+{
+    match quota {
+        None => true,
+        Some(id) => catalogue.quota(id).is_some(),
+    }
+}
+
+// Whether it doesn't name an item and a quota both, nor a variation without its item.
+fn has_one_target(row: &Voucher) -> bool
+    ensures { result ≡ has_one_target row.now }
+{
+    !(row.item.is_some() && row.quota.is_some()) && (row.item.is_some() || row.variation.is_none())
+}
+
+// Whether what it names stands, and is one thing.
+fn has_target(catalogue: &Catalogue, row: &Voucher) -> bool
+    ensures { IsTrue result ↔ HasTarget catalogue.now.lists row.now }
+{
+    item_stands(catalogue, row.item)
+        && variation_stands(catalogue, row.item, row.variation)
+        && quota_stands(catalogue, row.quota)
+        && has_one_target(row)
+}
+
+/// Whether what each voucher names stands, and is one thing: a quota, an item, or an item and a variation of it.
+pub fn all_have_targets<B: Book>(book: &B) -> bool
+    ensures { IsTrue result ↔ AllHaveTargets (B.state book.now).lists }
+{
+    let catalogue = book.catalogue();
+    let vouchers = book.vouchers();
+    for row in vouchers {
+        if !has_target(catalogue, row) {
+            return false;
+        }
+    }
+    true
+}
+
+// Whether the item that is named stands, and isn't sold by variation.
+fn is_plain(catalogue: &Catalogue, item: Option<u64>) -> bool
+    ensures { result ≡ is_plain catalogue.now.lists.items item }
+{
+    let Some(id) = item else {
+        return false;
+    };
+    match catalogue.item(id) {
+        None => false,
+        Some(item) => !item.varied,
+    }
+}
+
+// Whether a voucher that blocks names a quota, or a variation, or an item that isn't sold by variation.
+fn is_whole(catalogue: &Catalogue, row: &Voucher) -> bool
+    ensures { result ≡ is_whole catalogue.now.lists.items row.now }
+{
+    !row.block_quota
+        || row.quota.is_some()
+        || row.variation.is_some()
+        || is_plain(catalogue, row.item)
+}
+
+/// Whether each voucher that blocks names a quota, or a variation, or an item that isn't sold by variation.
+pub fn all_whole<B: Book>(book: &B) -> bool
+    ensures { IsTrue result ↔ AllWhole (B.state book.now).lists }
+{
+    let catalogue = book.catalogue();
+    book.vouchers().iter().all(|row| is_whole(catalogue, row))
+}

@@ -1,0 +1,56 @@
+//! Walks over rows that a key has found.
+
+ghost use Rattle.std.specs.Prelude.{◌≡◌, ◌<◌, ◌+◌, ℕ, length, slice_index_or};
+ghost use Rattle.std.specs.Option.{option_copied};
+ghost use Rattle.bo_base.specs.Tables.{row_at};
+
+use crate::indexed::Indexed;
+use crate::keyed::Keyed;
+use bo_base::Steps;
+use bo_index::Found;
+use std::marker::Model;
+use std::sync::ledger::Ledger;
+
+/// Rows of some ids, shown one at a time: each that is looked at is a step. Contracts see all rows of the table, and
+/// these ids.
+#[derive(Drop)]
+pub struct Walk<'a, T: Keyed> {
+    rows: &'a Indexed<T>,
+    ids: Found<'a>,
+}
+
+impl<'a, T: Keyed> Model for Walk<'a, T> {
+    ghost use Rattle.bo_indexed.specs.Indexes.{Walked};
+
+    ghost Value = { Walked T };
+
+    ghost view = { λ w. record { rows = w.rows.now.rows; ids = w.ids } };
+}
+
+impl<'a, T: Keyed> Walk<'a, T> {
+    /// A walk over the rows of these ids.
+    pub fn over(rows: &'a Indexed<T>, ids: Found<'a>) -> Self
+        ensures rows { result.rows ≡ rows.now.rows }
+        ensures ids { result.ids ≡ ids.entry }
+    {
+        Walk { rows, ids }
+    }
+
+    /// How many rows it shows.
+    pub fn len(&self) -> usize
+        ensures { result ≡ length self.now.ids }
+    {
+        self.ids.len()
+    }
+
+    /// The row at a place. It takes a step.
+    pub fn at<L: Ledger>(&self, place: usize, steps: &mut Steps<L>) -> Option<&'a T>
+        requires { place < length self.now.ids }
+        ensures row { (d : ℕ) → option_copied result ≡ row_at T.key (slice_index_or self.now.ids place d) self.now.rows }
+        ensures cost { steps.new ≡ steps.old + 1 }
+    {
+        steps.tick();
+        let rows = self.rows;
+        rows.get(self.ids.at(place))
+    }
+}

@@ -1,0 +1,3 @@
+pub mod PutLemmas
+pub mod ReadLemmas
+pub mod RiseLemmas

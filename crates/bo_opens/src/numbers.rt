@@ -1,0 +1,79 @@
+//! The numbers of rows, as they were read.
+
+ghost use Rattle.std.specs.Prelude.{◌≡◌, ℕ, map, IsTrue, IfSome};
+ghost use Rattle.bo_base.specs.Tables.{AreInOrder};
+ghost use Rattle.bo_stand.specs.Free.{AreBelow};
+
+use bo_base::Row;
+use bo_columns::{KeptRow, ListItem, QuotaItem, QuotaVariation};
+
+/// A row that has a number, and no id of its own.
+pub trait Numbered {
+    ghost number: { Self → ℕ };
+
+    fn number(&self) -> u64
+        ensures { result ≡ number self.now };
+}
+
+impl Numbered for QuotaItem {
+    ghost number = { λ r. r.rowid };
+
+    fn number(&self) -> u64 {
+        self.rowid
+    }
+}
+
+impl Numbered for QuotaVariation {
+    ghost number = { λ r. r.rowid };
+
+    fn number(&self) -> u64 {
+        self.rowid
+    }
+}
+
+impl Numbered for ListItem {
+    ghost number = { λ r. r.rowid };
+
+    fn number(&self) -> u64 {
+        self.rowid
+    }
+}
+
+impl Numbered for KeptRow {
+    ghost number = { λ r. r.rowid };
+
+    fn number(&self) -> u64 {
+        self.rowid
+    }
+}
+
+/// Whether each id is below the next one.
+pub(crate) fn rise<T: Row>(rows: &[T]) -> bool
+    ensures { IsTrue result → AreInOrder T.key rows.now }
+{
+    let mut from: u64 = 0;
+    for row in rows {
+        let id = row.id();
+        if id < from || id == u64::MAX {
+            return false;
+        }
+        from = id + 1;
+    }
+    true
+}
+
+/// The number that follows on the last one, where the numbers rise.
+#[tactic(auto, using(crate::proofs::RiseLemmas::rise_below))]
+pub(crate) fn next_number<T: Numbered>(rows: &[T]) -> Option<u64>
+    ensures { IfSome result (λ next. AreBelow next (map T.number rows.now)) }
+{
+    let mut from: u64 = 0;
+    for row in rows {
+        let number = row.number();
+        if number < from || number == u64::MAX {
+            return None;
+        }
+        from = number + 1;
+    }
+    Some(from)
+}

@@ -1,0 +1,60 @@
+//! A table of the file, all of whose rows can be read.
+
+ghost use Rattle.std.specs.Prelude.{◌≡◌, ℕ, List, true, false, map, IfOk, OnOk, IsPermutation, IsTrue};
+ghost use Rattle.sqlite_value.specs.Order.{Row as Shown};
+ghost use Rattle.sqlite_trees.specs.Tree.{Trees};
+ghost use Rattle.sqlite.specs.Held.{state};
+ghost use Rattle.sqlite.specs.State.{HasCleanDisk, Survives, KeepsCommit};
+ghost use Rattle.bo_schema.specs.Tables.{schema};
+ghost use Rattle.bo_schema.specs.Parts.{shown};
+ghost use Rattle.bo_columns.specs.Tables.{Tables, Holds};
+ghost use Rattle.bo_opens.specs.Rests.{ShowsTables, Rests};
+
+use bo_schema::RowError;
+use sqlite::{Alter, Connection, Transaction};
+use std::alloc::Global;
+
+/// A row of a table of the file.
+pub trait Table: Drop {
+    // the row as a SELECT of all columns shows it
+    ghost as_row: { Self → Shown };
+
+    // the number of the table's tree, and the rows of the table among all tables
+    ghost tree: { ℕ };
+
+    ghost among: { Tables → List Self };
+
+    // trees that hold the tables show these rows there
+    ghost shows: { (db : Trees) (t : Tables) → Holds db t → IsPermutation (map as_row (among t)) (map (shown schema tree) (db tree)) };
+
+    // no two rows are shown alike
+    ghost from_row: { Shown → Self };
+
+    ghost is_back: { (row : Self) → from_row (as_row row) ≡ row };
+
+    /// All rows of the table, by their numbers. Nothing changes.
+    /// Refusals: 6, 60 where the file has no such table with these columns, 62, 63.
+    fn load<S: Alter>(alloc: Global, tx: &mut Transaction<'_, S>) -> Result<Vec<Self>, RowError>
+        ensures same { tx.new.conn.ghost_name ≡ tx.old.conn.ghost_name }
+        ensures loaded { HasCleanDisk (state S.Store tx.new.conn.now) → (state S.Store tx.old.conn.now).now.schema ≡ schema → IfOk result (λ all. IsPermutation (map as_row all.items) (map (shown schema tree) ((state S.Store tx.old.conn.now).now.trees tree))) }
+        ensures still { HasCleanDisk (state S.Store tx.new.conn.now) → (state S.Store tx.old.conn.now).now.schema ≡ schema → OnOk result ((state S.Store tx.new.conn.now).now ≡ (state S.Store tx.old.conn.now).now) }
+        ensures kept { HasCleanDisk (state S.Store tx.new.conn.now) → (state S.Store tx.old.conn.now).in_transaction ≡ true → KeepsCommit (state S.Store tx.old.conn.now) (state S.Store tx.new.conn.now) }
+        ensures crash { Survives (state S.Store tx.old.conn.now) (state S.Store tx.new.conn.now) (λ _. ⊥) };
+}
+
+/// The rows of a table, by their numbers. The connection stays as it is. Refusals: 6, 60, 62, 63.
+pub(crate) fn rows_in<S: Alter, T: Table>(
+    alloc: Global,
+    conn: &mut Connection<S>,
+) -> Result<Vec<T>, RowError>
+    requires { conn.old.in_transaction ≡ false }
+    ensures loaded { HasCleanDisk (state S.Store conn.new) → IsTrue (state S.Store conn.new).is_open → (t : Tables) → ShowsTables t (state S.Store conn.old) → IfOk result (λ all. IsPermutation (T.among t) all.items) }
+    ensures rests { Rests (state S.Store conn.old) (state S.Store conn.new) }
+    ensures mode { conn.new.in_transaction ≡ false }
+    ensures crash { Survives (state S.Store conn.old) (state S.Store conn.new) (λ _. ⊥) }
+{
+    let mut tx = conn.transaction();
+    let read = T::load(alloc, &mut tx);
+    tx.rollback();
+    read
+}

@@ -1,0 +1,359 @@
+//! Each table of the file.
+
+ghost use Rattle.bo_columns.specs.Rows.{shop_row, item_row, variation_row, quota_row, quota_item_row, quota_variation_row, voucher_row, cart_row, order_row, position_row, waiting_row, list_row, list_item_row, checkin_row, count_row, token_row, kept_row};
+ghost use Rattle.bo_loads.proofs.Back.{shop_in, shop_back, item_in, item_back, variation_in, variation_back, quota_in, quota_back, quota_item_in, quota_item_back, quota_variation_in, quota_variation_back, voucher_in, voucher_back, cart_in, cart_back, order_in, order_back, position_in, position_back, waiting_in, waiting_back, list_in, list_back, list_item_in, list_item_back, checkin_in, checkin_back, count_in, count_back, token_in, token_back, kept_in, kept_back};
+
+use crate::table::Table;
+use bo_catalogue::{Item, Variation};
+use bo_columns::{
+    KeptRow, ListItem, ListRow, QuotaItem, QuotaRow, QuotaVariation, Shop, Token, VoucherRow,
+};
+use bo_lists::{CartPos, Checkin, Order, OrderPos, QuotaCount, Waiting};
+use bo_schema::RowError;
+use sqlite::{Alter, Transaction};
+use std::alloc::Global;
+
+impl Table for Shop {
+    ghost as_row = { shop_row };
+
+    ghost tree = { 0 };
+
+    ghost among = { λ t. t.shop };
+
+    ghost shows = { λ db t held. held.0 };
+
+    ghost from_row = { shop_in };
+
+    ghost is_back = { shop_back };
+
+    fn load<S: Alter>(alloc: Global, tx: &mut Transaction<'_, S>) -> Result<Vec<Shop>, RowError> {
+        bo_loads::shop::load(alloc, tx)
+    }
+}
+
+impl Table for Item {
+    ghost as_row = { item_row };
+
+    ghost tree = { 1 };
+
+    ghost among = { λ t. t.items };
+
+    ghost shows = { λ db t held. held.1.0 };
+
+    ghost from_row = { item_in };
+
+    ghost is_back = { item_back };
+
+    fn load<S: Alter>(alloc: Global, tx: &mut Transaction<'_, S>) -> Result<Vec<Item>, RowError> {
+        bo_loads::items::load(alloc, tx)
+    }
+}
+
+impl Table for Variation {
+    ghost as_row = { variation_row };
+
+    ghost tree = { 2 };
+
+    ghost among = { λ t. t.variations };
+
+    ghost shows = { λ db t held. held.1.1.0 };
+
+    ghost from_row = { variation_in };
+
+    ghost is_back = { variation_back };
+
+    fn load<S: Alter>(
+        alloc: Global,
+        tx: &mut Transaction<'_, S>,
+    ) -> Result<Vec<Variation>, RowError> {
+        bo_loads::variations::load(alloc, tx)
+    }
+}
+
+impl Table for QuotaRow {
+    ghost as_row = { quota_row };
+
+    ghost tree = { 3 };
+
+    ghost among = { λ t. t.quotas };
+
+    ghost shows = { λ db t held. held.1.1.1.0 };
+
+    ghost from_row = { quota_in };
+
+    ghost is_back = { quota_back };
+
+    fn load<S: Alter>(
+        alloc: Global,
+        tx: &mut Transaction<'_, S>,
+    ) -> Result<Vec<QuotaRow>, RowError> {
+        bo_loads::quotas::load(alloc, tx)
+    }
+}
+
+impl Table for QuotaItem {
+    ghost as_row = { quota_item_row };
+
+    ghost tree = { 4 };
+
+    ghost among = { λ t. t.quota_items };
+
+    ghost shows = { λ db t held. held.1.1.1.1.0 };
+
+    ghost from_row = { quota_item_in };
+
+    ghost is_back = { quota_item_back };
+
+    fn load<S: Alter>(
+        alloc: Global,
+        tx: &mut Transaction<'_, S>,
+    ) -> Result<Vec<QuotaItem>, RowError> {
+        bo_loads::quota_items::load(alloc, tx)
+    }
+}
+
+impl Table for QuotaVariation {
+    ghost as_row = { quota_variation_row };
+
+    ghost tree = { 6 };
+
+    ghost among = { λ t. t.quota_variations };
+
+    ghost shows = { λ db t held. held.1.1.1.1.1.0 };
+
+    ghost from_row = { quota_variation_in };
+
+    ghost is_back = { quota_variation_back };
+
+    fn load<S: Alter>(
+        alloc: Global,
+        tx: &mut Transaction<'_, S>,
+    ) -> Result<Vec<QuotaVariation>, RowError> {
+        bo_loads::quota_variations::load(alloc, tx)
+    }
+}
+
+impl Table for VoucherRow {
+    ghost as_row = { voucher_row };
+
+    ghost tree = { 8 };
+
+    ghost among = { λ t. t.vouchers };
+
+    ghost shows = { λ db t held. held.1.1.1.1.1.1.0 };
+
+    ghost from_row = { voucher_in };
+
+    ghost is_back = { voucher_back };
+
+    fn load<S: Alter>(
+        alloc: Global,
+        tx: &mut Transaction<'_, S>,
+    ) -> Result<Vec<VoucherRow>, RowError> {
+        bo_loads::vouchers::load(alloc, tx)
+    }
+}
+
+impl Table for CartPos {
+    ghost as_row = { cart_row };
+
+    ghost tree = { 10 };
+
+    ghost among = { λ t. t.carts };
+
+    ghost shows = { λ db t held. held.1.1.1.1.1.1.1.0 };
+
+    ghost from_row = { cart_in };
+
+    ghost is_back = { cart_back };
+
+    fn load<S: Alter>(
+        alloc: Global,
+        tx: &mut Transaction<'_, S>,
+    ) -> Result<Vec<CartPos>, RowError> {
+        bo_loads::carts::load(alloc, tx)
+    }
+}
+
+impl Table for Order {
+    ghost as_row = { order_row };
+
+    ghost tree = { 11 };
+
+    ghost among = { λ t. t.orders };
+
+    ghost shows = { λ db t held. held.1.1.1.1.1.1.1.1.0 };
+
+    ghost from_row = { order_in };
+
+    ghost is_back = { order_back };
+
+    fn load<S: Alter>(alloc: Global, tx: &mut Transaction<'_, S>) -> Result<Vec<Order>, RowError> {
+        bo_loads::orders::load(alloc, tx)
+    }
+}
+
+impl Table for OrderPos {
+    ghost as_row = { position_row };
+
+    ghost tree = { 12 };
+
+    ghost among = { λ t. t.positions };
+
+    ghost shows = { λ db t held. held.1.1.1.1.1.1.1.1.1.0 };
+
+    ghost from_row = { position_in };
+
+    ghost is_back = { position_back };
+
+    fn load<S: Alter>(
+        alloc: Global,
+        tx: &mut Transaction<'_, S>,
+    ) -> Result<Vec<OrderPos>, RowError> {
+        bo_loads::positions::load(alloc, tx)
+    }
+}
+
+impl Table for Waiting {
+    ghost as_row = { waiting_row };
+
+    ghost tree = { 15 };
+
+    ghost among = { λ t. t.waiting };
+
+    ghost shows = { λ db t held. held.1.1.1.1.1.1.1.1.1.1.0 };
+
+    ghost from_row = { waiting_in };
+
+    ghost is_back = { waiting_back };
+
+    fn load<S: Alter>(
+        alloc: Global,
+        tx: &mut Transaction<'_, S>,
+    ) -> Result<Vec<Waiting>, RowError> {
+        bo_loads::waiting::load(alloc, tx)
+    }
+}
+
+impl Table for ListRow {
+    ghost as_row = { list_row };
+
+    ghost tree = { 16 };
+
+    ghost among = { λ t. t.checkin_lists };
+
+    ghost shows = { λ db t held. held.1.1.1.1.1.1.1.1.1.1.1.0 };
+
+    ghost from_row = { list_in };
+
+    ghost is_back = { list_back };
+
+    fn load<S: Alter>(
+        alloc: Global,
+        tx: &mut Transaction<'_, S>,
+    ) -> Result<Vec<ListRow>, RowError> {
+        bo_loads::checkin_lists::load(alloc, tx)
+    }
+}
+
+impl Table for ListItem {
+    ghost as_row = { list_item_row };
+
+    ghost tree = { 17 };
+
+    ghost among = { λ t. t.list_items };
+
+    ghost shows = { λ db t held. held.1.1.1.1.1.1.1.1.1.1.1.1.0 };
+
+    ghost from_row = { list_item_in };
+
+    ghost is_back = { list_item_back };
+
+    fn load<S: Alter>(
+        alloc: Global,
+        tx: &mut Transaction<'_, S>,
+    ) -> Result<Vec<ListItem>, RowError> {
+        bo_loads::list_items::load(alloc, tx)
+    }
+}
+
+impl Table for Checkin {
+    ghost as_row = { checkin_row };
+
+    ghost tree = { 19 };
+
+    ghost among = { λ t. t.checkins };
+
+    ghost shows = { λ db t held. held.1.1.1.1.1.1.1.1.1.1.1.1.1.0 };
+
+    ghost from_row = { checkin_in };
+
+    ghost is_back = { checkin_back };
+
+    fn load<S: Alter>(
+        alloc: Global,
+        tx: &mut Transaction<'_, S>,
+    ) -> Result<Vec<Checkin>, RowError> {
+        bo_loads::checkins::load(alloc, tx)
+    }
+}
+
+impl Table for QuotaCount {
+    ghost as_row = { count_row };
+
+    ghost tree = { 21 };
+
+    ghost among = { λ t. t.counts };
+
+    ghost shows = { λ db t held. held.1.1.1.1.1.1.1.1.1.1.1.1.1.1.0 };
+
+    ghost from_row = { count_in };
+
+    ghost is_back = { count_back };
+
+    fn load<S: Alter>(
+        alloc: Global,
+        tx: &mut Transaction<'_, S>,
+    ) -> Result<Vec<QuotaCount>, RowError> {
+        bo_loads::counts::load(alloc, tx)
+    }
+}
+
+impl Table for Token {
+    ghost as_row = { token_row };
+
+    ghost tree = { 22 };
+
+    ghost among = { λ t. t.tokens };
+
+    ghost shows = { λ db t held. held.1.1.1.1.1.1.1.1.1.1.1.1.1.1.1.0 };
+
+    ghost from_row = { token_in };
+
+    ghost is_back = { token_back };
+
+    fn load<S: Alter>(alloc: Global, tx: &mut Transaction<'_, S>) -> Result<Vec<Token>, RowError> {
+        bo_loads::tokens::load(alloc, tx)
+    }
+}
+
+impl Table for KeptRow {
+    ghost as_row = { kept_row };
+
+    ghost tree = { 24 };
+
+    ghost among = { λ t. t.kept };
+
+    ghost shows = { λ db t held. held.1.1.1.1.1.1.1.1.1.1.1.1.1.1.1.1.0 };
+
+    ghost from_row = { kept_in };
+
+    ghost is_back = { kept_back };
+
+    fn load<S: Alter>(
+        alloc: Global,
+        tx: &mut Transaction<'_, S>,
+    ) -> Result<Vec<KeptRow>, RowError> {
+        bo_loads::kept::load(alloc, tx)
+    }
+}

@@ -1,0 +1,102 @@
+//! What a count at a later moment may look at.
+
+ghost use Rattle.std.specs.Prelude.{◌≡◌, ◌≤◌, IfOk, IfErr, length};
+ghost use Rattle.bo_base.specs.Tables.{IsPlace, IsGap};
+ghost use Rattle.bo_lists.specs.CameDue.{is_due_cart, is_due_voucher};
+ghost use Rattle.bo_lists.specs.Conditions.{names};
+ghost use Rattle.bo_lists.specs.Kept.{IsKept};
+ghost use Rattle.bo_lists.specs.Usage.{cart_counts};
+ghost use Rattle.bo_indexed.specs.Indexes.{Finds};
+
+use crate::store::Store;
+use bo_base::{Moment, place_of};
+use bo_catalogue::Quota;
+use bo_indexed::Walk;
+use bo_lists::{CartPos, Voucher};
+use std::marker::Model;
+
+/// What ended in a store since the moment of its last changes, and what names that, by walks whose steps are counted.
+/// No other row is shown, and no table as a whole.
+#[derive(Drop)]
+pub struct Ended<'s> {
+    store: &'s Store,
+}
+
+impl<'s> Model for Ended<'s> {
+    ghost use Rattle.bo_usage.specs.BookView.{BookView};
+
+    ghost Value = { BookView };
+
+    ghost view = { λ e. e.store.now };
+}
+
+impl<'s> Ended<'s> {
+    /// What ended in this store.
+    pub fn of(store: &'s Store) -> Self
+        ensures { result ≡ store.now }
+    {
+        Ended { store }
+    }
+
+    /// Ids rise in each list of sales and of the door, and none of these lists is longer than 2^32.
+    pub fn known(&self)
+        ensures { IsKept 4294967296 self.now.state.lists }
+    {
+        self.store.known();
+    }
+
+    /// The moment of the last changes.
+    pub fn moment(&self) -> Moment
+        ensures { result ≡ self.now.state.moment }
+    {
+        self.store.moment()
+    }
+
+    /// The cart positions that ended since then, and before a moment.
+    pub fn carts(&self, to: Moment) -> Walk<'s, CartPos>
+        requires { self.now.state.moment ≤ to }
+        ensures rows { result.rows ≡ self.now.state.lists.carts }
+        ensures finds { Finds (λ r. r.id) (is_due_cart self.now.state.moment to) self.now.state.lists.carts result.ids }
+        ensures few { length result.ids ≤ 4294967296 }
+    {
+        let store = self.store;
+        Walk::over(store.carts(), store.carts_due(store.moment(), to))
+    }
+
+    /// The vouchers that ended since then, and before a moment.
+    pub fn vouchers(&self, to: Moment) -> Walk<'s, Voucher>
+        requires { self.now.state.moment ≤ to }
+        ensures rows { result.rows ≡ self.now.state.lists.vouchers }
+        ensures finds { Finds (λ r. r.id) (is_due_voucher self.now.state.moment to) self.now.state.lists.vouchers result.ids }
+        ensures few { length result.ids ≤ 4294967296 }
+    {
+        let store = self.store;
+        Walk::over(store.vouchers(), store.vouchers_due(store.moment(), to))
+    }
+
+    /// The cart positions that name a voucher, dead ones too.
+    pub fn naming(&self, voucher: u64) -> Walk<'s, CartPos>
+        ensures rows { result.rows ≡ self.now.state.lists.carts }
+        ensures finds { Finds (λ r. r.id) (λ c. names voucher c.voucher) self.now.state.lists.carts result.ids }
+        ensures few { length result.ids ≤ 4294967296 }
+    {
+        let store = self.store;
+        Walk::over(store.carts(), store.carts_naming(voucher))
+    }
+
+    /// Whether a cart position counts in the quota at a moment.
+    pub fn counts(&self, at: Moment, quota: &Quota, cart: &CartPos) -> bool
+        ensures { result ≡ cart_counts self.now.state.lists at quota.now cart.now }
+    {
+        self.store.cart_counts(at, quota, cart)
+    }
+
+    /// Where the voucher of an id stands among all by id, or where it would.
+    pub fn place(&self, voucher: u64) -> Result<usize, usize>
+        ensures found { IfOk result (IsPlace (λ v. v.id) self.now.state.lists.vouchers voucher) }
+        ensures absent { IfErr result (IsGap (λ v. v.id) self.now.state.lists.vouchers voucher) }
+    {
+        self.store.known();
+        place_of(self.store.vouchers().as_slice(), voucher)
+    }
+}

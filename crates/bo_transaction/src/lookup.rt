@@ -1,0 +1,44 @@
+//! What is looked up.
+
+ghost use Rattle.std.specs.Prelude.{◌≡◌, true, false, List, IfOk};
+ghost use Rattle.sqlite.specs.Effect.{Database};
+ghost use Rattle.sqlite.specs.Held.{state};
+ghost use Rattle.sqlite.specs.State.{HasCleanDisk, Survives, KeepsCommit};
+ghost use Rattle.bo_transaction.specs.Whole.{IsStill};
+
+use bo_schema::RowError;
+use sqlite::{Alter, Connection, Transaction};
+use std::alloc::Global;
+
+/// What is looked up: rows of one kind.
+pub trait Lookup<T> {
+    // what is to be found in a database
+    ghost finds: { Self → Database → List T → Type 0 };
+
+    /// Finds it, inside a transaction.
+    fn look<S: Alter>(&self, alloc: Global, tx: &mut Transaction<'_, S>) -> Result<Vec<T>, RowError>
+        ensures same { tx.new.conn.ghost_name ≡ tx.old.conn.ghost_name }
+        ensures found { HasCleanDisk (state S.Store tx.new.conn.now) → IfOk result (λ all. finds self.now (state S.Store tx.old.conn.now).now all.items) }
+        ensures kept { HasCleanDisk (state S.Store tx.new.conn.now) → (state S.Store tx.old.conn.now).in_transaction ≡ true → KeepsCommit (state S.Store tx.old.conn.now) (state S.Store tx.new.conn.now) }
+        ensures crash { Survives (state S.Store tx.old.conn.now) (state S.Store tx.new.conn.now) (λ _. ⊥) };
+}
+
+/// Finds it in a transaction of its own, which leaves all as it was. Refusals: those of the look-up, and 63 where a
+/// transaction is open already.
+pub fn look_up<S: Alter, T: Drop, L: Lookup<T>>(
+    alloc: Global,
+    connection: &mut Connection<S>,
+    what: &L,
+) -> Result<Vec<T>, RowError>
+    ensures found { HasCleanDisk (state S.Store connection.new) → IfOk result (λ all. L.finds what.now (state S.Store connection.old).now all.items) }
+    ensures still { HasCleanDisk (state S.Store connection.new) → IsStill (state S.Store connection.old) (state S.Store connection.new) }
+    ensures crash { Survives (state S.Store connection.old) (state S.Store connection.new) (λ _. ⊥) }
+{
+    if !connection.is_autocommit() {
+        return Err(RowError::Store);
+    }
+    let mut tx = connection.transaction();
+    let rows = what.look(alloc, &mut tx);
+    tx.rollback();
+    rows
+}

@@ -1,0 +1,86 @@
+//! Changes that a file takes.
+
+ghost use Rattle.std.specs.Prelude.{◌≡◌, ◌∷◌, true, false, IsTrue, IfSome, IfNone, List};
+ghost use Rattle.std.specs.List.{AllByRecursion};
+ghost use Rattle.bo_base.specs.Tables.{AreInOrder};
+ghost use Rattle.bo_lists.specs.declared.changes.Change.{Change as Made};
+ghost use Rattle.bo_stand.specs.Lawful.{puts_come_first};
+ghost use Rattle.bo_stand.specs.Stands.{IsRising};
+
+use bo_lists::Change;
+
+// Whether ids rise, each above the one before it.
+fn rises(ids: &[u64]) -> bool
+    ensures yes { IsTrue result → AreInOrder (λ n. n) ids.now }
+    ensures no { result ≡ false → ¬ AreInOrder (λ n. n) ids.now }
+{
+    let mut last: Option<u64> = None;
+    'ids: for id in ids {
+        if let Some(before) = last {
+            if *id <= before {
+                return false;
+            }
+        }
+        last = Some(*id);
+    }
+    true
+}
+
+// Whether the members of a quota, or the items of a check-in list, rise.
+fn is_rising(change: &Change) -> bool
+    ensures yes { IsTrue result → IsRising change.now }
+    ensures no { result ≡ false → ¬ IsRising change.now }
+{
+    match change {
+        Change::PutQuota(row) => rises(row.items.as_slice()) && rises(row.variations.as_slice()),
+        Change::PutCheckinList(row) => rises(row.limit_products.as_slice()),
+        _ => true,
+    }
+}
+
+fn are_rising(changes: &[Change]) -> bool
+    ensures yes { IsTrue result → AllByRecursion IsRising changes.now }
+    ensures no { result ≡ false → ¬ AllByRecursion IsRising changes.now }
+{
+    'changes: for change in changes {
+        if !is_rising(change) {
+            return false;
+        }
+    }
+    true
+}
+
+// Whether a voucher was dropped up to and with this change; none where it puts a voucher after that.
+fn dropped_after(change: &Change, dropped: bool) -> Option<bool>
+    ensures goes_on { IfSome result (λ now. (others : List Made) → puts_come_first dropped (change.now ∷ others) ≡ puts_come_first now others) }
+    ensures stops { IfNone result ((others : List Made) → puts_come_first dropped (change.now ∷ others) ≡ false) }
+{
+    match change {
+        Change::PutVoucher(_) if dropped => None,
+        Change::DropVoucher(_) => Some(true),
+        _ => Some(dropped),
+    }
+}
+
+fn are_puts_first(changes: &[Change]) -> bool
+    ensures { result ≡ puts_come_first false changes.now }
+{
+    let mut dropped = false;
+    'changes: for change in changes {
+        match dropped_after(change, dropped) {
+            Some(now) => dropped = now,
+            None => return false,
+        }
+    }
+    true
+}
+
+/// Whether a file takes these changes: no voucher is put after one was dropped, and the members of each quota and the items of
+/// each check-in list rise.
+pub fn takes(changes: &[Change]) -> bool
+    ensures rising { IsTrue result → AllByRecursion IsRising changes.now }
+    ensures first { IsTrue result → puts_come_first false changes.now ≡ true }
+    ensures refused { result ≡ false → AllByRecursion IsRising changes.now → puts_come_first false changes.now ≡ false }
+{
+    are_rising(changes) && are_puts_first(changes)
+}
