@@ -1,8 +1,8 @@
 //! A commit's writes, all of them.
 
-ghost use Rattle.std.specs.Prelude.{◌≡◌, ◌+◌, OnOk, IfOk, IsTrue};
+ghost use Rattle.std.specs.Prelude.{◌≡◌, ◌+◌, IfOk};
 ghost use Rattle.sqlite.specs.Held.{state};
-ghost use Rattle.sqlite.specs.State.{HasCleanDisk, Survives, KeepsCommit, IsUnchanged};
+ghost use Rattle.sqlite.specs.State.{HasCleanDisk, Survives, KeepsCommit};
 ghost use Rattle.bo_kept.specs.ShopView.{listed};
 ghost use Rattle.bo_columns.specs.Changes.{IsInside, ChangesFit};
 ghost use Rattle.bo_stand.specs.Free.{IsFree};
@@ -18,19 +18,6 @@ use bo_lists::{Change, CountRows};
 use bo_schema::RowError;
 use sqlite::{Alter, Transaction};
 
-// Tests that the connection is open, which no other call tells: a text that means something is compiled.
-fn test_open<S: Alter>(tx: &mut Transaction<'_, S>) -> Result<(), RowError>
-    ensures same { tx.new.conn.ghost_name ≡ tx.old.conn.ghost_name }
-    ensures open { HasCleanDisk (state S.Store tx.new.conn.now) → OnOk result (IsUnchanged (state S.Store tx.old.conn.now) (state S.Store tx.new.conn.now)) }
-    ensures kept { HasCleanDisk (state S.Store tx.new.conn.now) → KeepsCommit (state S.Store tx.old.conn.now) (state S.Store tx.new.conn.now) }
-    ensures crash { Survives (state S.Store tx.old.conn.now) (state S.Store tx.new.conn.now) (λ _. ⊥) }
-{
-    match tx.prepare("SELECT 1") {
-        Ok(_) => Ok(()),
-        Err(error) => Err(RowError::of(error)),
-    }
-}
-
 /// Writes all that a commit writes, inside a transaction: the shop's row, the changes, the counts that they change, and at a
 /// moment the answer to keep; the answers that are past then go. Rows without an id of their own are numbered on from a
 /// number that is free. Gives the number that is free afterwards. Refusals: 6, 60 where the file has no such table, 63.
@@ -44,13 +31,11 @@ pub fn write_all<S: Alter>(
     at: Moment,
 ) -> Result<u64, RowError>
     ensures same { tx.new.conn.ghost_name ≡ tx.old.conn.ghost_name }
-    ensures open { HasCleanDisk (state S.Store tx.new.conn.now) → OnOk result (IsTrue (state S.Store tx.old.conn.now).is_open) }
     ensures written { HasCleanDisk (state S.Store tx.new.conn.now) → IsInside (state S.Store tx.old.conn.now)
         → IfOk result (λ free. (free ≡ next_after changes.now from + 1) × ChangesFit (IsFree from) (done shop.now changes.now counts.now from (listed kept.entry) at) (state S.Store tx.old.conn.now) (state S.Store tx.new.conn.now)) }
     ensures kept { HasCleanDisk (state S.Store tx.new.conn.now) → KeepsCommit (state S.Store tx.old.conn.now) (state S.Store tx.new.conn.now) }
     ensures crash { Survives (state S.Store tx.old.conn.now) (state S.Store tx.new.conn.now) (λ _. ⊥) }
 {
-    test_open(tx)?;
     bo_rows::put(tx, shop)?;
     let number = write_each(tx, changes, from)?;
     write_counts(tx, counts, number)?;
