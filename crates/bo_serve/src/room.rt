@@ -1,6 +1,6 @@
 //! The room of a connection.
 
-ghost use Rattle.std.specs.Prelude.{◌≡◌, IfOk, length};
+ghost use Rattle.std.specs.Prelude.{◌≡◌, [], IfOk, length};
 
 use bo_http::frames::Frames;
 use std::alloc::{AllocError, Global};
@@ -25,8 +25,10 @@ fn blank(alloc: Global, size: usize) -> Result<Vec<u8>, AllocError>
 }
 
 impl Room {
-    /// Room for the connections that come.
-    pub fn new(alloc: Global) -> Result<Room, AllocError> {
+    /// Room for the connections that come. Nothing has come yet.
+    pub fn new(alloc: Global) -> Result<Room, AllocError>
+        ensures { IfOk result (λ room. room.frames.left ≡ []) }
+    {
         let frames = Frames::new(alloc)?;
         let piece = blank(alloc, PIECE)?;
         Ok(Room { frames, piece })

@@ -27,7 +27,7 @@ fn number(ended: Ended) -> u8 {
 }
 
 /// Runs each line over the requests, and prints its status, its fault, and what it writes. Help is printed before its line.
-pub fn show_lines(rt: &HostRuntime, requests: &[u8]) -> anyhow::Result<()> {
+pub(crate) fn show_lines(rt: &HostRuntime, requests: &[u8]) -> anyhow::Result<()> {
     for line in LINES.as_slice() {
         let words = words(rt.alloc(), line)?;
         let reader = FailingReader::new(requests, usize::MAX);

@@ -19,7 +19,7 @@ pub struct Tried {
 }
 
 /// The words of a line, with a space between two.
-pub fn words(alloc: Global, line: &str) -> Result<Vec<String>, AllocError> {
+pub(crate) fn words(alloc: Global, line: &str) -> Result<Vec<String>, AllocError> {
     let mut all = Vec::new(alloc);
     for word in line.split(' ') {
         all.push(String::from_str(alloc, word)?)?;
@@ -54,7 +54,7 @@ fn run_line_with<A: Ledger, B: Ledger, C: Ledger, D: Ledger, R: Read + Drop>(
 }
 
 /// Runs a command line from the reader to a writer that fails at its call number `writes + 1`.
-pub fn run_line<R: Read + Drop>(
+pub(crate) fn run_line<R: Read + Drop>(
     rt: &HostRuntime,
     words: &[String],
     input: R,

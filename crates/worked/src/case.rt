@@ -60,7 +60,7 @@ fn run<A: Ledger, B: Ledger, C: Ledger, D: Ledger, E: Ledger>(
 }
 
 /// How a case ends, and in the lines below what is written, where at most so many bytes come at a time.
-pub fn answered(alloc: Global, case: &[u8], most: usize) -> anyhow::Result<Vec<u8>> {
+pub(crate) fn answered(alloc: Global, case: &[u8], most: usize) -> anyhow::Result<Vec<u8>> {
     let Some(end) = case.iter().position(|b| *b == b'\n') else {
         return Ok(Vec::new(alloc));
     };
