@@ -1,11 +1,12 @@
 //! Kept answers and tokens in memory.
 
-ghost use Rattle.std.specs.Prelude.{◌≡◌, ◌++◌, ℕ, [], List, Option, IfOk, OnOk, OnErr, IsPermutation, ⊤, find, filter, option_map};
+ghost use Rattle.std.specs.Prelude.{◌≡◌, ℕ, [], List, Option, IfOk, OnOk, OnErr, IsPermutation, ⊤, option_map};
 ghost use Rattle.std.proofs.lemmas.List.Sorted.{IsPermutation-trans};
-ghost use Rattle.bo_kept.specs.KeptAnswers.{is_for, told_by};
+ghost use Rattle.bo_kept.specs.KeptAnswers.{told_by};
 ghost use Rattle.bo_kept.specs.ShopView.{listed, with_kept};
-ghost use Rattle.bo_memory.specs.Memory.{lasting, number_of};
+ghost use Rattle.bo_memory.specs.Memory.{number_of};
 
+use crate::answers::Answers;
 use crate::token::{Token, number_of};
 use bo_base::{Moment, Response};
 use bo_kept::{Kept, Tables, TablesError, copy_response};
@@ -17,7 +18,7 @@ use std::marker::Model;
 #[derive(Drop)]
 pub struct MemoryTables {
     alloc: Global,
-    kept: Vec<Kept>,
+    kept: Answers,
     tokens: Vec<Token>,
 }
 
@@ -26,20 +27,20 @@ impl Model for MemoryTables {
 
     ghost Value = { MemoryView };
 
-    ghost view = { λ t. record { kept = t.kept.items; tokens = t.tokens.items } };
+    ghost view = { λ t. record { kept = t.kept; tokens = t.tokens.items } };
 }
 
 impl MemoryTables {
     /// Tables that keep nothing yet, and know these tokens.
-    pub fn new(alloc: Global, tokens: Vec<Token>) -> Self
-        ensures kept { result.kept ≡ [] }
-        ensures tokens { result.tokens ≡ tokens.items }
+    pub fn new(alloc: Global, tokens: Vec<Token>) -> Result<Self, AllocError>
+        ensures kept { IfOk result (λ tables. tables.kept ≡ []) }
+        ensures tokens { IfOk result (λ tables. tables.tokens ≡ tokens.items) }
     {
-        MemoryTables {
+        Ok(MemoryTables {
             alloc,
-            kept: Vec::new(alloc),
+            kept: Answers::new(alloc)?,
             tokens,
-        }
+        })
     }
 
     // What was told under this key of this token that is still kept at a moment.
@@ -52,7 +53,7 @@ impl MemoryTables {
     ) -> Result<Option<Response>, AllocError>
         ensures { IfOk result (λ told. told ≡ told_by token key.now at self.now.kept) }
     {
-        match find_for(self.kept.as_slice(), token, key, at) {
+        match self.kept.find(token, key, at) {
             None => Ok(None),
             Some(kept) => Ok(Some(copy_response(alloc, &kept.response)?)),
         }
@@ -64,52 +65,8 @@ impl MemoryTables {
         ensures tokens { self.new.tokens ≡ self.old.tokens }
         ensures same { OnErr result (self.new ≡ self.old) }
     {
-        self.kept = kept_after(self.alloc, self.kept.as_slice(), at, more)?;
-        Ok(())
+        self.kept.keep(self.alloc, at, more)
     }
-}
-
-// The answer under this key of this token that is still kept at a moment.
-fn find_for<'a>(kept: &'a [Kept], token: u64, key: &[u8], at: Moment) -> Option<&'a Kept>
-    ensures { option_map (λ k. k.now) result ≡ find (is_for token key.now at) kept.now }
-{
-    for k in kept {
-        if k.is_for(token, key, at) {
-            return Some(k);
-        }
-    }
-    None
-}
-
-// Copies of what isn't past.
-fn lasting_copies(alloc: Global, kept: &[Kept], at: Moment) -> Result<Vec<Kept>, AllocError>
-    ensures { IfOk result (λ copies. copies.items ≡ filter (lasting at) kept.now) }
-{
-    let mut copies = Vec::new(alloc);
-    for k in kept {
-        if k.lasts(at) {
-            copies.push(k.copy(alloc)?)?;
-        }
-    }
-    Ok(copies)
-}
-
-// The same, with one more row, if there is one and it isn't past.
-fn kept_after(
-    alloc: Global,
-    kept: &[Kept],
-    at: Moment,
-    more: Option<&Kept>,
-) -> Result<Vec<Kept>, AllocError>
-    ensures { IfOk result (λ all. all.items ≡ with_kept at kept.now (listed more.entry)) }
-{
-    let mut all = lasting_copies(alloc, kept, at)?;
-    if let Some(k) = more {
-        if k.lasts(at) {
-            all.push(k.copy(alloc)?)?;
-        }
-    }
-    Ok(all)
 }
 
 impl Tables for MemoryTables {

@@ -1,0 +1,9 @@
+//! A book is filled with the rows of a file.
+#![tactic(auto)]
+
+mod book;
+mod filled;
+mod put;
+mod tables;
+
+pub use filled::{Aside, fill};
