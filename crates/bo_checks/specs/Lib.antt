@@ -1,1 +1,4 @@
 pub mod Room
+pub mod Counted
+pub mod Firsts
+pub mod Last

@@ -1,20 +1,32 @@
 //! The rules of a file, tested: the least one that its rows break.
 #![tactic(auto)]
 
+mod codes;
+mod counters;
+mod door;
 mod first;
 mod head;
 mod headroom;
 mod ids;
+mod last;
 mod limits;
+mod members;
+mod names;
 mod orders;
 mod products;
 mod vouchers;
 
+pub use codes::{are_of_orders, have_codes};
+pub use counters::keeps_counters;
+pub use door::is_door;
 pub use first::first_broken;
 pub use head::keeps_head;
 pub use headroom::keeps_headroom;
 pub use ids::keeps_ids;
+pub use last::last_broken;
 pub use limits::keeps_limits;
+pub use members::all_have_members;
+pub use names::keeps_names;
 pub use orders::{all_ordered, keeps_positions};
 pub use products::{all_fit, all_products, all_sent, all_varied};
 pub use vouchers::{all_have_targets, all_whole};

@@ -1,6 +1,6 @@
 //! Kept answers.
 
-ghost use Rattle.std.specs.Prelude.{◌≡◌, ℕ, List, IfOk, IsPermutation, filter};
+ghost use Rattle.std.specs.Prelude.{◌≡◌, ℕ, List, IfOk, OnOk, IsTrue, IsPermutation, filter};
 ghost use Rattle.sqlite.specs.Held.{state};
 ghost use Rattle.sqlite.specs.State.{HasCleanDisk, Survives};
 ghost use Rattle.bo_schema.specs.Tables.{schema};
@@ -48,6 +48,7 @@ pub fn find_answer<S: Alter>(
     at: Moment,
 ) -> Result<Option<Response>, RowError>
     ensures found { HasCleanDisk (state S.Store connection.new) → (ks : List Kept) → KeepsAnswers (state S.Store connection.old).now ks → IfOk result (λ told. told ≡ told_by token key.now at ks) }
+    ensures open { HasCleanDisk (state S.Store connection.new) → OnOk result (IsTrue (state S.Store connection.old).is_open) }
     ensures still { HasCleanDisk (state S.Store connection.new) → IsStill (state S.Store connection.old) (state S.Store connection.new) }
     ensures crash { Survives (state S.Store connection.old) (state S.Store connection.new) (λ _. ⊥) }
 {

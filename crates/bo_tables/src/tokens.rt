@@ -1,6 +1,6 @@
 //! Tokens.
 
-ghost use Rattle.std.specs.Prelude.{◌≡◌, ℕ, List, Option, IfOk, IsPermutation, filter};
+ghost use Rattle.std.specs.Prelude.{◌≡◌, ℕ, List, Option, IfOk, OnOk, IsTrue, IsPermutation, filter};
 ghost use Rattle.sqlite.specs.Held.{state};
 ghost use Rattle.sqlite.specs.State.{HasCleanDisk, Survives};
 ghost use Rattle.bo_schema.specs.Tables.{schema};
@@ -42,6 +42,7 @@ pub fn find_number<S: Alter>(
     digest: &[u8; 32],
 ) -> Result<Option<u64>, RowError>
     ensures found { HasCleanDisk (state S.Store connection.new) → (tokens : List ℕ → Option ℕ) → KnowsTokens (state S.Store connection.old).now tokens → IfOk result (λ number. number ≡ tokens digest.now) }
+    ensures open { HasCleanDisk (state S.Store connection.new) → OnOk result (IsTrue (state S.Store connection.old).is_open) }
     ensures still { HasCleanDisk (state S.Store connection.new) → IsStill (state S.Store connection.old) (state S.Store connection.new) }
     ensures crash { Survives (state S.Store connection.old) (state S.Store connection.new) (λ _. ⊥) }
 {

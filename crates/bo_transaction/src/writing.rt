@@ -28,7 +28,7 @@ pub trait Writing<T> {
 }
 
 // Whether the connection is open, which its other calls don't tell.
-fn test_open<S: Alter>(tx: &mut Transaction<'_, S>) -> Result<(), RowError>
+pub(crate) fn test_open<S: Alter>(tx: &mut Transaction<'_, S>) -> Result<(), RowError>
     ensures same { tx.new.conn.ghost_name ≡ tx.old.conn.ghost_name }
     ensures open { HasCleanDisk (state S.Store tx.new.conn.now) → OnOk result (IsUnchanged (state S.Store tx.old.conn.now) (state S.Store tx.new.conn.now)) }
     ensures kept { HasCleanDisk (state S.Store tx.new.conn.now) → KeepsCommit (state S.Store tx.old.conn.now) (state S.Store tx.new.conn.now) }

@@ -1,5 +1,4 @@
 use Rattle.std.proofs.Common.{◌↔◌, drop}
-use Rattle.std.specs.List.{AllByRecursion}
 use Rattle.bo_sound.specs.Positions.{AllHavePositions}
 use Rattle.bo_checks.proofs.orders.keeps_positions.Given as goal
 

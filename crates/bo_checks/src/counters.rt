@@ -1,0 +1,107 @@
+//! The test of the counters.
+
+ghost use Rattle.std.specs.Prelude.{◌≡◌, ◌↔◌, ◌<◌, IsTrue, Some};
+ghost use Rattle.std.specs.Bool.{Decides};
+ghost use Rattle.bo_catalogue.specs.CatalogueLists.{quota_at};
+ghost use Rattle.bo_lists.specs.CountRows.{quota_count, voucher_count, quota_counts, voucher_counts};
+ghost use Rattle.bo_lists.specs.Usage.{usage_of};
+ghost use Rattle.bo_checks.specs.Counted.{AreCounted};
+
+use bo_base::Steps;
+use bo_catalogue::Quota;
+use bo_lists::{QuotaCount, Usage, Voucher, VoucherCount};
+use bo_usage::Book;
+use std::marker::Brand;
+use std::sync::ledger::{Blank, Ledger};
+
+// What uses a quota of the book at its moment, in a ledger of steps that nobody reads.
+fn usage_in<B: Book, L: Ledger>(book: &B, quota: &Quota, blank: Blank) -> Usage
+    requires name { blank.name ≡ L.name }
+    requires parts { blank.parts ≡ L.parts }
+    requires some { 0 < blank.parts }
+    requires stands { quota_at quota.now.id (B.state book.now).lists.catalogue ≡ Some quota.now }
+    ensures { result ≡ usage_of (B.state book.now).lists (B.state book.now).moment quota.now }
+{
+    let mut steps = Steps::<L>::new(blank);
+    book.usage_at(quota, book.moment(), &mut steps)
+}
+
+// The count of a quota of the book.
+fn quota_count<B: Book>(book: &B, quota: &Quota) -> QuotaCount
+    requires stands { quota_at quota.now.id (B.state book.now).lists.catalogue ≡ Some quota.now }
+    ensures { result ≡ quota_count (B.state book.now) quota.now }
+{
+    QuotaCount {
+        quota: quota.id,
+        usage: usage_in::<B, Brand>(book, quota, Blank::new(1)),
+    }
+}
+
+// The count of a voucher of the book.
+fn voucher_count<B: Book>(book: &B, voucher: &Voucher) -> VoucherCount
+    ensures { result ≡ voucher_count (B.state book.now) voucher.now }
+{
+    VoucherCount {
+        voucher: voucher.id,
+        redeemed: book.redeemed(voucher.id),
+    }
+}
+
+// Whether this is the count of a quota of the book.
+fn is_quota_count<B: Book>(book: &B, quota: &Quota, count: QuotaCount) -> bool
+    requires stands { quota_at quota.now.id (B.state book.now).lists.catalogue ≡ Some quota.now }
+    ensures { Decides result (count ≡ quota_count (B.state book.now) quota.now) }
+{
+    count == quota_count(book, quota)
+}
+
+// Whether this is the count of a voucher of the book.
+fn is_voucher_count<B: Book>(book: &B, voucher: &Voucher, count: VoucherCount) -> bool
+    ensures { Decides result (count ≡ voucher_count (B.state book.now) voucher.now) }
+{
+    count == voucher_count(book, voucher)
+}
+
+// Whether the counts of quotas are those of the book's, in their order.
+fn are_used<B: Book>(book: &B, used: &[QuotaCount]) -> bool
+    ensures { IsTrue result ↔ (used.now ≡ quota_counts (B.state book.now)) }
+{
+    let catalogue = book.catalogue();
+    catalogue.known();
+    let quotas = catalogue.quotas();
+    let count = quotas.len();
+    if used.len() != count {
+        return false;
+    }
+    for at in 0..count {
+        if !is_quota_count(book, &quotas[at], used[at]) {
+            return false;
+        }
+    }
+    true
+}
+
+// Whether the counts of vouchers are those of the book's, in their order.
+fn are_redeemed<B: Book>(book: &B, redeemed: &[VoucherCount]) -> bool
+    ensures { IsTrue result ↔ (redeemed.now ≡ voucher_counts (B.state book.now)) }
+{
+    let vouchers = book.vouchers();
+    let count = vouchers.len();
+    if redeemed.len() != count {
+        return false;
+    }
+    for at in 0..count {
+        if !is_voucher_count(book, &vouchers[at], redeemed[at]) {
+            return false;
+        }
+    }
+    true
+}
+
+/// Whether counters are what a book counts afresh at its moment: of each quota its usage, of each voucher how often it is
+/// redeemed, by id.
+pub fn keeps_counters<B: Book>(book: &B, used: &[QuotaCount], redeemed: &[VoucherCount]) -> bool
+    ensures { IsTrue result ↔ AreCounted (B.state book.now) used.now redeemed.now }
+{
+    are_used(book, used) && are_redeemed(book, redeemed)
+}

@@ -1,0 +1,86 @@
+use Rattle.std.proofs.Common.{◌≡◌, false, true, rules, sym, subst}
+use Rattle.std.specs.List.{AllByRecursion}
+use Rattle.sqlite.specs.Held.{state}
+use Rattle.sqlite.specs.State.{Survives}
+use Rattle.bo_schema.specs.Tables.{schema}
+use Rattle.bo_lists.specs.declared.changes.Change.{Change}
+use Rattle.bo_columns.specs.declared.rows.Shop.{Shop}
+use Rattle.bo_transaction.specs.Whole.{IsWritten, MayBeWritten}
+use Rattle.bo_stand.specs.Lawful.{puts_come_first}
+use Rattle.bo_stand.specs.Stands.{IsRising}
+use Rattle.bo_tables.proofs.ShopLemmas.{written_holds, written_knows, leaves_or, leaves_written, still_knows}
+use Rattle.bo_tables.proofs.sql.SqlTablesTables.commit.Goals as goal
+
+pub returns-in-Ok-clause-all : goal.returns-in-Ok-clause-all
+returns-in-Ok-clause-all g c clean s ks holds right =
+    let old = state g.S.Store c.args.self.now.connection in
+    let new = state g.S.Store c.write_whole.new.connection in
+    let head = c.args.self.now.head in
+    let shop : Shop = record head { moment = c.args.at; next = c.next-self.result } in
+    let from = c.args.self.now.next_row in
+    let rises : AllByRecursion IsRising c.as_slice.result.now = search rules in
+    let comes : puts_come_first false c.as_slice.result.now ≡ true = search rules in
+    let rising = subst (AllByRecursion IsRising) c.as_slice.ensures rises in
+    let first = subst (λ l. puts_come_first false l ≡ true) c.as_slice.ensures comes in
+    let is = rw c.as_slice-2.ensures at (c.in-Ok.ensures.all clean (λ o. (holds o).known)) in
+    written_holds head shop c.args.changes.now c.args.counts.now from c.args.kept c.next-self.ensures rising first old new c.in-Ok.free is s ks holds right
+
+pub returns-in-Ok-clause-tokens : goal.returns-in-Ok-clause-tokens
+returns-in-Ok-clause-tokens g c clean tokens knows =
+    let old = state g.S.Store c.args.self.now.connection in
+    let new = state g.S.Store c.write_whole.new.connection in
+    let head = c.args.self.now.head in
+    let shop : Shop = record head { moment = c.args.at; next = c.next-self.result } in
+    let from = c.args.self.now.next_row in
+    let rises : AllByRecursion IsRising c.as_slice.result.now = search rules in
+    let comes : puts_come_first false c.as_slice.result.now ≡ true = search rules in
+    let rising = subst (AllByRecursion IsRising) c.as_slice.ensures rises in
+    let first = subst (λ l. puts_come_first false l ≡ true) c.as_slice.ensures comes in
+    let is = rw c.as_slice-2.ensures at (c.in-Ok.ensures.all clean (λ o. (knows o).told.known)) in
+    written_knows head shop c.args.changes.now c.args.counts.now from c.args.kept c.next-self.ensures rising first old new c.in-Ok.free is tokens knows
+
+pub returns-in-Ok-clause-crash : goal.returns-in-Ok-clause-crash
+returns-in-Ok-clause-crash g c =
+    let old = state g.S.Store c.args.self.now.connection in
+    let new = state g.S.Store c.write_whole.new.connection in
+    let head = c.args.self.now.head in
+    let shop : Shop = record head { moment = c.args.at; next = c.next-self.result } in
+    let from = c.args.self.now.next_row in
+    let rises : AllByRecursion IsRising c.as_slice.result.now = search rules in
+    let comes : puts_come_first false c.as_slice.result.now ≡ true = search rules in
+    let rising = subst (AllByRecursion IsRising) c.as_slice.ensures rises in
+    let first = subst (λ l. puts_come_first false l ≡ true) c.as_slice.ensures comes in
+    let is = rw c.as_slice-2.ensures at c.write_whole.ensures.crash in
+    leaves_or head shop c.args.changes.now c.args.counts.now from c.args.kept c.next-self.ensures rising first old new is
+
+pub returns-in-Ok-clause-settled : goal.returns-in-Ok-clause-settled
+returns-in-Ok-clause-settled g c clean left l s ks holds right =
+    let old = state g.S.Store c.args.self.now.connection in
+    let new = state g.S.Store c.write_whole.new.connection in
+    let head = c.args.self.now.head in
+    let shop : Shop = record head { moment = c.args.at; next = c.next-self.result } in
+    let from = c.args.self.now.next_row in
+    let rises : AllByRecursion IsRising c.as_slice.result.now = search rules in
+    let comes : puts_come_first false c.as_slice.result.now ≡ true = search rules in
+    let rising = subst (AllByRecursion IsRising) c.as_slice.ensures rises in
+    let first = subst (λ l. puts_come_first false l ≡ true) c.as_slice.ensures comes in
+    let is = rw c.as_slice-2.ensures at (c.in-Ok.ensures.all clean (λ o. (holds o).known)) in
+    leaves_written head shop c.args.changes.now c.args.counts.now from c.args.kept c.next-self.ensures rising first old new (λ db is_open may. g.met.S.Store.settled c.write_whole.new.connection.store db is_open may) c.in-Ok.free is left l s ks holds right
+
+pub returns-in-Err-clause-tokens : goal.returns-in-Err-clause-tokens
+returns-in-Err-clause-tokens g c clean tokens knows =
+    still_knows c.args.self.now.next_row (state g.S.Store c.args.self.now.connection) (state g.S.Store c.write_whole.new.connection) tokens (c.in-Err.ensures.none clean (λ o. (knows o).told.known)) knows
+
+pub returns-in-Err-clause-crash : goal.returns-in-Err-clause-crash
+returns-in-Err-clause-crash g c =
+    let old = state g.S.Store c.args.self.now.connection in
+    let new = state g.S.Store c.write_whole.new.connection in
+    let head = c.args.self.now.head in
+    let shop : Shop = record head { moment = c.args.at; next = c.next-self.result } in
+    let from = c.args.self.now.next_row in
+    let rises : AllByRecursion IsRising c.as_slice.result.now = search rules in
+    let comes : puts_come_first false c.as_slice.result.now ≡ true = search rules in
+    let rising = subst (AllByRecursion IsRising) c.as_slice.ensures rises in
+    let first = subst (λ l. puts_come_first false l ≡ true) c.as_slice.ensures comes in
+    let is = rw c.as_slice-2.ensures at c.write_whole.ensures.crash in
+    leaves_or head shop c.args.changes.now c.args.counts.now from c.args.kept c.next-self.ensures rising first old new is

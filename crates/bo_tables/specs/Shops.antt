@@ -1,0 +1,63 @@
+-- What the file of a shop holds of its office, and what a crash may leave of it.
+use Rattle.std.specs.Prelude.{◌≡◌, ℕ, false, List, Option, IsTrue, IsPermutation, map}
+use Rattle.std.proofs.lemmas.List.Sorted.{IsPermutation-trans}
+use Rattle.sqlite_trees.specs.Tree.{Trees}
+use Rattle.sqlite.specs.Effect.{Database}
+use Rattle.sqlite.specs.State.{State as Connected, HasCleanDisk}
+use Rattle.bo_schema.specs.Tables.{schema}
+use Rattle.bo_lists.specs.Lists.{State}
+use Rattle.bo_kept.specs.declared.kept.Kept.{Kept}
+use Rattle.bo_kept.specs.ShopView.{ShopView}
+use Rattle.bo_columns.specs.declared.rows.Shop.{Shop}
+use Rattle.bo_columns.specs.Tables.{Tables, Holds}
+use Rattle.bo_stand.specs.Free.{IsFree}
+use Rattle.bo_stand.specs.Stands.{Stand}
+use Rattle.bo_tables.specs.Held.{KnowsTokens}
+
+-- the connection shows what was committed, outside a transaction; it has a shop's tables, which hold this office and these
+-- answers, and this is the shop's row; and rows without an id of their own may be numbered from here on
+pub record Keeps (head : Shop) (next : ℕ) (c : Connected) (s : State) (answers : List Kept) : Type 0 where
+  pub known : c.now.schema ≡ schema
+  pub outside : c.in_transaction ≡ false
+  pub settled : c.now ≡ c.committed
+  pub tables : Tables
+  pub held : Holds c.now.trees tables
+  pub stand : Stand head tables s answers
+  pub free : IsFree next tables
+
+-- so it is while the connection is open
+abbrev pub HoldsWhileOpen : Shop → ℕ → Connected → State → List Kept → Type 0
+HoldsWhileOpen head next c s answers = IsTrue c.is_open → Keeps head next c s answers
+
+-- it knows these tokens, and rows may be numbered from here on
+pub record Knows (next : ℕ) (db : Database) (tokens : List ℕ → Option ℕ) : Type 0 where
+  pub told : KnowsTokens db tokens
+  pub free : IsFree next told.tables
+
+abbrev pub KnowsWhileOpen : ℕ → Connected → (List ℕ → Option ℕ) → Type 0
+KnowsWhileOpen next c tokens = IsTrue c.is_open → Knows next c.now tokens
+
+-- the disk has returned what was written, and a crash may leave trees that hold this
+pub record Leaves (c : Connected) (left : ShopView) : Type 0 where
+  pub clean : HasCleanDisk c
+  pub trees : Trees
+  pub may : c.may_leave trees
+  pub head : Shop
+  pub tables : Tables
+  pub held : Holds trees tables
+  pub stand : Stand head tables left.state left.kept
+
+-- the order of the answers doesn't matter
+pub reordered : (head : Shop) (next : ℕ) (c : Connected) (s : State) (ks js : List Kept) → HoldsWhileOpen head next c s ks → IsPermutation ks js → HoldsWhileOpen head next c s js
+reordered head next c s ks js held more is_open =
+    let it = held is_open in
+    let st = it.stand in
+    record {
+      known = it.known;
+      outside = it.outside;
+      settled = it.settled;
+      tables = it.tables;
+      held = it.held;
+      stand = record { shop_is = st.shop_is; moment = st.moment; next = st.next; rows = st.rows; ordered = st.ordered; used = st.used; redeemed = st.redeemed; kept = IsPermutation-trans _ ks js st.kept more };
+      free = it.free;
+    }

@@ -1,0 +1,127 @@
+//! The tables of a shop in an SQLite file.
+
+ghost use Rattle.std.specs.Prelude.{◌≡◌};
+ghost use Rattle.sqlite.specs.Held.{state};
+ghost use Rattle.sqlite.specs.State.{HasCleanDisk};
+ghost use Rattle.bo_tables.specs.Shops.{HoldsWhileOpen, KnowsWhileOpen, Leaves, reordered};
+
+use crate::answers::find_answer;
+use crate::committing::Commit;
+use crate::tokens::find_number;
+use bo_base::{Moment, Response};
+use bo_columns::Shop;
+use bo_kept::{Kept, Tables, TablesError};
+use bo_lists::{Changes, CountRows};
+use bo_schema::RowError;
+use bo_transaction::write_whole;
+use bo_writes::takes;
+use sqlite::{Alter, Connection};
+use std::alloc::Global;
+
+/// The tables of a shop in an SQLite file: the connection to it, the shop's row as it was last read or written, and the number
+/// from which rows without an id of their own are numbered on.
+#[derive(Drop)]
+pub struct SqlTables<S: Alter> {
+    pub alloc: Global,
+    pub connection: Connection<S>,
+    pub head: Shop,
+    pub next_row: u64,
+}
+
+impl<S: Alter> SqlTables<S> {
+    /// The tables of a connection to a shop's file, whose shop's row was read, and the number that its next row may have.
+    pub fn over(alloc: Global, connection: Connection<S>, head: Shop, next_row: u64) -> Self
+        ensures connection { result.connection ≡ connection }
+        ensures head { result.head ≡ head }
+        ensures next_row { result.next_row ≡ next_row }
+    {
+        SqlTables {
+            alloc,
+            connection,
+            head,
+            next_row,
+        }
+    }
+
+    /// The connection.
+    pub fn into_connection(self) -> Connection<S>
+        ensures { result ≡ self.connection }
+    {
+        self.connection
+    }
+}
+
+// Why the tables refuse.
+fn refused(error: RowError) -> TablesError {
+    match error {
+        RowError::Memory => TablesError::Memory,
+        RowError::Foreign | RowError::Damaged | RowError::Store => TablesError::Store,
+    }
+}
+
+impl<S: Alter> Tables for SqlTables<S> {
+    ghost sure = { λ t. HasCleanDisk (state S.Store t.connection) };
+
+    ghost holds = { λ t s ks. HoldsWhileOpen t.head t.next_row (state S.Store t.connection) s ks };
+
+    ghost knows = { λ t tokens. KnowsWhileOpen t.next_row (state S.Store t.connection) tokens };
+
+    ghost may_leave = { λ t left. Leaves (state S.Store t.connection) left };
+
+    ghost reorders = { λ t s ks js held more. reordered _ _ _ s ks js held more };
+
+    fn token_of(&mut self, digest: &[u8; 32]) -> Result<Option<u64>, TablesError> {
+        match find_number(self.alloc, &mut self.connection, digest) {
+            Ok(number) => Ok(number),
+            Err(error) => Err(refused(error)),
+        }
+    }
+
+    fn find_kept(
+        &mut self,
+        alloc: Global,
+        token: u64,
+        key: &[u8],
+        at: Moment,
+    ) -> Result<Option<Response>, TablesError> {
+        match find_answer(alloc, &mut self.connection, token, key, at) {
+            Ok(told) => Ok(told),
+            Err(error) => Err(refused(error)),
+        }
+    }
+
+    fn commit(
+        &mut self,
+        changes: &Changes,
+        counts: &CountRows,
+        at: Moment,
+        kept: Option<&Kept>,
+    ) -> Result<(), TablesError> {
+        if !takes(changes.as_slice()) {
+            return Err(TablesError::Store);
+        }
+        let moment = self.head.moment;
+        let next = self.head.next;
+        self.head.moment = at;
+        self.head.next = changes.next();
+        let what = Commit {
+            shop: &self.head,
+            changes: changes.as_slice(),
+            counts,
+            from: self.next_row,
+            kept,
+            at,
+        };
+        match write_whole(&mut self.connection, &what) {
+            Ok(free) => {
+                self.next_row = free;
+                Ok(())
+            }
+            Err(error) => {
+                self.head.moment = moment;
+                self.head.next = next;
+                Err(refused(error))
+            }
+        }
+    }
+}
