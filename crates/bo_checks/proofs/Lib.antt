@@ -1,3 +1,2 @@
 pub mod Offering
-pub mod Likes
 pub mod Recounts

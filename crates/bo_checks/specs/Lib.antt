@@ -1,4 +1,3 @@
 pub mod Room
 pub mod Counted
-pub mod Firsts
 pub mod Last

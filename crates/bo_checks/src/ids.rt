@@ -2,27 +2,12 @@
 
 ghost use Rattle.std.specs.Prelude.{◌↔◌, ◌≤◌, ◌<◌, IsTrue};
 ghost use Rattle.std.specs.List.{AllByRecursion};
-ghost use Rattle.bo_base.specs.Tables.{AreInOrder};
 ghost use Rattle.bo_sound.specs.Ids.{AreNumbered, AllNumbered};
 ghost use Rattle.bo_rules.specs.Told.{lists_of};
 
+use bo_alike::rising::rises;
 use bo_base::Row;
 use bo_rules::FileRows;
-
-/// Whether each id is below the next.
-pub(crate) fn rises<T: Row>(rows: &[T]) -> bool
-    ensures { IsTrue result ↔ AreInOrder T.key rows.now }
-{
-    let mut least: u128 = 0;
-    for row in rows {
-        let id = u128::from(row.id());
-        if id < least {
-            return false;
-        }
-        least = id + 1;
-    }
-    true
-}
 
 /// Whether each id is at least 1.
 pub(crate) fn are_from_one<T: Row>(rows: &[T]) -> bool

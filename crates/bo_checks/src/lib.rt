@@ -1,7 +1,6 @@
 //! The rules of a file, tested: the least one that its rows break.
 #![tactic(auto)]
 
-mod codes;
 mod counters;
 mod door;
 mod first;
@@ -16,7 +15,6 @@ mod orders;
 mod products;
 mod vouchers;
 
-pub use codes::{are_of_orders, have_codes};
 pub use counters::keeps_counters;
 pub use door::is_door;
 pub use first::first_broken;
@@ -27,6 +25,6 @@ pub use last::last_broken;
 pub use limits::keeps_limits;
 pub use members::all_have_members;
 pub use names::keeps_names;
-pub use orders::{all_ordered, keeps_positions};
+pub use orders::{all_ordered, are_of_orders, keeps_positions};
 pub use products::{all_fit, all_products, all_sent, all_varied};
 pub use vouchers::{all_have_targets, all_whole};

@@ -2,12 +2,11 @@
 
 ghost use Rattle.std.specs.Prelude.{◌≡◌, ◌↔◌, IsTrue, IfOk};
 ghost use Rattle.std.specs.List.{list_all};
-ghost use Rattle.bo_base.specs.Tables.{AreInOrder};
 ghost use Rattle.bo_catalogue.specs.CatalogueLists.{item_at, variation_at};
 ghost use Rattle.bo_catalogue.specs.QuotaAdded.{items_stand, variations_stand, variations_fit, items_fit, is_of_one, item_of, items_of, is_offered};
 ghost use Rattle.bo_sound.specs.Members.{HasMembers, AllHaveMembers};
 
-use crate::ids::rises;
+use bo_alike::rising::are_rising;
 use bo_base::Ids;
 use bo_catalogue::{Catalogue, Quota};
 use bo_usage::Book;
@@ -105,13 +104,6 @@ fn items_fit(alloc: Global, catalogue: &Catalogue, quota: &Quota) -> Result<bool
     let items = items_of(alloc, catalogue, quota.variations.as_slice())?;
     let offered = Ids::sorted(items);
     Ok(are_offered(catalogue, quota.items.as_slice(), &offered))
-}
-
-/// Whether these ids rise.
-pub(crate) fn are_rising(ids: &Ids) -> bool
-    ensures { IsTrue result ↔ AreInOrder (λ n. n) ids.now }
-{
-    rises(ids.as_slice())
 }
 
 // Whether the items and the variations of a quota rise, stand and fit together.

@@ -7,11 +7,12 @@ ghost use Rattle.bo_sound.specs.Targets.{AllHaveTargets};
 ghost use Rattle.bo_sound.specs.Varied.{AllVaried, AllProducts, AllWhole};
 ghost use Rattle.bo_rules.specs.Rules.{NamesWell};
 
-use crate::codes::{are_of_orders, have_codes};
 use crate::door::is_door;
 use crate::members::all_have_members;
+use crate::orders::are_of_orders;
 use crate::products::{all_fit, all_products, all_sent, all_varied};
 use crate::vouchers::{all_have_targets, all_whole};
+use bo_alike::have_codes;
 use bo_usage::Book;
 use std::alloc::{AllocError, Global};
 

@@ -2,8 +2,9 @@
 
 ghost use Rattle.std.specs.Prelude.{◌≡◌, ◌↔◌, ◌≤◌, ◌+◌, IsTrue, IfOk, length};
 ghost use Rattle.bo_lists.specs.Ordered.{AllOrdered};
-ghost use Rattle.bo_sound.specs.Positions.{CountFrom, AreWhole, AllHavePositions, of_order, most_positions};
+ghost use Rattle.bo_sound.specs.Positions.{CountFrom, AreWhole, AllHavePositions, AreOfOrders, of_order};
 
+use bo_alike::all_have_own_secrets;
 use bo_lists::{Order, OrderPos};
 use bo_usage::Book;
 use std::alloc::{AllocError, Global};
@@ -62,4 +63,12 @@ pub fn all_ordered<B: Book>(book: &B) -> bool
     book.positions()
         .iter()
         .all(|row| book.order(row.order).is_some())
+}
+
+/// Whether the order of each order position stands, and its secret ends in the order's number and its own there.
+pub fn are_of_orders<B: Book>(alloc: Global, book: &B) -> Result<bool, AllocError>
+    ensures { IfOk result (λ kept. IsTrue kept ↔ AreOfOrders (B.state book.now).lists.orders (B.state book.now).lists.positions) }
+{
+    let own = all_have_own_secrets(alloc, book.positions())?;
+    Ok(all_ordered(book) && own)
 }

@@ -1,12 +1,15 @@
 -- What is read of a connection that stays as it is.
-use Rattle.std.proofs.Common.{◌≡◌, List, [], ◌∷◌, map, IsTrue, Result, Ok, Err, IfOk, ap, subst, sym, ◌∙◌, refl}
+use Rattle.std.proofs.Common.{◌≡◌, List, [], ◌∷◌, map, IsTrue, Result, Ok, Err, IfOk, IfErr, Option, Some, None, IfSome, subst, sym, ◌∙◌, refl}
 use Rattle.std.specs.List.Sorted.{IsPermutation}
-use Rattle.std.proofs.lemmas.List.Sorted.{IsPermutation-map, IsPermutation-sym, IsPermutation-trans}
+use Rattle.std.proofs.lemmas.List.Sorted.{IsPermutation-map, IsPermutation-refl, IsPermutation-sym, IsPermutation-trans}
 use Rattle.sqlite_value.specs.Order.{Row}
-use Rattle.sqlite.specs.Effect.{Database}
-use Rattle.sqlite.specs.State.{State, HasCleanDisk, KeepsCommit, IsRolledBack}
+use Rattle.sqlite.specs.State.{State, IsRolledBack}
+use Rattle.sqlite.proofs.Callers.{one_permutation}
+use Rattle.bo_columns.specs.declared.rows.Shop.{Shop}
+use Rattle.bo_columns.specs.Rows.{shop_row}
 use Rattle.bo_columns.specs.Tables.{Tables}
-use Rattle.bo_opens.specs.Rests.{IsAt, ShowsTables, StaysOpen, Rests}
+use Rattle.bo_loads.proofs.Back.{shop_in, shop_back}
+use Rattle.bo_opens.specs.Rests.{ShowsTables, StaysOpen}
 
 -- one table was read in a transaction, which was rolled back
 pub rolled : (old mid new : State) → IsTrue mid.is_open → mid.committed ≡ old.committed → IsRolledBack mid new → IsTrue new.is_open → IsTrue old.is_open → StaysOpen old new
@@ -34,3 +37,31 @@ alike row back same xs ys rows h k =
 pub if_ok : {T E : Type 0} (r : Result T E) (P Q : T → Type 0) → IfOk r P → ((x : T) → P x → Q x) → IfOk r Q
 if_ok (Ok x) P Q h k = k x h
 if_ok (Err e) P Q h k = tt
+
+pub if_err : {T E : Type 0} (r : Result T E) (P Q : E → Type 0) → IfErr r P → ((e : E) → P e → Q e) → IfErr r Q
+if_err (Ok x) P Q h k = tt
+if_err (Err e) P Q h k = k e h
+
+pub if_some : {T : Type 0} (o : Option T) (P Q : T → Type 0) → IfSome o P → ((x : T) → P x → Q x) → IfSome o Q
+if_some (Some x) P Q h k = k x h
+if_some None P Q h k = tt
+
+pub both_ok : {T E : Type 0} (r : Result T E) (P Q R : T → Type 0) → IfOk r P → IfOk r Q → ((x : T) → P x → Q x → R x) → IfOk r R
+both_ok (Ok x) P Q R h i k = k x h i
+both_ok (Err e) P Q R h i k = tt
+
+pub was_ok : {T E : Type 0} (r : Result T E) (x : T) (P : T → Type 0) → r ≡ Ok x → IfOk r P → P x
+was_ok r x P is h = subst (λ s. IfOk s P) is h
+
+pub same_ok : {T E : Type 0} (r : Result T E) (x : T) (P : T → Type 0) → IfOk r (λ y. y ≡ x) → P x → IfOk r P
+same_ok (Ok y) x P is h = subst P (sym is) h
+same_ok (Err e) x P is h = tt
+
+-- the shop's row that was shown is the one that the table holds
+pub one_shop : (shops : List Shop) (shop : Shop) (rows : List Row) → IsPermutation (map shop_row shops) rows → rows ≡ shop_row shop ∷ [] → shops ≡ shop ∷ []
+one_shop shops shop rows h is =
+    let shown : IsPermutation (map shop_row (shop ∷ [])) rows = subst (IsPermutation (shop_row shop ∷ [])) (sym is) (IsPermutation-refl (shop_row shop ∷ [])) in
+    one_permutation shop shops (IsPermutation-sym _ _ (alike shop_row shop_in shop_back shops (shop ∷ []) rows h shown))
+
+pub one_shown : (shops : List Shop) (shop : Shop) (rows : List Row) → IsPermutation (map shop_row shops) rows → shops ≡ shop ∷ [] → rows ≡ shop_row shop ∷ []
+one_shown shops shop rows h is = one_permutation (shop_row shop) rows (subst (λ l. IsPermutation (map shop_row l) rows) is h)

@@ -1,10 +1,15 @@
-//! A file is read back: its tables, the office that they tell, and its book.
+//! A file is read: all rows of its tables.
 #![tactic(auto)]
 
-pub mod book;
 pub mod error;
+pub mod file;
+pub mod head;
 pub mod numbers;
+pub mod read;
 pub mod table;
 pub mod tables;
+pub mod whole;
 
 pub use error::OpenError;
+pub use file::{FileTables, read_file};
+pub use read::{CatalogueRows, DoorRows, OtherRows, SaleRows, TableRows, read_tables};

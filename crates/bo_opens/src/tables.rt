@@ -1,8 +1,14 @@
 //! Each table of the file.
 
+ghost use Rattle.std.specs.Prelude.{map, IsPermutation};
+ghost use Rattle.std.proofs.Common.{refl, subst, sym};
+ghost use Rattle.std.proofs.lemmas.List.{map-id};
+ghost use Rattle.bo_schema.specs.Tables.{schema};
+ghost use Rattle.bo_schema.specs.Parts.{shown};
 ghost use Rattle.bo_columns.specs.Rows.{shop_row, item_row, variation_row, quota_row, quota_item_row, quota_variation_row, voucher_row, cart_row, order_row, position_row, waiting_row, list_row, list_item_row, checkin_row, count_row, token_row, kept_row};
 ghost use Rattle.bo_loads.proofs.Back.{shop_in, shop_back, item_in, item_back, variation_in, variation_back, quota_in, quota_back, quota_item_in, quota_item_back, quota_variation_in, quota_variation_back, voucher_in, voucher_back, cart_in, cart_back, order_in, order_back, position_in, position_back, waiting_in, waiting_back, list_in, list_back, list_item_in, list_item_back, checkin_in, checkin_back, count_in, count_back, token_in, token_back, kept_in, kept_back};
 
+use crate::head::load_shown;
 use crate::table::Table;
 use bo_catalogue::{Item, Variation};
 use bo_columns::{
@@ -10,8 +16,27 @@ use bo_columns::{
 };
 use bo_lists::{CartPos, Checkin, Order, OrderPos, QuotaCount, Waiting};
 use bo_schema::RowError;
-use sqlite::{Alter, Transaction};
+use sqlite::{Alter, Row, Transaction};
 use std::alloc::Global;
+
+/// The shop's own row as it is shown, before its version and its values are known.
+impl Table for Row {
+    ghost as_row = { λ r. r };
+
+    ghost tree = { 0 };
+
+    ghost among = { λ t. map shop_row t.shop };
+
+    ghost shows = { λ db t held. subst (λ l. IsPermutation l (map (shown schema 0) (db 0))) (sym (map-id (map shop_row t.shop))) held.0 };
+
+    ghost from_row = { λ r. r };
+
+    ghost is_back = { λ r. refl };
+
+    fn load<S: Alter>(_: Global, tx: &mut Transaction<'_, S>) -> Result<Vec<Row>, RowError> {
+        load_shown(tx)
+    }
+}
 
 impl Table for Shop {
     ghost as_row = { shop_row };

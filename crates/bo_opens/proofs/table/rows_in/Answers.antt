@@ -1,6 +1,4 @@
 use Rattle.std.proofs.Common.{◌≡◌, map, ap, ◌∙◌, sym, subst, arith, rules}
-use Rattle.std.specs.Prelude.{Vec, IfOk}
-use Rattle.std.specs.declared.alloc.Global.{Global}
 use Rattle.std.specs.List.Sorted.{IsPermutation}
 use Rattle.sqlite.specs.Effect.{Database}
 use Rattle.sqlite.specs.Held.{state}

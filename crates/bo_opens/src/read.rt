@@ -1,0 +1,148 @@
+//! All that the tables of a file hold, as it is read.
+
+ghost use Rattle.std.specs.Prelude.{◌≡◌, false, IfOk, IsTrue};
+ghost use Rattle.sqlite.specs.Held.{state};
+ghost use Rattle.sqlite.specs.State.{HasCleanDisk, Survives};
+ghost use Rattle.bo_columns.specs.Tables.{Tables};
+ghost use Rattle.bo_opens.specs.Rests.{ShowsTables, Rests};
+ghost use Rattle.bo_opens.specs.Read.{AreCatalogueRows, AreSaleRows, AreDoorRows, AreOtherRows, AreTableRows};
+
+use crate::whole::Whole;
+use bo_catalogue::{Item, Variation};
+use bo_columns::{
+    KeptRow, ListItem, ListRow, QuotaItem, QuotaRow, QuotaVariation, Token, VoucherRow,
+};
+use bo_lists::{CartPos, Checkin, Order, OrderPos, QuotaCount, Waiting};
+use bo_schema::RowError;
+use sqlite::{Alter, Connection};
+use std::alloc::Global;
+
+/// What is for sale, and the quotas.
+#[derive(Drop)]
+pub struct CatalogueRows {
+    pub items: Vec<Item>,
+    pub variations: Vec<Variation>,
+    pub quotas: Vec<QuotaRow>,
+    pub quota_items: Vec<QuotaItem>,
+    pub quota_variations: Vec<QuotaVariation>,
+}
+
+/// What is sold, held and waited for.
+#[derive(Drop)]
+pub struct SaleRows {
+    pub vouchers: Vec<VoucherRow>,
+    pub carts: Vec<CartPos>,
+    pub orders: Vec<Order>,
+    pub positions: Vec<OrderPos>,
+    pub waiting: Vec<Waiting>,
+}
+
+/// What the doors have.
+#[derive(Drop)]
+pub struct DoorRows {
+    pub checkin_lists: Vec<ListRow>,
+    pub list_items: Vec<ListItem>,
+    pub checkins: Vec<Checkin>,
+}
+
+/// What stands beside the office.
+#[derive(Drop)]
+pub struct OtherRows {
+    pub counts: Vec<QuotaCount>,
+    pub tokens: Vec<Token>,
+    pub kept: Vec<KeptRow>,
+}
+
+/// All rows of all tables but the shop's own.
+#[derive(Drop)]
+pub struct TableRows {
+    pub catalogue: CatalogueRows,
+    pub sales: SaleRows,
+    pub doors: DoorRows,
+    pub others: OtherRows,
+}
+
+impl Whole for CatalogueRows {
+    ghost is_of = { AreCatalogueRows };
+
+    fn read<S: Alter>(alloc: Global, conn: &mut Connection<S>) -> Result<CatalogueRows, RowError> {
+        let (items, (variations, (quotas, (quota_items, quota_variations)))) = Whole::read(
+            alloc, conn,
+        )?;
+        Ok(CatalogueRows {
+            items,
+            variations,
+            quotas,
+            quota_items,
+            quota_variations,
+        })
+    }
+}
+
+impl Whole for SaleRows {
+    ghost is_of = { AreSaleRows };
+
+    fn read<S: Alter>(alloc: Global, conn: &mut Connection<S>) -> Result<SaleRows, RowError> {
+        let (vouchers, (carts, (orders, (positions, waiting)))) = Whole::read(alloc, conn)?;
+        Ok(SaleRows {
+            vouchers,
+            carts,
+            orders,
+            positions,
+            waiting,
+        })
+    }
+}
+
+impl Whole for DoorRows {
+    ghost is_of = { AreDoorRows };
+
+    fn read<S: Alter>(alloc: Global, conn: &mut Connection<S>) -> Result<DoorRows, RowError> {
+        let (checkin_lists, (list_items, checkins)) = Whole::read(alloc, conn)?;
+        Ok(DoorRows {
+            checkin_lists,
+            list_items,
+            checkins,
+        })
+    }
+}
+
+impl Whole for OtherRows {
+    ghost is_of = { AreOtherRows };
+
+    fn read<S: Alter>(alloc: Global, conn: &mut Connection<S>) -> Result<OtherRows, RowError> {
+        let (counts, (tokens, kept)) = Whole::read(alloc, conn)?;
+        Ok(OtherRows {
+            counts,
+            tokens,
+            kept,
+        })
+    }
+}
+
+impl Whole for TableRows {
+    ghost is_of = { AreTableRows };
+
+    fn read<S: Alter>(alloc: Global, conn: &mut Connection<S>) -> Result<TableRows, RowError> {
+        let (catalogue, (sales, (doors, others))) = Whole::read(alloc, conn)?;
+        Ok(TableRows {
+            catalogue,
+            sales,
+            doors,
+            others,
+        })
+    }
+}
+
+/// All rows of all tables but the shop's own. The connection stays as it is.
+/// Refusals: 6, 60 where the file lacks one of the tables with its columns, 62 where a value can't be read, 63. That a table is
+/// lacking is told though a value of another one can't be read.
+pub fn read_tables<S: Alter>(alloc: Global, conn: &mut Connection<S>) -> Result<TableRows, RowError>
+    requires { conn.old.in_transaction ≡ false }
+    ensures loaded { HasCleanDisk (state S.Store conn.new) → IsTrue (state S.Store conn.new).is_open → (t : Tables) → ShowsTables t (state S.Store conn.old) → IfOk result (AreTableRows t) }
+    ensures rests { Rests (state S.Store conn.old) (state S.Store conn.new) }
+    ensures mode { conn.new.in_transaction ≡ false }
+    ensures crash { Survives (state S.Store conn.old) (state S.Store conn.new) (λ _. ⊥) }
+{
+    Whole::read(alloc, conn)
+}
