@@ -1,0 +1,4 @@
+pub mod RunLemmas
+pub mod LawLemmas
+pub mod FollowLemmas
+pub mod CountLemmas

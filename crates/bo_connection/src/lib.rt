@@ -1,0 +1,14 @@
+//! A connection: bytes to bytes, over whoever answers its messages.
+#![tactic(auto)]
+
+pub mod desk;
+pub mod failure;
+pub mod laws;
+pub mod room;
+pub mod run;
+mod step;
+
+pub use desk::Desk;
+pub use failure::Failure;
+pub use room::Room;
+pub use run::run_stream;

@@ -1,0 +1,3 @@
+pub mod DeskLemmas
+pub mod StreamLemmas
+pub mod RowLemmas

@@ -1,0 +1,4 @@
+pub mod DeskView
+pub mod Coming
+pub mod Served
+pub mod Streams
