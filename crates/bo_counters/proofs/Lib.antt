@@ -9,5 +9,6 @@ pub mod Kept
 pub mod TurnLemmas
 pub mod Positions
 pub mod Ending
+pub mod HoldLemmas
 pub mod Resized
 pub mod PlaceLemmas

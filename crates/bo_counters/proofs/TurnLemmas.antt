@@ -5,7 +5,7 @@ use Rattle.std.specs.List.{AllByRecursion}
 use Rattle.std.proofs.lemmas.Bool.Decides.{nat_tests, eqb_tells}
 use Rattle.std.proofs.lemmas.List.Sums.{sum_by-cons}
 use Rattle.std.proofs.lemmas.Grind.{common_steps}
-use Rattle.bo_base.specs.Tables.{row_at, InOrderFrom, sum_at, IsPlace, IsGap}
+use Rattle.bo_base.specs.Tables.{row_at, InOrderFrom, AreInOrder, sum_at, IsPlace, IsGap}
 use Rattle.bo_base.proofs.Places.{row_at_place, row_at_gap, at_least}
 use Rattle.bo_base.proofs.Edits.{row_at_above}
 use Rattle.bo_catalogue.specs.declared.rows.Quota.{Quota}
@@ -17,7 +17,7 @@ use Rattle.bo_lists.specs.Kept.{IsKept}
 use Rattle.bo_counters.specs.Shifts.{map_beside, blocked_share}
 use Rattle.bo_counters.specs.Turns.{blocked_part, turned, turn, turn_each, with_blocked, IsCountedBy, turn_shift, name_of, after_order}
 use Rattle.bo_counters.proofs.ShiftLemmas.{map_beside_map, moves, same_map}
-use Rattle.bo_indexed.proofs.EntryLemmas.{map_at, sums_like, sum_map}
+use Rattle.bo_indexed.proofs.EntryLemmas.{map_at, kept_at, sums_like, sum_map}
 use Rattle.bo_indexed.specs.Indexes.{Finds}
 use Rattle.bo_lists.specs.declared.rows.OrderPos.{OrderPos}
 use Rattle.bo_lists.specs.Lists.{position_at}
@@ -96,6 +96,21 @@ turn_own up id spent x e = by_test (eqb id x) (own e)
     by_test true t = refl
     by_test false t = absurd (cc)
 
+-- the uses that are kept beside the vouchers, where one of them turns
+module _ (up : Bool) (id : ℕ) (spent : ℕ → ℕ) where
+  -- a voucher that stands
+  pub spent_place : (vouchers : List Voucher) (i was new : ℕ) (rs spents : List ℕ) → AreInOrder (λ r. r.id) vouchers → IsPlace (λ r. r.id) vouchers id i → was ≡ get_or rs i was → new ≡ turned up was → spents ≡ set rs i new → rs ≡ map (λ v. spent v.id) vouchers → spents ≡ map (λ v. turn up (Some id) spent v.id) vouchers
+  spent_place [] i was new rs spents order place was_is new_is spents_is is = absurd (omega (arith, place.in_range))
+  spent_place (v ∷ vs) i was new rs spents order place was_is new_is spents_is is =
+      let had : was ≡ spent id = was_is ∙ kept_at (λ r. r.id) spent (v ∷ vs) rs id i was is place in
+      let own : (get_or (v ∷ vs) i v).id ≡ id = place.has_id v in
+      let has : new ≡ turn up (Some id) spent (get_or (v ∷ vs) i v).id = new_is ∙ ap (turned up) (had ∙ ap spent (sym own)) ∙ sym (turn_own up id spent (get_or (v ∷ vs) i v).id own) in
+      spents_is ∙ rw is (ap (λ n. set (map (λ r. spent r.id) (v ∷ vs)) i n) has ∙ map_one (λ r. r.id) (λ r. spent r.id) (λ r. turn up (Some id) spent r.id) id (λ r e. turn_other up id spent r.id e) 0 (v ∷ vs) i v order place)
+
+  -- one that doesn't
+  pub spent_gap : (vouchers : List Voucher) (i : ℕ) (rs : List ℕ) → IsGap (λ r. r.id) vouchers id i → rs ≡ map (λ v. spent v.id) vouchers → rs ≡ map (λ v. turn up (Some id) spent v.id) vouchers
+  spent_gap vouchers i rs gap is = is ∙ sym (map_none (λ r. r.id) (λ r. spent r.id) (λ r. turn up (Some id) spent r.id) id (λ r e. turn_other up id spent r.id e) vouchers (row_at_gap (λ r. r.id) vouchers id i gap))
+
 module _ (lists : Lists) (at : ℕ) (kept : IsKept 4294967296 lists) (small : AllByRecursion (λ v. v.max_usages ≤ 4294967295) lists.vouchers) (up : Bool) (id : ℕ) (spent : ℕ → ℕ) (base : Quota → Usage) where
   abbrev now : ℕ → ℕ
   now = turn up (Some id) spent
@@ -121,7 +136,7 @@ module _ (lists : Lists) (at : ℕ) (kept : IsKept 4294967296 lists) (small : Al
             ap (λ n. with_blocked n (base q)) (moves (sum_by (blocked_part spent at q) lists.vouchers) (sum_by (blocked_part now at q) lists.vouchers) (blocked_share at q new (Some voucher)) (blocked_share at q was (Some voucher))
             (omega (arith, sum_one (λ r. r.id) (blocked_part spent at q) (blocked_part now at q) id (part_other q) 0 lists.vouchers order, ap (sum_at (blocked_part spent at q)) found, ap (sum_at (blocked_part now at q)) found, share_part spent was q voucher was_spent, share_part now new q voucher new_spent))
             (omega (arith, part_few spent at q lists.vouchers small, kept.vouchers.few, share_part now new q voucher new_spent, one_part now at q voucher (at_place lists.vouchers i voucher place.in_range v_is small))))));
-        redeems = spents_is ∙ rw counted.redeems (ap (λ n. set (map (λ v. spent v.id) lists.vouchers) i n) (new_spent ∙ ap (λ (v : Voucher). now v.id) v_is) ∙ map_one (λ r. r.id) (λ v. spent v.id) (λ v. now v.id) id (λ v e. turn_other up id spent v.id e) 0 lists.vouchers i voucher order place);
+        redeems = spent_place up id spent lists.vouchers i was new rs spents order place was_is new_is spents_is counted.redeems;
       }
 
   -- one that doesn't
@@ -133,7 +148,7 @@ module _ (lists : Lists) (at : ℕ) (kept : IsKept 4294967296 lists) (small : Al
         usages = counted.usages ∙ same_map (λ q. with_blocked (sum_by (blocked_part spent at q) lists.vouchers) (base q)) (λ q. with_blocked (sum_by (blocked_part now at q) lists.vouchers) (base q)) lists.catalogue.quotas (λ q.
             let same : sum_by (blocked_part spent at q) lists.vouchers ≡ sum_by (blocked_part now at q) lists.vouchers = omega (arith, sum_one (λ r. r.id) (blocked_part spent at q) (blocked_part now at q) id (part_other q) 0 lists.vouchers order, ap (sum_at (blocked_part spent at q)) none, ap (sum_at (blocked_part now at q)) none) in
             ap (λ n. with_blocked n (base q)) same);
-        redeems = counted.redeems ∙ sym (map_none (λ r. r.id) (λ v. spent v.id) (λ v. now v.id) id (λ v e. turn_other up id spent v.id e) lists.vouchers none);
+        redeems = spent_gap up id spent lists.vouchers i rs gap counted.redeems;
       }
 
 -- numbers by functions that are alike
@@ -152,17 +167,17 @@ turn_each-push up [] name spent = refl
 turn_each-push up (n ∷ ns) name spent = turn_each-push up ns name (turn up n spent)
 
 -- one use more, or less
-abbrev one_use : ℕ → Option ℕ → ℕ
+abbrev pub one_use : ℕ → Option ℕ → ℕ
 one_use x name = if names x name then 1 else 0
 
-up_one : (name : Option ℕ) (spent : ℕ → ℕ) (x n : ℕ) → spent x + one_use x name + n ≤ 18446744073709551615 → turn true name spent x ≡ spent x + one_use x name
+pub up_one : (name : Option ℕ) (spent : ℕ → ℕ) (x n : ℕ) → spent x + one_use x name + n ≤ 18446744073709551615 → turn true name spent x ≡ spent x + one_use x name
 up_one name spent x n le = by_test (names x name) le
   where
     by_test : (b : Bool) → spent x + (if b then 1 else 0) + n ≤ 18446744073709551615 → (if b then turned true (spent x) else spent x) ≡ spent x + (if b then 1 else 0)
     by_test true le = omega (arith, le)
     by_test false le = omega arith
 
-down_one : (name : Option ℕ) (spent : ℕ → ℕ) (x : ℕ) → turn false name spent x ≡ spent x - one_use x name
+pub down_one : (name : Option ℕ) (spent : ℕ → ℕ) (x : ℕ) → turn false name spent x ≡ spent x - one_use x name
 down_one name spent x = by_test (names x name)
   where
     by_test : (b : Bool) → (if b then turned false (spent x) else spent x) ≡ spent x - (if b then 1 else 0)
@@ -179,7 +194,7 @@ pub down_each : (ns : List (Option ℕ)) (spent : ℕ → ℕ) (x : ℕ) → tur
 down_each [] spent x = omega arith
 down_each (n ∷ ns) spent x = omega (arith, down_one n spent x, down_each ns (turn false n spent) x, sum_by-cons (one_use x) n ns)
 
-len_map : {X Y : Type 0} (f : X → Y) (xs : List X) → length (map f xs) ≡ length xs
+pub len_map : {X Y : Type 0} (f : X → Y) (xs : List X) → length (map f xs) ≡ length xs
 len_map f [] = refl
 len_map f (x ∷ xs) = omega (arith, len_map f xs)
 

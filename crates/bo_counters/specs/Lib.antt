@@ -1,3 +1,4 @@
+pub mod Held
 pub mod Later
 pub mod Names
 pub mod Shifts

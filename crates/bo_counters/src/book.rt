@@ -163,7 +163,7 @@ impl Book for Counters {
     }
 
     fn held(&self, voucher: u64, at: Moment) -> u64 {
-        self.store().held(voucher, at)
+        self.held_at(voucher, at)
     }
 
     fn held_in(&self, voucher: u64, quota: &Quota, at: Moment) -> u64 {

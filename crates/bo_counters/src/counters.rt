@@ -5,6 +5,7 @@ ghost use Rattle.std.specs.Bool.{Decides};
 ghost use Rattle.std.specs.Option.{option_copied};
 ghost use Rattle.bo_catalogue.specs.CatalogueLists.{quota_at};
 ghost use Rattle.bo_lists.specs.Lists.{empty};
+ghost use Rattle.bo_lists.specs.Headroom.{held};
 ghost use Rattle.bo_lists.specs.Usage.{redeemed, usage_of};
 ghost use Rattle.bo_lists.specs.Change.{after_change, after_all, applied};
 ghost use Rattle.bo_lists.specs.Weight.{change_weight, weight};
@@ -14,6 +15,7 @@ ghost use Rattle.bo_counters.specs.Shifts.{map_beside, waiting_shift};
 
 use crate::blocking::shift_voucher;
 use crate::carts::shift_cart;
+use crate::holds::{held_by, hold_at, hold_drop, hold_put};
 use crate::passing::count_at;
 use crate::shift::{WaitingShift, forget, keep};
 use crate::touched::shift_product;
@@ -30,27 +32,29 @@ use std::alloc::{AllocError, Global};
 use std::marker::{Brand, Model};
 use std::sync::ledger::{Blank, Ledger};
 
-/// A book that keeps the usage of each quota at its moment, and how often each voucher is redeemed.
+/// A book that keeps the usage of each quota at its moment, how often each voucher is redeemed, and how many live cart
+/// positions name it.
 #[derive(Drop)]
 pub struct Counters {
     store: Store,
     usages: Vec<Usage>,
     redeems: Vec<u64>,
+    holds: Vec<u64>,
 }
 
 impl Model for Counters {
     ghost use Rattle.std.specs.Prelude.{min, ◌-◌, length, vec_capacity};
     ghost use Rattle.bo_usage.specs.BookView.{BookView};
-    ghost use Rattle.bo_counters.specs.Later.{IsCounted};
+    ghost use Rattle.bo_counters.specs.Held.{IsAllCounted};
 
     ghost Value = { BookView };
 
     ghost view = { λ c. record {
       state = c.store.state;
-      room = min c.store.room (min (vec_capacity c.usages - length c.usages.items) (vec_capacity c.redeems - length c.redeems.items));
+      room = min c.store.room (min (vec_capacity c.usages - length c.usages.items) (min (vec_capacity c.redeems - length c.redeems.items) (vec_capacity c.holds - length c.holds.items)));
     } };
 
-    ghost invariant = { λ c. IsCounted c.store.state.lists c.store.state.moment c.usages.items c.redeems.items };
+    ghost invariant = { λ c. IsAllCounted c.store.state.lists c.store.state.moment c.usages.items c.redeems.items c.holds.items };
 }
 
 impl Counters {
@@ -67,6 +71,14 @@ impl Counters {
         ensures few { result ≤ 4294967296 }
     {
         redeemed_in(&self.store, &self.redeems, voucher)
+    }
+
+    /// How many cart positions that are live at a moment name the voucher.
+    pub fn held_at(&self, voucher: u64, at: Moment) -> u64
+        ensures value { result ≡ held at voucher self.now.state.lists }
+        ensures few { result ≤ 4294967296 }
+    {
+        held_by(&self.store, &self.holds, voucher, at)
     }
 }
 
@@ -114,6 +126,7 @@ impl Counters {
             Some(&row),
             self.store.cart(row.id),
         );
+        hold_put(&self.store, &mut self.holds, &row);
         self.store.apply_one(Change::PutCart(row));
     }
 }
@@ -133,6 +146,7 @@ impl Counters {
             None,
             self.store.cart(id),
         );
+        hold_drop(&self.store, &mut self.holds, id);
         self.store.apply_one(Change::DropCart(id));
     }
 
@@ -226,6 +240,7 @@ impl Counters {
         ensures room { self.new.room ≡ self.old.room }
     {
         count_at(&self.store, &mut self.usages, &self.redeems, at);
+        hold_at(&self.store, &mut self.holds, at);
         self.store.set(next, at);
     }
 
@@ -251,6 +266,7 @@ impl Counters {
     {
         self.store.known();
         let spent = redeemed_in(&self.store, &self.redeems, row.id);
+        let held = held_by(&self.store, &self.holds, row.id, self.store.moment());
         shift_voucher(
             &self.store,
             &mut self.usages,
@@ -259,6 +275,7 @@ impl Counters {
             self.store.voucher(row.id),
         );
         keep(vouchers(&self.store), &mut self.redeems, row.id, spent);
+        keep(vouchers(&self.store), &mut self.holds, row.id, held);
         self.store.apply_one(Change::PutVoucher(row));
     }
 
@@ -278,6 +295,7 @@ impl Counters {
             self.store.voucher(id),
         );
         forget(vouchers(&self.store), &mut self.redeems, id);
+        forget(vouchers(&self.store), &mut self.holds, id);
         self.store.apply_one(Change::DropVoucher(id));
     }
 }
@@ -442,6 +460,7 @@ impl Counters {
             store: Store::new(alloc),
             usages: Vec::new(alloc),
             redeems: Vec::new(alloc),
+            holds: Vec::new(alloc),
         }
     }
 
@@ -455,6 +474,7 @@ impl Counters {
         };
         self.usages.reserve(count)?;
         self.redeems.reserve(count)?;
+        self.holds.reserve(count)?;
         self.store.reserve(count)
     }
 
@@ -462,10 +482,10 @@ impl Counters {
     fn room_left(&self) -> usize
         ensures { result ≡ self.now.room }
     {
-        let counts = (self.usages.capacity() - self.usages.len()).min(
-            self.redeems.capacity() - self.redeems.len(),
-        );
-        self.store.room().min(counts)
+        let usages = self.usages.capacity() - self.usages.len();
+        let redeems = self.redeems.capacity() - self.redeems.len();
+        let holds = self.holds.capacity() - self.holds.len();
+        self.store.room().min(usages.min(redeems.min(holds)))
     }
 
     /// Whether these changes can be made without taking memory.

@@ -43,8 +43,8 @@ pub fn redeemed_in(store: &Store, redeems: &[u64], voucher: u64) -> u64
     }
 }
 
-// One more, or one less.
-fn turned(count: u64, up: bool) -> u64
+/// One more, or one less.
+pub fn turned(count: u64, up: bool) -> u64
     ensures { result ≡ turned up count }
 {
     if up {
