@@ -2,3 +2,4 @@ pub mod TickLemmas
 pub mod FedLemmas
 pub mod WordLemmas
 pub mod LineLaws
+pub mod FreshLemmas

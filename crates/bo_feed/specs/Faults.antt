@@ -1,6 +1,6 @@
 -- Why the program ends with status 1, as a number.
 use Rattle.std.specs.Prelude.{ℕ}
-use Rattle.bo_serve.specs.Failures.{failure_number}
+use Rattle.bo_connection.specs.Failures.{failure_number}
 use Rattle.bo_feed.specs.declared.fault.Fault.{Fault}
 use Rattle.bo_feed.specs.declared.fault.Fault.TheVariants as faults
 

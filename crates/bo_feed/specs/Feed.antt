@@ -4,15 +4,16 @@ use Rattle.bo_base.specs.declared.device.Tick.{Tick}
 use Rattle.bo_base.specs.declared.refusal.ValueRefusal.{ValueRefusal}
 use Rattle.bo_base.specs.Digits.{number_of}
 use Rattle.bo_base.specs.Moments.{moment_of}
-use Rattle.bo_serve.specs.declared.failure.Failure.{Failure}
-use Rattle.bo_serve.specs.declared.failure.Failure.TheVariants as failures
-use Rattle.bo_serve.specs.BoxOfficeView.{BoxOfficeView}
-use Rattle.bo_serve.specs.Run.{Counts, CountedAll, Devices, RunLeads}
-use Rattle.bo_serve.specs.Served.{Serves}
+use Rattle.bo_connection.specs.declared.failure.Failure.{Failure}
+use Rattle.bo_connection.specs.declared.failure.Failure.TheVariants as failures
+use Rattle.bo_connection.specs.Run.{Counts, CountedAll, Devices, RunLeads}
+use Rattle.bo_memory.specs.declared.tables.MemoryTables.{MemoryTables}
+use Rattle.bo_desk.specs.DeskView.{DeskView}
+use Rattle.bo_desk.specs.Served.{Serves}
 use Rattle.bo_feed.specs.declared.fault.Fault.{Fault}
 use Rattle.bo_feed.specs.declared.fault.Fault.TheVariants as faults
 use Rattle.bo_feed.specs.FeedTicks.{feed_ticks}
-use Rattle.bo_feed.specs.House.{fresh_house}
+use Rattle.bo_feed.specs.House.{fresh_house, memory}
 
 -- where a reader and a writer stand: the bytes that are still to come and what was written, where they are known; the calls of
 -- the reader; and the failures of the reader and of the writer
@@ -23,8 +24,8 @@ pub record Ports : Type 0 where
   pub input : ℕ
   pub output : ℕ
 
--- the same with the ticks that were told and the box office between them
-abbrev pub devices : Ports → List Tick → BoxOfficeView → Devices BoxOfficeView
+-- the same with the ticks that were told and the desk of the shop between them
+abbrev pub devices : {D : Type 0} → Ports → List Tick → D → Devices D
 devices ports told house = record { left = ports.left; calls = ports.calls; told = Some told; desk = house; taken = ports.taken }
 
 -- what they have counted, and how many ticks failed
@@ -36,13 +37,13 @@ abbrev pub EndsTicks : ℕ → Result (Unit {0}) Failure → Type 0
 EndsTicks count (Err failures.Clock) = count ≡ 18446744073709551615
 EndsTicks count _ = ⊤
 
--- What is read, what is written, and how it ends: a run from the fresh box office with the first ticks, one for each whole
+-- What is read, what is written, and how it ends: a run from the fresh shop with the first ticks, one for each whole
 -- request. It ends with the failure of the reader, the writer or the ticks only where that one failed, and no other one did.
 pub record Feeds (from step : ℕ) (old new : Ports) (result : Result (Unit {0}) Failure) : Type 0 where
   pub count : ℕ
   pub clock : ℕ
-  pub house : BoxOfficeView
-  pub leads : RunLeads Serves (devices old [] fresh_house) (devices new (feed_ticks from step count) house) result
+  pub house : DeskView MemoryTables
+  pub leads : RunLeads (Serves memory) (devices old [] fresh_house) (devices new (feed_ticks from step count) house) result
   pub ends_ticks : EndsTicks count result
   pub counted : CountedAll result (counts old 0) (counts new clock)
   pub calls : new.calls ≤ old.calls + 1000000

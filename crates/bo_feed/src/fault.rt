@@ -3,7 +3,7 @@
 ghost use Rattle.std.specs.Prelude.{◌≡◌};
 ghost use Rattle.bo_feed.specs.Faults.{fault_number};
 
-use bo_serve::Failure;
+use bo_connection::Failure;
 
 /// Why the program ends with status 1.
 #[derive(Clone, Copy, Debug, PartialEq, Eq)]

@@ -7,7 +7,7 @@ use crate::fault::Fault;
 use crate::house::serve_house;
 use crate::ticks::{FeedTicks, Pace};
 use bo_base::{Device, Drain, Moment, Source, Steps, number_of, read_moment};
-use bo_serve::Failure;
+use bo_connection::Failure;
 use std::alloc::Global;
 use std::marker::{Brand, PhantomData};
 use std::sync::ledger::{Blank, Ledger};

@@ -11,8 +11,8 @@ use crate::endless::{REQUEST, Repeated};
 use crate::failing::FailingReader;
 use crate::lines::show_lines;
 use crate::tried::{Tried, run_line, words};
+use bo_connection::Failure;
 use bo_feed::{Ended, Fault};
-use bo_serve::Failure;
 use std::io::Read;
 
 // What the line comes to where the reader fails at its call number `reads + 1`, and the writer at its call number

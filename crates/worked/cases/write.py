@@ -19,6 +19,7 @@ import limits  # noqa: F401
 import edges  # noqa: F401
 import waiting  # noqa: F401
 import doors  # noqa: F401
+import keys  # noqa: F401
 
 HERE = Path(__file__).parent.parent
 

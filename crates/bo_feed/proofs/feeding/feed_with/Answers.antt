@@ -1,5 +1,5 @@
 use Rattle.std.proofs.Common.{ℕ, subst}
-use Rattle.bo_serve.specs.Run.{CountedAll}
+use Rattle.bo_connection.specs.Run.{CountedAll}
 use Rattle.bo_feed.proofs.FedLemmas.{ends_ticks}
 use Rattle.bo_feed.proofs.feeding.feed_with.Goals as goal
 
