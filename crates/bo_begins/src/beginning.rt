@@ -50,8 +50,8 @@ impl Writing<()> for NewShop<'_> {
     }
 }
 
-// Whether there is no table, no index and no view.
-fn is_blank(schema: &Schema) -> bool
+/// Whether there is no table, no index and no view.
+pub fn is_blank(schema: &Schema) -> bool
     ensures yes { IsTrue result → schema.now ≡ blank_schema }
     ensures no { schema.now ≡ blank_schema → result ≡ true }
 {

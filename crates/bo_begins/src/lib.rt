@@ -6,4 +6,4 @@ pub mod beginning;
 pub mod laws;
 
 pub use add::put_token;
-pub use beginning::{begin, first_row};
+pub use beginning::{begin, first_row, is_blank};

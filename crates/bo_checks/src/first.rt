@@ -1,7 +1,8 @@
 //! The least rule that rows break, of those that are tested before a book is built of them.
 
-ghost use Rattle.std.specs.Prelude.{IfNone, IfSome};
+ghost use Rattle.std.specs.Prelude.{◌≤◌, IfNone, IfSome};
 ghost use Rattle.bo_rules.specs.declared.rule.Rule.{Rule};
+ghost use Rattle.bo_rules.specs.Numbers.{number};
 ghost use Rattle.bo_rules.specs.Rules.{Keeps, IsLeastBroken};
 ghost use Rattle.bo_rules.specs.Told.{file_of};
 
@@ -14,6 +15,7 @@ use bo_rules::{FileRows, Rule};
 pub fn first_broken(rows: &FileRows) -> Option<Rule>
     ensures kept { IfNone result (Keeps Rule.Shop (file_of rows.now) × Keeps Rule.Limits (file_of rows.now) × Keeps Rule.Ids (file_of rows.now)) }
     ensures broken { IfSome result (λ rule. IsLeastBroken rule (file_of rows.now)) }
+    ensures first { IfSome result (λ rule. number rule ≤ 3) }
 {
     if !keeps_head(rows) {
         return Some(Rule::Shop);

@@ -1,4 +1,6 @@
+pub mod Unread
 pub mod Cells
 pub mod Rows
 pub mod Tables
 pub mod Changes
+pub mod Fit

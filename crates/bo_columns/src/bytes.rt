@@ -1,9 +1,12 @@
 //! Bytes and status codes in columns.
 
+ghost use Rattle.std.specs.Prelude.{⊤};
 ghost use Rattle.sqlite_value.specs.declared.value.Value.TheVariants.{Blob};
 ghost use Rattle.bo_columns.specs.Cells as cell;
+ghost use Rattle.bo_columns.specs.Fit.{IsDigest, IsStatus};
 
-use crate::column::Column;
+use crate::column::{Column, value_at};
+use crate::numbers::number_in;
 use bo_base::Body;
 use bo_kept::Key;
 use bo_schema::RowError;
@@ -15,63 +18,75 @@ use std::alloc::Global;
 impl Column for Key {
     ghost cell = { Blob };
 
+    ghost fits = { λ b. ⊤ };
+
     fn bind(&self) -> Result<ValueRef<'_>, RowError> {
         Ok(ValueRef::Blob(self.as_slice()))
     }
 
     fn read(_: Global, row: &Row, at: usize) -> Result<Key, RowError> {
-        let bytes: Vec<u8> = row.get(at)?;
-        Ok(Key::new(bytes))
+        match value_at::<Vec<u8>>(row, at) {
+            Ok(bytes) => Ok(Key::new(bytes)),
+            Err(error) => Err(error),
+        }
     }
 }
 
 impl Column for Body {
     ghost cell = { Blob };
 
+    ghost fits = { λ b. ⊤ };
+
     fn bind(&self) -> Result<ValueRef<'_>, RowError> {
         Ok(ValueRef::Blob(self.as_slice()))
     }
 
     fn read(_: Global, row: &Row, at: usize) -> Result<Body, RowError> {
-        let bytes: Vec<u8> = row.get(at)?;
-        Ok(Body::new(bytes))
+        match value_at::<Vec<u8>>(row, at) {
+            Ok(bytes) => Ok(Body::new(bytes)),
+            Err(error) => Err(error),
+        }
     }
 }
 
-/// The SHA-256 digest of a token.
 impl Column for [u8; 32] {
     ghost cell = { Blob };
+
+    ghost fits = { IsDigest };
 
     fn bind(&self) -> Result<ValueRef<'_>, RowError> {
         Ok(ValueRef::Blob(self))
     }
 
     fn read(_: Global, row: &Row, at: usize) -> Result<[u8; 32], RowError> {
-        let bytes: Vec<u8> = row.get(at)?;
-        if bytes.len() != 32 {
-            return Err(RowError::Damaged);
+        match value_at::<Vec<u8>>(row, at) {
+            Ok(bytes) if bytes.len() == 32 => {
+                let mut digest = [0; 32];
+                digest.copy_from_slice(&bytes);
+                Ok(digest)
+            }
+            Ok(_) => Err(RowError::Damaged),
+            Err(error) => Err(error),
         }
-        let mut digest = [0; 32];
-        digest.copy_from_slice(&bytes);
-        Ok(digest)
     }
 }
 
 impl Column for StatusCode {
     ghost cell = { cell.number };
 
+    ghost fits = { IsStatus };
+
     fn bind(&self) -> Result<ValueRef<'_>, RowError> {
         Ok(ValueRef::Int(i64::from(self.as_u16())))
     }
 
     fn read(_: Global, row: &Row, at: usize) -> Result<StatusCode, RowError> {
-        let n: u32 = row.get(at)?;
-        if n < 100 || n > 999 {
-            return Err(RowError::Damaged);
-        }
-        match StatusCode::from_u16(n as u16) {
-            Ok(status) => Ok(status),
-            Err(_) => Err(RowError::Damaged),
+        match number_in(row, at, 100, 999) {
+            Ok(n) => match StatusCode::from_u16(n as u16) {
+                Ok(status) => Ok(status),
+                Err(_) => Err(RowError::Damaged),
+            },
+            Err(error) => Err(error),
         }
     }
 }

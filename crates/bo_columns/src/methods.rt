@@ -1,15 +1,19 @@
 //! The methods of a path in a column.
 
-ghost use Rattle.std.specs.Prelude.{◌≡◌, IfOk, IfSome, string_bytes};
+ghost use Rattle.std.specs.Prelude.{◌≡◌, ◌≢◌, ◌<◌, length, ⊤, IfOk, IfErr, IfSome, Option, None, string_bytes};
 ghost use Rattle.sqlite_value.specs.Value.{owned};
 ghost use Rattle.sqlite_value.specs.Order.{column};
 ghost use Rattle.sqlite.specs.Values.{bound_value};
+ghost use Rattle.bo_base.specs.declared.answer.Methods.{Methods};
 ghost use Rattle.bo_columns.specs.Cells.{methods, methods_text};
+ghost use Rattle.bo_columns.specs.Unread.{IsUnread};
 
+use crate::column::{Column, value_at};
 use bo_base::Methods;
 use bo_schema::RowError;
 use sqlite::Row;
 use sqlite_value::value::ValueRef;
+use std::alloc::Global;
 
 fn methods_text(m: &Methods) -> &'static str
     ensures { result.now ≡ methods_text m.now }
@@ -46,7 +50,8 @@ pub fn bind_methods<'a>(allow: &Option<Methods>) -> ValueRef<'a>
 
 // The methods that a text names.
 fn methods_in(text: &str) -> Option<Methods>
-    ensures { IfSome result (λ m. text.now ≡ methods_text m) }
+    ensures named { IfSome result (λ m. text.now ≡ methods_text m) }
+    ensures other { result ≡ None → (m : Methods) → text.now ≢ methods_text m }
 {
     let (get, post, patch, delete) = match text {
         "-" => (false, false, false, false),
@@ -75,11 +80,38 @@ fn methods_in(text: &str) -> Option<Methods>
     })
 }
 
+/// The methods of a path, which an answer may name, in a column.
+#[derive(Clone, Copy, Debug, PartialEq, Eq)]
+pub struct Allow {
+    pub named: Option<Methods>,
+}
+
+impl Column for Allow {
+    ghost cell = { λ a. methods a.named };
+
+    ghost fits = { λ a. ⊤ };
+
+    fn bind(&self) -> Result<ValueRef<'_>, RowError> {
+        Ok(bind_methods(&self.named))
+    }
+
+    fn read(_: Global, row: &Row, at: usize) -> Result<Allow, RowError> {
+        match read_methods(row, at) {
+            Ok(named) => Ok(Allow { named }),
+            Err(error) => Err(error),
+        }
+    }
+}
+
 /// The methods in a column, which may be empty. Refusals: 62 where the text names none, 6.
-pub fn read_methods(row: &Row, at: usize) -> Result<Option<Methods>, RowError>
-    ensures { IfOk result (λ allow. column row.now at ≡ methods allow) }
+pub(crate) fn read_methods(row: &Row, at: usize) -> Result<Option<Methods>, RowError>
+    ensures value { IfOk result (λ allow. column row.now at ≡ methods allow) }
+    ensures refused { at < length row.now → IfErr result (IsUnread ((allow : Option Methods) → column row.now at ≢ methods allow)) }
 {
-    let text: String = row.get(at)?;
+    let text = match value_at::<String>(row, at) {
+        Ok(text) => text,
+        Err(error) => return Err(error),
+    };
     if text.is_empty() {
         return Ok(None);
     }

@@ -1,9 +1,12 @@
 //! Texts and words of a choice in columns.
 
+ghost use Rattle.std.specs.Prelude.{⊤};
 ghost use Rattle.sqlite_value.specs.declared.value.Value.TheVariants.{Text as Words};
+ghost use Rattle.bo_base.specs.Slugs.{IsSlug};
 ghost use Rattle.bo_columns.specs.Cells as cell;
+ghost use Rattle.bo_columns.specs.Fit.{IsStored};
 
-use crate::column::Column;
+use crate::column::{Column, value_at};
 use bo_base::{PriceMode, Slug, Text, is_slug, is_text};
 use bo_lists::{CheckinKind, Status};
 use bo_schema::RowError;
@@ -14,38 +17,47 @@ use std::alloc::Global;
 impl Column for Text {
     ghost cell = { Words };
 
+    ghost fits = { IsStored };
+
     fn bind(&self) -> Result<ValueRef<'_>, RowError> {
         Ok(ValueRef::Text(self.as_str().as_bytes()))
     }
 
     fn read(_: Global, row: &Row, at: usize) -> Result<Text, RowError> {
-        let chars: String = row.get(at)?;
-        if !is_text(&chars) {
-            return Err(RowError::Damaged);
+        match value_at::<String>(row, at) {
+            Ok(chars) if is_text(&chars) => Ok(Text::new(chars)),
+            Ok(_) => Err(RowError::Damaged),
+            Err(error) => Err(error),
         }
-        Ok(Text::new(chars))
     }
 }
 
 impl Column for Slug {
     ghost cell = { Words };
 
+    ghost fits = { IsSlug };
+
     fn bind(&self) -> Result<ValueRef<'_>, RowError> {
         Ok(ValueRef::Text(self.as_str().as_bytes()))
     }
 
     fn read(alloc: Global, row: &Row, at: usize) -> Result<Slug, RowError> {
-        let chars: String = row.get(at)?;
-        if !is_slug(&chars) {
-            return Err(RowError::Damaged);
+        let chars = match value_at::<String>(row, at) {
+            Ok(chars) if is_slug(&chars) => chars,
+            Ok(_) => return Err(RowError::Damaged),
+            Err(error) => return Err(error),
+        };
+        match Slug::copy_of(alloc, &chars) {
+            Ok(slug) => Ok(slug),
+            Err(_) => Err(RowError::Memory),
         }
-        let slug = Slug::copy_of(alloc, &chars)?;
-        Ok(slug)
     }
 }
 
 impl Column for PriceMode {
     ghost cell = { cell.mode };
+
+    ghost fits = { λ w. ⊤ };
 
     fn bind(&self) -> Result<ValueRef<'_>, RowError> {
         Ok(ValueRef::Text(match self {
@@ -57,7 +69,10 @@ impl Column for PriceMode {
     }
 
     fn read(_: Global, row: &Row, at: usize) -> Result<PriceMode, RowError> {
-        let word: String = row.get(at)?;
+        let word = match value_at::<String>(row, at) {
+            Ok(word) => word,
+            Err(error) => return Err(error),
+        };
         match word.as_str() {
             "none" => Ok(PriceMode::None),
             "set" => Ok(PriceMode::Set),
@@ -71,6 +86,8 @@ impl Column for PriceMode {
 impl Column for Status {
     ghost cell = { cell.status };
 
+    ghost fits = { λ w. ⊤ };
+
     fn bind(&self) -> Result<ValueRef<'_>, RowError> {
         Ok(ValueRef::Text(match self {
             Status::Pending => b"n",
@@ -81,7 +98,10 @@ impl Column for Status {
     }
 
     fn read(_: Global, row: &Row, at: usize) -> Result<Status, RowError> {
-        let letter: String = row.get(at)?;
+        let letter = match value_at::<String>(row, at) {
+            Ok(letter) => letter,
+            Err(error) => return Err(error),
+        };
         match letter.as_str() {
             "n" => Ok(Status::Pending),
             "p" => Ok(Status::Paid),
@@ -95,6 +115,8 @@ impl Column for Status {
 impl Column for CheckinKind {
     ghost cell = { cell.kind };
 
+    ghost fits = { λ w. ⊤ };
+
     fn bind(&self) -> Result<ValueRef<'_>, RowError> {
         Ok(ValueRef::Text(match self {
             CheckinKind::Entry => b"entry",
@@ -103,7 +125,10 @@ impl Column for CheckinKind {
     }
 
     fn read(_: Global, row: &Row, at: usize) -> Result<CheckinKind, RowError> {
-        let word: String = row.get(at)?;
+        let word = match value_at::<String>(row, at) {
+            Ok(word) => word,
+            Err(error) => return Err(error),
+        };
         match word.as_str() {
             "entry" => Ok(CheckinKind::Entry),
             "exit" => Ok(CheckinKind::Exit),

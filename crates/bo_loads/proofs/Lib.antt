@@ -1,4 +1,7 @@
+pub mod Queries
+pub mod ColumnLemmas
 pub mod Loads
+pub mod Causes
 pub mod ShopLemmas
 pub mod ItemsLemmas
 pub mod VariationsLemmas

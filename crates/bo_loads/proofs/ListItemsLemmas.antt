@@ -1,16 +1,19 @@
 -- What a SELECT of all columns of `list_items` shows.
-use Rattle.std.proofs.Common.{◌≡◌, ◌∷◌, ℕ, List, [], codes, false, refl}
+use Rattle.std.proofs.Common.{◌≡◌, ◌∷◌, ℕ, List, [], codes, true, false, refl}
 use Rattle.sqlite_schema.specs.declared.command.Command.TheVariants.{Select}
+use Rattle.sqlite_resolve.specs.Compile.{first}
 use Rattle.sqlite_tied.specs.Compute.{everything}
 use Rattle.sqlite.specs.Listing.{understood, reads_listing}
 use Rattle.sqlite.proofs.Callers.{IsPlain, command_of}
 use Rattle.bo_schema.specs.Tables.{schema}
 use Rattle.bo_schema.specs.Shapes.{over, plainly, id_order}
 use Rattle.sqlite_sql.specs.Term.{Term, col}
+use Rattle.bo_loads.specs.Texts.{list_items_text}
 use Rattle.bo_loads.proofs.Loads.{IsSelect}
+use Rattle.bo_loads.proofs.Queries.{is_query}
 
 abbrev pub select_text : List ℕ
-select_text = codes "SELECT rowid, list_id, item_id FROM list_items ORDER BY rowid"
+select_text = list_items_text
 
 abbrev project : List Term
 project = col 1 0 ∷ col 1 1 ∷ col 1 2 ∷ []
@@ -21,3 +24,7 @@ select_reads = (refl, (refl, refl), refl)
 
 pub select_is : IsSelect select_text 17
 select_is = record { project = project; order = id_order; names = codes "rowid" ∷ codes "list_id" ∷ codes "item_id" ∷ []; command = select_reads.0; plain = select_reads.1; unlisted = select_reads.2; shows = λ r. refl }
+
+pub asks : is_query (first select_text) ≡ true
+unfolding everything
+asks = refl

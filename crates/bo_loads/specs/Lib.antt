@@ -1,1 +1,3 @@
+pub mod Damage
+pub mod Texts
 pub mod Lookups

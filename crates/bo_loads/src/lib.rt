@@ -4,6 +4,7 @@
 pub mod carts;
 pub mod checkin_lists;
 pub mod checkins;
+mod columns;
 pub mod counts;
 pub mod items;
 pub mod kept;

@@ -1,10 +1,12 @@
 //! A row that a table of the file shows.
 
-ghost use Rattle.std.specs.Prelude.{◌≡◌, map, take, true, IfOk};
+ghost use Rattle.std.specs.Prelude.{◌≡◌, ◌≢◌, map, take, true, List, All, IfOk, IfErr};
 ghost use Rattle.sqlite_value.specs.Order.{Row as Shown};
 ghost use Rattle.sqlite.specs.Held.{state};
 ghost use Rattle.sqlite.specs.Values.{bound};
 ghost use Rattle.sqlite.specs.State.{HasCleanDisk, Survives, KeepsCommit, Shown as Shows};
+ghost use Rattle.bo_columns.specs.Unread.{IsUnread};
+ghost use Rattle.bo_loads.specs.Damage.{IsDamaged, IsFor, IsForReading, HasNoMeaning};
 
 use bo_schema::RowError;
 use sqlite::{Alter, Row, Transaction};
@@ -16,17 +18,27 @@ pub trait Loaded {
     // the row as a SELECT of all columns shows it
     ghost as_row: { Self → Shown };
 
-    /// From a row that is shown. Refusals: 62 where a column's value can't be one of such a row, 6.
+    // its values are within their limits
+    ghost fits: { Self → Type 0 };
+
+    /// From a row that is shown. Refusals: 62 where it is the row of no such value within its limits, 6.
     fn read(alloc: Global, row: &Row) -> Result<Self, RowError>
-        ensures { IfOk result (λ w. row.now ≡ as_row w) };
+        ensures value { IfOk result (λ w. row.now ≡ as_row w) }
+        ensures limits { IfOk result fits }
+        ensures refused { IfErr result (IsUnread ((w : Self) → fits w → row.now ≢ as_row w)) };
 }
 
 fn read_rows<T: Loaded + Drop>(alloc: Global, rows: &[Row]) -> Result<Vec<T>, RowError>
-    ensures { IfOk result (λ all. map T.Loaded.as_row all.items ≡ rows.now) }
+    ensures values { IfOk result (λ all. map T.Loaded.as_row all.items ≡ rows.now) }
+    ensures limits { IfOk result (λ all. All T.Loaded.fits all.items) }
+    ensures refused { IfErr result (IsUnread (IsDamaged T.Loaded.as_row T.Loaded.fits rows.now)) }
 {
     let mut all = Vec::new(alloc);
     'rows: for row in rows {
-        let item = T::read(alloc, row)?;
+        let item = match T::read(alloc, row) {
+            Ok(item) => item,
+            Err(error) => return Err(error),
+        };
         match all.push(item) {
             Ok(()) => {}
             Err(_) => return Err(RowError::Memory),
@@ -44,6 +56,8 @@ pub(crate) fn rows_of<S: Alter, T: Loaded + Drop>(
 ) -> Result<Vec<T>, RowError>
     ensures same { tx.new.conn.ghost_name ≡ tx.old.conn.ghost_name }
     ensures shown { HasCleanDisk (state S.Store tx.new.conn.now) → IfOk result (λ all. Shows sql.now (bound params.now) (state S.Store tx.old.conn.now) (state S.Store tx.new.conn.now) (map T.Loaded.as_row all.items)) }
+    ensures limits { IfOk result (λ all. All T.Loaded.fits all.items) }
+    ensures refused { HasCleanDisk (state S.Store tx.new.conn.now) → IsForReading (state S.Store tx.old.conn.now).now.schema sql.now → IfErr result (IsFor (HasNoMeaning (state S.Store tx.old.conn.now).now.schema sql.now) ((rows : List Shown) × Shows sql.now (bound params.now) (state S.Store tx.old.conn.now) (state S.Store tx.new.conn.now) rows × IsDamaged T.Loaded.as_row T.Loaded.fits rows)) }
     ensures kept { HasCleanDisk (state S.Store tx.new.conn.now) → (state S.Store tx.old.conn.now).in_transaction ≡ true → KeepsCommit (state S.Store tx.old.conn.now) (state S.Store tx.new.conn.now) }
     ensures crash { Survives (state S.Store tx.old.conn.now) (state S.Store tx.new.conn.now) (λ _. ⊥) }
 {

@@ -1,11 +1,5 @@
-use Rattle.std.proofs.Common.{arith, ◌≡◌, ◌∙◌, ap}
-use Rattle.bo_columns.specs.declared.rows.QuotaRow.{QuotaRow}
-use Rattle.bo_columns.specs.Cells.{number}
-use Rattle.bo_columns.specs.Rows.{quota_row}
-use Rattle.bo_loads.proofs.Loads.{is_row}
+use Rattle.bo_columns.proofs.UnreadLemmas.{unread}
 use Rattle.bo_loads.proofs.quotas.read_row.Goals as goal
 
-pub returns : goal.returns
-returns c =
-    let w : QuotaRow = record { id = c.in_ok-id.id; name = c.in_ok-name.name; size = c.in_ok-size.size } in
-    is_row c.args.row.now (quota_row w) (omega arith) (c.in_ok-id.ensures, (c.in_ok-name.ensures, (c.in_ok-size.ensures, tt)))
+pub returns-in-Err-clause-refused : goal.returns-in-Err-clause-refused
+returns-in-Err-clause-refused c = unread _ _ (λ no w fit is. no (w.id, (w.name, (w.size, tt))) (tt, (fit.name, (fit.size, tt))) is) c.in-Err.error c.in-Err.ensures.refused

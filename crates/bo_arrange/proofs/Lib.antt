@@ -1,0 +1,4 @@
+pub mod Telling
+pub mod Parts
+pub mod Offices
+pub mod Joined

@@ -1,0 +1,46 @@
+use Rattle.std.proofs.Common.{map, refl, subst}
+use Rattle.bo_base.specs.Tables.{AreInOrder}
+use Rattle.bo_columns.specs.declared.rows.ListRow.{ListRow}
+use Rattle.bo_columns.specs.declared.rows.QuotaRow.{QuotaRow}
+use Rattle.bo_columns.specs.declared.rows.VoucherRow.{VoucherRow}
+use Rattle.bo_stand.proofs.Told.{order_of_parts}
+use Rattle.bo_arrange.specs.Arranged.{count_in, item_link, variation_link, list_link, quota_of, list_of}
+use Rattle.bo_arrange.proofs.Joined.{all_whole, both_whole}
+use Rattle.bo_arrange.proofs.Offices.{members_rise, items_rise, order_in_parts}
+use Rattle.bo_arrange.proofs.arranging.arrange.Goals as goal
+
+pub returns-clause-order : goal.returns-clause-order
+returns-clause-order c =
+    let t = c.args.tables in
+    let rise = (c.both.ensures.0 c.if-not-both.false).0 in
+    let all = c.all_rise.ensures in
+    let i = map item_link t.catalogue.quota_items.items in
+    let v = map variation_link t.catalogue.quota_variations.items in
+    let l = map list_link t.doors.list_items.items in
+    let vouchers : AreInOrder (λ w. w.id) (map (λ (r : VoucherRow). r.voucher) t.sales.vouchers.items) = subst (AreInOrder (λ w. w.id)) c.in_ok-vouchers_in.ensures (all.vouchers rise) in
+    record {
+      lists = record {
+        ids = record {
+          items = subst (λ rows. AreInOrder (λ r. r.id) rows.items) c.in_ok-catalogue.ensures.items (all.items rise);
+          variations = subst (λ rows. AreInOrder (λ r. r.id) rows.items) c.in_ok-catalogue.ensures.variations (all.variations rise);
+          quotas = order_of_parts (λ (h : QuotaRow). h.id) (quota_of i v) (λ q. q.id) (λ h. refl) 0 t.catalogue.quotas.items c.in_ok-catalogue.ensures.order;
+          vouchers = vouchers;
+          carts = all.carts rise;
+          orders = all.orders rise;
+          positions = all.positions rise;
+          waiting = all.waiting rise;
+          checkin_lists = order_of_parts (λ (h : ListRow). h.id) (list_of l) (λ q. q.id) (λ h. refl) 0 t.doors.checkin_lists.items c.in_ok-doors.ensures.order;
+          checkins = subst (λ rows. AreInOrder (λ r. r.id) rows.items) c.in_ok-doors.ensures.checkins (all.checkins rise);
+        };
+        members = members_rise i v t.catalogue.quotas.items;
+        limits = items_rise l t.doors.checkin_lists.items;
+      };
+      used = subst (AreInOrder (λ w. w.quota)) c.as_slice-2.ensures.value (c.in_ok-counted.ensures (c.both.ensures.0 c.if-not-both.false).1);
+      redeemed = order_of_parts (λ (r : VoucherRow). r.voucher.id) count_in (λ w. w.voucher) (λ r. refl) 0 t.sales.vouchers.items (order_in_parts (λ (r : VoucherRow). r.voucher.id) (λ r. r.voucher) (λ w. w.id) (λ r. refl) 0 t.sales.vouchers.items vouchers);
+    }
+
+pub returns-clause-whole : goal.returns-clause-whole
+returns-clause-whole c =
+    let all = all_whole c.args.tables c.in_ok-catalogue.catalogue.quotas.items c.in_ok-doors.doors.lists.items c.in_ok-catalogue.ensures.quotas c.in_ok-doors.ensures.lists in
+    let two = both_whole _ _ _ _ _ c.both-whole.ensures c.in_ok-catalogue.ensures.whole c.in_ok-doors.ensures.whole in
+    (λ w. all.0 (two.0 w), λ h. two.1 (all.1 h))

@@ -1,0 +1,105 @@
+//! The rows of a file, arranged as those of a box office.
+
+ghost use Rattle.std.specs.Prelude.{◌≡◌, ◌↔◌, IfOk, OnOk, IsTrue, map};
+ghost use Rattle.bo_base.specs.Tables.{AreInOrder};
+ghost use Rattle.bo_rules.specs.Told.{file_of};
+ghost use Rattle.bo_stand.specs.Stands.{AreRowsOf};
+ghost use Rattle.bo_arrange.specs.Arranged.{arranged, rows_in, told_by, IsInOrder};
+
+use crate::error::ArrangeError;
+use crate::lists::doors_in;
+use crate::members::{both, rise};
+use crate::quotas::catalogue_in;
+use crate::vouchers::{redeemed_in, vouchers_in};
+use bo_columns::Shop;
+use bo_lists::QuotaCount;
+use bo_opens::TableRows;
+use bo_rules::FileRows;
+use std::alloc::{AllocError, Global};
+
+/// The rows of a file, with members beside the rows that they are of and counts beside vouchers. They are whole where each link
+/// tells a member.
+#[derive(Drop)]
+pub struct Arranged {
+    pub rows: FileRows,
+    pub whole: bool,
+}
+
+// The quotas of counts.
+fn quotas_counted(alloc: Global, counts: &[QuotaCount]) -> Result<Vec<u64>, AllocError>
+    ensures { IfOk result (λ ids. ids.items ≡ map (λ c. c.quota) counts.now) }
+{
+    counts.iter().map(|count| count.quota).collect(alloc)
+}
+
+// Whether the quotas of counts rise.
+fn counts_rise(alloc: Global, counts: &[QuotaCount]) -> Result<bool, AllocError>
+    ensures { IfOk result (λ told. IsTrue told → AreInOrder (λ c. c.quota) counts.now) }
+{
+    let ids = quotas_counted(alloc, counts)?;
+    Ok(rise(ids.as_slice()))
+}
+
+// Whether ids rise in each table but those of quotas and check-in lists.
+fn all_rise(rows: &FileRows) -> bool
+    ensures items { IsTrue result → AreInOrder (λ r. r.id) rows.now.items.items }
+    ensures variations { IsTrue result → AreInOrder (λ r. r.id) rows.now.variations.items }
+    ensures vouchers { IsTrue result → AreInOrder (λ r. r.id) rows.now.vouchers.items }
+    ensures carts { IsTrue result → AreInOrder (λ r. r.id) rows.now.carts.items }
+    ensures orders { IsTrue result → AreInOrder (λ r. r.id) rows.now.orders.items }
+    ensures positions { IsTrue result → AreInOrder (λ r. r.id) rows.now.positions.items }
+    ensures waiting { IsTrue result → AreInOrder (λ r. r.id) rows.now.waiting.items }
+    ensures checkins { IsTrue result → AreInOrder (λ r. r.id) rows.now.checkins.items }
+{
+    rise(&rows.items)
+        && rise(&rows.variations)
+        && rise(&rows.vouchers)
+        && rise(&rows.carts)
+        && rise(&rows.orders)
+        && rise(&rows.positions)
+        && rise(&rows.waiting)
+        && rise(&rows.checkins)
+}
+
+/// What was read of a file, arranged: the box office that its rows tell, with its counters. It is whole where the tables hold
+/// just that office, so that no link is of a row that isn't there, and none comes twice.
+/// Refusals: 6, and 63 where the store didn't show rows in order of id.
+pub fn arrange(alloc: Global, shop: &Shop, tables: TableRows) -> Result<Arranged, ArrangeError>
+    ensures told { IfOk result (λ a. file_of a.rows ≡ arranged shop.now tables) }
+    ensures order { OnOk result (IsInOrder (arranged shop.now tables)) }
+    ensures whole { IfOk result (λ a. IsTrue a.whole ↔ AreRowsOf (told_by (rows_in tables)) (rows_in tables)) }
+{
+    let TableRows {
+        catalogue,
+        sales,
+        doors,
+        others,
+    } = tables;
+    let catalogue = catalogue_in(alloc, catalogue)?;
+    let doors = doors_in(alloc, doors)?;
+    let whole = both(catalogue.whole, doors.whole);
+    let redeemed = redeemed_in(alloc, sales.vouchers.as_slice())?;
+    let rows = FileRows {
+        organizer: shop.organizer.copy(alloc)?,
+        event: shop.event.copy(alloc)?,
+        moment: shop.moment,
+        next: shop.next,
+        items: catalogue.items,
+        variations: catalogue.variations,
+        quotas: catalogue.quotas,
+        vouchers: vouchers_in(alloc, sales.vouchers)?,
+        carts: sales.carts,
+        orders: sales.orders,
+        positions: sales.positions,
+        waiting: sales.waiting,
+        checkin_lists: doors.lists,
+        checkins: doors.checkins,
+        used: others.counts,
+        redeemed,
+    };
+    let counted = counts_rise(alloc, rows.used.as_slice())?;
+    if !both(all_rise(&rows), counted) {
+        return Err(ArrangeError::Order);
+    }
+    Ok(Arranged { rows, whole })
+}

@@ -1,0 +1,18 @@
+//! Why rows aren't arranged.
+
+use std::alloc::AllocError;
+
+/// Why rows aren't arranged.
+#[derive(Clone, Copy, Debug, PartialEq, Eq, Drop)]
+pub enum ArrangeError {
+    /// 6: out of memory.
+    Memory,
+    /// 63: the store didn't show rows in the order that was asked for.
+    Order,
+}
+
+impl From<AllocError> for ArrangeError {
+    fn from(_error: AllocError) -> ArrangeError {
+        ArrangeError::Memory
+    }
+}

@@ -1,0 +1,56 @@
+//! Links: a member, and the row that it is of.
+
+ghost use Rattle.std.specs.Prelude.{◌≡◌};
+ghost use Rattle.bo_stand.specs.Links.{Link};
+ghost use Rattle.bo_arrange.specs.Arranged.{item_link, variation_link, list_link};
+
+use bo_columns::{ListItem, QuotaItem, QuotaVariation};
+
+/// A row that tells one member of another row.
+pub trait Linking {
+    ghost link: { Self → Link };
+
+    /// The id of the row that it is of.
+    fn owner(&self) -> u64
+        ensures { result ≡ (link self.now).owner };
+
+    /// The id of the member.
+    fn member(&self) -> u64
+        ensures { result ≡ (link self.now).member };
+}
+
+impl Linking for QuotaItem {
+    ghost link = { item_link };
+
+    fn owner(&self) -> u64 {
+        self.quota
+    }
+
+    fn member(&self) -> u64 {
+        self.item
+    }
+}
+
+impl Linking for QuotaVariation {
+    ghost link = { variation_link };
+
+    fn owner(&self) -> u64 {
+        self.quota
+    }
+
+    fn member(&self) -> u64 {
+        self.variation
+    }
+}
+
+impl Linking for ListItem {
+    ghost link = { list_link };
+
+    fn owner(&self) -> u64 {
+        self.list
+    }
+
+    fn member(&self) -> u64 {
+        self.item
+    }
+}

@@ -1,0 +1,88 @@
+//! Quotas with their members.
+
+ghost use Rattle.std.specs.Prelude.{◌≡◌, ◌↔◌, IfOk, OnOk, IsTrue, IsPermutation, map};
+ghost use Rattle.std.specs.List.{zip};
+ghost use Rattle.bo_base.specs.Tables.{AreInOrder};
+ghost use Rattle.bo_stand.specs.Links.{all_links};
+ghost use Rattle.bo_arrange.specs.Arranged.{item_link, variation_link, quota_of};
+
+use crate::error::ArrangeError;
+use crate::members::{both, members_in, rise};
+use bo_base::Ids;
+use bo_catalogue::{Item, Quota, Variation};
+use bo_columns::QuotaRow;
+use bo_opens::CatalogueRows;
+use std::alloc::{AllocError, Global};
+
+/// What is for sale, and whether each link of a quota tells one of its members.
+#[derive(Drop)]
+pub(crate) struct CatalogueParts {
+    pub(crate) items: Vec<Item>,
+    pub(crate) variations: Vec<Variation>,
+    pub(crate) quotas: Vec<Quota>,
+    pub(crate) whole: bool,
+}
+
+// The ids of the rows.
+fn ids_of(alloc: Global, rows: &[QuotaRow]) -> Result<Vec<u64>, AllocError>
+    ensures { IfOk result (λ ids. ids.items ≡ map (λ r. r.id) rows.now) }
+{
+    rows.iter().map(|row| row.id).collect(alloc)
+}
+
+// A quota of its row, its items and its variations.
+fn quota_with(parts: ((QuotaRow, Ids), Ids)) -> Quota
+    ensures { result ≡ record { id = parts.0.0.id; name = parts.0.0.name; size = parts.0.0.size; items = parts.0.1; variations = parts.1 } }
+{
+    let ((row, items), variations) = parts;
+    Quota {
+        id: row.id,
+        name: row.name,
+        size: row.size,
+        items,
+        variations,
+    }
+}
+
+// Each row with its items and its variations.
+fn joined(
+    alloc: Global,
+    rows: Vec<QuotaRow>,
+    items: Vec<Ids>,
+    variations: Vec<Ids>,
+) -> Result<Vec<Quota>, AllocError>
+    ensures { IfOk result (λ all. all.items ≡ map (λ p. record { id = p.0.0.id; name = p.0.0.name; size = p.0.0.size; items = p.0.1; variations = p.1 }) (zip (zip rows.items items.items) variations.items)) }
+{
+    rows.into_iter()
+        .zip(items.into_iter())
+        .zip(variations.into_iter())
+        .map(quota_with)
+        .collect(alloc)
+}
+
+/// What is for sale, with the members that links tell of quotas. Refusals: 6, and 63 where the quotas' ids don't rise.
+pub(crate) fn catalogue_in(
+    alloc: Global,
+    rows: CatalogueRows,
+) -> Result<CatalogueParts, ArrangeError>
+    ensures items { IfOk result (λ c. c.items ≡ rows.items) }
+    ensures variations { IfOk result (λ c. c.variations ≡ rows.variations) }
+    ensures quotas { IfOk result (λ c. c.quotas.items ≡ map (quota_of (map item_link rows.quota_items.items) (map variation_link rows.quota_variations.items)) rows.quotas.items) }
+    ensures order { OnOk result (AreInOrder (λ r. r.id) rows.quotas.items) }
+    ensures whole { IfOk result (λ c. IsTrue c.whole ↔ (IsPermutation (map item_link rows.quota_items.items) (all_links (λ q. q.id) (λ q. q.items) c.quotas.items) × IsPermutation (map variation_link rows.quota_variations.items) (all_links (λ q. q.id) (λ q. q.variations) c.quotas.items))) }
+{
+    let ids = ids_of(alloc, rows.quotas.as_slice())?;
+    if !rise(ids.as_slice()) {
+        return Err(ArrangeError::Order);
+    }
+    let in_items = members_in(alloc, ids.as_slice(), rows.quota_items.as_slice())?;
+    let in_variations = members_in(alloc, ids.as_slice(), rows.quota_variations.as_slice())?;
+    let whole = both(in_items.whole, in_variations.whole);
+    let quotas = joined(alloc, rows.quotas, in_items.each, in_variations.each)?;
+    Ok(CatalogueParts {
+        items: rows.items,
+        variations: rows.variations,
+        quotas,
+        whole,
+    })
+}

@@ -1,0 +1,36 @@
+//! Vouchers, and how often each is redeemed, which stand in one table.
+
+ghost use Rattle.std.specs.Prelude.{◌≡◌, map, IfOk};
+ghost use Rattle.bo_arrange.specs.Arranged.{count_in};
+
+use bo_columns::VoucherRow;
+use bo_lists::{Voucher, VoucherCount};
+use std::alloc::{AllocError, Global};
+
+/// How often each voucher is redeemed, in the order of the rows.
+pub(crate) fn redeemed_in(
+    alloc: Global,
+    rows: &[VoucherRow],
+) -> Result<Vec<VoucherCount>, AllocError>
+    ensures { IfOk result (λ all. all.items ≡ map count_in rows.now) }
+{
+    rows.iter()
+        .map(|row| VoucherCount {
+            voucher: row.voucher.id,
+            redeemed: row.redeemed,
+        })
+        .collect(alloc)
+}
+
+fn voucher_of(row: VoucherRow) -> Voucher
+    ensures { result ≡ row.voucher }
+{
+    row.voucher
+}
+
+/// The vouchers, in the order of the rows.
+pub(crate) fn vouchers_in(alloc: Global, rows: Vec<VoucherRow>) -> Result<Vec<Voucher>, AllocError>
+    ensures { IfOk result (λ all. all.items ≡ map (λ r. r.voucher) rows.items) }
+{
+    rows.into_iter().map(voucher_of).collect(alloc)
+}

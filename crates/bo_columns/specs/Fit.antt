@@ -1,0 +1,96 @@
+-- The limits within which a row of the file can be read.
+use Rattle.std.specs.Prelude.{◌≡◌, ℕ, ◌<◌, ◌≤◌, ◌^◌, List, length, IfSome}
+use Rattle.std.specs.Str.{IsUtf8}
+use Rattle.bo_base.specs.Counts.{IsUses, IsSize, IsPriority}
+use Rattle.bo_base.specs.Moments.{IsMoment}
+use Rattle.bo_base.specs.Money.{IsMoney}
+use Rattle.bo_base.specs.Slugs.{IsSlug}
+use Rattle.bo_base.specs.Texts.{IsText}
+use Rattle.bo_catalogue.specs.declared.rows.Item.{Item}
+use Rattle.bo_catalogue.specs.declared.rows.Variation.{Variation}
+use Rattle.bo_lists.specs.declared.rows.CartPos.{CartPos}
+use Rattle.bo_lists.specs.declared.rows.Order.{Order}
+use Rattle.bo_lists.specs.declared.rows.OrderPos.{OrderPos}
+use Rattle.bo_lists.specs.declared.rows.Waiting.{Waiting}
+use Rattle.bo_lists.specs.declared.rows.Checkin.{Checkin}
+use Rattle.bo_columns.specs.declared.rows.Shop.{Shop}
+use Rattle.bo_columns.specs.declared.rows.QuotaRow.{QuotaRow}
+use Rattle.bo_columns.specs.declared.rows.VoucherRow.{VoucherRow}
+use Rattle.bo_columns.specs.declared.rows.ListRow.{ListRow}
+use Rattle.bo_columns.specs.declared.rows.Token.{Token}
+use Rattle.bo_columns.specs.declared.rows.KeptRow.{KeptRow}
+
+-- the text of a row, in UTF-8
+pub record IsStored (t : List ℕ) : Type 0 where
+  pub text : IsText t
+  pub utf8 : IsUtf8 t
+
+-- a status of three digits
+abbrev pub IsStatus : ℕ → Type 0
+IsStatus n = (100 ≤ n) × (n ≤ 999)
+
+-- the 32 bytes of a SHA-256 digest
+abbrev pub IsDigest : List ℕ → Type 0
+IsDigest digest = length digest ≡ 32
+
+-- whatever the version is
+pub record IsFitShop (w : Shop) : Type 0 where
+  pub organizer : IsSlug w.organizer
+  pub event : IsSlug w.event
+  pub moment : IsMoment w.moment
+
+pub record IsFitItem (w : Item) : Type 0 where
+  pub name : IsStored w.name
+  pub price : IsMoney w.default_price
+
+pub record IsFitVariation (w : Variation) : Type 0 where
+  pub name : IsStored w.name
+  pub price : IfSome w.default_price IsMoney
+
+pub record IsFitQuota (w : QuotaRow) : Type 0 where
+  pub name : IsStored w.name
+  pub size : IfSome w.size IsSize
+
+-- whatever the mode is, the value is at most the greatest amount of money
+pub record IsFitVoucher (w : VoucherRow) : Type 0 where
+  pub code : IsStored w.voucher.code
+  pub uses : IsUses w.voucher.max_usages
+  pub end : IfSome w.voucher.valid_until IsMoment
+  pub value : IfSome w.voucher.value IsMoney
+  pub tag : IsStored w.voucher.tag
+  pub comment : IsStored w.voucher.comment
+
+pub record IsFitCart (w : CartPos) : Type 0 where
+  pub cart_id : IsStored w.cart_id
+  pub price : IsMoney w.price
+  pub made_at : IsMoment w.made_at
+  pub expires : IsMoment w.expires
+
+pub record IsFitOrder (w : Order) : Type 0 where
+  pub email : IfSome w.email IsStored
+  pub made_at : IsMoment w.made_at
+  pub expires : IsMoment w.expires
+
+pub record IsFitPosition (w : OrderPos) : Type 0 where
+  pub positionid : w.positionid < 2 ^ 32
+  pub price : IsMoney w.price
+  pub secret : IsStored w.secret
+
+pub record IsFitWaiting (w : Waiting) : Type 0 where
+  pub email : IsStored w.email
+  pub priority : IsPriority w.priority
+  pub created : IsMoment w.created
+
+pub record IsFitList (w : ListRow) : Type 0 where
+  pub name : IsStored w.name
+
+pub record IsFitCheckin (w : Checkin) : Type 0 where
+  pub datetime : IsMoment w.datetime
+  pub nonce : IfSome w.nonce IsStored
+
+pub record IsFitToken (w : Token) : Type 0 where
+  pub digest : IsDigest w.digest
+
+pub record IsFitKept (w : KeptRow) : Type 0 where
+  pub at : IsMoment w.kept.at
+  pub status : IsStatus w.kept.response.status

@@ -1,0 +1,45 @@
+-- A shop's file that was just made.
+use Rattle.std.proofs.Common.{◌≡◌, ℕ, List, [], IsTrue, refl, sym, ap, subst, ◌∙◌}
+use Rattle.sqlite_trees.specs.Tree.{Trees}
+use Rattle.sqlite.specs.Effect.{Database}
+use Rattle.sqlite.specs.State.{State as Connected}
+use Rattle.bo_lists.specs.Lists.{empty}
+use Rattle.bo_columns.specs.declared.rows.Shop.{Shop}
+use Rattle.bo_columns.specs.Tables.{Holds}
+use Rattle.bo_transaction.specs.Whole.{IsStill, IsWritten}
+use Rattle.bo_begins.specs.Begun.{IsBegun, first_tables}
+use Rattle.bo_begins.proofs.Begins.{begins_empty, begins_free}
+use Rattle.bo_tables.proofs.Told.{one_shop}
+use Rattle.bo_file.specs.Made.{first_shop, IsMade}
+
+-- where nothing was called, nothing changed
+pub as_it_was : (s : Connected) → IsStill s s
+as_it_was s = record { same = λ is_open. record { was_open = is_open; now = refl; committed = refl }; outside = λ it. it }
+
+module _ (organizer event : List ℕ) (old new : Connected) where
+  abbrev first : Shop
+  first = first_shop organizer event
+
+  -- of an open connection a crash leaves the last commit
+  pub is_made : ((db : Trees) → IsTrue new.is_open → new.may_leave db → db ≡ new.committed.trees) → (head : Shop) → head ≡ first → IsWritten (λ db after. IsBegun first after) old new → IsMade first old head 1 new
+  is_made law head is w = subst (λ h. IsMade first old h 1 new) (sym is) (record {
+    was_open = w.was_open;
+    is_open = w.is_open;
+    head_is = refl;
+    holds = λ is_open. record {
+      known = w.turned.known;
+      outside = w.outside;
+      settled = w.settled;
+      tables = first_tables first;
+      held = w.turned.held;
+      stand = begins_empty first refl refl;
+      free = begins_free first 1;
+    };
+    knows = λ is_open. record {
+      told = record { known = w.turned.known; tables = first_tables first; held = w.turned.held; told = λ digest. refl };
+      free = begins_free first 1;
+    };
+    leaves = λ left l.
+        let db : l.trees ≡ new.now.trees = law l.trees w.is_open l.may ∙ sym (ap (λ (d : Database). d.trees) w.settled) in
+        one_shop new.now.trees l.tables (first_tables first) (subst (λ d. Holds d l.tables) db l.held) w.turned.held l.head first left.state empty left.kept [] l.stand (begins_empty first refl refl);
+  })

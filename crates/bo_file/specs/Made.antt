@@ -1,0 +1,25 @@
+-- A shop's file that was just made.
+use Rattle.std.specs.Prelude.{◌≡◌, ℕ, List, [], Option, None, IsTrue}
+use Rattle.sqlite.specs.State.{State as Connected}
+use Rattle.bo_lists.specs.Lists.{empty, first_ids}
+use Rattle.bo_columns.specs.declared.rows.Shop.{Shop}
+use Rattle.bo_kept.specs.ShopView.{ShopView, IsSame}
+use Rattle.bo_tables.specs.Shops.{HoldsWhileOpen, KnowsWhileOpen, Leaves}
+
+-- the shop's row before its first change: version 1, moment 0, and each id begins with 1
+abbrev pub first_shop : List ℕ → List ℕ → Shop
+first_shop organizer event = record { version = 1; organizer = organizer; event = event; moment = 0; next = first_ids; next_token = 1 }
+
+-- a shop that has no rows and keeps no answers
+abbrev pub nothing_yet : ShopView
+nothing_yet = record { state = empty; kept = [] }
+
+-- The connection was open and is. The tables hold an office without rows and no answer, and know no token; a crash leaves them
+-- so; and the shop's row is its first one.
+pub record IsMade (first : Shop) (old : Connected) (head : Shop) (next : ℕ) (new : Connected) : Type 0 where
+  pub was_open : IsTrue old.is_open
+  pub is_open : IsTrue new.is_open
+  pub head_is : head ≡ first
+  pub holds : HoldsWhileOpen head next new empty []
+  pub knows : KnowsWhileOpen next new (λ digest. None)
+  pub leaves : (left : ShopView) → Leaves new left → IsSame left nothing_yet
