@@ -13,8 +13,9 @@ use Rattle.bo_lists.specs.Lists.{Lists, cart_at, voucher_at}
 use Rattle.bo_lists.specs.Usage.{redeemed, blocked_by, cart_counts}
 use Rattle.bo_indexed.specs.Indexes.{Finds}
 use Rattle.bo_indexed.proofs.EntryLemmas.{sums_like}
+use Rattle.bo_usage.specs.Shares.{blocked_share, cart_share}
 use Rattle.bo_counters.specs.Later.{release_if, free_if}
-use Rattle.bo_counters.specs.Shifts.{map_beside, moved, cart_share, cart_shift, blocked_share, covered_share, leave_shift, lapse_shift, end_shift, released, freed, lapsed, time_shift}
+use Rattle.bo_counters.specs.Shifts.{map_beside, moved, cart_shift, covered_share, leave_shift, lapse_shift, end_shift, released, freed, lapsed, time_shift}
 use Rattle.bo_counters.proofs.OfProducts.{stays, no_cart}
 use Rattle.bo_counters.proofs.ShiftLemmas.{share_is}
 use Rattle.bo_counters.proofs.TouchedLemmas.{beside_beside, beside_same}

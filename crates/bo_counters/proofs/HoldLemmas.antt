@@ -17,7 +17,8 @@ use Rattle.bo_lists.specs.Lists.{Lists, State, cart_at}
 use Rattle.bo_lists.proofs.Time.{sum_by_split}
 use Rattle.bo_indexed.specs.Indexes.{Finds}
 use Rattle.bo_indexed.proofs.EntryLemmas.{sums_like, sum_map}
-use Rattle.bo_counters.specs.Held.{AreHeld, named_by, held_name}
+use Rattle.bo_usage.specs.Shares.{held_name}
+use Rattle.bo_counters.specs.Held.{AreHeld, named_by}
 use Rattle.bo_counters.specs.Turns.{turn, turn_each}
 use Rattle.bo_counters.proofs.TurnLemmas.{one_use, up_one, down_one, down_each}
 

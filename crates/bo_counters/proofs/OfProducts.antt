@@ -13,8 +13,9 @@ use Rattle.bo_lists.specs.Conditions.{is_live_cart, is_live_voucher, is_paid, is
 use Rattle.bo_lists.specs.Headroom.{held_in}
 use Rattle.bo_lists.specs.Lists.{Lists, order_at}
 use Rattle.bo_lists.specs.Usage.{is_covered, has_none, stands_as}
-use Rattle.bo_counters.specs.Turns.{status_share, position_shift, turn_shift}
-use Rattle.bo_counters.specs.Shifts.{map_beside, only, moved, cart_share, cart_shift, waiting_share, waiting_shift, blocked_share, covered_share, leave_shift, enter_shift}
+use Rattle.bo_usage.specs.Shares.{blocked_share, cart_share, status_share, waiting_share}
+use Rattle.bo_counters.specs.Turns.{position_shift, turn_shift}
+use Rattle.bo_counters.specs.Shifts.{map_beside, only, moved, cart_shift, waiting_shift, covered_share, leave_shift, enter_shift}
 use Rattle.bo_counters.proofs.TouchedLemmas.{beside_beside, beside_alike, beside_same}
 
 pub stays : (n : ℕ) → moved n 0 0 ≡ n

@@ -26,9 +26,10 @@ use Rattle.bo_lists.proofs.Orders.{counts, of_order, order_step}
 use Rattle.bo_usage.specs.OfOrder.{count_ordered, if_stands}
 use Rattle.bo_usage.proofs.OrderSums.{of_one, order_put_is}
 use Rattle.bo_usage.proofs.Redeemed.{redeemed_order, redeemed_le}
+use Rattle.bo_usage.specs.Shares.{status_share, used_name}
 use Rattle.bo_counters.specs.Later.{IsCounted}
 use Rattle.bo_counters.specs.Shifts.{map_beside, moved}
-use Rattle.bo_counters.specs.Turns.{blocked_part, turned, turn, with_blocked, IsCountedBy, status_share, position_shift, order_shift, used_name, after_order}
+use Rattle.bo_counters.specs.Turns.{blocked_part, turned, turn, with_blocked, IsCountedBy, position_shift, order_shift, after_order}
 use Rattle.bo_counters.proofs.ShiftLemmas.{map_beside_map, moves, at_most_one, same_map}
 use Rattle.bo_counters.proofs.TurnLemmas.{counted_like}
 

@@ -6,6 +6,7 @@ use Rattle.std.proofs.lemmas.List.Sums.{count_by-le-length, sum_by-cons}
 use Rattle.bo_base.specs.Tables.{row_at, with_row, without_row, AreInOrder, sum_at, IsPlace}
 use Rattle.bo_base.proofs.Places.{row_at_place}
 use Rattle.bo_indexed.proofs.EntryLemmas.{map_at}
+use Rattle.bo_usage.specs.Shares.{blocked_share, cart_share, waiting_share}
 use Rattle.bo_counters.proofs.Later.{time_is}
 use Rattle.bo_base.proofs.Edits.{sum_by-with_row, sum_by-without_row}
 use Rattle.bo_catalogue.specs.declared.rows.Quota.{Quota}
@@ -26,7 +27,7 @@ use Rattle.bo_lists.specs.Headroom.{held_in}
 use Rattle.bo_lists.specs.Change.{after_change}
 use Rattle.bo_lists.specs.Usage.{usage_of, cart_counts, blocked_by, waits_for, redeemed}
 use Rattle.bo_counters.specs.Later.{IsCounted}
-use Rattle.bo_counters.specs.Shifts.{map_beside, moved, cart_share, cart_shift, waiting_share, waiting_shift, blocked_share, covered_share, voucher_shift, time_shift}
+use Rattle.bo_counters.specs.Shifts.{map_beside, moved, cart_shift, waiting_shift, covered_share, voucher_shift, time_shift}
 
 module _ {X Y : Type 0} (f : X → Y → Y) where
   pub map_beside_map : (a b : X → Y) (xs : List X) → ((x : X) → f x (a x) ≡ b x) → map_beside f xs (map a xs) ≡ map b xs

@@ -14,7 +14,8 @@ use Rattle.bo_lists.specs.declared.rows.Usage.{Usage}
 use Rattle.bo_lists.specs.Conditions.{names, blocks}
 use Rattle.bo_lists.specs.Lists.{Lists}
 use Rattle.bo_lists.specs.Kept.{IsKept}
-use Rattle.bo_counters.specs.Shifts.{map_beside, blocked_share}
+use Rattle.bo_usage.specs.Shares.{blocked_share}
+use Rattle.bo_counters.specs.Shifts.{map_beside}
 use Rattle.bo_counters.specs.Turns.{blocked_part, turned, turn, turn_each, with_blocked, IsCountedBy, turn_shift, name_of, after_order}
 use Rattle.bo_counters.proofs.ShiftLemmas.{map_beside_map, moves, same_map}
 use Rattle.bo_indexed.proofs.EntryLemmas.{map_at, kept_at, sums_like, sum_map}

@@ -1,8 +1,7 @@
 -- How many live cart positions name each voucher.
-use Rattle.std.specs.Prelude.{◌≡◌, ℕ, List, map, Option, Some, None, if◌then◌else◌}
+use Rattle.std.specs.Prelude.{◌≡◌, ℕ, List, map, Option, Some, None}
 use Rattle.bo_lists.specs.declared.rows.CartPos.{CartPos}
 use Rattle.bo_lists.specs.declared.rows.Usage.{Usage}
-use Rattle.bo_lists.specs.Conditions.{is_live_cart}
 use Rattle.bo_lists.specs.Headroom.{held}
 use Rattle.bo_lists.specs.Lists.{Lists}
 use Rattle.bo_counters.specs.Later.{IsCounted}
@@ -11,11 +10,6 @@ use Rattle.bo_counters.specs.Later.{IsCounted}
 abbrev pub named_by : Option CartPos → Option ℕ
 named_by None = None
 named_by (Some cart) = cart.voucher
-
--- the voucher of which it holds a use: the one that it names, while it is live
-abbrev pub held_name : ℕ → Option CartPos → Option ℕ
-held_name at None = None
-held_name at (Some cart) = if is_live_cart at cart then cart.voucher else None
 
 -- the numbers are those of the lists at the moment
 abbrev pub AreHeld : Lists → ℕ → List ℕ → Type 0

@@ -9,8 +9,9 @@ use Rattle.bo_lists.specs.Lists.{Lists, cart_at, voucher_at}
 use Rattle.bo_lists.specs.declared.rows.Voucher.{Voucher}
 use Rattle.bo_lists.specs.Conditions.{blocks}
 use Rattle.bo_lists.specs.Headroom.{held_in}
-use Rattle.bo_lists.specs.Usage.{blocked_by, cart_counts, waits_for}
+use Rattle.bo_lists.specs.Usage.{blocked_by, cart_counts}
 use Rattle.bo_lists.specs.CameDue.{is_due_cart, is_due_voucher}
+use Rattle.bo_usage.specs.Shares.{blocked_share, cart_share, waiting_share}
 use Rattle.bo_counters.specs.Later.{release_if, free_if}
 
 -- each of the second list by the one beside it
@@ -31,16 +32,11 @@ grown count come = max count (min (count + come) 18446744073709551615)
 abbrev pub moved : ℕ → ℕ → ℕ → ℕ
 moved count come gone = grown count come - gone
 
--- how much a cart position counts
-unfoldable pub cart_share : Lists → ℕ → Quota → Option CartPos → ℕ
-cart_share lists at quota cart = sum_at (λ c. if cart_counts lists at quota c then 1 else 0) cart
-
+-- a cart position comes, and one goes
 abbrev pub cart_shift : Lists → ℕ → Option CartPos → Option CartPos → Quota → Usage → Usage
 cart_shift lists at come gone quota usage = record usage { carts = moved usage.carts (cart_share lists at quota come) (cart_share lists at quota gone) }
 
-unfoldable pub waiting_share : Quota → Option Waiting → ℕ
-waiting_share quota entry = sum_at (λ w. if waits_for quota w then 1 else 0) entry
-
+-- a waiting entry comes, and one goes
 abbrev pub waiting_shift : Option Waiting → Option Waiting → Quota → Usage → Usage
 waiting_shift come gone quota usage = record usage { waiting = moved usage.waiting (waiting_share quota come) (waiting_share quota gone) }
 
@@ -66,10 +62,6 @@ time_shift lists from to quota usage = record usage {
   blocked = moved usage.blocked 0 (released lists from to quota);
   carts = moved usage.carts (freed lists from to quota) (lapsed lists from to quota);
 }
-
--- what a voucher that is redeemed so often blocks
-unfoldable pub blocked_share : ℕ → Quota → ℕ → Option Voucher → ℕ
-blocked_share at quota spent voucher = sum_at (λ v. if blocks at quota v then v.max_usages - spent else 0) voucher
 
 -- the cart positions that it covers at one moment, as far as they are live at another
 unfoldable pub covered_share : Lists → ℕ → ℕ → Quota → Option Voucher → ℕ

@@ -1,18 +1,16 @@
 -- Uses of vouchers that come and go, one after another.
 use Rattle.std.specs.Prelude.{◌≡◌, ℕ, ◌+◌, ◌-◌, min, Bool, true, false, List, [], ◌∷◌, map, Option, Some, None, sum_by, if◌then◌else◌}
-use Rattle.bo_base.specs.Tables.{sum_at}
 use Rattle.bo_catalogue.specs.declared.rows.Quota.{Quota}
 use Rattle.bo_catalogue.specs.Member.{is_in}
 use Rattle.bo_lists.specs.declared.rows.Order.{Order}
 use Rattle.bo_lists.specs.declared.rows.OrderPos.{OrderPos}
-use Rattle.bo_lists.specs.declared.rows.Status.{Status}
 use Rattle.bo_lists.specs.declared.rows.Voucher.{Voucher}
 use Rattle.bo_lists.specs.declared.rows.Usage.{Usage}
-use Rattle.bo_lists.specs.Conditions.{names, blocks, is_paid, is_pending, is_in_force}
-use Rattle.bo_lists.specs.Lists.{Lists, order_at}
-use Rattle.bo_lists.specs.Usage.{stands_as, position_counts}
+use Rattle.bo_lists.specs.Conditions.{names, blocks, is_paid, is_pending}
+use Rattle.bo_lists.specs.Lists.{Lists}
 use Rattle.bo_usage.specs.OfOrder.{count_ordered, if_stands}
-use Rattle.bo_counters.specs.Shifts.{moved, blocked_share}
+use Rattle.bo_usage.specs.Shares.{blocked_share, status_share}
+use Rattle.bo_counters.specs.Shifts.{moved}
 
 -- what a voucher blocks, where each is redeemed so often
 unfoldable pub blocked_part : (ℕ → ℕ) → ℕ → Quota → Voucher → ℕ
@@ -43,10 +41,7 @@ pub record IsCountedBy (lists : Lists) (at : ℕ) (spent : ℕ → ℕ) (base : 
 abbrev pub turn_shift : ℕ → ℕ → ℕ → Voucher → Quota → Usage → Usage
 turn_shift at was now voucher quota usage = record usage { blocked = moved usage.blocked (blocked_share at quota now (Some voucher)) (blocked_share at quota was (Some voucher)) }
 
--- an order position of such an order counts in the quota
-unfoldable pub status_share : (Status → Bool) → Lists → Quota → Option OrderPos → ℕ
-status_share test lists quota position = sum_at (λ p. if position_counts test lists quota p then 1 else 0) position
-
+-- an order position comes, and one goes
 abbrev pub position_shift : Lists → Option OrderPos → Option OrderPos → Quota → Usage → Usage
 position_shift lists come gone quota usage = record usage {
   paid = moved usage.paid (status_share is_paid lists quota come) (status_share is_paid lists quota gone);
@@ -73,11 +68,6 @@ order_shift lists come gone quota usage = record usage {
   paid = moved usage.paid (if_stands is_paid (Some come) (in_it quota come.id lists)) (if_stands is_paid gone (in_it quota come.id lists));
   pending = moved usage.pending (if_stands is_pending (Some come) (in_it quota come.id lists)) (if_stands is_pending gone (in_it quota come.id lists));
 }
-
--- the voucher that an order position uses: the one that it names, while its order is in force
-abbrev pub used_name : Lists → Option OrderPos → Option ℕ
-used_name lists None = None
-used_name lists (Some position) = if stands_as is_in_force (order_at position.order lists) then position.voucher else None
 
 -- the voucher that it names
 abbrev pub name_of : Option OrderPos → Option ℕ

@@ -5,12 +5,13 @@ ghost use Rattle.std.specs.Prelude.{◌≡◌, length, vec_capacity, Some};
 ghost use Rattle.std.specs.Option.{option_copied};
 ghost use Rattle.bo_counters.specs.Shifts.{map_beside, covered_share, leave_shift, enter_shift, voucher_shift};
 
-use crate::shift::{Shift, blocked_share, moved};
+use crate::shift::{Shift, moved};
 use crate::touched::shift_hit;
 use bo_base::Moment;
 use bo_catalogue::Quota;
 use bo_lists::{Usage, Voucher};
 use bo_store::Store;
+use bo_usage::rules::blocked_share;
 
 // The cart positions that a voucher covers at one moment, as far as they are live at another.
 #[tactic(auto, unfolding(crate::specs::Shifts::covered_share))]

@@ -11,7 +11,7 @@ use bo_catalogue::{Catalogue, Product, Quota};
 use bo_lists::{
     CartPos, Changes, Checkin, CheckinList, NextIds, Order, OrderPos, Usage, Voucher, Waiting,
 };
-use bo_usage::{Book, PositionTest};
+use bo_usage::{Book, LookUps, PositionTest};
 use std::alloc::{AllocError, Global};
 use std::sync::ledger::Ledger;
 

@@ -28,6 +28,7 @@ use bo_lists::{
     Waiting,
 };
 use bo_store::{Ended, Store};
+use bo_usage::LookUps;
 use std::alloc::{AllocError, Global};
 use std::marker::{Brand, Model};
 use std::sync::ledger::{Blank, Ledger};

@@ -9,7 +9,7 @@ ghost use Rattle.bo_lists.specs.Conditions.{names};
 ghost use Rattle.bo_lists.specs.Headroom.{held};
 ghost use Rattle.bo_lists.specs.Lists.{cart_at};
 ghost use Rattle.bo_store.specs.Walks.{one_if};
-ghost use Rattle.bo_counters.specs.Held.{AreHeld, held_name, named_by};
+ghost use Rattle.bo_counters.specs.Held.{AreHeld, named_by};
 ghost use Rattle.bo_counters.specs.Turns.{turn};
 
 use crate::turns::{turned, vouchers};
@@ -17,6 +17,8 @@ use bo_base::{Moment, place_of};
 use bo_lists::{CartPos, Change, Voucher};
 use bo_store::Store;
 use bo_store::ids::count_one;
+use bo_usage::LookUps;
+use bo_usage::rules::held_name;
 
 // One more, or one less, for the voucher of a name, if it stands.
 fn turn_one(vouchers: &[Voucher], counts: &mut Vec<u64>, name: Option<u64>, up: bool)
@@ -34,16 +36,6 @@ fn turn_one(vouchers: &[Voucher], counts: &mut Vec<u64>, name: Option<u64>, up: 
         Ok(at) => {
             counts[at] = turned(counts[at], up);
         }
-    }
-}
-
-// The voucher of which a cart position holds a use: the one that it names, while it is live.
-fn held_name(at: Moment, cart: Option<&CartPos>) -> Option<u64>
-    ensures { result ≡ held_name at (option_copied cart.entry) }
-{
-    match cart {
-        None => None,
-        Some(row) => { if row.is_live(at) { row.voucher } else { None } }
     }
 }
 

@@ -13,6 +13,7 @@ use bo_base::Moment;
 use bo_index::Found;
 use bo_lists::Usage;
 use bo_store::Store;
+use bo_usage::LookUps;
 
 // The usages where the voucher of an id has ended before a moment.
 fn end_one(store: &Store, usages: &mut Vec<Usage>, redeems: &[u64], at: Moment, id: u64)

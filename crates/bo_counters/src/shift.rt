@@ -6,13 +6,13 @@ ghost use Rattle.bo_base.specs.Tables.{with_row, without_row, AreInOrder};
 ghost use Rattle.std.specs.Option.{option_copied};
 ghost use Rattle.bo_catalogue.specs.declared.rows.Quota.{Quota};
 ghost use Rattle.bo_lists.specs.declared.rows.Usage.{Usage};
-ghost use Rattle.bo_counters.specs.Shifts.{map_beside, moved, cart_share, cart_shift, waiting_share, waiting_shift, blocked_share};
+ghost use Rattle.bo_counters.specs.Shifts.{map_beside, moved, cart_shift, waiting_shift};
 
 use bo_base::{Moment, Row, place_of};
 use bo_catalogue::Quota;
-use bo_lists::{CartPos, Usage, Voucher, Waiting};
+use bo_lists::{CartPos, Usage, Waiting};
 use bo_store::Store;
-use bo_store::ids::count_one;
+use bo_usage::rules::{cart_share, waiting_share};
 
 /// What happens to the usage of a quota.
 pub trait Shift {
@@ -61,17 +61,6 @@ impl<'s> Shift for CartShift<'s> {
     }
 }
 
-// How much a cart position counts.
-#[tactic(auto, unfolding(crate::specs::Shifts::cart_share))]
-fn cart_share(store: &Store, at: Moment, quota: &Quota, cart: Option<&CartPos>) -> u64
-    ensures { result ≡ cart_share store.now.state.lists at quota.now (option_copied cart.entry) }
-{
-    match cart {
-        None => 0,
-        Some(cart) => count_one(store.cart_counts(at, quota, cart)),
-    }
-}
-
 /// A waiting entry comes, and one goes.
 #[derive(Drop)]
 pub struct WaitingShift<'s> {
@@ -92,34 +81,6 @@ impl<'s> Shift for WaitingShift<'s> {
                 waiting_share(quota, self.gone),
             ),
             ..usage
-        }
-    }
-}
-
-// How much a waiting entry counts.
-#[tactic(auto, unfolding(crate::specs::Shifts::waiting_share))]
-fn waiting_share(quota: &Quota, entry: Option<&Waiting>) -> u64
-    ensures { result ≡ waiting_share quota.now (option_copied entry.entry) }
-{
-    match entry {
-        None => 0,
-        Some(entry) => count_one(entry.waits_for(quota)),
-    }
-}
-
-/// What a voucher that is redeemed so often blocks.
-#[tactic(auto, unfolding(crate::specs::Shifts::blocked_share))]
-pub fn blocked_share(at: Moment, quota: &Quota, spent: u64, voucher: Option<&Voucher>) -> u64
-    ensures { result ≡ blocked_share at quota.now spent (option_copied voucher.entry) }
-{
-    match voucher {
-        None => 0,
-        Some(voucher) => {
-            if voucher.blocks(at, quota) {
-                u64::from(voucher.max_usages.get()).saturating_sub(spent)
-            } else {
-                0
-            }
         }
     }
 }

@@ -10,18 +10,21 @@ ghost use Rattle.bo_catalogue.specs.Member.{is_in};
 ghost use Rattle.bo_store.specs.Walks.{one_if};
 ghost use Rattle.bo_lists.specs.declared.rows.Usage.{Usage};
 ghost use Rattle.bo_lists.specs.Lists.{position_at};
-ghost use Rattle.bo_lists.specs.Conditions.{is_paid, is_pending, is_in_force};
-ghost use Rattle.bo_lists.specs.Usage.{stands_as, redeemed};
+ghost use Rattle.bo_lists.specs.Usage.{redeemed};
 ghost use Rattle.bo_counters.specs.Shifts.{map_beside};
-ghost use Rattle.bo_counters.specs.Turns.{turned, turn, turn_each, IsCountedBy, turn_shift, status_share, position_shift, placed, place_shift, in_it, order_shift, used_name, name_of, after_order};
+ghost use Rattle.bo_counters.specs.Turns.{turned, turn, turn_each, IsCountedBy, turn_shift, position_shift, placed, place_shift, in_it, order_shift, name_of, after_order};
 
-use crate::shift::{Shift, blocked_share, moved};
+use crate::shift::{Shift, moved};
 use crate::touched::{shift_hit, shift_product};
 use bo_base::{Moment, place_of};
 use bo_catalogue::{Product, Quota};
 use bo_lists::{Change, Order, OrderPos, Usage, Voucher};
 use bo_store::Store;
 use bo_store::ids::count_one;
+use bo_usage::LookUps;
+use bo_usage::rules::{
+    blocked_share, is_in_force, is_paid, is_pending, paid_share, pending_share, used_name,
+};
 
 /// All vouchers, by id.
 pub fn vouchers(store: &Store) -> &[Voucher]
@@ -186,44 +189,6 @@ impl<'s> Shift for PositionShift<'s> {
     }
 }
 
-// Whether a position is of a paid order, and in the quota.
-#[tactic(auto, unfolding(crate::specs::Turns::status_share))]
-fn paid_share(store: &Store, quota: &Quota, position: Option<&OrderPos>) -> u64
-    ensures { result ≡ status_share is_paid store.now.state.lists quota.now (option_copied position.entry) }
-{
-    match position {
-        None => 0,
-        Some(row) => count_one(store.is_paid(row.order) && quota.has(row.product)),
-    }
-}
-
-// Whether a position is of a pending order, and in the quota.
-#[tactic(auto, unfolding(crate::specs::Turns::status_share))]
-fn pending_share(store: &Store, quota: &Quota, position: Option<&OrderPos>) -> u64
-    ensures { result ≡ status_share is_pending store.now.state.lists quota.now (option_copied position.entry) }
-{
-    match position {
-        None => 0,
-        Some(row) => count_one(store.is_pending(row.order) && quota.has(row.product)),
-    }
-}
-
-// The voucher that a position uses.
-fn used_name(store: &Store, position: Option<&OrderPos>) -> Option<u64>
-    ensures { result ≡ used_name store.now.state.lists (option_copied position.entry) }
-{
-    match position {
-        None => None,
-        Some(row) => {
-            if store.is_in_force(row.order) {
-                row.voucher
-            } else {
-                None
-            }
-        }
-    }
-}
-
 // The usages where an order position comes, but for what vouchers block.
 fn position_comes<'s>(store: &'s Store, usages: &mut Vec<Usage>, come: Option<&'s OrderPos>)
     requires { length usages.old.items ≡ length store.now.state.lists.catalogue.quotas }
@@ -337,26 +302,6 @@ fn placed(up: bool, count: u64, places: u64) -> u64
     }
 }
 
-// Whether an order stands and is paid.
-fn is_paid(order: Option<&Order>) -> bool
-    ensures { result ≡ stands_as is_paid (option_copied order.entry) }
-{
-    match order {
-        None => false,
-        Some(order) => order.status.is_paid(),
-    }
-}
-
-// Whether an order stands and waits for its payment.
-fn is_pending(order: Option<&Order>) -> bool
-    ensures { result ≡ stands_as is_pending (option_copied order.entry) }
-{
-    match order {
-        None => false,
-        Some(order) => order.status.is_pending(),
-    }
-}
-
 // As many, where it is so.
 fn if_so(is: bool, count: u64) -> u64
     ensures { result ≡ (if is then count else 0) }
@@ -439,7 +384,7 @@ pub fn count_order(store: &Store, usages: &mut Vec<Usage>, redeems: &mut Vec<u64
 {
     store.known();
     let gone = store.order(row.id);
-    let was = store.is_in_force(row.id);
+    let was = is_in_force(gone);
     let now = row.status.is_in_force();
     shift_order(store, usages, row, gone);
     if was != now {

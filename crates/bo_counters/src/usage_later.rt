@@ -17,6 +17,7 @@ use bo_catalogue::Quota;
 use bo_lists::{CartPos, Usage, Voucher};
 use bo_store::Ended;
 use bo_store::ids::count_one;
+use bo_usage::rules::left_of;
 use std::sync::ledger::Ledger;
 
 /// What vouchers that ended no longer block, and the cart positions that count in their place.
@@ -64,9 +65,7 @@ fn release_of<L: Ledger>(
         Some(voucher) => {
             if voucher.block_quota && voucher.hits(quota) {
                 Release {
-                    blocked: u64::from(voucher.max_usages.get()).saturating_sub(redeemed_of(
-                        ended, redeems, voucher.id,
-                    )),
+                    blocked: left_of(voucher, redeemed_of(ended, redeems, voucher.id)),
                     carts: freed_by(ended, voucher.id, quota, at, steps),
                 }
             } else {

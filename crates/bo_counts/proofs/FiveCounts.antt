@@ -15,6 +15,7 @@ use Rattle.bo_lists.specs.Conditions.{is_paid, is_pending, is_in_force, is_live_
 use Rattle.bo_lists.specs.Lists.{Lists, voucher_at, cart_at, order_at, position_at, waiting_at}
 use Rattle.bo_lists.specs.Usage.{stands_as, position_counts, uses, redeemed, blocked_by, blocks_if, is_covered_by, cart_counts, waits_for}
 use Rattle.bo_lists.proofs.EachRow.{key-row_at}
+use Rattle.bo_usage.specs.Shares.{status_share, cart_share, waiting_share, blocked_share}
 use Rattle.bo_counts.specs.Touched.{ArePositions, AreVouchers, AreCarts, AreEntries, AreOrdered}
 use Rattle.bo_counts.specs.Shares.{share, use_of, blocked_as}
 use Rattle.bo_counts.specs.Told.{redeemed_each}
@@ -37,9 +38,11 @@ module _ (before after : Lists) (b : AreOrdered before) (a : AreOrdered after) w
           (λ id absent. same_counts id absent (position_at id before) refl ∙ ap (sum_at (λ p. once (position_counts test after q p))) (sym (is.positions id absent)))
 
     pub paid_shifted : (at : ℕ) (q : Quota) → count_by (position_counts is_paid after q) after.positions + sum_by (share Paid before at q) ids ≡ count_by (position_counts is_paid before q) before.positions + sum_by (share Paid after at q) ids
+    unfolding status_share
     paid_shifted at q = positions_shifted is_paid q
 
     pub pending_shifted : (at : ℕ) (q : Quota) → count_by (position_counts is_pending after q) after.positions + sum_by (share Pending before at q) ids ≡ count_by (position_counts is_pending before q) before.positions + sum_by (share Pending after at q) ids
+    unfolding status_share
     pending_shifted at q = positions_shifted is_pending q
 
     same_uses : (v id : ℕ) → has id ids ≡ false → (o : Option OrderPos) → position_at id before ≡ o → sum_at (λ p. once (uses v before p)) o ≡ sum_at (λ p. once (uses v after p)) o
@@ -73,11 +76,13 @@ module _ (before after : Lists) (b : AreOrdered before) (a : AreOrdered after) w
       same_carts id absent (Some c) found = ap (λ (covered : Bool). once (is_live_cart at c && is_in q c.product && not covered)) (same_cover id c absent found c.voucher refl)
 
       pub carts_shifted : count_by (cart_counts after at q) after.carts + sum_by (share Carts before at q) ids ≡ count_by (cart_counts before at q) before.carts + sum_by (share Carts after at q) ids
+      unfolding cart_share
       carts_shifted =
           shifted (λ (c : CartPos). c.id) (λ c. once (cart_counts before at q c)) (λ c. once (cart_counts after at q c)) ids 0 before.carts after.carts is.order b.carts a.carts
           (λ id absent. same_carts id absent (cart_at id before) refl ∙ ap (sum_at (λ c. once (cart_counts after at q c))) (sym (is.carts id absent)))
 
     pub waiting_shifted : (ids : List ℕ) → AreEntries before after ids → count_by (waits_for q) after.waiting + sum_by (share Waiting before at q) ids ≡ count_by (waits_for q) before.waiting + sum_by (share Waiting after at q) ids
+    unfolding waiting_share
     waiting_shifted ids is =
         shifted (λ w. w.id) (λ w. once (waits_for q w)) (λ w. once (waits_for q w)) ids 0 before.waiting after.waiting is.order b.waiting a.waiting
         (λ id absent. ap (sum_at (λ w. once (waits_for q w))) (sym (is.entries id absent)))
@@ -90,5 +95,6 @@ module _ (lists : Lists) (at : ℕ) (q : Quota) where
   one_blocked id (Some v) found = ap (λ k. if blocks at q v then v.max_usages - redeemed k lists else 0) (sym (key-row_at (λ (r : Voucher). r.id) id lists.vouchers v found))
 
   pub blocked_each : (ids : List ℕ) → sum_by (blocked_as lists at q) (redeemed_each lists ids) ≡ sum_by (value (λ r. r.id) (blocked_by lists at q) lists.vouchers) ids
+  unfolding blocked_share
   blocked_each [] = refl
   blocked_each (id ∷ ids) = omega (arith, one_blocked id (voucher_at id lists) refl, blocked_each ids, sum_by-cons (blocked_as lists at q) (record { voucher = id; redeemed = redeemed id lists }) (redeemed_each lists ids), sum_by-cons (value (λ r. r.id) (blocked_by lists at q) lists.vouchers) id ids)

@@ -1,8 +1,9 @@
 pub mod Shifted
 pub mod Picked
-pub mod LookUps
 pub mod FiveCounts
 pub mod Untouched
 pub mod Ordered
 pub mod Usages
+pub mod NoneDue
 pub mod ToldRows
+pub mod Unreached

@@ -26,6 +26,7 @@ use Rattle.bo_lists.proofs.EachRow.{all_weaker, key-row_at}
 use Rattle.bo_lists.proofs.Found.{each_found}
 use Rattle.bo_counts.specs.declared.touched.Touched.{Touched}
 use Rattle.bo_counts.specs.Told.{Passage, IsPassage, has_count, has_voucher, told_unless, told_if, quota_told, voucher_told, voucher_told_as, gone_told, redeemed_each}
+use Rattle.bo_counts.specs.Reached.{AreAsked}
 use Rattle.bo_counts.proofs.Picked.{filter_is, picked, passes_if, one_passes, any_mapped}
 use Rattle.bo_counts.proofs.Shifted.{own_id}
 
@@ -98,28 +99,35 @@ module _ (p : Passage) where
         (λ v found absent. ap (λ (o : Option Voucher). if is_none o then v.id ∷ [] else []) (is.touched.vouchers.vouchers v.id absent ∙ found))
         p.before.lists.vouchers (each_found (λ (v : Voucher). v.id) 0 p.before.lists.vouchers is.ordered_before.vouchers)))
 
--- the quotas that stood, or that changes put, are all
-pub no_other : (lists : Lists) (changes : List Change) (ids : List ℕ) → ids ≡ rising (map (λ q. q.id) lists.catalogue.quotas ++ flat_map quotas_by changes) → (q : Quota) → quota_at q.id (after_all changes lists).catalogue ≡ Some q → has q.id ids ≡ false → ⊥
-no_other lists changes ids is q found absent =
-    let both = absent_both q.id (map (λ (r : Quota). r.id) lists.catalogue.quotas) (flat_map quotas_by changes) (sym (has-rising q.id (map (λ (r : Quota). r.id) lists.catalogue.quotas ++ flat_map quotas_by changes)) ∙ ap (has q.id) (sym is) ∙ absent) in
-    none-some q (sym (unaltered (λ l. quota_at q.id l.catalogue) quotas_by q.id quota_step changes lists both.1 ∙ absent_at lists.catalogue.quotas both.0) ∙ found)
+pub rises : (ids given : List ℕ) → ids ≡ rising given → AreInOrder (λ n. n) ids
+rises ids given is = rw is (rising_in_order given)
+
+-- a quota that changes don't put stands as it stood
+pub quota_stood : (id : ℕ) (changes : List Change) (lists : Lists) → has id (flat_map quotas_by changes) ≡ false → quota_at id (after_all changes lists).catalogue ≡ quota_at id lists.catalogue
+quota_stood id changes lists absent = unaltered (λ l. quota_at id l.catalogue) quotas_by id quota_step changes lists absent
   where
-    quota_step : (change : Change) (l : Lists) → has q.id (quotas_by change) ≡ false → quota_at q.id (after_change change l).catalogue ≡ quota_at q.id l.catalogue
-    quota_step (PutQuota row) l none = row_at-with_row (λ r. r.id) q.id row l.catalogue.quotas ∙ ap (λ b. if b then Some row else quota_at q.id l.catalogue) (neither (eqb row.id q.id) false none).0
+    quota_step : (change : Change) (l : Lists) → has id (quotas_by change) ≡ false → quota_at id (after_change change l).catalogue ≡ quota_at id l.catalogue
+    quota_step (PutQuota row) l none = row_at-with_row (λ r. r.id) id row l.catalogue.quotas ∙ ap (λ b. if b then Some row else quota_at id l.catalogue) (neither (eqb row.id id) false none).0
     quota_step _ l none = refl
 
+-- the quotas that stood, or that changes put, are all
+no_other : (lists : Lists) (changes : List Change) (ids : List ℕ) → ids ≡ rising (map (λ q. q.id) lists.catalogue.quotas ++ flat_map quotas_by changes) → (q : Quota) → quota_at q.id (after_all changes lists).catalogue ≡ Some q → has q.id ids ≡ false → ⊥
+no_other lists changes ids is q found absent =
+    let both = absent_both q.id (map (λ (r : Quota). r.id) lists.catalogue.quotas) (flat_map quotas_by changes) (sym (has-rising q.id (map (λ (r : Quota). r.id) lists.catalogue.quotas ++ flat_map quotas_by changes)) ∙ ap (has q.id) (sym is) ∙ absent) in
+    none-some q (sym (quota_stood q.id changes lists both.1 ∙ absent_at lists.catalogue.quotas both.0) ∙ found)
+  where
     absent_at : (quotas : List Quota) → has q.id (map (λ (r : Quota). r.id) quotas) ≡ false → row_at (λ r. r.id) q.id quotas ≡ None
     absent_at [] none = refl
     absent_at (r ∷ rs) none =
         let two = neither (eqb r.id q.id) (has q.id (map (λ (s : Quota). s.id) rs)) none in
         rw two.0 (absent_at rs two.1)
 
-pub others_none : (state : State) (at : ℕ) (log changes : List Change) (ids : List ℕ) (p : Passage) → p.after ≡ record { lists = after_all log state.lists; next = state.next; moment = at } → changes ≡ log → ids ≡ rising (map (λ q. q.id) state.lists.catalogue.quotas ++ flat_map quotas_by changes) → (q : Quota) → quota_at q.id p.after.lists.catalogue ≡ Some q → has q.id ids ≡ false → quota_told p q ≡ []
-others_none state at log changes ids p after_is same is q found absent =
-    absurd (no_other state.lists log ids (is ∙ ap (λ (cs : List Change). rising (map (λ (q : Quota). q.id) state.lists.catalogue.quotas ++ flat_map quotas_by cs)) same) q (sym (ap (λ (s : State). quota_at q.id s.lists.catalogue) after_is) ∙ found) absent)
-
-pub rises : (ids given : List ℕ) → ids ≡ rising given → AreInOrder (λ n. n) ids
-rises ids given is = rw is (rising_in_order given)
+-- so nothing is told of any other
+pub asked_all : (p : Passage) (lists : Lists) (changes : List Change) (ids : List ℕ) → p.before.lists ≡ lists → p.after.lists ≡ after_all changes p.before.lists → ids ≡ rising (map (λ q. q.id) lists.catalogue.quotas ++ flat_map quotas_by changes) → AreAsked p ids
+asked_all p lists changes ids before_is after_is is = record {
+  order = rises ids (map (λ q. q.id) lists.catalogue.quotas ++ flat_map quotas_by changes) is;
+  others = λ q found absent. absurd (no_other lists changes ids is q (sym (ap (λ (l : Lists). quota_at q.id l.catalogue) (after_is ∙ ap (after_all changes) before_is)) ∙ found) absent);
+}
 
 -- the three lists together
 pub counts_are : (state : State) (changes : Changed) (at : ℕ) (before after : State) (log : List Change) → before ≡ state → after ≡ record { lists = after_all log state.lists; next = state.next; moment = at } → log ≡ changes.list → (rows : CountRows) (quotas : List QuotaCount) (vouchers : List VoucherCount) (gone : List ℕ) → rows.quotas ≡ quotas → rows.vouchers ≡ vouchers → rows.gone ≡ gone → quotas ≡ (counts_after before after).quotas → vouchers ≡ (counts_after before after).vouchers → gone ≡ (counts_after before after).gone → rows ≡ counts_after state (applied changes at state)

@@ -16,6 +16,7 @@ use Rattle.bo_lists.specs.Kept.{IsKept}
 use Rattle.bo_lists.specs.Lists.{Lists}
 use Rattle.bo_lists.specs.Usage.{usage_of, blocked_by, position_counts, cart_counts, waits_for}
 use Rattle.bo_lists.specs.Conditions.{is_paid, is_pending}
+use Rattle.bo_usage.specs.Shares.{status_share, cart_share, waiting_share}
 use Rattle.bo_counts.specs.Touched.{AreOrdered}
 use Rattle.bo_counts.specs.Shares.{share, blocked_as}
 use Rattle.bo_counts.specs.Told.{redeemed_each, Passage, IsPassage}
@@ -66,7 +67,7 @@ pub fresh_is : (lists rows : Lists) (at : ℕ) (q : Quota) (positions : List Ord
     → inside ≡ sum_by (share Carts rows at q) (map (λ c. c.id) carts)
     → waiting ≡ sum_by (share Waiting rows at q) (map (λ w. w.id) entries)
     → record { paid = paid; pending = pending; blocked = blocked; carts = inside; waiting = waiting } ≡ usage_of lists at q
-unfolding usage_of
+unfolding usage_of status_share cart_share waiting_share
 fresh_is lists rows at q positions carts entries paid pending blocked inside waiting same n k ps cs es a b c d e =
     five paid pending blocked inside waiting (count_by (position_counts is_paid lists q) lists.positions) (count_by (position_counts is_pending lists q) lists.positions) (sum_by (blocked_by lists at q) lists.vouchers) (count_by (cart_counts lists at q) lists.carts) (count_by (waits_for q) lists.waiting)
     (a ∙ ap (λ (l : Lists). sum_by (share Paid l at q) (map (λ p. p.id) positions)) same ∙ ap (λ (l : List OrderPos). sum_by (share Paid lists at q) (map (λ p. p.id) l)) ps ∙ all_values (λ (p : OrderPos). p.id) (λ p. if position_counts is_paid lists q p then 1 else 0) lists.positions k.positions.in_order)

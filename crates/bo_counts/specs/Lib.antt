@@ -1,4 +1,4 @@
-pub mod Puts
 pub mod Touched
 pub mod Shares
 pub mod Told
+pub mod Reached

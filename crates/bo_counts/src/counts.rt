@@ -2,12 +2,15 @@
 
 ghost use Rattle.std.specs.Prelude.{◌≡◌, ◌≤◌, ◌++◌, IfOk, OnOk, map, flat_map};
 ghost use Rattle.bo_base.specs.Rising.{rising};
-ghost use Rattle.bo_lists.specs.Change.{applied};
+ghost use Rattle.bo_lists.specs.Change.{applied, after_all};
 ghost use Rattle.bo_lists.specs.CountRows.{counts_after};
 ghost use Rattle.bo_counts.specs.Touched.{quotas_by};
+ghost use Rattle.bo_counts.specs.Reached.{reached, AreAsked};
 
 use crate::copies::log_of;
 use crate::sides::Sides;
+use crate::touched::Touched;
+use crate::view::View;
 use bo_base::{Ids, Moment};
 use bo_lists::{Change, Changes, CountRows};
 use bo_log::ChangeLog;
@@ -29,15 +32,51 @@ pub fn counts_after<B: Book>(
     let none = ChangeLog::new(alloc);
     let log = log_of(alloc, changes.as_slice())?;
     let sides = Sides::new(book, alloc, &none, &log, at)?;
-    let ids = quota_ids(book, alloc, changes.as_slice())?;
+    let ids = sides.asked(alloc, changes.as_slice())?;
     let quotas = sides.quotas(alloc, ids.as_slice())?;
     let vouchers = sides.vouchers(alloc)?;
     let gone = sides.gone(alloc)?;
     Ok(CountRows::new(quotas, vouchers, gone))
 }
 
-// The quotas whose counts may differ.
-fn quota_ids<B: Book>(book: &B, alloc: Global, changes: &[Change]) -> Result<Ids, AllocError>
+impl<'s, B: Book> Sides<'s, B> {
+    // The quotas whose counts may differ by these changes: where nothing came due, those that they put or reach.
+    fn asked(&self, alloc: Global, changes: &[Change]) -> Result<Ids, AllocError>
+        requires { self.now.after.lists ≡ after_all changes.now self.now.before.lists }
+        ensures { IfOk result (λ ids. AreAsked self.now ids) }
+    {
+        if self.book.came_due(self.at) == 0 {
+            let rows = &self.touched;
+            let ids = reached_ids(self.book, alloc, changes, &self.before, &self.after, rows)?;
+            Ok(ids)
+        } else {
+            let ids = all_ids(self.book, alloc, changes)?;
+            Ok(ids)
+        }
+    }
+}
+
+// The quotas that changes put, or that the rows which they touch reach, by what stood or by what stands.
+fn reached_ids<B: Book>(
+    book: &B,
+    alloc: Global,
+    changes: &[Change],
+    before: &View<'_, B>,
+    after: &View<'_, B>,
+    touched: &Touched,
+) -> Result<Ids, AllocError>
+    ensures { IfOk result (λ ids. ids ≡ rising (flat_map quotas_by changes.now ++ reached (B.state book.now).lists.catalogue before.now touched.now ++ reached (B.state book.now).lists.catalogue after.now touched.now)) }
+{
+    let catalogue = book.catalogue();
+    let mut ids = Vec::new(alloc);
+    add_quotas(changes, &mut ids)?;
+    before.add_reached(alloc, catalogue, touched, &mut ids)?;
+    after.add_reached(alloc, catalogue, touched, &mut ids)?;
+    Ok(Ids::sorted(ids))
+}
+
+// All quotas, and those that changes put.
+fn all_ids<B: Book>(book: &B, alloc: Global, changes: &[Change]) -> Result<Ids, AllocError>
     ensures { IfOk result (λ ids. ids ≡ rising (map (λ q. q.id) (B.state book.now).lists.catalogue.quotas ++ flat_map quotas_by changes.now)) }
 {
     let quotas = book.catalogue().quotas();

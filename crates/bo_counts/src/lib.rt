@@ -3,6 +3,7 @@
 
 mod copies;
 mod counts;
+mod reached;
 mod shares;
 mod sides;
 mod told;

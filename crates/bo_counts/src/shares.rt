@@ -1,16 +1,14 @@
 //! What single rows add to counts.
 
-ghost use Rattle.std.specs.Prelude.{◌≡◌, ◌+◌, ℕ, IfOk, sum_by};
-ghost use Rattle.bo_lists.specs.Conditions.{is_paid, is_pending, is_in_force};
-ghost use Rattle.bo_lists.specs.Lists.{order_at};
-ghost use Rattle.bo_lists.specs.Usage.{stands_as, is_covered_by};
+ghost use Rattle.std.specs.Prelude.{◌≡◌, ◌+◌, IfOk, sum_by};
 ghost use Rattle.bo_counts.specs.Shares.{share, use_of, blocked_as};
 
 use crate::view::View;
 use bo_base::Moment;
 use bo_catalogue::Quota;
 use bo_lists::VoucherCount;
-use bo_usage::Book;
+use bo_usage::rules::{blocked_share, cart_share, paid_share, pending_share, uses, waiting_share};
+use bo_usage::{Book, LookUps};
 use std::alloc::AllocError;
 
 /// The counts of a quota to which each row adds one place or none.
@@ -66,82 +64,10 @@ impl<'v, B: Book> View<'v, B> {
         ensures { result ≡ share kind self.now at quota.now id }
     {
         match kind {
-            Kind::Paid => self.paid(quota, id),
-            Kind::Pending => self.pending(quota, id),
-            Kind::Carts => self.in_cart(at, quota, id),
-            Kind::Waiting => self.waiting(quota, id),
-        }
-    }
-
-    fn paid(&self, quota: &Quota, id: u64) -> u64
-        ensures { (at : ℕ) → result ≡ share Kind.Paid self.now at quota.now id }
-    {
-        match self.position(id) {
-            None => 0,
-            Some(row) => u64::from(self.is_paid(row.order) && quota.has(row.product)),
-        }
-    }
-
-    fn pending(&self, quota: &Quota, id: u64) -> u64
-        ensures { (at : ℕ) → result ≡ share Kind.Pending self.now at quota.now id }
-    {
-        match self.position(id) {
-            None => 0,
-            Some(row) => u64::from(self.is_pending(row.order) && quota.has(row.product)),
-        }
-    }
-
-    fn in_cart(&self, at: Moment, quota: &Quota, id: u64) -> u64
-        ensures { result ≡ share Kind.Carts self.now at quota.now id }
-    {
-        match self.cart(id) {
-            None => 0,
-            Some(row) => u64::from(
-                row.is_live(at)
-                    && quota.has(row.product)
-                    && !self.is_covered(at, quota, row.voucher),
-            ),
-        }
-    }
-
-    fn waiting(&self, quota: &Quota, id: u64) -> u64
-        ensures { (at : ℕ) → result ≡ share Kind.Waiting self.now at quota.now id }
-    {
-        match self.entry(id) {
-            None => 0,
-            Some(row) => u64::from(row.waits_for(quota)),
-        }
-    }
-
-    // Whether the order stands as paid.
-    fn is_paid(&self, order: u64) -> bool
-        ensures { result ≡ stands_as is_paid (order_at order self.now) }
-    {
-        self.order(order).is_some_and(|o| o.status.is_paid())
-    }
-
-    fn is_pending(&self, order: u64) -> bool
-        ensures { result ≡ stands_as is_pending (order_at order self.now) }
-    {
-        self.order(order).is_some_and(|o| o.status.is_pending())
-    }
-
-    fn is_in_force(&self, order: u64) -> bool
-        ensures { result ≡ stands_as is_in_force (order_at order self.now) }
-    {
-        self.order(order).is_some_and(|o| o.status.is_in_force())
-    }
-
-    // Whether that voucher blocks places of the quota.
-    fn is_covered(&self, at: Moment, quota: &Quota, voucher: Option<u64>) -> bool
-        ensures { result ≡ is_covered_by self.now at quota.now voucher }
-    {
-        match voucher {
-            None => false,
-            Some(id) => match self.voucher(id) {
-                None => false,
-                Some(voucher) => voucher.blocks(at, quota),
-            },
+            Kind::Paid => paid_share(self, quota, self.position(id)),
+            Kind::Pending => pending_share(self, quota, self.position(id)),
+            Kind::Carts => cart_share(self, at, quota, self.cart(id)),
+            Kind::Waiting => waiting_share(quota, self.entry(id)),
         }
     }
 
@@ -161,7 +87,7 @@ impl<'v, B: Book> View<'v, B> {
     {
         match self.position(id) {
             None => 0,
-            Some(row) => u64::from(row.voucher == Some(voucher) && self.is_in_force(row.order)),
+            Some(row) => u64::from(uses(self, voucher, row)),
         }
     }
 
@@ -184,11 +110,6 @@ impl<'v, B: Book> View<'v, B> {
     fn blocked_as(&self, at: Moment, quota: &Quota, count: VoucherCount) -> u64
         ensures { result ≡ blocked_as self.now at quota.now count }
     {
-        match self.voucher(count.voucher) {
-            Some(voucher) if voucher.blocks(at, quota) => {
-                u64::from(voucher.max_usages.get()).saturating_sub(count.redeemed)
-            }
-            _ => 0,
-        }
+        blocked_share(at, quota, count.redeemed, self.voucher(count.voucher))
     }
 }

@@ -27,7 +27,7 @@ pub struct Sides<'s, B: Book> {
     pub(crate) book: &'s B,
     pub(crate) before: View<'s, B>,
     pub(crate) after: View<'s, B>,
-    at: Moment,
+    pub(crate) at: Moment,
     pub(crate) touched: Touched,
     redeemed_before: Vec<VoucherCount>,
     pub(crate) redeemed_after: Vec<VoucherCount>,

@@ -1,23 +1,21 @@
 //! The counts that differ after changes.
 
-ghost use Rattle.std.specs.Prelude.{◌≡◌, ◌++◌, [], IfOk, OnOk, false, Some, flat_map};
-ghost use Rattle.bo_base.specs.Tables.{has, AreInOrder};
+ghost use Rattle.std.specs.Prelude.{◌≡◌, ◌++◌, IfOk, OnOk, flat_map};
 ghost use Rattle.bo_catalogue.specs.CatalogueLists.{quota_at};
-ghost use Rattle.bo_catalogue.specs.declared.rows.Quota.{Quota};
 ghost use Rattle.bo_lists.specs.Lists.{voucher_at};
 ghost use Rattle.bo_lists.specs.CountRows.{same_usage, counts_after};
+ghost use Rattle.bo_counts.specs.Reached.{AreAsked};
 ghost use Rattle.bo_counts.specs.Told.{has_count, has_voucher, quota_told, voucher_told_as, gone_told, told_if, told_unless};
 
 use crate::sides::{Sides, usage_at};
 use bo_lists::{QuotaCount, Usage, VoucherCount};
-use bo_usage::Book;
+use bo_usage::{Book, LookUps};
 use std::alloc::{AllocError, Global};
 
 impl<'s, B: Book> Sides<'s, B> {
     /// The counts of the quotas that are new, or whose counts differ, where all of them are among these.
     pub fn quotas(&self, alloc: Global, ids: &[u64]) -> Result<Vec<QuotaCount>, AllocError>
-        requires order { AreInOrder (λ n. n) ids.now }
-        requires others { (quota : Quota) → quota_at quota.id self.now.after.lists.catalogue ≡ Some quota → has quota.id ids.now ≡ false → quota_told self.now quota ≡ [] }
+        requires { AreAsked self.now ids.now }
         ensures { IfOk result (λ rows. rows.items ≡ (counts_after self.now.before self.now.after).quotas) }
     {
         self.in_order();

@@ -9,7 +9,7 @@ ghost use Rattle.bo_counts.specs.Touched.{positions_by, vouchers_by, carts_by, e
 use crate::view::View;
 use bo_base::Ids;
 use bo_lists::{Change, OrderPos};
-use bo_usage::Book;
+use bo_usage::{Book, LookUps};
 use std::alloc::{AllocError, Global};
 
 /// The ids of the rows that differ after changes, or that count otherwise, by table.

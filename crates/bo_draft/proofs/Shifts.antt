@@ -15,15 +15,16 @@ use Rattle.bo_lists.specs.Kept.{IsKept}
 use Rattle.bo_lists.specs.Change.{after_change}
 use Rattle.bo_lists.specs.Usage.{usage_of, cart_counts, blocked_by, waits_for}
 use Rattle.bo_lists.proofs.Lowers.{checkin_list_apart, checkin_apart}
+use Rattle.bo_usage.specs.Shares.{cart_share, waiting_share}
 use Rattle.bo_overlay.specs.Logs.{Log, rows_of}
-use Rattle.bo_draft.specs.Shift.{CanCome, used, cart_share, waiting_share, come_of, gone_of}
+use Rattle.bo_draft.specs.Shift.{CanCome, used, come_of, gone_of}
 use Rattle.bo_draft.proofs.Parts.{by_usage, carts_total, waiting_total}
 use Rattle.bo_draft.proofs.VoucherShifts.{voucher_put, voucher_drop}
 use Rattle.bo_draft.proofs.OrderShifts.{order_put, position_put}
 
 module _ (lists : Lists) (at : ℕ) (quota : Quota) where
   cart_put : (row : CartPos) → AreInOrder (λ r. r.id) lists.carts → used (after_change (PutCart row) lists) at quota + cart_share lists at quota (cart_at row.id lists) ≡ used lists at quota + cart_share lists at quota (Some row)
-  unfolding usage_of blocked_by
+  unfolding usage_of blocked_by cart_share
   cart_put row order =
       let after = after_change (PutCart row) lists in
       let f : CartPos → ℕ = λ c. if cart_counts lists at quota c then 1 else 0 in
@@ -32,7 +33,7 @@ module _ (lists : Lists) (at : ℕ) (quota : Quota) where
       (carts_total (usage_of lists at quota) c _ _ (sum_by-with_row (λ r. r.id) f 0 row lists.carts order))
 
   cart_drop : (id : ℕ) → AreInOrder (λ r. r.id) lists.carts → used (after_change (DropCart id) lists) at quota + cart_share lists at quota (cart_at id lists) ≡ used lists at quota + 0
-  unfolding usage_of blocked_by
+  unfolding usage_of blocked_by cart_share
   cart_drop id order =
       let after = after_change (DropCart id) lists in
       let f : CartPos → ℕ = λ c. if cart_counts lists at quota c then 1 else 0 in
@@ -41,7 +42,7 @@ module _ (lists : Lists) (at : ℕ) (quota : Quota) where
       (carts_total (usage_of lists at quota) c _ 0 (omega (arith, sum_by-without_row (λ r. r.id) f 0 id lists.carts order)))
 
   waiting_put : (row : Waiting) → AreInOrder (λ r. r.id) lists.waiting → used (after_change (PutWaiting row) lists) at quota + waiting_share quota (waiting_at row.id lists) ≡ used lists at quota + waiting_share quota (Some row)
-  unfolding usage_of blocked_by
+  unfolding usage_of blocked_by waiting_share
   waiting_put row order =
       let after = after_change (PutWaiting row) lists in
       let f : Waiting → ℕ = λ w. if waits_for quota w then 1 else 0 in
@@ -50,7 +51,7 @@ module _ (lists : Lists) (at : ℕ) (quota : Quota) where
       (waiting_total (usage_of lists at quota) w _ _ (sum_by-with_row (λ r. r.id) f 0 row lists.waiting order))
 
   waiting_drop : (id : ℕ) → AreInOrder (λ r. r.id) lists.waiting → used (after_change (DropWaiting id) lists) at quota + waiting_share quota (waiting_at id lists) ≡ used lists at quota + 0
-  unfolding usage_of blocked_by
+  unfolding usage_of blocked_by waiting_share
   waiting_drop id order =
       let after = after_change (DropWaiting id) lists in
       let f : Waiting → ℕ = λ w. if waits_for quota w then 1 else 0 in

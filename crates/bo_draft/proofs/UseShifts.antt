@@ -15,10 +15,11 @@ use Rattle.bo_lists.specs.Conditions.{is_in_force, is_live_cart, names, holds}
 use Rattle.bo_lists.specs.Usage.{redeemed, stands_as, uses}
 use Rattle.bo_lists.proofs.Time.{one}
 use Rattle.bo_usage.specs.OfOrder.{count_ordered, if_stands}
+use Rattle.bo_usage.specs.Shares.{held_name, used_name}
 use Rattle.bo_usage.proofs.Redeemed.{named, redeemed_order, redeemed_position}
-use Rattle.bo_draft.specs.Uses.{one_use, held_by, used_by, IsShift}
+use Rattle.bo_draft.specs.Uses.{one_use, IsShift}
 
-held_is : (at v : ℕ) (cart : Option CartPos) → sum_at (λ c. if holds at v c then 1 else 0) cart ≡ one_use v (held_by at cart)
+held_is : (at v : ℕ) (cart : Option CartPos) → sum_at (λ c. if holds at v c then 1 else 0) cart ≡ one_use v (held_name at cart)
 held_is at v None = refl
 held_is at v (Some cart) = by_life (is_live_cart at cart)
   where
@@ -26,7 +27,7 @@ held_is at v (Some cart) = by_life (is_live_cart at cart)
     by_life true = refl
     by_life false = refl
 
-used_is : (v : ℕ) (lists : Lists) (p : OrderPos) → one (uses v lists p) ≡ one_use v (used_by lists p)
+used_is : (v : ℕ) (lists : Lists) (p : OrderPos) → one (uses v lists p) ≡ one_use v (used_name lists (Some p))
 used_is v lists p = by_force (names v p.voucher) (stands_as is_in_force (order_at p.order lists)) refl
   where
     by_force : (named force : Bool) → names v p.voucher ≡ named → one (named && force) ≡ one_use v (if force then p.voucher else None)
@@ -53,13 +54,13 @@ all_pass [] = refl
 all_pass (r ∷ rs) = omega (arith, all_pass rs, sum_by-cons (λ s. 1) r rs)
 
 module _ (at : ℕ) (lists : Lists) where
-  pub shift_put_cart : (row : CartPos) → AreInOrder (λ r. r.id) lists.carts → IsShift at (PutCart row) lists (record { come = held_by at (Some row); gone = held_by at (cart_at row.id lists) })
+  pub shift_put_cart : (row : CartPos) → AreInOrder (λ r. r.id) lists.carts → IsShift at (PutCart row) lists (record { come = held_name at (Some row); gone = held_name at (cart_at row.id lists) })
   shift_put_cart row order v = omega (arith, sum_by-with_row (λ r. r.id) (λ c. if holds at v c then 1 else 0) 0 row lists.carts order, held_is at v (cart_at row.id lists), held_is at v (Some row))
 
-  pub shift_drop_cart : (id : ℕ) → AreInOrder (λ r. r.id) lists.carts → IsShift at (DropCart id) lists (record { come = None; gone = held_by at (cart_at id lists) })
+  pub shift_drop_cart : (id : ℕ) → AreInOrder (λ r. r.id) lists.carts → IsShift at (DropCart id) lists (record { come = None; gone = held_name at (cart_at id lists) })
   shift_drop_cart id order v = omega (arith, sum_by-without_row (λ r. r.id) (λ c. if holds at v c then 1 else 0) 0 id lists.carts order, held_is at v (cart_at id lists))
 
-  pub shift_put_position : (row : OrderPos) → AreInOrder (λ r. r.id) lists.positions → position_at row.id lists ≡ None → IsShift at (PutPosition row) lists (record { come = used_by lists row; gone = None })
+  pub shift_put_position : (row : OrderPos) → AreInOrder (λ r. r.id) lists.positions → position_at row.id lists ≡ None → IsShift at (PutPosition row) lists (record { come = used_name lists (Some row); gone = None })
   shift_put_position row order new v = omega (arith, redeemed_position v row lists order new, used_is v lists row)
 
   pub shift_put_order : (row : Order) → ((v : ℕ) → redeemed v (after_change (PutOrder row) lists) ≡ redeemed v lists) → IsShift at (PutOrder row) lists (record { come = None; gone = None })

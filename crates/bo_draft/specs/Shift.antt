@@ -7,22 +7,21 @@ use Rattle.bo_draft.specs.Counts.{value_at}
 use Rattle.bo_catalogue.specs.declared.rows.Quota.{Quota}
 use Rattle.bo_catalogue.specs.declared.rows.Product.{Product}
 use Rattle.bo_catalogue.specs.Member.{is_in}
-use Rattle.bo_lists.specs.declared.rows.CartPos.{CartPos}
 use Rattle.bo_lists.specs.declared.rows.Voucher.{Voucher}
 use Rattle.bo_lists.specs.declared.rows.Order.{Order}
 use Rattle.bo_lists.specs.declared.rows.OrderPos.{OrderPos}
-use Rattle.bo_lists.specs.declared.rows.Waiting.{Waiting}
 use Rattle.bo_lists.specs.declared.changes.Change.{Change}
 use Rattle.bo_lists.specs.declared.changes.Change.TheVariants.{PutItem, PutVariation, PutQuota, PutVoucher, PutCart, PutOrder, PutPosition, PutWaiting, DropVoucher, DropCart, DropWaiting}
 use Rattle.bo_lists.specs.Conditions.{is_in_force}
 use Rattle.bo_lists.specs.Total.{total}
 use Rattle.bo_lists.specs.Lists.{Lists, voucher_at, cart_at, order_at, position_at, waiting_at}
 use Rattle.bo_lists.specs.Change.{after_change}
-use Rattle.bo_lists.specs.Usage.{usage_of, redeemed, stands_as, position_counts, cart_counts, blocks_if, is_covered_by, waits_for}
+use Rattle.bo_lists.specs.Usage.{usage_of, redeemed, stands_as, position_counts, blocks_if, is_covered_by}
 use Rattle.bo_lists.specs.Headroom.{held_in, AllHaveHeadroom}
 use Rattle.bo_overlay.specs.Logs.{Log, rows_of}
 use Rattle.bo_overlay.specs.declared.tickets.Ticket.{Ticket}
 use Rattle.bo_usage.specs.OfOrder.{count_ordered}
+use Rattle.bo_usage.specs.Shares.{cart_share, waiting_share}
 use Rattle.bo_overlay.specs.Tickets.{AreTicketsOf}
 
 -- all that is used of a quota
@@ -41,14 +40,6 @@ AreBases lists at quotas bases = (place : ℕ) (base : Base) → row_at (λ b. b
 -- one, where it is so
 abbrev pub once : Bool → ℕ
 once b = if b then 1 else 0
-
--- a cart position counts once, or not
-abbrev pub cart_share : Lists → ℕ → Quota → Option CartPos → ℕ
-cart_share lists at quota cart = sum_at (λ c. if cart_counts lists at quota c then 1 else 0) cart
-
--- a waiting entry counts once, or not
-abbrev pub waiting_share : Quota → Option Waiting → ℕ
-waiting_share quota entry = sum_at (λ w. if waits_for quota w then 1 else 0) entry
 
 -- a place for a product counts once in its quotas, unless the voucher blocks places there
 abbrev pub spot_share : ℕ → Quota → Product → Option Voucher → ℕ

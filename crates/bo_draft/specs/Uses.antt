@@ -2,13 +2,11 @@
 use Rattle.std.specs.Prelude.{◌≡◌, ℕ, ◌+◌, ◌<◌, ◌⊎◌, Bool, true, false, not, List, [], ◌∷◌, Option, Some, None, if◌then◌else◌}
 use Rattle.bo_lists.specs.declared.changes.Change.{Change}
 use Rattle.bo_lists.specs.declared.changes.Change.TheVariants.{PutOrder}
-use Rattle.bo_lists.specs.declared.rows.CartPos.{CartPos}
 use Rattle.bo_lists.specs.declared.rows.Order.{Order}
-use Rattle.bo_lists.specs.declared.rows.OrderPos.{OrderPos}
 use Rattle.bo_lists.specs.Change.{after_change}
 use Rattle.bo_lists.specs.Headroom.{held}
 use Rattle.bo_lists.specs.Lists.{Lists, order_at}
-use Rattle.bo_lists.specs.Conditions.{is_in_force, is_live_cart, names}
+use Rattle.bo_lists.specs.Conditions.{is_in_force, names}
 use Rattle.bo_lists.specs.Usage.{redeemed, stands_as}
 use Rattle.bo_usage.specs.OfOrder.{count_ordered}
 use Rattle.bo_draft.specs.declared.use_shift.UseShift.{UseShift}
@@ -22,15 +20,6 @@ uses_of at lists voucher = redeemed voucher lists + held at voucher lists
 -- one use, where the name is the voucher's
 abbrev pub one_use : ℕ → Option ℕ → ℕ
 one_use voucher name = if names voucher name then 1 else 0
-
--- the voucher of which a cart position holds a use: the one that it names, while it lives
-abbrev pub held_by : ℕ → Option CartPos → Option ℕ
-held_by at None = None
-held_by at (Some cart) = if is_live_cart at cart then cart.voucher else None
-
--- the voucher that an order position uses: the one that it names, while its order is in force
-abbrev pub used_by : Lists → OrderPos → Option ℕ
-used_by lists position = if stands_as is_in_force (order_at position.order lists) then position.voucher else None
 
 -- with the change the uses of each voucher are more by one where a use comes, and less by one where one goes
 abbrev pub IsShift : ℕ → Change → Lists → UseShift → Type 0

@@ -33,7 +33,7 @@ use bo_lists::{
     CartPos, Change, Changes, Checkin, CheckinList, NextIds, Order, OrderPos, Own, Voucher, Waiting,
 };
 use bo_overlay::Overlay;
-use bo_usage::Book;
+use bo_usage::{Book, LookUps};
 use std::alloc::{AllocError, Global};
 use std::marker::Model;
 
@@ -210,7 +210,7 @@ impl<'a, B: Book> Draft<'a, B> {
     pub fn waiting(&self, id: u64) -> Option<&Waiting>
         ensures { option_copied result ≡ waiting_at id (now self.now).lists }
     {
-        self.overlay.waiting(id)
+        self.overlay.entry(id)
     }
 
     /// All that is used of a quota that stands: its five counts together.

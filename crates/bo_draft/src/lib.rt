@@ -10,5 +10,6 @@ mod shift;
 mod touched;
 mod use_shift;
 mod uses;
+mod weighed;
 
 pub use draft::{Draft, Mark};

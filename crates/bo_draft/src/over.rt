@@ -12,6 +12,7 @@ ghost use Rattle.bo_draft.specs.Shift.{used, AreBases};
 
 use crate::bases::{Base, base_of};
 use crate::counts::{Count, counted};
+use crate::weighed::is_too_much;
 use bo_base::{Moment, place_of};
 use bo_catalogue::Quota;
 use bo_lists::Own;
@@ -153,7 +154,9 @@ fn is_over<B: Book>(
         return false;
     }
     let base = base_of(book, at, quotas, place, bases);
-    overlay.is_over(at, quota, own, moved(base, before), moved(base, after))
+    let was = moved(base, before);
+    let used = moved(base, after);
+    is_too_much(overlay, at, quota, own, was, used)
 }
 
 // What is used, by what was used in the book, and what came and went since.

@@ -9,12 +9,12 @@ ghost use Rattle.bo_lists.specs.declared.changes.Change.TheVariants.{PutOrder};
 ghost use Rattle.bo_lists.specs.Change.{after_change};
 ghost use Rattle.bo_lists.specs.Headroom.{held_in};
 ghost use Rattle.bo_lists.specs.Lists.{voucher_at, cart_at, order_at, waiting_at};
-ghost use Rattle.bo_lists.specs.Conditions.{is_in_force};
-ghost use Rattle.bo_lists.specs.Usage.{redeemed, stands_as, is_covered_by, blocks_if};
+ghost use Rattle.bo_lists.specs.Usage.{redeemed, is_covered_by, blocks_if};
 ghost use Rattle.bo_overlay.specs.Logs.{rows_of};
+ghost use Rattle.bo_usage.specs.Shares.{cart_share, waiting_share};
 ghost use Rattle.bo_draft.specs.Counts.{IsMore, if_any};
 ghost use Rattle.bo_draft.specs.Touched.{NoOther, NoneElse, Keeps};
-ghost use Rattle.bo_draft.specs.Shift.{come_of, gone_of, once, spot_share, sale_come, sale_gone, cart_share, waiting_share, left_of, turned_by, turned_voucher, turned_order, order_come, order_gone, AreTurned};
+ghost use Rattle.bo_draft.specs.Shift.{come_of, gone_of, once, spot_share, sale_come, sale_gone, left_of, turned_by, turned_voucher, turned_order, order_come, order_gone, AreTurned};
 
 use crate::counts::Count;
 use crate::share::{Share, Shares, count_each};
@@ -23,7 +23,8 @@ use bo_base::Moment;
 use bo_catalogue::{Catalogue, Product, Quota};
 use bo_lists::{CartPos, Change, Order, OrderPos, Voucher, Waiting};
 use bo_overlay::{Overlay, Ticket, count_if};
-use bo_usage::Book;
+use bo_usage::rules::{self, blocks, is_in_force};
+use bo_usage::{Book, LookUps};
 use std::alloc::{AllocError, Global};
 
 /// The counts by quota after one more change, by those before it.
@@ -47,6 +48,7 @@ pub fn counts_after<B: Book>(
 }
 
 // Adds what a change brings to the quotas and takes from them.
+#[tactic(auto, unfolding(bo_usage::specs::Shares::cart_share, bo_usage::specs::Shares::waiting_share))]
 fn count_change<B: Book>(
     overlay: &Overlay<'_, B>,
     alloc: Global,
@@ -103,16 +105,6 @@ impl<'s> Spot<'s> {
         ensures { result ≡ spot_share at quota.now self.now.product (option_copied self.now.voucher) }
     {
         u64::from(quota.has(self.product) && !blocks(at, quota, self.voucher))
-    }
-}
-
-// Whether the voucher, if there is one, blocks places of the quota.
-fn blocks(at: Moment, quota: &Quota, voucher: Option<&Voucher>) -> bool
-    ensures { result ≡ blocks_if at quota.now (option_copied voucher.entry) }
-{
-    match voucher {
-        None => false,
-        Some(voucher) => voucher.blocks(at, quota),
     }
 }
 
@@ -185,6 +177,7 @@ fn voucher_of<'o, B: Book>(overlay: &'o Overlay<'_, B>, voucher: Option<u64>) ->
 }
 
 // The place that a cart position takes, while it lives.
+#[tactic(auto, unfolding(bo_usage::specs::Shares::cart_share))]
 fn cart_spot<'o, B: Book>(
     overlay: &'o Overlay<'_, B>,
     at: Moment,
@@ -227,6 +220,7 @@ fn with_cart<B: Book>(
 }
 
 // The place for which a waiting entry waits, where it has no voucher.
+#[tactic(auto, unfolding(bo_usage::specs::Shares::waiting_share))]
 fn waiting_spot<'s>(at: Moment, entry: Option<&Waiting>) -> Option<Spot<'s>>
     ensures { (q : Quota) → if_any result (λ p. spot_share at q p.product (option_copied p.voucher)) ≡ waiting_share q (option_copied entry.entry) }
 {
@@ -257,7 +251,7 @@ fn with_waiting<B: Book>(
     ensures more { OnOk result (IsMore (λ q. waiting_share q (option_copied come.entry)) (λ q. waiting_share q (waiting_at id (rows_of overlay.now))) catalogue.now.lists.quotas counts.old.items counts.new.items) }
 {
     let come = waiting_spot(at, come);
-    let gone = waiting_spot(at, overlay.waiting(id));
+    let gone = waiting_spot(at, overlay.entry(id));
     count_each(counts, alloc, catalogue, &Spots { at, come, gone })
 }
 
@@ -378,7 +372,7 @@ fn left_of(redeemed: u64, voucher: Option<&Voucher>) -> u64
 {
     match voucher {
         None => 0,
-        Some(voucher) => u64::from(voucher.max_usages.get()).saturating_sub(redeemed),
+        Some(voucher) => rules::left_of(voucher, redeemed),
     }
 }
 
@@ -619,16 +613,6 @@ pub fn vouchers_after<B: Book>(overlay: &Overlay<'_, B>, vouchers: usize, change
         Change::PutVoucher(row) => without_voucher(vouchers + 1, overlay.voucher(row.id)),
         Change::DropVoucher(id) => without_voucher(vouchers, overlay.voucher(*id)),
         _ => vouchers,
-    }
-}
-
-/// Whether an order stands and its positions use vouchers.
-pub fn is_in_force(order: Option<&Order>) -> bool
-    ensures { result ≡ stands_as is_in_force (option_copied order.entry) }
-{
-    match order {
-        None => false,
-        Some(order) => order.status.is_in_force(),
     }
 }
 

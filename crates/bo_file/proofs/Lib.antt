@@ -1,2 +1,3 @@
 pub mod Added
 pub mod Made
+pub mod Opened

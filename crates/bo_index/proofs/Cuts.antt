@@ -33,6 +33,28 @@ start_at_gap es e i p = record {
   not_after = λ j d le lt. omega (arith, p.greater_after j d le lt);
 }
 
+-- the next number begins behind the place of a number, and where it would go
+pub start_behind_place : (es : List ℕ) (e i : ℕ) → AreInOrder (λ n. n) es → IsPlace (λ n. n) es e i → IsStart es (e + 1) (i + 1)
+start_behind_place es e i h p = record {
+  in_range = omega (arith, p.in_range);
+  smaller_before = λ j d lt. omega (arith, rises 0 es h j i d (omega arith) p.in_range, p.has_id d);
+  not_after = λ j d le lt. omega (arith, less 0 es h i j d (omega arith) lt, p.has_id d);
+}
+
+pub start_behind_gap : (es : List ℕ) (e i : ℕ) → IsGap (λ n. n) es e i → IsStart es (e + 1) i
+start_behind_gap es e i p = record {
+  in_range = p.in_range;
+  smaller_before = λ j d lt. omega (arith, p.smaller_before j d lt);
+  not_after = λ j d le lt. omega (arith, p.greater_after j d le lt);
+}
+
+-- what is at a place tells of those before it and behind it
+pub below_too : (es : List ℕ) (e i j d : ℕ) → AreInOrder (λ n. n) es → get_or es i d < e → j ≤ i → i < length es → get_or es j d < e
+below_too es e i j d h lt le within = omega (arith, rises 0 es h j i d le within)
+
+pub above_too : (es : List ℕ) (e i j d : ℕ) → AreInOrder (λ n. n) es → e < get_or es i d → i ≤ j → j < length es → e < get_or es j d
+above_too es e i j d h lt le within = omega (arith, rises 0 es h i j d le within)
+
 start_tail : (e x i : ℕ) (es : List ℕ) → IsStart (x ∷ es) e (suc i) → IsStart es e i
 start_tail e x i es s = record {
   in_range = omega (arith, s.in_range);

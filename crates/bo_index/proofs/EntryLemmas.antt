@@ -1,7 +1,8 @@
 -- What an index has after entries came and went, and the ids of a key.
-use Rattle.std.proofs.Common.{◌≡◌, ◌≢◌, ℕ, ◌+◌, ◌-◌, ◌<◌, ◌≤◌, ◌⊎◌, inl, inr, Bool, true, false, cond, ◌&&◌, eqb, List, [], ◌∷◌, refl, ap, ◌∙◌, arith}
+use Rattle.std.proofs.Common.{◌≡◌, ◌≢◌, ℕ, ◌+◌, ◌-◌, ◌<◌, ◌≤◌, ◌⊎◌, inl, inr, Bool, true, false, cond, ◌&&◌, eqb, List, [], ◌∷◌, ◌++◌, length, get_or, set, take, drop, suc, refl, sym, ap, ◌∙◌, arith}
 use Rattle.std.specs.Prelude.{◌||◌, not, filter, map}
-use Rattle.std.specs.List.{list_any}
+use Rattle.std.specs.List.{list_any, remove}
+use Rattle.std.proofs.lemmas.List.{append_assoc, drop_more, take_more_set, drop-set-lt, take-append-le, take-take, length-take, length-drop, length-map, get_or-map, get_or-take, get_or-drop}
 use Rattle.std.proofs.lemmas.Bool.Decides.{nat_tests, eqb_tells}
 use Rattle.bo_base.specs.Tables.{has, with_row, InOrderFrom, AreInOrder}
 use Rattle.bo_index.specs.Entries.{entry, key_of, id_of, has_entry, ids_of, with_entries, without_id, is_between}
@@ -83,3 +84,36 @@ between_is m n (e ∷ es) = rw (within e) (ap (λ l. cond (is_between m n (key_o
   where
     within : (e : ℕ) → is_between (entry m 0) (entry n 0) e ≡ is_between m n (key_of e)
     within e = grind (arith, nat_tests)
+
+-- one entry on, where those of an id go and the others move up
+pub passed_by : (id : ℕ) (es : List ℕ) (kept at e : ℕ) → at < length es → get_or es at e ≡ e → id_of e ≡ id → take kept es ++ without_id id (drop (at + 1) es) ≡ take kept es ++ without_id id (drop at es)
+passed_by id es kept at e lt read is =
+    let there : drop at es ≡ e ∷ drop (at + 1) es = drop_more es at e lt ∙ ap (λ x. x ∷ drop (at + 1) es) read in
+    ap (λ l. take kept es ++ l) (gone (drop (at + 1) es) ∙ ap (without_id id) (sym there))
+  where
+    gone : (rest : List ℕ) → without_id id rest ≡ without_id id (e ∷ rest)
+    gone rest = grind (arith, nat_tests)
+
+pub moved_up : (id : ℕ) (es : List ℕ) (kept at e : ℕ) → at < length es → kept ≤ at → get_or es at e ≡ e → id_of e ≢ id → take (kept + 1) (set es kept e) ++ without_id id (drop (at + 1) (set es kept e)) ≡ take kept es ++ without_id id (drop at es)
+moved_up id es kept at e lt le read is =
+    let front : take (kept + 1) (set es kept e) ≡ take kept es ++ e ∷ [] = take_more_set es kept e (omega arith) in
+    let behind : drop (at + 1) (set es kept e) ≡ drop (at + 1) es = drop-set-lt (at + 1) es kept e (omega arith) in
+    let there : drop at es ≡ e ∷ drop (at + 1) es = drop_more es at e lt ∙ ap (λ x. x ∷ drop (at + 1) es) read in
+    rw (front, behind, append_assoc) (ap (λ l. take kept es ++ l) (stays (drop (at + 1) es) ∙ ap (without_id id) (sym there)))
+  where
+    stays : (rest : List ℕ) → e ∷ without_id id rest ≡ without_id id (e ∷ rest)
+    stays rest = grind (arith, nat_tests)
+
+-- the last one goes
+pub shorter : (kept last : ℕ) (es : List ℕ) → kept ≤ last → last < length es → take kept (remove es last) ≡ take kept es
+shorter kept last es le lt = take-append-le kept (take last es) (drop (suc last) es) (omega (arith, length-take last es)) ∙ take-take kept last es le
+
+-- an id among those that are lent
+pub lent_count : (es : List ℕ) (first end : ℕ) → first ≤ end → end ≤ length es → length (map id_of (take (end - first) (drop first es))) ≡ end - first
+lent_count es first end le within = length-map (take (end - first) (drop first es)) id_of ∙ length-take (end - first) (drop first es) ∙ omega (arith, length-drop first es)
+
+pub lent_at : (es : List ℕ) (first end place d : ℕ) → first ≤ end → end ≤ length es → place < end - first → get_or (map id_of (take (end - first) (drop first es))) place d ≡ id_of (get_or es (first + place) 0)
+lent_at es first end place d le within lt =
+    let short = take (end - first) (drop first es) in
+    let inside : place < length short = omega (arith, length-take (end - first) (drop first es), length-drop first es) in
+    get_or-map id_of short place 0 d inside ∙ ap id_of (get_or-take (end - first) (drop first es) place 0 lt ∙ get_or-drop first es place 0)

@@ -1,3 +1,4 @@
 mod Cuts
+pub mod BlockLemmas
 pub mod Sorted
 pub mod EntryLemmas

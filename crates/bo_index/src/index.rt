@@ -1,35 +1,31 @@
 //! Indexes: which ids have a key.
 
-ghost use Rattle.std.specs.Prelude.{◌≡◌, ◌≤◌, ◌<◌, ◌+◌, ◌++◌, ℕ, [], ◌∷◌, length, OnOk, OnErr, IfOk, IfErr, vec_capacity};
-ghost use Rattle.std.specs.List.{insert};
-ghost use Rattle.bo_base.specs.Rising.{rising};
+ghost use Rattle.std.specs.Prelude.{◌≡◌, ◌≤◌, ◌<◌, ◌+◌, ◌++◌, ℕ, [], length, take, drop, OnOk, OnErr, IfOk, IfErr};
 ghost use Rattle.bo_base.specs.Tables.{with_row, without_row, AreInOrder, IsPlace, IsGap};
-ghost use Rattle.bo_index.specs.Entries.{IsStart, entry, ids_of, ids_between, entries_of, with_entries, without_id};
+ghost use Rattle.bo_index.specs.Entries.{IsStart, entry, ids_of, ids_between, with_entries, without_id};
 
+use crate::blocks::Blocks;
 use crate::entries::{entry, id_of};
 use crate::found::Found;
 use std::alloc::{AllocError, Global};
 use std::marker::Model;
 
-/// So many entries are put one by one; more are appended and sorted.
-const FEW: usize = 16;
-
 /// Keys and ids, in order of key and then of id. Contracts see the entries as numbers, and how many more can be added
 /// without taking memory.
 #[derive(Drop)]
 pub struct Index {
-    entries: Vec<u128>,
+    entries: Blocks,
 }
 
 impl Model for Index {
-    ghost use Rattle.std.specs.Prelude.{ℕ, ◌-◌, ◌≤◌, length, vec_capacity, min};
+    ghost use Rattle.std.specs.Prelude.{ℕ};
     ghost use Rattle.bo_base.specs.Tables.{Table, AreInOrder};
 
     ghost Value = { Table ℕ };
 
-    ghost view = { λ x. record { rows = x.entries.items; room = min (vec_capacity x.entries) 4294967296 - length x.entries.items } };
+    ghost view = { λ x. x.entries };
 
-    ghost invariant = { λ x. AreInOrder (λ n. n) x.entries.items × (length x.entries.items ≤ 4294967296) };
+    ghost invariant = { λ x. AreInOrder (λ n. n) x.entries.rows };
 }
 
 impl Index {
@@ -38,7 +34,7 @@ impl Index {
         ensures { result.rows ≡ [] }
     {
         Index {
-            entries: Vec::new(alloc),
+            entries: Blocks::new(alloc),
         }
     }
 
@@ -56,9 +52,6 @@ impl Index {
         ensures rows { self.new.rows ≡ self.old.rows }
         ensures err { OnErr result (self.new.room ≡ self.old.room) }
     {
-        if count > 4294967296 - self.entries.len() {
-            return Err(AllocError);
-        }
         self.entries.reserve(count)
     }
 
@@ -66,7 +59,7 @@ impl Index {
     pub fn room(&self) -> usize
         ensures { result ≡ self.now.room }
     {
-        self.entries.capacity().min(4294967296) - self.entries.len()
+        self.entries.room()
     }
 
     /// The ids of a key, rising.
@@ -76,7 +69,7 @@ impl Index {
     {
         let low = start_of(&self.entries, entry(key, 0));
         let high = start_after(&self.entries, key);
-        Found::of(&self.entries[low..high])
+        Found::of(&self.entries, low, high)
     }
 
     /// The ids of the keys that are `from` or greater, and less than `to`: by key, and rising for each of them.
@@ -87,7 +80,7 @@ impl Index {
     {
         let first = start_of(&self.entries, entry(from, 0));
         let end = start_of(&self.entries, entry(to, 0));
-        Found::of(&self.entries[first..end])
+        Found::of(&self.entries, first, end)
     }
 }
 
@@ -108,10 +101,8 @@ impl Index {
         ensures room { self.old.room ≤ self.new.room + 1 }
     {
         match place_of(&self.entries, entry) {
-            Ok(at) => {
-                self.entries[at] = entry;
-            }
-            Err(at) => insert_reserved(&mut self.entries, at, entry),
+            Ok(at) => self.entries.set(at, entry),
+            Err(at) => self.entries.insert(at, entry),
         }
     }
 
@@ -129,7 +120,7 @@ impl Index {
         ensures room { self.old.room ≤ self.new.room }
     {
         if let Ok(at) = place_of(&self.entries, entry) {
-            let _ = self.entries.remove(at);
+            self.entries.remove(at);
         }
     }
 
@@ -139,32 +130,9 @@ impl Index {
         ensures rows { self.new.rows ≡ with_entries keys.now id self.old.rows }
         ensures room { self.old.room ≤ self.new.room + length keys.now }
     {
-        if keys.len() <= FEW {
-            self.add_each(keys, id);
-        } else {
-            self.sort_in(keys, id);
-        }
-    }
-
-    // Adds them one by one.
-    fn add_each(&mut self, keys: &[u64], id: u64)
-        requires { length keys.now ≤ self.old.room }
-        ensures rows { self.new.rows ≡ with_entries keys.now id self.old.rows }
-        ensures room { self.old.room ≤ self.new.room + length keys.now }
-    {
         for key in keys {
             self.add(*key, id);
         }
-    }
-
-    // Adds them at the end, and sorts all.
-    fn sort_in(&mut self, keys: &[u64], id: u64)
-        requires { length keys.now ≤ self.old.room }
-        ensures rows { self.new.rows ≡ with_entries keys.now id self.old.rows }
-        ensures room { self.old.room ≤ self.new.room + length keys.now }
-    {
-        append(&mut self.entries, keys, id);
-        sort(&mut self.entries);
     }
 
     /// Removes all entries of an id.
@@ -172,23 +140,39 @@ impl Index {
         ensures rows { self.new.rows ≡ without_id id self.old.rows }
         ensures room { self.old.room ≤ self.new.room }
     {
-        self.entries.retain(|e| id_of(*e) != id);
+        let kept = move_up(&mut self.entries, id);
+        shorten(&mut self.entries, kept);
     }
 }
 
 // Where an entry is, or where it would go.
-fn place_of(entries: &[u128], entry: u128) -> Result<usize, usize>
-    requires { AreInOrder (λ n. n) entries.now }
-    ensures found { IfOk result (IsPlace (λ n. n) entries.now entry) }
-    ensures absent { IfErr result (IsGap (λ n. n) entries.now entry) }
+fn place_of(entries: &Blocks, entry: u128) -> Result<usize, usize>
+    requires { AreInOrder (λ n. n) entries.now.rows }
+    ensures found { IfOk result (IsPlace (λ n. n) entries.now.rows entry) }
+    ensures absent { IfErr result (IsGap (λ n. n) entries.now.rows entry) }
+    ensures few { IfOk result (λ at. at < 4294967296) }
 {
-    entries.binary_search_by_key(&entry, |e| *e)
+    let mut low = 0;
+    let mut high = entries.len();
+    'halve: while low < high {
+        let middle = low + (high - low) / 2;
+        let there = entries.at(middle);
+        if there == entry {
+            return Ok(middle);
+        }
+        if there < entry {
+            low = middle + 1;
+        } else {
+            high = middle;
+        }
+    }
+    Err(low)
 }
 
 // Where the entries from this one on begin.
-fn start_of(entries: &[u128], entry: u128) -> usize
-    requires { AreInOrder (λ n. n) entries.now }
-    ensures { IsStart entries.now entry result }
+fn start_of(entries: &Blocks, entry: u128) -> usize
+    requires { AreInOrder (λ n. n) entries.now.rows }
+    ensures { IsStart entries.now.rows entry result }
 {
     match place_of(entries, entry) {
         Ok(at) => at,
@@ -197,53 +181,53 @@ fn start_of(entries: &[u128], entry: u128) -> usize
 }
 
 // Where the entries of greater keys begin.
-fn start_after(entries: &[u128], key: u64) -> usize
-    requires { AreInOrder (λ n. n) entries.now }
-    ensures { IsStart entries.now (entry (key + 1) 0) result }
+fn start_after(entries: &Blocks, key: u64) -> usize
+    requires { AreInOrder (λ n. n) entries.now.rows }
+    ensures { IsStart entries.now.rows (entry (key + 1) 0) result }
 {
-    match key.checked_add(1) {
-        Some(next) => start_of(entries, entry(next, 0)),
-        None => entries.len(),
+    match place_of(entries, entry(key, u64::MAX)) {
+        Ok(at) => at + 1,
+        Err(at) => at,
     }
 }
 
-// Inserts into room that is there.
-fn insert_reserved(entries: &mut Vec<u128>, at: usize, entry: u128)
-    requires place { at ≤ length entries.old.items }
-    requires room { length entries.old.items < vec_capacity entries.old }
-    ensures items { entries.new.items ≡ insert entries.old.items at entry }
-    ensures capacity { vec_capacity entries.old ≤ vec_capacity entries.new }
+// Moves all entries but those of an id to the front, in their order. Returns how many those are.
+fn move_up(entries: &mut Blocks, id: u64) -> usize
+    ensures rows { take result entries.new.rows ≡ without_id id entries.old.rows }
+    ensures within { result ≤ length entries.new.rows }
+    ensures room { entries.new.room ≡ entries.old.room }
 {
-    let _ = entries.insert(at, entry);
-}
-
-// Adds the entries of an id with these keys at the end, into room that is there.
-fn append(entries: &mut Vec<u128>, keys: &[u64], id: u64)
-    requires { length entries.old.items + length keys.now ≤ vec_capacity entries.old }
-    ensures items { entries.new.items ≡ entries.old.items ++ entries_of keys.now id }
-    ensures count { length entries.new.items ≡ length entries.old.items + length keys.now }
-    ensures capacity { vec_capacity entries.old ≤ vec_capacity entries.new }
-{
-    for key in keys {
-        push_reserved(entries, entry(*key, id));
+    let mut kept = 0;
+    for at in 0..entries.len() {
+        kept = move_one(entries, kept, at, id);
     }
+    kept
 }
 
-// Adds one at the end, into room that is there.
-fn push_reserved(entries: &mut Vec<u128>, entry: u128)
-    requires { length entries.old.items < vec_capacity entries.old }
-    ensures items { entries.new.items ≡ entries.old.items ++ entry ∷ [] }
-    ensures capacity { vec_capacity entries.old ≤ vec_capacity entries.new }
+// Moves the entry at a place behind so many that are kept, unless it is of an id. Returns how many are kept then.
+fn move_one(entries: &mut Blocks, kept: usize, at: usize, id: u64) -> usize
+    requires { (kept ≤ at) × (at < length entries.old.rows) × (at < 4294967296) }
+    ensures rows { take result entries.new.rows ++ without_id id (drop (at + 1) entries.new.rows) ≡ take kept entries.old.rows ++ without_id id (drop at entries.old.rows) }
+    ensures within { result ≤ at + 1 }
+    ensures count { length entries.new.rows ≡ length entries.old.rows }
+    ensures room { entries.new.room ≡ entries.old.room }
 {
-    let _ = entries.push(entry);
+    let entry = entries.at(at);
+    if id_of(entry) == id {
+        return kept;
+    }
+    entries.set(kept, entry);
+    kept + 1
 }
 
-// Sorts entries, each once.
-fn sort(entries: &mut Vec<u128>)
-    ensures items { entries.new.items ≡ rising entries.old.items }
-    ensures few { length entries.new.items ≤ length entries.old.items }
-    ensures capacity { vec_capacity entries.new ≡ vec_capacity entries.old }
+// Removes all entries behind so many.
+fn shorten(entries: &mut Blocks, kept: usize)
+    requires { kept ≤ length entries.old.rows }
+    ensures rows { entries.new.rows ≡ take kept entries.old.rows }
+    ensures room { entries.old.room ≤ entries.new.room }
 {
-    entries.sort_unstable();
-    entries.dedup();
+    'back: while entries.len() > kept {
+        let last = entries.len() - 1;
+        entries.remove(last);
+    }
 }

@@ -1,6 +1,8 @@
 //! Indexes: which ids have a key.
 #![tactic(auto)]
 
+pub mod block;
+pub mod blocks;
 pub mod entries;
 pub mod found;
 pub mod index;

@@ -1,6 +1,7 @@
 -- The index of a log, with one more change and with one fewer.
 use Rattle.std.proofs.Common.{◌≡◌, ℕ, zero, suc, ◌+◌, ◌<◌, Bool, true, false, ◌&&◌, eqb, List, [], ◌∷◌, ◌++◌, length, take, set, get_or, Some, None, Option, ◌⊎◌, inl, inr, refl, sym, ap, ap₂, ◌∙◌, subst, arith, length-append, length-set}
-use Rattle.std.specs.Prelude.{if◌then◌else◌}
+use Rattle.std.specs.Prelude.{Result, Ok, Err, OnOk, if◌then◌else◌}
+use Rattle.std.specs.Result.{is_err}
 use Rattle.std.proofs.Math.Seq.{get_or-append_seam}
 use Rattle.std.proofs.lemmas.Option.{none-some}
 use Rattle.std.proofs.lemmas.List.{get_or-set_same, get_or-set_other, get_or_append_left, get_or-take, take-append-le, length-take-le, take_all, take_more, get_or_default}
@@ -12,6 +13,11 @@ use Rattle.bo_lists.specs.declared.changes.Change.{Change}
 use Rattle.bo_log.specs.declared.touched.Touch.{Touch}
 use Rattle.bo_log.specs.Places.{table_of, id_of, touches, last_place, kept_place, place_in, IsIndex}
 use Rattle.bo_log.proofs.LastPlaces.{last_place-more}
+
+-- what a call that was accepted promises
+pub when_ok : {E : Type 0} (P : Type 0) (r : Result (Unit {0}) E) → is_err r ≡ false → OnOk r P → P
+when_ok P (Ok x) e h = h
+when_ok P (Err x) e h = absurd (cc)
 
 -- one row more or less touched
 abbrev pub with_touch : ℕ → ℕ → Option ℕ → List (List Touch) → List (List Touch)

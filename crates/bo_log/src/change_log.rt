@@ -5,7 +5,7 @@ ghost use Rattle.std.specs.Option.{IfSome};
 ghost use Rattle.bo_lists.specs.declared.changes.Change.{Change};
 ghost use Rattle.bo_log.specs.Places.{number, table_of, id_of, touches, last_place, place_before};
 
-use crate::touched::Touched;
+use crate::touched::{Touched, note};
 use bo_lists::Change;
 use std::alloc::{AllocError, Global};
 use std::marker::Model;
@@ -165,14 +165,13 @@ impl ChangeLog {
         ensures err { OnErr result (self.new ≡ self.old) }
     {
         let place = self.changes.len();
-        self.changes.reserve(1)?;
-        self.before.reserve(1)?;
         let table = table_of(&change).number();
         let id = id_of(&change);
-        let before = self.tables[table].last(id);
-        self.tables[table].touch(id, place)?;
-        self.before.push(before)?;
         self.changes.push(change)?;
+        if note(&mut self.tables[table], &mut self.before, id, place).is_err() {
+            self.changes.truncate(place);
+            return Err(AllocError);
+        }
         Ok(())
     }
 

@@ -4,7 +4,7 @@ ghost use Rattle.std.specs.Prelude.{◌≡◌, ◌<◌, ◌-◌, ◌++◌, ◌==
 ghost use Rattle.std.specs.Option.{IfSome};
 ghost use Rattle.bo_log.specs.Places.{last_place};
 
-use crate::touched::Touched;
+use crate::touched::{Touched, note};
 use std::alloc::{AllocError, Global};
 use std::marker::Model;
 
@@ -65,12 +65,8 @@ impl KeyLog {
     {
         let place = self.keys.len();
         self.keys.reserve(1)?;
-        self.before.reserve(1)?;
-        let before = self.last.last(key);
-        self.last.touch(key, place)?;
-        self.before.push(before)?;
-        self.keys.push(key)?;
-        Ok(())
+        note(&mut self.last, &mut self.before, key, place)?;
+        Ok(self.keys.push(key)?)
     }
 
     /// Only the first keys.

@@ -4,6 +4,7 @@
 pub mod change_log;
 pub mod digests;
 pub mod key_log;
+pub mod rows;
 mod touched;
 
 pub use change_log::{ChangeLog, Table};

@@ -1,6 +1,6 @@
 //! The rows of one table that a log touches, in order of id.
 
-ghost use Rattle.std.specs.Prelude.{◌≡◌, [], OnOk, OnErr, None, Some};
+ghost use Rattle.std.specs.Prelude.{◌≡◌, ◌++◌, [], ◌∷◌, OnOk, OnErr, None, Some};
 ghost use Rattle.bo_log.specs.declared.touched.Touch.{Touch};
 ghost use Rattle.bo_base.specs.Tables.{with_row};
 ghost use Rattle.bo_log.specs.Places.{place_in};
@@ -89,4 +89,23 @@ impl Touched {
             self.rows[at] = Touch { id, place };
         }
     }
+}
+
+/// Keeps a place as the last one that touches the row, and behind all others the one that was the last before it.
+/// Where there is no memory for it, all is as it was.
+pub fn note(
+    touched: &mut Touched,
+    before: &mut Vec<Option<usize>>,
+    id: u64,
+    place: usize,
+) -> Result<(), AllocError>
+    ensures last { OnOk result (touched.new ≡ with_row (λ r. r.id) (record { id = id; place = Some place }) touched.old) }
+    ensures earlier { OnOk result (before.new.items ≡ before.old.items ++ place_in id touched.old ∷ []) }
+    ensures same { OnErr result (touched.new ≡ touched.old) }
+    ensures as_before { OnErr result (before.new.items ≡ before.old.items) }
+{
+    before.reserve(1)?;
+    let earlier = touched.last(id);
+    touched.touch(id, place)?;
+    Ok(before.push(earlier)?)
 }

@@ -1,2 +1,5 @@
 pub mod ReadLemmas
 pub mod RiseLemmas
+pub mod CauseLemmas
+pub mod FitLemmas
+pub mod LimitLemmas

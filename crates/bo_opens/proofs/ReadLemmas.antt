@@ -1,5 +1,5 @@
 -- What is read of a connection that stays as it is.
-use Rattle.std.proofs.Common.{◌≡◌, List, [], ◌∷◌, map, IsTrue, Result, Ok, Err, IfOk, IfErr, Option, Some, None, IfSome, subst, sym, ◌∙◌, refl}
+use Rattle.std.proofs.Common.{◌≡◌, List, [], ◌∷◌, map, IsTrue, Result, Ok, Err, IfOk, IfErr, OnOk, Option, Some, None, IfSome, subst, sym, ◌∙◌, refl}
 use Rattle.std.specs.List.Sorted.{IsPermutation}
 use Rattle.std.proofs.lemmas.List.Sorted.{IsPermutation-map, IsPermutation-refl, IsPermutation-sym, IsPermutation-trans}
 use Rattle.sqlite_value.specs.Order.{Row}
@@ -56,6 +56,23 @@ was_ok r x P is h = subst (λ s. IfOk s P) is h
 pub same_ok : {T E : Type 0} (r : Result T E) (x : T) (P : T → Type 0) → IfOk r (λ y. y ≡ x) → P x → IfOk r P
 same_ok (Ok y) x P is h = subst P (sym is) h
 same_ok (Err e) x P is h = tt
+
+pub same_when : {T E : Type 0} (r : Result T E) (x : T) (P : T → Type 0) (Q : Type 0) → IfOk r (λ y. y ≡ x) → OnOk r Q → (Q → P x) → IfOk r P
+same_when (Ok y) x P Q is h k = subst P (sym is) (k h)
+same_when (Err e) x P Q is h k = tt
+
+pub was_on : {T E : Type 0} (r : Result T E) (x : T) (Q : Type 0) → r ≡ Ok x → OnOk r Q → Q
+was_on r x Q is h = subst (λ s. OnOk s Q) is h
+
+pub was_err : {T E : Type 0} (r : Result T E) (e : E) (P : E → Type 0) → r ≡ Err e → IfErr r P → P e
+was_err r e P is h = subst (λ s. IfErr s P) is h
+
+pub was_some : {T : Type 0} (o : Option T) (x : T) (P : T → Type 0) → o ≡ Some x → IfSome o P → P x
+was_some o x P is h = subst (λ s. IfSome s P) is h
+
+pub on_ok : {T E : Type 0} (r : Result T E) (P : T → Type 0) (Q : Type 0) → IfOk r P → ((x : T) → P x → Q) → OnOk r Q
+on_ok (Ok x) P Q h k = k x h
+on_ok (Err e) P Q h k = tt
 
 -- the shop's row that was shown is the one that the table holds
 pub one_shop : (shops : List Shop) (shop : Shop) (rows : List Row) → IsPermutation (map shop_row shops) rows → rows ≡ shop_row shop ∷ [] → shops ≡ shop ∷ []

@@ -1,3 +1,5 @@
 pub mod Numbers
 pub mod Rests
 pub mod Read
+pub mod Causes
+pub mod Lawful

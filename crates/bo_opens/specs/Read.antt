@@ -1,5 +1,5 @@
 -- What was read, beside what tables hold: the rows of each table, in whatever order.
-use Rattle.std.specs.Prelude.{◌≡◌, ◌≢◌, [], ◌∷◌, IsPermutation}
+use Rattle.std.specs.Prelude.{◌≡◌, ◌≢◌, pos, [], ◌∷◌, IsPermutation}
 use Rattle.bo_columns.specs.declared.rows.Shop.{Shop}
 use Rattle.bo_columns.specs.Tables.{Tables}
 use Rattle.bo_opens.specs.declared.error.OpenError.{OpenError}
@@ -43,7 +43,7 @@ pub record AreTableRows (t : Tables) (rows : TableRows) : Type 0 where
 
 -- where a version is told, it is that of the shop's row, and not 1
 abbrev pub TellsVersion : Shop → OpenError → Type 0
-TellsVersion shop (Version version) = (shop.version ≡ version) × (version ≢ 1)
+TellsVersion shop (Version version) = (pos shop.version ≡ version) × (version ≢ pos 1)
 TellsVersion shop _ = Unit {0}
 
 -- the shop has one row, which is this one, and the other tables hold these rows

@@ -12,7 +12,7 @@ pub enum OpenError {
     /// 60: a table of a shop, or a column of it, isn't there.
     NotAShop,
     /// 61: the tables are of this version, and not of version 1.
-    Version(u64),
+    Version(i64),
     /// 62: the least rule that the rows break.
     Damaged(Rule),
     /// 63: the store refused a call, failed, or didn't answer in the order that was asked for.

@@ -1,18 +1,23 @@
 //! The tables of a file, read in the order in which it is told what is wrong.
 
-ghost use Rattle.std.specs.Prelude.{◌≡◌, false, [], ◌∷◌, map, IfOk, IfErr, IfSome, IsPermutation, IsTrue, Ok, Some};
+ghost use Rattle.std.specs.Prelude.{◌≡◌, false, [], ◌∷◌, map, IfOk, IfErr, IfSome, OnOk, IsPermutation, IsTrue, Ok, Err, Some, None};
+ghost use Rattle.sqlite.specs.Effect.{Database};
 ghost use Rattle.sqlite.specs.Held.{state};
 ghost use Rattle.sqlite.specs.State.{HasCleanDisk, Survives};
+ghost use Rattle.bo_schema.specs.declared.error.RowError.TheVariants.{Damaged};
+ghost use Rattle.bo_schema.specs.Tables.{schema};
 ghost use Rattle.bo_columns.specs.declared.rows.Shop.{Shop};
 ghost use Rattle.bo_columns.specs.Rows.{shop_row};
 ghost use Rattle.bo_columns.specs.Tables.{Tables};
-ghost use Rattle.bo_opens.specs.Rests.{ShowsTables, Rests};
+ghost use Rattle.bo_loads.specs.Damage.{HasMeaning, HasNoMeaning, IsFor};
+ghost use Rattle.bo_loads.specs.Texts.{shop_text};
+ghost use Rattle.bo_opens.specs.Rests.{IsAt, ShowsTables, Rests};
 ghost use Rattle.bo_opens.specs.Read.{AreTableRows, TellsVersion, IsFileOf};
+ghost use Rattle.bo_opens.specs.Causes.{LacksTable, HasTables, HasDamage, AreFitTables, IsFitFile, ShowsBy, OfTheShop, HasNoOtherVersion, IsCause};
 
 use crate::error::OpenError;
-use crate::head::{read_shop, test_version};
+use crate::head::{read_shop, shop_rows, test_version};
 use crate::read::{TableRows, read_tables};
-use crate::table::rows_in;
 use bo_columns::Shop;
 use bo_rules::Rule;
 use bo_schema::RowError;
@@ -26,9 +31,10 @@ pub struct FileTables {
     pub tables: TableRows,
 }
 
-// What a refusal means where the shop's row is read.
+// What a refusal means where the shop's rows are read, which aren't damaged before they are looked at.
 fn refusal(error: RowError) -> OpenError
-    ensures { (shop : Shop) → TellsVersion shop result }
+    ensures told { (shop : Shop) → TellsVersion shop result }
+    ensures cause { (db : Database) → IsFor (HasNoMeaning db.schema shop_text) ⊥ error → IsCause db result }
 {
     match error {
         RowError::Memory => OpenError::Memory,
@@ -38,40 +44,48 @@ fn refusal(error: RowError) -> OpenError
     }
 }
 
-// What was read, or none where a value can't be read.
-fn readable<T: Drop>(read: Result<T, RowError>) -> Result<Option<T>, OpenError>
+// The rows of the other tables, or none where a value can't be read.
+fn readable(read: Result<TableRows, RowError>) -> Result<Option<TableRows>, OpenError>
     ensures read { IfOk result (λ found. IfSome found (λ rows. read ≡ Ok rows)) }
+    ensures unread { IfOk result (λ found. found ≡ None → read ≡ Err Damaged) }
     ensures refused { IfErr result (λ error. (shop : Shop) → TellsVersion shop error) }
+    ensures cause { (db : Database) → OfTheShop db HasNoOtherVersion → IfErr read (IsFor (LacksTable db.schema) (db.schema ≡ schema → HasDamage db.trees)) → IfErr result (IsCause db) }
 {
     match read {
         Ok(rows) => Ok(Some(rows)),
+        Err(RowError::Memory) => Err(OpenError::Memory),
+        Err(RowError::Foreign) => Err(OpenError::NotAShop),
         Err(RowError::Damaged) => Ok(None),
-        Err(error) => Err(refusal(error)),
+        Err(RowError::Store) => Err(OpenError::Store),
     }
 }
 
 // The rows, if their version is this program's.
-fn tested(alloc: Global, rows: Vec<Row>) -> Result<Vec<Row>, OpenError>
+fn tested(rows: Vec<Row>) -> Result<Vec<Row>, OpenError>
     ensures same { IfOk result (λ same. same ≡ rows) }
+    ensures passed { OnOk result (HasNoOtherVersion rows.items) }
     ensures refused { IfErr result (λ error. (shop : Shop) → rows.items ≡ shop_row shop ∷ [] → TellsVersion shop error) }
+    ensures cause { (db : Database) → ShowsBy shop_text db rows.items → IfErr result (IsCause db) }
 {
-    match test_version(alloc, rows.as_slice()) {
+    match test_version(rows.as_slice()) {
         Ok(()) => Ok(rows),
         Err(error) => Err(error),
     }
 }
 
 // The rows of the table `shop`, and that their version is this program's. Refusals: 6, 60, 61, 63.
-fn read_head<S: Alter>(alloc: Global, conn: &mut Connection<S>) -> Result<Vec<Row>, OpenError>
+fn read_head<S: Alter>(conn: &mut Connection<S>) -> Result<Vec<Row>, OpenError>
     requires { conn.old.in_transaction ≡ false }
     ensures loaded { HasCleanDisk (state S.Store conn.new) → IsTrue (state S.Store conn.new).is_open → (t : Tables) → ShowsTables t (state S.Store conn.old) → IfOk result (λ rows. IsPermutation (map shop_row t.shop) rows.items) }
     ensures refused { HasCleanDisk (state S.Store conn.new) → IsTrue (state S.Store conn.new).is_open → (t : Tables) → ShowsTables t (state S.Store conn.old) → (shop : Shop) → t.shop ≡ shop ∷ [] → IfErr result (TellsVersion shop) }
+    ensures found { HasCleanDisk (state S.Store conn.new) → IsTrue (state S.Store conn.new).is_open → (db : Database) → IsAt db (state S.Store conn.old) → IfOk result (λ rows. ShowsBy shop_text db rows.items × HasNoOtherVersion rows.items) }
+    ensures cause { HasCleanDisk (state S.Store conn.new) → IsTrue (state S.Store conn.new).is_open → (db : Database) → IsAt db (state S.Store conn.old) → IfErr result (IsCause db) }
     ensures rests { Rests (state S.Store conn.old) (state S.Store conn.new) }
     ensures mode { conn.new.in_transaction ≡ false }
     ensures crash { Survives (state S.Store conn.old) (state S.Store conn.new) (λ _. ⊥) }
 {
-    match rows_in::<S, Row>(alloc, conn) {
-        Ok(rows) => tested(alloc, rows),
+    match shop_rows(conn) {
+        Ok(rows) => tested(rows),
         Err(error) => Err(refusal(error)),
     }
 }
@@ -84,11 +98,14 @@ fn read_all<S: Alter>(
     requires { conn.old.in_transaction ≡ false }
     ensures loaded { HasCleanDisk (state S.Store conn.new) → IsTrue (state S.Store conn.new).is_open → (t : Tables) → ShowsTables t (state S.Store conn.old) → IfOk result (λ read. IsPermutation (map shop_row t.shop) read.0.items × IfSome read.1 (AreTableRows t)) }
     ensures refused { HasCleanDisk (state S.Store conn.new) → IsTrue (state S.Store conn.new).is_open → (t : Tables) → ShowsTables t (state S.Store conn.old) → (shop : Shop) → t.shop ≡ shop ∷ [] → IfErr result (TellsVersion shop) }
+    ensures limits { IfOk result (λ read. IfSome read.1 AreFitTables) }
+    ensures found { HasCleanDisk (state S.Store conn.new) → IsTrue (state S.Store conn.new).is_open → (db : Database) → IsAt db (state S.Store conn.old) → IfOk result (λ read. ShowsBy shop_text db read.0.items × HasNoOtherVersion read.0.items × IfSome read.1 (λ _. HasTables db.schema) × (read.1 ≡ None → db.schema ≡ schema → HasDamage db.trees)) }
+    ensures cause { HasCleanDisk (state S.Store conn.new) → IsTrue (state S.Store conn.new).is_open → (db : Database) → IsAt db (state S.Store conn.old) → IfErr result (IsCause db) }
     ensures rests { Rests (state S.Store conn.old) (state S.Store conn.new) }
     ensures mode { conn.new.in_transaction ≡ false }
     ensures crash { Survives (state S.Store conn.old) (state S.Store conn.new) (λ _. ⊥) }
 {
-    match read_head(alloc, conn) {
+    match read_head(conn) {
         Ok(rows) => match readable(read_tables(alloc, conn)) {
             Ok(tables) => Ok((rows, tables)),
             Err(error) => Err(error),
@@ -106,7 +123,9 @@ fn whole_file(
     ensures shop { IfOk result (λ file. rows.now ≡ shop_row file.shop ∷ []) }
     ensures version { IfOk result (λ file. file.shop.version ≡ 1) }
     ensures tables { IfOk result (λ file. tables ≡ Some file.tables) }
+    ensures limits { IfSome tables AreFitTables → IfOk result IsFitFile }
     ensures refused { IfErr result (λ error. (shop : Shop) → TellsVersion shop error) }
+    ensures cause { (db : Database) → ShowsBy shop_text db rows.now → HasNoOtherVersion rows.now → (tables ≡ None → db.schema ≡ schema → HasDamage db.trees) → IfErr result (IsCause db) }
 {
     match (read_shop(alloc, rows), tables) {
         (Ok(shop), Some(tables)) => Ok(FileTables { shop, tables }),
@@ -117,13 +136,16 @@ fn whole_file(
 
 /// All that the tables of a file hold. The connection stays as it is.
 /// Refusals: 6; 60 where the table `shop` isn't there with its columns; 61 where its row has another version; 60 where another table
-/// isn't there; 62 by rule 1 where there isn't one row of the shop, or a value of it is out of range; 62 by rule 2 where a value of
-/// another table is; 63. They are told in this order.
+/// isn't there; 62 by rule 1 where there isn't one row of the shop, or a value or a next id of it is out of range; 62 by rule 2 where
+/// a value of another table is; 63. They are told in this order.
 pub fn read_file<S: Alter>(alloc: Global, conn: &mut Connection<S>) -> Result<FileTables, OpenError>
     requires { conn.old.in_transaction ≡ false }
     ensures loaded { HasCleanDisk (state S.Store conn.new) → IsTrue (state S.Store conn.new).is_open → (t : Tables) → ShowsTables t (state S.Store conn.old) → IfOk result (IsFileOf t) }
     ensures version { IfOk result (λ file. file.shop.version ≡ 1) }
     ensures refused { HasCleanDisk (state S.Store conn.new) → IsTrue (state S.Store conn.new).is_open → (t : Tables) → ShowsTables t (state S.Store conn.old) → (shop : Shop) → t.shop ≡ shop ∷ [] → IfErr result (TellsVersion shop) }
+    ensures limits { IfOk result IsFitFile }
+    ensures found { HasCleanDisk (state S.Store conn.new) → IsTrue (state S.Store conn.new).is_open → (db : Database) → IsAt db (state S.Store conn.old) → OnOk result (HasMeaning db.schema shop_text × HasTables db.schema) }
+    ensures cause { HasCleanDisk (state S.Store conn.new) → IsTrue (state S.Store conn.new).is_open → (db : Database) → IsAt db (state S.Store conn.old) → IfErr result (IsCause db) }
     ensures rests { Rests (state S.Store conn.old) (state S.Store conn.new) }
     ensures mode { conn.new.in_transaction ≡ false }
     ensures crash { Survives (state S.Store conn.old) (state S.Store conn.new) (λ _. ⊥) }

@@ -1,30 +1,46 @@
 //! The shop's own row.
 
-ghost use Rattle.std.specs.Prelude.{◌≡◌, true, [], ◌∷◌, map, IfOk, IfErr, OnOk, IsPermutation};
+ghost use Rattle.std.specs.Prelude.{◌≡◌, ◌≢◌, ℤ, true, false, [], ◌∷◌, map, IfOk, IfErr, OnOk, IsPermutation, IsTrue};
+ghost use Rattle.sqlite_value.specs.declared.value.Value.TheVariants.{Int};
+ghost use Rattle.sqlite_value.specs.Order.{column};
+ghost use Rattle.sqlite.specs.Effect.{Database};
 ghost use Rattle.sqlite.specs.Held.{state};
 ghost use Rattle.sqlite.specs.State.{HasCleanDisk, Survives, KeepsCommit};
 ghost use Rattle.bo_schema.specs.Tables.{schema};
 ghost use Rattle.bo_schema.specs.Parts.{shown};
 ghost use Rattle.bo_columns.specs.declared.rows.Shop.{Shop};
 ghost use Rattle.bo_columns.specs.Rows.{shop_row};
+ghost use Rattle.bo_columns.specs.Fit.{IsFitShop};
+ghost use Rattle.bo_columns.specs.Tables.{Tables};
+ghost use Rattle.bo_columns.specs.Unread.{IsUnread};
+ghost use Rattle.bo_loads.specs.Damage.{HasNoMeaning, IsFor};
+ghost use Rattle.bo_loads.specs.Texts.{shop_text};
+ghost use Rattle.bo_opens.specs.Rests.{IsAt, ShowsTables, Rests};
 ghost use Rattle.bo_opens.specs.Read.{TellsVersion};
+ghost use Rattle.bo_opens.specs.Causes.{HasNextIds, ShowsBy, HasNoOtherVersion, IsCause};
 
 use crate::error::OpenError;
-use bo_columns::{Column, Shop};
+use crate::ids::has_next_ids;
+use bo_columns::Shop;
 use bo_loads::Loaded;
 use bo_rules::Rule;
 use bo_schema::RowError;
-use sqlite::{Alter, Row, Transaction};
+use sqlite::{Alter, Connection, Row, Transaction};
 use std::alloc::Global;
 
 /// The version of a shop's tables that this program reads and writes.
 pub const VERSION: u64 = 1;
 
+// The same version, as it is shown.
+const SHOWN_VERSION: i64 = 1;
+
 /// The rows of the table `shop`, as they are shown, whatever their version and their values are. Nothing changes.
 /// Refusals: 6, 60 where the file has no such table with these columns, 63.
 pub(crate) fn load_shown<S: Alter>(tx: &mut Transaction<'_, S>) -> Result<Vec<Row>, RowError>
     ensures same { tx.new.conn.ghost_name ≡ tx.old.conn.ghost_name }
-    ensures loaded { HasCleanDisk (state S.Store tx.new.conn.now) → (state S.Store tx.old.conn.now).now.schema ≡ schema → IfOk result (λ all. IsPermutation (map (λ r. r) all.items) (map (shown schema 0) ((state S.Store tx.old.conn.now).now.trees 0))) }
+    ensures loaded { HasCleanDisk (state S.Store tx.new.conn.now) → (state S.Store tx.old.conn.now).now.schema ≡ schema → IfOk result (λ all. IsPermutation all.items (map (shown schema 0) ((state S.Store tx.old.conn.now).now.trees 0))) }
+    ensures shown { HasCleanDisk (state S.Store tx.new.conn.now) → IfOk result (λ all. ShowsBy shop_text (state S.Store tx.old.conn.now).now all.items) }
+    ensures refused { HasCleanDisk (state S.Store tx.new.conn.now) → IfErr result (IsFor (HasNoMeaning (state S.Store tx.old.conn.now).now.schema shop_text) ⊥) }
     ensures still { HasCleanDisk (state S.Store tx.new.conn.now) → (state S.Store tx.old.conn.now).now.schema ≡ schema → OnOk result ((state S.Store tx.new.conn.now).now ≡ (state S.Store tx.old.conn.now).now) }
     ensures kept { HasCleanDisk (state S.Store tx.new.conn.now) → (state S.Store tx.old.conn.now).in_transaction ≡ true → KeepsCommit (state S.Store tx.old.conn.now) (state S.Store tx.new.conn.now) }
     ensures crash { Survives (state S.Store tx.old.conn.now) (state S.Store tx.new.conn.now) (λ _. ⊥) }
@@ -37,40 +53,65 @@ pub(crate) fn load_shown<S: Alter>(tx: &mut Transaction<'_, S>) -> Result<Vec<Ro
     }
 }
 
-// The column of the version, which is told before any other value is.
-fn version_in(alloc: Global, row: &Row) -> Result<u64, RowError>
-    ensures { IfOk result (λ version. (shop : Shop) → row.now ≡ shop_row shop → shop.version ≡ version) }
+/// The rows of the table `shop`, as they are shown. The connection stays as it is. Refusals: 6, 60, 63.
+pub(crate) fn shop_rows<S: Alter>(conn: &mut Connection<S>) -> Result<Vec<Row>, RowError>
+    requires { conn.old.in_transaction ≡ false }
+    ensures loaded { HasCleanDisk (state S.Store conn.new) → IsTrue (state S.Store conn.new).is_open → (t : Tables) → ShowsTables t (state S.Store conn.old) → IfOk result (λ rows. IsPermutation (map shop_row t.shop) rows.items) }
+    ensures shown { HasCleanDisk (state S.Store conn.new) → IsTrue (state S.Store conn.new).is_open → (db : Database) → IsAt db (state S.Store conn.old) → IfOk result (λ rows. ShowsBy shop_text db rows.items) }
+    ensures refused { HasCleanDisk (state S.Store conn.new) → IsTrue (state S.Store conn.new).is_open → (db : Database) → IsAt db (state S.Store conn.old) → IfErr result (IsFor (HasNoMeaning db.schema shop_text) ⊥) }
+    ensures rests { Rests (state S.Store conn.old) (state S.Store conn.new) }
+    ensures mode { conn.new.in_transaction ≡ false }
+    ensures crash { Survives (state S.Store conn.old) (state S.Store conn.new) (λ _. ⊥) }
 {
-    u64::read(alloc, row, 1)
+    let mut tx = conn.transaction();
+    let read = load_shown(&mut tx);
+    tx.rollback();
+    read
+}
+
+// The column of the version, which is told before any other value is. Refusals: 6, and 62 where it holds no number.
+fn version_in(row: &Row) -> Result<i64, RowError>
+    ensures value { IfOk result (λ version. column row.now 1 ≡ Int version) }
+    ensures refused { IfErr result (IsUnread ((version : ℤ) → column row.now 1 ≢ Int version)) }
+{
+    match row.get(1) {
+        Ok(version) => Ok(version),
+        Err(error) => Err(RowError::of(error)),
+    }
 }
 
 /// That the shop's row, where there is one, has the version of this program. Refusals: 6, and 61 where it has another.
-/// A row whose version is no number from 0 passes, since it has a value that is out of range.
-pub(crate) fn test_version(alloc: Global, rows: &[Row]) -> Result<(), OpenError>
-    ensures { IfErr result (λ error. (shop : Shop) → rows.now ≡ shop_row shop ∷ [] → TellsVersion shop error) }
+/// A row whose version is no number passes, since it has a value of another kind.
+pub(crate) fn test_version(rows: &[Row]) -> Result<(), OpenError>
+    ensures passed { OnOk result (HasNoOtherVersion rows.now) }
+    ensures refused { IfErr result (λ error. (shop : Shop) → rows.now ≡ shop_row shop ∷ [] → TellsVersion shop error) }
+    ensures cause { (db : Database) → ShowsBy shop_text db rows.now → IfErr result (IsCause db) }
 {
     let [row] = rows else {
         return Ok(());
     };
-    match version_in(alloc, row) {
-        Ok(VERSION) => Ok(()),
+    match version_in(row) {
+        Ok(SHOWN_VERSION) => Ok(()),
         Ok(version) => Err(OpenError::Version(version)),
         Err(RowError::Memory) => Err(OpenError::Memory),
         Err(_) => Ok(()),
     }
 }
 
-/// The shop's row. Refusals: 6, and 62 where there isn't one row, or a value of it is out of range.
+/// The shop's row. Refusals: 6, and 62 where there isn't one row, or a value or a next id of it is out of range.
 pub(crate) fn read_shop(alloc: Global, rows: &[Row]) -> Result<Shop, OpenError>
     ensures row { IfOk result (λ shop. rows.now ≡ shop_row shop ∷ []) }
     ensures version { IfOk result (λ shop. shop.version ≡ 1) }
+    ensures limits { IfOk result IsFitShop }
+    ensures ids { IfOk result HasNextIds }
     ensures refused { IfErr result (λ error. (shop : Shop) → TellsVersion shop error) }
+    ensures cause { (db : Database) → ShowsBy shop_text db rows.now → HasNoOtherVersion rows.now → IfErr result (IsCause db) }
 {
     let [row] = rows else {
         return Err(OpenError::Damaged(Rule::Shop));
     };
     match Shop::read(alloc, row) {
-        Ok(shop) if shop.version == VERSION => Ok(shop),
+        Ok(shop) if shop.version == VERSION && has_next_ids(&shop) => Ok(shop),
         Ok(_) => Err(OpenError::Damaged(Rule::Shop)),
         Err(RowError::Memory) => Err(OpenError::Memory),
         Err(_) => Err(OpenError::Damaged(Rule::Shop)),

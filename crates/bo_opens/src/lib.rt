@@ -4,6 +4,8 @@
 pub mod error;
 pub mod file;
 pub mod head;
+pub mod ids;
+pub mod laws;
 pub mod numbers;
 pub mod read;
 pub mod table;

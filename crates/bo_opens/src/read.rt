@@ -1,10 +1,14 @@
 //! All that the tables of a file hold, as it is read.
 
-ghost use Rattle.std.specs.Prelude.{◌≡◌, false, IfOk, IsTrue};
+ghost use Rattle.std.specs.Prelude.{◌≡◌, false, IfOk, IfErr, OnOk, IsTrue};
+ghost use Rattle.sqlite.specs.Effect.{Database};
 ghost use Rattle.sqlite.specs.Held.{state};
 ghost use Rattle.sqlite.specs.State.{HasCleanDisk, Survives};
 ghost use Rattle.bo_columns.specs.Tables.{Tables};
-ghost use Rattle.bo_opens.specs.Rests.{ShowsTables, Rests};
+ghost use Rattle.bo_schema.specs.Tables.{schema};
+ghost use Rattle.bo_loads.specs.Damage.{IsFor};
+ghost use Rattle.bo_opens.specs.Rests.{IsAt, ShowsTables, Rests};
+ghost use Rattle.bo_opens.specs.Causes.{IsFitCatalogue, HasCatalogue, LacksCatalogue, IsDamagedCatalogue, AreFitSales, HasSales, LacksSales, AreDamagedSales, AreFitDoors, HasDoors, LacksDoors, AreDamagedDoors, AreFitOthers, HasOthers, LacksOthers, AreDamagedOthers, AreFitTables, HasTables, LacksTable, HasDamage};
 ghost use Rattle.bo_opens.specs.Read.{AreCatalogueRows, AreSaleRows, AreDoorRows, AreOtherRows, AreTableRows};
 
 use crate::whole::Whole;
@@ -65,72 +69,122 @@ pub struct TableRows {
 impl Whole for CatalogueRows {
     ghost is_of = { AreCatalogueRows };
 
+    ghost fits = { IsFitCatalogue };
+
+    ghost stands = { HasCatalogue };
+
+    ghost lacks = { LacksCatalogue };
+
+    ghost is_damaged = { IsDamagedCatalogue };
+
     fn read<S: Alter>(alloc: Global, conn: &mut Connection<S>) -> Result<CatalogueRows, RowError> {
-        let (items, (variations, (quotas, (quota_items, quota_variations)))) = Whole::read(
-            alloc, conn,
-        )?;
-        Ok(CatalogueRows {
-            items,
-            variations,
-            quotas,
-            quota_items,
-            quota_variations,
-        })
+        match Whole::read(alloc, conn) {
+            Ok((items, (variations, (quotas, (quota_items, quota_variations))))) => Ok(
+                CatalogueRows {
+                    items,
+                    variations,
+                    quotas,
+                    quota_items,
+                    quota_variations,
+                },
+            ),
+            Err(error) => Err(error),
+        }
     }
 }
 
 impl Whole for SaleRows {
     ghost is_of = { AreSaleRows };
 
+    ghost fits = { AreFitSales };
+
+    ghost stands = { HasSales };
+
+    ghost lacks = { LacksSales };
+
+    ghost is_damaged = { AreDamagedSales };
+
     fn read<S: Alter>(alloc: Global, conn: &mut Connection<S>) -> Result<SaleRows, RowError> {
-        let (vouchers, (carts, (orders, (positions, waiting)))) = Whole::read(alloc, conn)?;
-        Ok(SaleRows {
-            vouchers,
-            carts,
-            orders,
-            positions,
-            waiting,
-        })
+        match Whole::read(alloc, conn) {
+            Ok((vouchers, (carts, (orders, (positions, waiting))))) => Ok(SaleRows {
+                vouchers,
+                carts,
+                orders,
+                positions,
+                waiting,
+            }),
+            Err(error) => Err(error),
+        }
     }
 }
 
 impl Whole for DoorRows {
     ghost is_of = { AreDoorRows };
 
+    ghost fits = { AreFitDoors };
+
+    ghost stands = { HasDoors };
+
+    ghost lacks = { LacksDoors };
+
+    ghost is_damaged = { AreDamagedDoors };
+
     fn read<S: Alter>(alloc: Global, conn: &mut Connection<S>) -> Result<DoorRows, RowError> {
-        let (checkin_lists, (list_items, checkins)) = Whole::read(alloc, conn)?;
-        Ok(DoorRows {
-            checkin_lists,
-            list_items,
-            checkins,
-        })
+        match Whole::read(alloc, conn) {
+            Ok((checkin_lists, (list_items, checkins))) => Ok(DoorRows {
+                checkin_lists,
+                list_items,
+                checkins,
+            }),
+            Err(error) => Err(error),
+        }
     }
 }
 
 impl Whole for OtherRows {
     ghost is_of = { AreOtherRows };
 
+    ghost fits = { AreFitOthers };
+
+    ghost stands = { HasOthers };
+
+    ghost lacks = { LacksOthers };
+
+    ghost is_damaged = { AreDamagedOthers };
+
     fn read<S: Alter>(alloc: Global, conn: &mut Connection<S>) -> Result<OtherRows, RowError> {
-        let (counts, (tokens, kept)) = Whole::read(alloc, conn)?;
-        Ok(OtherRows {
-            counts,
-            tokens,
-            kept,
-        })
+        match Whole::read(alloc, conn) {
+            Ok((counts, (tokens, kept))) => Ok(OtherRows {
+                counts,
+                tokens,
+                kept,
+            }),
+            Err(error) => Err(error),
+        }
     }
 }
 
 impl Whole for TableRows {
     ghost is_of = { AreTableRows };
 
+    ghost fits = { AreFitTables };
+
+    ghost stands = { HasTables };
+
+    ghost lacks = { LacksTable };
+
+    ghost is_damaged = { HasDamage };
+
     fn read<S: Alter>(alloc: Global, conn: &mut Connection<S>) -> Result<TableRows, RowError> {
-        let (catalogue, (sales, (doors, others))) = Whole::read(alloc, conn)?;
-        Ok(TableRows {
-            catalogue,
-            sales,
-            doors,
-            others,
-        })
+        match Whole::read(alloc, conn) {
+            Ok((catalogue, (sales, (doors, others)))) => Ok(TableRows {
+                catalogue,
+                sales,
+                doors,
+                others,
+            }),
+            Err(error) => Err(error),
+        }
     }
 }
 
@@ -140,6 +194,9 @@ impl Whole for TableRows {
 pub fn read_tables<S: Alter>(alloc: Global, conn: &mut Connection<S>) -> Result<TableRows, RowError>
     requires { conn.old.in_transaction ≡ false }
     ensures loaded { HasCleanDisk (state S.Store conn.new) → IsTrue (state S.Store conn.new).is_open → (t : Tables) → ShowsTables t (state S.Store conn.old) → IfOk result (AreTableRows t) }
+    ensures limits { IfOk result AreFitTables }
+    ensures found { HasCleanDisk (state S.Store conn.new) → IsTrue (state S.Store conn.new).is_open → (db : Database) → IsAt db (state S.Store conn.old) → OnOk result (HasTables db.schema) }
+    ensures refused { HasCleanDisk (state S.Store conn.new) → IsTrue (state S.Store conn.new).is_open → (db : Database) → IsAt db (state S.Store conn.old) → IfErr result (IsFor (LacksTable db.schema) (db.schema ≡ schema → HasDamage db.trees)) }
     ensures rests { Rests (state S.Store conn.old) (state S.Store conn.new) }
     ensures mode { conn.new.in_transaction ≡ false }
     ensures crash { Survives (state S.Store conn.old) (state S.Store conn.new) (λ _. ⊥) }

@@ -1,14 +1,11 @@
 //! Each table of the file.
 
-ghost use Rattle.std.specs.Prelude.{map, IsPermutation};
-ghost use Rattle.std.proofs.Common.{refl, subst, sym};
-ghost use Rattle.std.proofs.lemmas.List.{map-id};
-ghost use Rattle.bo_schema.specs.Tables.{schema};
-ghost use Rattle.bo_schema.specs.Parts.{shown};
+ghost use Rattle.std.specs.Prelude.{⊤};
 ghost use Rattle.bo_columns.specs.Rows.{shop_row, item_row, variation_row, quota_row, quota_item_row, quota_variation_row, voucher_row, cart_row, order_row, position_row, waiting_row, list_row, list_item_row, checkin_row, count_row, token_row, kept_row};
+ghost use Rattle.bo_columns.specs.Fit.{IsFitShop, IsFitItem, IsFitVariation, IsFitQuota, IsFitVoucher, IsFitCart, IsFitOrder, IsFitPosition, IsFitWaiting, IsFitList, IsFitCheckin, IsFitToken, IsFitKept};
+ghost use Rattle.bo_loads.specs.Texts.{shop_text, items_text, variations_text, quotas_text, quota_items_text, quota_variations_text, vouchers_text, carts_text, orders_text, positions_text, waiting_text, checkin_lists_text, list_items_text, checkins_text, counts_text, tokens_text, kept_text};
 ghost use Rattle.bo_loads.proofs.Back.{shop_in, shop_back, item_in, item_back, variation_in, variation_back, quota_in, quota_back, quota_item_in, quota_item_back, quota_variation_in, quota_variation_back, voucher_in, voucher_back, cart_in, cart_back, order_in, order_back, position_in, position_back, waiting_in, waiting_back, list_in, list_back, list_item_in, list_item_back, checkin_in, checkin_back, count_in, count_back, token_in, token_back, kept_in, kept_back};
 
-use crate::head::load_shown;
 use crate::table::Table;
 use bo_catalogue::{Item, Variation};
 use bo_columns::{
@@ -16,30 +13,15 @@ use bo_columns::{
 };
 use bo_lists::{CartPos, Checkin, Order, OrderPos, QuotaCount, Waiting};
 use bo_schema::RowError;
-use sqlite::{Alter, Row, Transaction};
+use sqlite::{Alter, Transaction};
 use std::alloc::Global;
-
-/// The shop's own row as it is shown, before its version and its values are known.
-impl Table for Row {
-    ghost as_row = { λ r. r };
-
-    ghost tree = { 0 };
-
-    ghost among = { λ t. map shop_row t.shop };
-
-    ghost shows = { λ db t held. subst (λ l. IsPermutation l (map (shown schema 0) (db 0))) (sym (map-id (map shop_row t.shop))) held.0 };
-
-    ghost from_row = { λ r. r };
-
-    ghost is_back = { λ r. refl };
-
-    fn load<S: Alter>(_: Global, tx: &mut Transaction<'_, S>) -> Result<Vec<Row>, RowError> {
-        load_shown(tx)
-    }
-}
 
 impl Table for Shop {
     ghost as_row = { shop_row };
+
+    ghost fits = { IsFitShop };
+
+    ghost text = { shop_text };
 
     ghost tree = { 0 };
 
@@ -59,6 +41,10 @@ impl Table for Shop {
 impl Table for Item {
     ghost as_row = { item_row };
 
+    ghost fits = { IsFitItem };
+
+    ghost text = { items_text };
+
     ghost tree = { 1 };
 
     ghost among = { λ t. t.items };
@@ -76,6 +62,10 @@ impl Table for Item {
 
 impl Table for Variation {
     ghost as_row = { variation_row };
+
+    ghost fits = { IsFitVariation };
+
+    ghost text = { variations_text };
 
     ghost tree = { 2 };
 
@@ -98,6 +88,10 @@ impl Table for Variation {
 impl Table for QuotaRow {
     ghost as_row = { quota_row };
 
+    ghost fits = { IsFitQuota };
+
+    ghost text = { quotas_text };
+
     ghost tree = { 3 };
 
     ghost among = { λ t. t.quotas };
@@ -118,6 +112,10 @@ impl Table for QuotaRow {
 
 impl Table for QuotaItem {
     ghost as_row = { quota_item_row };
+
+    ghost fits = { λ w. ⊤ };
+
+    ghost text = { quota_items_text };
 
     ghost tree = { 4 };
 
@@ -140,6 +138,10 @@ impl Table for QuotaItem {
 impl Table for QuotaVariation {
     ghost as_row = { quota_variation_row };
 
+    ghost fits = { λ w. ⊤ };
+
+    ghost text = { quota_variations_text };
+
     ghost tree = { 6 };
 
     ghost among = { λ t. t.quota_variations };
@@ -160,6 +162,10 @@ impl Table for QuotaVariation {
 
 impl Table for VoucherRow {
     ghost as_row = { voucher_row };
+
+    ghost fits = { IsFitVoucher };
+
+    ghost text = { vouchers_text };
 
     ghost tree = { 8 };
 
@@ -182,6 +188,10 @@ impl Table for VoucherRow {
 impl Table for CartPos {
     ghost as_row = { cart_row };
 
+    ghost fits = { IsFitCart };
+
+    ghost text = { carts_text };
+
     ghost tree = { 10 };
 
     ghost among = { λ t. t.carts };
@@ -203,6 +213,10 @@ impl Table for CartPos {
 impl Table for Order {
     ghost as_row = { order_row };
 
+    ghost fits = { IsFitOrder };
+
+    ghost text = { orders_text };
+
     ghost tree = { 11 };
 
     ghost among = { λ t. t.orders };
@@ -220,6 +234,10 @@ impl Table for Order {
 
 impl Table for OrderPos {
     ghost as_row = { position_row };
+
+    ghost fits = { IsFitPosition };
+
+    ghost text = { positions_text };
 
     ghost tree = { 12 };
 
@@ -242,6 +260,10 @@ impl Table for OrderPos {
 impl Table for Waiting {
     ghost as_row = { waiting_row };
 
+    ghost fits = { IsFitWaiting };
+
+    ghost text = { waiting_text };
+
     ghost tree = { 15 };
 
     ghost among = { λ t. t.waiting };
@@ -262,6 +284,10 @@ impl Table for Waiting {
 
 impl Table for ListRow {
     ghost as_row = { list_row };
+
+    ghost fits = { IsFitList };
+
+    ghost text = { checkin_lists_text };
 
     ghost tree = { 16 };
 
@@ -284,6 +310,10 @@ impl Table for ListRow {
 impl Table for ListItem {
     ghost as_row = { list_item_row };
 
+    ghost fits = { λ w. ⊤ };
+
+    ghost text = { list_items_text };
+
     ghost tree = { 17 };
 
     ghost among = { λ t. t.list_items };
@@ -304,6 +334,10 @@ impl Table for ListItem {
 
 impl Table for Checkin {
     ghost as_row = { checkin_row };
+
+    ghost fits = { IsFitCheckin };
+
+    ghost text = { checkins_text };
 
     ghost tree = { 19 };
 
@@ -326,6 +360,10 @@ impl Table for Checkin {
 impl Table for QuotaCount {
     ghost as_row = { count_row };
 
+    ghost fits = { λ w. ⊤ };
+
+    ghost text = { counts_text };
+
     ghost tree = { 21 };
 
     ghost among = { λ t. t.counts };
@@ -347,6 +385,10 @@ impl Table for QuotaCount {
 impl Table for Token {
     ghost as_row = { token_row };
 
+    ghost fits = { IsFitToken };
+
+    ghost text = { tokens_text };
+
     ghost tree = { 22 };
 
     ghost among = { λ t. t.tokens };
@@ -364,6 +406,10 @@ impl Table for Token {
 
 impl Table for KeptRow {
     ghost as_row = { kept_row };
+
+    ghost fits = { IsFitKept };
+
+    ghost text = { kept_text };
 
     ghost tree = { 24 };
 

@@ -1,10 +1,16 @@
 //! What is read of a file whole: tables one after another.
 
-ghost use Rattle.std.specs.Prelude.{◌≡◌, false, IfOk, IsPermutation, IsTrue};
+ghost use Rattle.std.specs.Prelude.{◌≡◌, ◌⊎◌, false, map, All, IfOk, IfErr, OnOk, IsPermutation, IsTrue};
+ghost use Rattle.sqlite_trees.specs.Tree.{Trees};
+ghost use Rattle.sqlite_schema.specs.declared.schema.Schema.{Schema};
+ghost use Rattle.sqlite.specs.Effect.{Database};
 ghost use Rattle.sqlite.specs.Held.{state};
 ghost use Rattle.sqlite.specs.State.{HasCleanDisk, Survives};
 ghost use Rattle.bo_columns.specs.Tables.{Tables};
-ghost use Rattle.bo_opens.specs.Rests.{ShowsTables, Rests};
+ghost use Rattle.bo_schema.specs.Tables.{schema};
+ghost use Rattle.bo_schema.specs.Parts.{shown};
+ghost use Rattle.bo_loads.specs.Damage.{HasMeaning, HasNoMeaning, IsDamaged, IsFor};
+ghost use Rattle.bo_opens.specs.Rests.{IsAt, ShowsTables, Rests};
 
 use crate::table::{Table, rows_in};
 use bo_schema::RowError;
@@ -16,12 +22,26 @@ pub(crate) trait Whole: Drop {
     // it is what these tables hold
     ghost is_of: { Tables → Self → Type 0 };
 
+    // its values are within their limits
+    ghost fits: { Self → Type 0 };
+
+    // a file has all of these tables, or lacks one of them
+    ghost stands: { Schema → Type 0 };
+
+    ghost lacks: { Schema → Type 0 };
+
+    // a row of one of these tables is that of no value within its limits
+    ghost is_damaged: { Trees → Type 0 };
+
     /// Reads it. The connection stays as it is.
     /// Refusals: 6, 60 where the file lacks one of the tables with these columns, 62 where a value can't be read, 63. That a table
     /// is lacking is told though a value of another one can't be read.
     fn read<S: Alter>(alloc: Global, conn: &mut Connection<S>) -> Result<Self, RowError>
         requires { conn.old.in_transaction ≡ false }
         ensures loaded { HasCleanDisk (state S.Store conn.new) → IsTrue (state S.Store conn.new).is_open → (t : Tables) → ShowsTables t (state S.Store conn.old) → IfOk result (is_of t) }
+        ensures limits { IfOk result fits }
+        ensures found { HasCleanDisk (state S.Store conn.new) → IsTrue (state S.Store conn.new).is_open → (db : Database) → IsAt db (state S.Store conn.old) → OnOk result (stands db.schema) }
+        ensures refused { HasCleanDisk (state S.Store conn.new) → IsTrue (state S.Store conn.new).is_open → (db : Database) → IsAt db (state S.Store conn.old) → IfErr result (IsFor (lacks db.schema) (db.schema ≡ schema → is_damaged db.trees)) }
         ensures rests { Rests (state S.Store conn.old) (state S.Store conn.new) }
         ensures mode { conn.new.in_transaction ≡ false }
         ensures crash { Survives (state S.Store conn.old) (state S.Store conn.new) (λ _. ⊥) };
@@ -30,6 +50,14 @@ pub(crate) trait Whole: Drop {
 /// One table's rows.
 impl<T: Table> Whole for Vec<T> {
     ghost is_of = { λ t rows. IsPermutation (T.among t) rows.items };
+
+    ghost fits = { λ rows. All T.fits rows.items };
+
+    ghost stands = { λ s. HasMeaning s T.text };
+
+    ghost lacks = { λ s. HasNoMeaning s T.text };
+
+    ghost is_damaged = { λ trees. IsDamaged T.as_row T.fits (map (shown schema T.tree) (trees T.tree)) };
 
     fn read<S: Alter>(alloc: Global, conn: &mut Connection<S>) -> Result<Vec<T>, RowError> {
         rows_in(alloc, conn)
@@ -43,25 +71,36 @@ fn read_both<S: Alter, A: Whole, B: Whole>(
 ) -> Result<(A, B), RowError>
     requires { conn.old.in_transaction ≡ false }
     ensures loaded { HasCleanDisk (state S.Store conn.new) → IsTrue (state S.Store conn.new).is_open → (t : Tables) → ShowsTables t (state S.Store conn.old) → IfOk result (λ both. A.is_of t both.0 × B.is_of t both.1) }
+    ensures limits { IfOk result (λ both. A.fits both.0 × B.fits both.1) }
+    ensures found { HasCleanDisk (state S.Store conn.new) → IsTrue (state S.Store conn.new).is_open → (db : Database) → IsAt db (state S.Store conn.old) → OnOk result (A.stands db.schema × B.stands db.schema) }
+    ensures refused { HasCleanDisk (state S.Store conn.new) → IsTrue (state S.Store conn.new).is_open → (db : Database) → IsAt db (state S.Store conn.old) → IfErr result (IsFor (A.lacks db.schema ⊎ B.lacks db.schema) (db.schema ≡ schema → A.is_damaged db.trees ⊎ B.is_damaged db.trees)) }
     ensures rests { Rests (state S.Store conn.old) (state S.Store conn.new) }
     ensures mode { conn.new.in_transaction ≡ false }
     ensures crash { Survives (state S.Store conn.old) (state S.Store conn.new) (λ _. ⊥) }
 {
     match A::read(alloc, conn) {
-        Ok(first) => {
-            let second = B::read(alloc, conn)?;
-            Ok((first, second))
-        }
-        Err(RowError::Damaged) => {
-            let _second: B = B::read(alloc, conn)?;
-            Err(RowError::Damaged)
-        }
+        Ok(first) => match B::read(alloc, conn) {
+            Ok(second) => Ok((first, second)),
+            Err(error) => Err(error),
+        },
+        Err(RowError::Damaged) => match B::read(alloc, conn) {
+            Ok(_) => Err(RowError::Damaged),
+            Err(error) => Err(error),
+        },
         Err(error) => Err(error),
     }
 }
 
 impl<A: Whole, B: Whole> Whole for (A, B) {
     ghost is_of = { λ t both. A.is_of t both.0 × B.is_of t both.1 };
+
+    ghost fits = { λ both. A.fits both.0 × B.fits both.1 };
+
+    ghost stands = { λ s. A.stands s × B.stands s };
+
+    ghost lacks = { λ s. A.lacks s ⊎ B.lacks s };
+
+    ghost is_damaged = { λ trees. A.is_damaged trees ⊎ B.is_damaged trees };
 
     fn read<S: Alter>(alloc: Global, conn: &mut Connection<S>) -> Result<(A, B), RowError> {
         read_both(alloc, conn)

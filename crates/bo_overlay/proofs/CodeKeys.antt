@@ -12,12 +12,12 @@ use Rattle.bo_lists.specs.declared.changes.Change.TheVariants.{PutItem, PutVaria
 use Rattle.bo_lists.specs.Lists.{voucher_at}
 use Rattle.bo_overlay.specs.Logs.{Log, rows_of}
 use Rattle.bo_log.specs.Places.{further, touches, last_place}
-use Rattle.bo_overlay.specs.Steps.{voucher_put}
+use Rattle.bo_log.specs.Puts.{voucher_put}
 use Rattle.bo_overlay.specs.Coded.{passes_if, IsLeast, lesser, IsBelow, IsFrom, HasCode, IsPutAt, IsPutBelow, IsPutFrom, put_if}
 use Rattle.bo_log.specs.Keys.{digest_from, digest, code_key, code_keys}
 use Rattle.bo_log.proofs.LastPlaces.{last_within, last_passes, some_is}
 use Rattle.bo_log.proofs.EarlierPlaces.{height}
-use Rattle.bo_overlay.proofs.Steps.{voucher_touched}
+use Rattle.bo_log.proofs.RowSteps.{voucher_touched}
 use Rattle.bo_overlay.proofs.Coded.{lesser_least, least_as, put_is}
 
 -- behind the last place that passes, none does

@@ -16,9 +16,9 @@ use Rattle.bo_lists.proofs.Found.{row_at_found}
 use Rattle.bo_overlay.specs.Logs.{Log, rows_of}
 use Rattle.bo_log.specs.Places.{touches, last_place}
 use Rattle.bo_overlay.specs.Coded.{passes_if, IsLeast, lesser, IsBelow, HasCode, IsPutBelow, IsUnchanged, IsPutAt, is_place, put_if}
-use Rattle.bo_overlay.specs.Steps.{voucher_put}
+use Rattle.bo_log.specs.Puts.{voucher_put}
 use Rattle.bo_log.proofs.LastPlaces.{last_within, last_passes, some_is}
-use Rattle.bo_overlay.proofs.Steps.{voucher_kept, voucher_touched}
+use Rattle.bo_log.proofs.RowSteps.{voucher_kept, voucher_touched}
 
 -- two least ones are the same
 pub least_same : (P : ℕ → Type 0) (a b : Option ℕ) → IsLeast P a → IsLeast P b → a ≡ b

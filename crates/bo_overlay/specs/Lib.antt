@@ -1,5 +1,4 @@
 pub mod Logs
-pub mod Steps
 pub mod Tickets
 pub mod Names
 pub mod Coded

@@ -1,8 +1,7 @@
-//! The rows of a book with changes laid over it: look-ups, counts, and what a request takes too much of.
+//! The rows of a book with changes laid over it: look-ups and counts.
 #![tactic(auto)]
 
 mod cart_conditions;
-mod over;
 mod overlay;
 mod row_names;
 mod tickets;

@@ -2,7 +2,7 @@
 
 ghost use Rattle.std.specs.Prelude.{◌≡◌, ◌++◌, [], ◌∷◌, IfOk, OnOk, OnErr, length, take, ◌≤◌, ◌<◌, ◌+◌, ◌-◌, ◌^◌, ◌==◌, ◌&&◌, count_by, if◌then◌else◌, find, option_map, is_none};
 ghost use Rattle.std.specs.Option.{option_copied};
-ghost use Rattle.bo_lists.specs.Lists.{voucher_at, cart_at, order_at, position_at, waiting_at, checkin_list_at, checkin_at};
+ghost use Rattle.bo_lists.specs.Lists.{cart_at, order_at, waiting_at, checkin_list_at, checkin_at};
 ghost use Rattle.bo_lists.specs.Named.{voucher_of, is_used};
 ghost use Rattle.bo_usage.specs.Naming.{naming};
 ghost use Rattle.bo_overlay.specs.Names.{name_gone};
@@ -17,7 +17,7 @@ ghost use Rattle.bo_lists.specs.Conditions.{is_in_force, names};
 ghost use Rattle.bo_usage.specs.OfOrder.{count_ordered};
 ghost use Rattle.bo_overlay.specs.Tickets.{AreTicketsOf};
 ghost use Rattle.bo_lists.specs.Usage.{stands_as, uses, redeemed};
-ghost use Rattle.bo_overlay.specs.Steps.{voucher_put, cart_put, order_put, position_put, waiting_put, checkin_list_put, checkin_put, puts};
+ghost use Rattle.bo_log.specs.Puts.{puts};
 
 use crate::cart_conditions::{CartCondition, Holds, HoldsIn};
 use crate::row_names::{cart_name, entry_name, is_name, name_put};
@@ -25,8 +25,13 @@ use crate::tickets::{Ticket, copy_tickets, put_tickets};
 use bo_base::Moment;
 use bo_catalogue::{Catalogue, Quota};
 use bo_lists::{CartPos, Change, Checkin, CheckinList, Order, OrderPos, Voucher, Waiting};
+use bo_log::rows::{
+    cart_after, cart_in, checkin_in, checkin_list_in, order_after, order_in, position_in,
+    voucher_in, waiting_after, waiting_in,
+};
 use bo_log::{ChangeLog, KeyLog, Table, code_key, digest};
-use bo_usage::{Book, PositionTest};
+use bo_usage::rules::is_in_force;
+use bo_usage::{Book, LookUps, PositionTest};
 use std::alloc::{AllocError, Global};
 use std::marker::Model;
 
@@ -200,10 +205,7 @@ impl<'a, B: Book> Overlay<'a, B> {
         requires { i ≤ length self.now.changes }
         ensures { option_copied result ≡ waiting_at id (rows_at i self.now) }
     {
-        match self.log.last_before(i, Table::Waiting, id) {
-            None => self.book.entry(id),
-            Some(place) => waiting_put(self.log.get(place)),
-        }
+        waiting_after(&self.log, i, id, self.book.entry(id))
     }
 
     /// One more change, or a refusal where 2^32 stand or there is no memory: then the changes are as they were.
@@ -278,10 +280,7 @@ impl<'a, B: Book> Overlay<'a, B> {
         requires { i ≤ length self.now.changes }
         ensures { result ≡ stands_as is_in_force (order_at id (rows_at i self.now)) }
     {
-        match self.order_at(i, id) {
-            None => false,
-            Some(order) => order.status.is_in_force(),
-        }
+        is_in_force(self.order_at(i, id))
     }
 
     // The order as it was before a change.
@@ -289,10 +288,7 @@ impl<'a, B: Book> Overlay<'a, B> {
         requires { i ≤ length self.now.changes }
         ensures { option_copied result ≡ order_at id (rows_at i self.now) }
     {
-        match self.log.last_before(i, Table::Orders, id) {
-            None => self.book.order(id),
-            Some(place) => order_put(self.log.get(place)),
-        }
+        order_after(&self.log, i, id, self.book.order(id))
     }
 
     /// How many positions of the order pass the test, as they are after the first `i` changes.
@@ -397,10 +393,7 @@ impl<'a, B: Book> Overlay<'a, B> {
         requires { i ≤ length self.now.changes }
         ensures { option_copied result ≡ cart_at id (rows_at i self.now) }
     {
-        match self.log.last_before(i, Table::Carts, id) {
-            None => self.book.cart(id),
-            Some(place) => cart_put(self.log.get(place)),
-        }
+        cart_after(&self.log, i, id, self.book.cart(id))
     }
 
     /// Ids rise in each list of sales, no list is too long to be counted, and what is for sale hasn't changed.
@@ -441,104 +434,42 @@ impl<'a, B: Book> Overlay<'a, B> {
         log.into_vec()
     }
 
-    /// The voucher of an id.
-    pub fn voucher(&self, id: u64) -> Option<&Voucher>
-        ensures { option_copied result ≡ voucher_at id (rows_of self.now) }
-    {
-        match self.log.last(Table::Vouchers, id) {
-            None => self.book.voucher(id),
-            Some(place) => voucher_put(self.log.get(place)),
-        }
-    }
-
-    /// The cart position of an id.
-    pub fn cart(&self, id: u64) -> Option<&CartPos>
-        ensures { option_copied result ≡ cart_at id (rows_of self.now) }
-    {
-        match self.log.last(Table::Carts, id) {
-            None => self.book.cart(id),
-            Some(place) => cart_put(self.log.get(place)),
-        }
-    }
-
-    /// The order of an id.
-    pub fn order(&self, id: u64) -> Option<&Order>
-        ensures { option_copied result ≡ order_at id (rows_of self.now) }
-    {
-        match self.log.last(Table::Orders, id) {
-            None => self.book.order(id),
-            Some(place) => order_put(self.log.get(place)),
-        }
-    }
-
-    /// The order position of an id.
-    pub fn position(&self, id: u64) -> Option<&OrderPos>
-        ensures { option_copied result ≡ position_at id (rows_of self.now) }
-    {
-        match self.log.last(Table::Positions, id) {
-            None => self.book.position(id),
-            Some(place) => position_put(self.log.get(place)),
-        }
-    }
-
-    /// The waiting entry of an id.
-    pub fn waiting(&self, id: u64) -> Option<&Waiting>
-        ensures { option_copied result ≡ waiting_at id (rows_of self.now) }
-    {
-        match self.log.last(Table::Waiting, id) {
-            None => self.book.entry(id),
-            Some(place) => waiting_put(self.log.get(place)),
-        }
-    }
-
     /// The check-in list of an id.
     pub fn checkin_list(&self, id: u64) -> Option<&CheckinList>
         ensures { option_copied result ≡ checkin_list_at id (rows_of self.now) }
     {
-        match self.log.last(Table::CheckinLists, id) {
-            None => self.book.checkin_list(id),
-            Some(place) => checkin_list_put(self.log.get(place)),
-        }
+        checkin_list_in(&self.log, id, self.book.checkin_list(id))
     }
 
     /// The check-in of an id.
     pub fn checkin(&self, id: u64) -> Option<&Checkin>
         ensures { option_copied result ≡ checkin_at id (rows_of self.now) }
     {
-        match self.log.last(Table::Checkins, id) {
-            None => self.book.checkin(id),
-            Some(place) => checkin_put(self.log.get(place)),
-        }
+        checkin_in(&self.log, id, self.book.checkin(id))
     }
 }
 
-// The voucher that a change puts.
-fn voucher_put(change: &Change) -> Option<&Voucher>
-    ensures { option_copied result ≡ voucher_put change.now }
-{
-    match change {
-        Change::PutVoucher(row) => Some(row),
-        _ => None,
-    }
-}
+impl<'a, B: Book> LookUps for Overlay<'a, B> {
+    ghost rows = { λ log. rows_of log };
 
-// The cart position that a change puts.
-fn cart_put(change: &Change) -> Option<&CartPos>
-    ensures { option_copied result ≡ cart_put change.now }
-{
-    match change {
-        Change::PutCart(row) => Some(row),
-        _ => None,
+    fn voucher(&self, id: u64) -> Option<&Voucher> {
+        voucher_in(&self.log, id, self.book.voucher(id))
     }
-}
 
-// The waiting entry that a change puts.
-fn waiting_put(change: &Change) -> Option<&Waiting>
-    ensures { option_copied result ≡ waiting_put change.now }
-{
-    match change {
-        Change::PutWaiting(row) => Some(row),
-        _ => None,
+    fn cart(&self, id: u64) -> Option<&CartPos> {
+        cart_in(&self.log, id, self.book.cart(id))
+    }
+
+    fn order(&self, id: u64) -> Option<&Order> {
+        order_in(&self.log, id, self.book.order(id))
+    }
+
+    fn position(&self, id: u64) -> Option<&OrderPos> {
+        position_in(&self.log, id, self.book.position(id))
+    }
+
+    fn entry(&self, id: u64) -> Option<&Waiting> {
+        waiting_in(&self.log, id, self.book.entry(id))
     }
 }
 
@@ -550,46 +481,6 @@ fn lesser(a: Option<u64>, b: Option<u64>) -> Option<u64>
         (Some(a), Some(b)) => Some(a.min(b)),
         (Some(a), None) => Some(a),
         (None, b) => b,
-    }
-}
-
-// The order that a change puts.
-fn order_put(change: &Change) -> Option<&Order>
-    ensures { option_copied result ≡ order_put change.now }
-{
-    match change {
-        Change::PutOrder(row) => Some(row),
-        _ => None,
-    }
-}
-
-// The order position that a change puts.
-fn position_put(change: &Change) -> Option<&OrderPos>
-    ensures { option_copied result ≡ position_put change.now }
-{
-    match change {
-        Change::PutPosition(row) => Some(row),
-        _ => None,
-    }
-}
-
-// The check-in list that a change puts.
-fn checkin_list_put(change: &Change) -> Option<&CheckinList>
-    ensures { option_copied result ≡ checkin_list_put change.now }
-{
-    match change {
-        Change::PutCheckinList(row) => Some(row),
-        _ => None,
-    }
-}
-
-// The check-in that a change puts.
-fn checkin_put(change: &Change) -> Option<&Checkin>
-    ensures { option_copied result ≡ checkin_put change.now }
-{
-    match change {
-        Change::PutCheckin(row) => Some(row),
-        _ => None,
     }
 }
 

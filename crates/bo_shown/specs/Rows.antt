@@ -17,25 +17,23 @@ use Rattle.bo_shown.specs.WaitingRows.{waiting_body}
 use Rattle.bo_shown.specs.DoorRows.{checkin_list_body, ticket_body}
 use Rattle.bo_shown.specs.Values.{count, count_or_null, money, money_or_null, moment, moment_or_null, list, counts}
 
--- a variation of an item that costs price: its own price may be null, and what it costs is its own or the item's
-abbrev pub variation_body : ℕ → Variation → Data
-variation_body price variation = object (
+-- a variation that is sold at a price; its own price may be null
+abbrev pub sold_body : Variation → ℕ → Data
+sold_body variation price = object (
     member (codes "active") (boolean variation.active)
     (member (codes "default_price") (money_or_null variation.default_price)
     (member (codes "id") (count variation.id)
-    (member (codes "price") (money (unwrap_or variation.default_price price))
+    (member (codes "price") (money price)
     (member (codes "value") (string variation.name)
     no_members)))))
 
+-- a variation of an item that costs price: what it costs is its own price or the item's
+abbrev pub variation_body : ℕ → Variation → Data
+variation_body price variation = sold_body variation (unwrap_or variation.default_price price)
+
 -- a variation, with the price that it costs
 abbrev pub priced_body : PricedVariation → Data
-priced_body priced = object (
-    member (codes "active") (boolean priced.row.active)
-    (member (codes "default_price") (money_or_null priced.row.default_price)
-    (member (codes "id") (count priced.row.id)
-    (member (codes "price") (money priced.price)
-    (member (codes "value") (string priced.row.name)
-    no_members)))))
+priced_body priced = sold_body priced.row priced.price
 
 -- an item's own members, before the rest
 abbrev pub item_members : Item → Members → Members

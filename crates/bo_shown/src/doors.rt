@@ -6,28 +6,41 @@ ghost use Rattle.serde_json.specs.View.{view};
 ghost use Rattle.serde_json.specs.Written.{compact_text};
 ghost use Rattle.bo_shown.specs.DoorRows.{checkin_list_members, list_name, checkin_list_body, kind_word, checkin_body, ticket_body, admitted_body, door_status_body};
 
+use crate::members::{with, with_moment, with_text, with_text_or_null};
 use crate::orders::position_value;
 use crate::pieces::{
     WriteRow, append_key_and_list, append_list_member, append_members, append_opened, append_text,
     append_value,
 };
-use crate::values::{CountWriter, moment, text_or_null};
+use crate::values::CountWriter;
 use bo_commands::DoorStatus;
 use bo_lists::{Checkin, CheckinKind, CheckinList, OrderPos};
-use serde_json::{Value, json};
+use serde_json::{Map, Value, json};
 use std::alloc::{AllocError, Global};
 
 /// What stands of a check-in list before the ids of its items.
 fn list_value(alloc: Global, list: &CheckinList) -> Result<Value, AllocError>
     ensures { IfOk result (λ v. view v ≡ object (checkin_list_members list.now no_members)) }
 {
-    json!(in alloc; {
-        "all_products": list.all_products,
-        "allow_entry_after_exit": list.allow_entry_after_exit,
-        "allow_multiple_entries": list.allow_multiple_entries,
-        "id": list.id,
-        "include_pending": list.include_pending,
-    })
+    let again = Value::Bool(list.allow_entry_after_exit);
+    let many = Value::Bool(list.allow_multiple_entries);
+    let members = Map::new(alloc);
+    let members = with(
+        alloc,
+        members,
+        "all_products",
+        Value::Bool(list.all_products),
+    )?;
+    let members = with(alloc, members, "allow_entry_after_exit", again)?;
+    let members = with(alloc, members, "allow_multiple_entries", many)?;
+    let members = with(alloc, members, "id", Value::from(list.id))?;
+    let members = with(
+        alloc,
+        members,
+        "include_pending",
+        Value::Bool(list.include_pending),
+    )?;
+    Ok(Value::Object(members))
 }
 
 /// The name of a check-in list.
@@ -68,14 +81,11 @@ fn kind_word(kind: CheckinKind) -> &'static str
 fn checkin_value(alloc: Global, checkin: &Checkin) -> Result<Value, AllocError>
     ensures { IfOk result (λ v. view v ≡ checkin_body checkin.now) }
 {
-    let datetime = moment(alloc, checkin.datetime)?;
-    let nonce = text_or_null(alloc, &checkin.nonce)?;
-    json!(in alloc; {
-        "datetime": datetime,
-        "id": checkin.id,
-        "nonce": nonce,
-        "type": kind_word(checkin.kind),
-    })
+    let members = with_moment(alloc, Map::new(alloc), "datetime", checkin.datetime)?;
+    let members = with(alloc, members, "id", Value::from(checkin.id))?;
+    let members = with_text_or_null(alloc, members, "nonce", &checkin.nonce)?;
+    let members = with_text(alloc, members, "type", kind_word(checkin.kind))?;
+    Ok(Value::Object(members))
 }
 
 /// Writes the check-ins of a position.

@@ -2,6 +2,7 @@
 #![tactic(auto)]
 
 mod doors;
+mod members;
 mod orders;
 pub mod pieces;
 mod rows;

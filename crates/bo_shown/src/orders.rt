@@ -1,20 +1,21 @@
 //! Orders and their positions as JSON.
 
 ghost use Rattle.std.specs.Prelude.{◌≡◌, ◌++◌, IfOk, OnOk};
-ghost use Rattle.serde_json.specs.Data.{object, no_members};
-ghost use Rattle.serde_json.specs.View.{view};
+ghost use Rattle.serde_json.specs.Data.{object, no_members, put, string};
+ghost use Rattle.serde_json.specs.View.{view, members_view};
 ghost use Rattle.serde_json.specs.Written.{compact_text};
 ghost use Rattle.bo_base.specs.Codes.{order_code};
 ghost use Rattle.bo_shown.specs.OrderRows.{status_letter, order_total, position_body, order_members, last_members, order_body};
 
+use crate::members::{with, with_moment, with_money, with_text, with_text_or_null};
 use crate::pieces::{
     WriteRow, append_list_member, append_members, append_opened, append_text, append_value,
 };
-use crate::values::{count_or_null, moment, money, text_or_null};
+use crate::values::count_or_null;
 use bo_base::codes::LAST_ORDER;
 use bo_base::{Text, order_code, total_text};
 use bo_lists::{Order, OrderPos, Status};
-use serde_json::{Value, json};
+use serde_json::{Map, Value, json};
 use std::alloc::{AllocError, Global};
 
 // How many texts of five places in base 28 there are.
@@ -39,24 +40,39 @@ fn code(alloc: Global, number: u64) -> Result<Text, AllocError>
     order_code(alloc, (number % CODES) as u32)
 }
 
+/// The members with the code of an order.
+fn with_code(
+    alloc: Global,
+    members: Map<String, Value>,
+    key: &str,
+    number: u64,
+) -> Result<Map<String, Value>, AllocError>
+    ensures { IfOk result (λ m. members_view m.entries ≡ put key.now (string (order_code number)) (members_view members.entries)) }
+{
+    let code = code(alloc, number)?;
+    with_text(alloc, members, key, code.as_str())
+}
+
 /// A position.
 pub(crate) fn position_value(alloc: Global, position: &OrderPos) -> Result<Value, AllocError>
     ensures { IfOk result (λ v. view v ≡ position_body position.now) }
 {
-    let order = code(alloc, position.order)?;
-    let price = money(alloc, position.price)?;
     let variation = count_or_null(position.product.variation);
-    let voucher = count_or_null(position.voucher);
-    json!(in alloc; {
-        "id": position.id,
-        "item": position.product.item,
-        "order": order.as_str(),
-        "positionid": position.positionid,
-        "price": price,
-        "secret": position.secret.as_str(),
-        "variation": variation,
-        "voucher": voucher,
-    })
+    let members = Map::new(alloc);
+    let members = with(alloc, members, "id", Value::from(position.id))?;
+    let members = with(alloc, members, "item", Value::from(position.product.item))?;
+    let members = with_code(alloc, members, "order", position.order)?;
+    let members = with(
+        alloc,
+        members,
+        "positionid",
+        Value::from(position.positionid),
+    )?;
+    let members = with_money(alloc, members, "price", position.price)?;
+    let members = with_text(alloc, members, "secret", position.secret.as_str())?;
+    let members = with(alloc, members, "variation", variation)?;
+    let members = with(alloc, members, "voucher", count_or_null(position.voucher))?;
+    Ok(Value::Object(members))
 }
 
 /// Writes the positions of an order.
@@ -86,16 +102,11 @@ fn total(positions: &[OrderPos]) -> u128
 fn order_value(alloc: Global, order: &Order) -> Result<Value, AllocError>
     ensures { IfOk result (λ v. view v ≡ object (order_members order.now no_members)) }
 {
-    let code = code(alloc, order.id)?;
-    let made_at = moment(alloc, order.made_at)?;
-    let email = text_or_null(alloc, &order.email)?;
-    let expires = moment(alloc, order.expires)?;
-    json!(in alloc; {
-        "code": code.as_str(),
-        "datetime": made_at,
-        "email": email,
-        "expires": expires,
-    })
+    let members = with_code(alloc, Map::new(alloc), "code", order.id)?;
+    let members = with_moment(alloc, members, "datetime", order.made_at)?;
+    let members = with_text_or_null(alloc, members, "email", &order.email)?;
+    let members = with_moment(alloc, members, "expires", order.expires)?;
+    Ok(Value::Object(members))
 }
 
 /// What stands of an order behind its positions.

@@ -5,51 +5,49 @@ ghost use Rattle.serde_json.specs.Data.{object, member, no_members};
 ghost use Rattle.serde_json.specs.View.{view};
 ghost use Rattle.serde_json.specs.Written.{compact_text};
 ghost use Rattle.bo_shown.specs.Values.{count};
-ghost use Rattle.bo_shown.specs.Rows.{variation_body, priced_body, item_members, item_body, quota_members, quota_body, cart_body, voucher_body, shown_body, availability_body};
+ghost use Rattle.bo_shown.specs.Rows.{sold_body, variation_body, priced_body, item_members, item_body, quota_members, quota_body, cart_body, voucher_body, shown_body, availability_body};
 
 use crate::doors::{append_checkin_list, append_ticket};
+use crate::members::{with, with_moment, with_money, with_money_or_null, with_text};
 use crate::orders::append_order;
 use crate::pieces::{
     WriteRow, append_list_member, append_members, append_opened, append_text, append_value,
 };
-use crate::values::{CountWriter, count_or_null, moment, money, money_or_null, size_or_null};
+use crate::values::{CountWriter, count_or_null, size_or_null};
 use crate::vouchers::voucher_value;
 use crate::waiting::append_waiting;
 use bo_base::Cents;
 use bo_catalogue::{Item, PricedVariation, Quota, Variation};
 use bo_commands::Shown;
 use bo_lists::{Availability, CartPos, Voucher};
-use serde_json::{Value, json};
+use serde_json::{Map, Value, json};
 use std::alloc::{AllocError, Global};
+
+/// A variation that is sold at a price.
+fn sold_value(alloc: Global, variation: &Variation, price: Cents) -> Result<Value, AllocError>
+    ensures { IfOk result (λ v. view v ≡ sold_body variation.now price) }
+{
+    let members = Map::new(alloc);
+    let members = with(alloc, members, "active", Value::Bool(variation.active))?;
+    let members = with_money_or_null(alloc, members, "default_price", variation.default_price)?;
+    let members = with(alloc, members, "id", Value::from(variation.id))?;
+    let members = with_money(alloc, members, "price", price)?;
+    let members = with_text(alloc, members, "value", variation.name.as_str())?;
+    Ok(Value::Object(members))
+}
 
 /// A variation of an item that costs that price.
 fn variation_value(alloc: Global, price: Cents, variation: &Variation) -> Result<Value, AllocError>
     ensures { IfOk result (λ v. view v ≡ variation_body price variation.now) }
 {
-    let own = money_or_null(alloc, variation.default_price)?;
-    let price = money(alloc, variation.default_price.unwrap_or(price))?;
-    json!(in alloc; {
-        "active": variation.active,
-        "default_price": own,
-        "id": variation.id,
-        "price": price,
-        "value": variation.name.as_str(),
-    })
+    sold_value(alloc, variation, variation.default_price.unwrap_or(price))
 }
 
 /// A variation, with the price that it costs.
 fn priced_value(alloc: Global, priced: &PricedVariation) -> Result<Value, AllocError>
     ensures { IfOk result (λ v. view v ≡ priced_body priced.now) }
 {
-    let own = money_or_null(alloc, priced.row.default_price)?;
-    let price = money(alloc, priced.price)?;
-    json!(in alloc; {
-        "active": priced.row.active,
-        "default_price": own,
-        "id": priced.row.id,
-        "price": price,
-        "value": priced.row.name.as_str(),
-    })
+    sold_value(alloc, &priced.row, priced.price)
 }
 
 /// Writes the variations of an item that costs this price.
@@ -71,14 +69,13 @@ impl WriteRow<Variation> for VariationWriter {
 fn item_value(alloc: Global, item: &Item) -> Result<Value, AllocError>
     ensures { IfOk result (λ v. view v ≡ object (item_members item.now no_members)) }
 {
-    let price = money(alloc, item.default_price)?;
-    json!(in alloc; {
-        "active": item.active,
-        "default_price": price,
-        "has_variations": item.varied,
-        "id": item.id,
-        "name": item.name.as_str(),
-    })
+    let members = Map::new(alloc);
+    let members = with(alloc, members, "active", Value::Bool(item.active))?;
+    let members = with_money(alloc, members, "default_price", item.default_price)?;
+    let members = with(alloc, members, "has_variations", Value::Bool(item.varied))?;
+    let members = with(alloc, members, "id", Value::from(item.id))?;
+    let members = with_text(alloc, members, "name", item.name.as_str())?;
+    Ok(Value::Object(members))
 }
 
 /// Appends an item with its variations.
@@ -133,21 +130,17 @@ fn append_quota(alloc: Global, out: &mut Vec<u8>, quota: &Quota) -> Result<(), A
 pub fn cart_value(alloc: Global, cart: &CartPos) -> Result<Value, AllocError>
     ensures { IfOk result (λ v. view v ≡ cart_body cart.now) }
 {
-    let made_at = moment(alloc, cart.made_at)?;
-    let expires = moment(alloc, cart.expires)?;
-    let price = money(alloc, cart.price)?;
     let variation = count_or_null(cart.product.variation);
-    let voucher = count_or_null(cart.voucher);
-    json!(in alloc; {
-        "cart_id": cart.cart_id.as_str(),
-        "datetime": made_at,
-        "expires": expires,
-        "id": cart.id,
-        "item": cart.product.item,
-        "price": price,
-        "variation": variation,
-        "voucher": voucher,
-    })
+    let members = Map::new(alloc);
+    let members = with_text(alloc, members, "cart_id", cart.cart_id.as_str())?;
+    let members = with_moment(alloc, members, "datetime", cart.made_at)?;
+    let members = with_moment(alloc, members, "expires", cart.expires)?;
+    let members = with(alloc, members, "id", Value::from(cart.id))?;
+    let members = with(alloc, members, "item", Value::from(cart.product.item))?;
+    let members = with_money(alloc, members, "price", cart.price)?;
+    let members = with(alloc, members, "variation", variation)?;
+    let members = with(alloc, members, "voucher", count_or_null(cart.voucher))?;
+    Ok(Value::Object(members))
 }
 
 /// Appends a variation with its price.
@@ -206,16 +199,21 @@ pub fn append_shown(alloc: Global, out: &mut Vec<u8>, shown: &Shown) -> Result<(
 pub fn availability_value(alloc: Global, left: &Availability) -> Result<Value, AllocError>
     ensures { IfOk result (λ v. view v ≡ availability_body left.now) }
 {
+    let usage = left.usage;
     let number = count_or_null(left.available_number);
-    let size = size_or_null(left.size);
-    json!(in alloc; {
-        "available": left.available,
-        "available_number": number,
-        "blocking_vouchers": left.usage.blocked,
-        "cart_positions": left.usage.carts,
-        "paid_orders": left.usage.paid,
-        "pending_orders": left.usage.pending,
-        "total_size": size,
-        "waiting_list": left.usage.waiting,
-    })
+    let members = Map::new(alloc);
+    let members = with(alloc, members, "available", Value::Bool(left.available))?;
+    let members = with(alloc, members, "available_number", number)?;
+    let members = with(
+        alloc,
+        members,
+        "blocking_vouchers",
+        Value::from(usage.blocked),
+    )?;
+    let members = with(alloc, members, "cart_positions", Value::from(usage.carts))?;
+    let members = with(alloc, members, "paid_orders", Value::from(usage.paid))?;
+    let members = with(alloc, members, "pending_orders", Value::from(usage.pending))?;
+    let members = with(alloc, members, "total_size", size_or_null(left.size))?;
+    let members = with(alloc, members, "waiting_list", Value::from(usage.waiting))?;
+    Ok(Value::Object(members))
 }

@@ -1,12 +1,12 @@
 //! A voucher as JSON. It has more members than one proof takes at once, so they are added part by part.
 
 ghost use Rattle.std.specs.Prelude.{◌≡◌, IfOk};
-ghost use Rattle.serde_json.specs.Data.{put, string};
 ghost use Rattle.serde_json.specs.View.{view, members_view};
 ghost use Rattle.bo_shown.specs.Rows.{mode_word, voucher_body};
 ghost use Rattle.bo_shown.specs.VoucherParts.{with_target, with_texts, with_flags, with_limits, with_price};
 
-use crate::values::{count_or_null, moment_or_null, money_or_null};
+use crate::members::{with, with_moment_or_null, with_money_or_null, with_text};
+use crate::values::count_or_null;
 use bo_base::PriceMode;
 use bo_lists::Voucher;
 use serde_json::{Map, Value};
@@ -22,27 +22,6 @@ fn mode_word(mode: PriceMode) -> &'static str
         PriceMode::Subtract => "subtract",
         PriceMode::Percent => "percent",
     }
-}
-
-/// The members with one more, in its place.
-fn with(
-    alloc: Global,
-    members: Map<String, Value>,
-    key: &str,
-    value: Value,
-) -> Result<Map<String, Value>, AllocError>
-    ensures { IfOk result (λ m. members_view m.entries ≡ put key.now (view value) (members_view members.entries)) }
-{
-    let mut members = members;
-    serde_json::put(&mut members, alloc, key, value)?;
-    Ok(members)
-}
-
-/// A text.
-fn text(alloc: Global, chars: &str) -> Result<Value, AllocError>
-    ensures { IfOk result (λ v. view v ≡ string chars.now) }
-{
-    Value::try_from_str(alloc, chars)
 }
 
 /// The members with those of what a voucher is for.
@@ -71,14 +50,9 @@ fn with_texts(
 ) -> Result<Map<String, Value>, AllocError>
     ensures { IfOk result (λ m. members_view m.entries ≡ with_texts voucher.now (members_view members.entries)) }
 {
-    let members = with(alloc, members, "code", text(alloc, voucher.code.as_str())?)?;
-    let members = with(
-        alloc,
-        members,
-        "comment",
-        text(alloc, voucher.comment.as_str())?,
-    )?;
-    with(alloc, members, "tag", text(alloc, voucher.tag.as_str())?)
+    let members = with_text(alloc, members, "code", voucher.code.as_str())?;
+    let members = with_text(alloc, members, "comment", voucher.comment.as_str())?;
+    with_text(alloc, members, "tag", voucher.tag.as_str())
 }
 
 /// The members with those of what a voucher does with quotas.
@@ -107,14 +81,13 @@ fn with_limits(
 ) -> Result<Map<String, Value>, AllocError>
     ensures { IfOk result (λ m. members_view m.entries ≡ with_limits voucher.now (members_view members.entries)) }
 {
-    let valid_until = moment_or_null(alloc, voucher.valid_until)?;
     let members = with(
         alloc,
         members,
         "max_usages",
         Value::from(voucher.max_usages.get()),
     )?;
-    with(alloc, members, "valid_until", valid_until)
+    with_moment_or_null(alloc, members, "valid_until", voucher.valid_until)
 }
 
 /// The members with those of how a voucher changes a price.
@@ -125,14 +98,8 @@ fn with_price(
 ) -> Result<Map<String, Value>, AllocError>
     ensures { IfOk result (λ m. members_view m.entries ≡ with_price voucher.now (members_view members.entries)) }
 {
-    let value = money_or_null(alloc, voucher.value)?;
-    let members = with(
-        alloc,
-        members,
-        "price_mode",
-        text(alloc, mode_word(voucher.price_mode))?,
-    )?;
-    with(alloc, members, "value", value)
+    let members = with_text(alloc, members, "price_mode", mode_word(voucher.price_mode))?;
+    with_money_or_null(alloc, members, "value", voucher.value)
 }
 
 /// A voucher, and the number of its uses in orders.

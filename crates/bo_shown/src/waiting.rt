@@ -5,29 +5,32 @@ ghost use Rattle.serde_json.specs.View.{view};
 ghost use Rattle.serde_json.specs.Written.{compact_text};
 ghost use Rattle.bo_shown.specs.WaitingRows.{waiting_body, periodic_body};
 
+use crate::members::{with, with_moment, with_text};
 use crate::pieces::append_value;
-use crate::values::{count_or_null, moment};
+use crate::values::count_or_null;
 use bo_commands::PeriodicCounts;
 use bo_lists::Waiting;
-use serde_json::{Value, json};
+use serde_json::{Map, Value, json};
 use std::alloc::{AllocError, Global};
 
 /// An entry.
 fn waiting_value(alloc: Global, entry: &Waiting) -> Result<Value, AllocError>
     ensures { IfOk result (λ v. view v ≡ waiting_body entry.now) }
 {
-    let created = moment(alloc, entry.created)?;
     let variation = count_or_null(entry.product.variation);
-    let voucher = count_or_null(entry.voucher);
-    json!(in alloc; {
-        "created": created,
-        "email": entry.email.as_str(),
-        "id": entry.id,
-        "item": entry.product.item,
-        "priority": entry.priority.get(),
-        "variation": variation,
-        "voucher": voucher,
-    })
+    let members = with_moment(alloc, Map::new(alloc), "created", entry.created)?;
+    let members = with_text(alloc, members, "email", entry.email.as_str())?;
+    let members = with(alloc, members, "id", Value::from(entry.id))?;
+    let members = with(alloc, members, "item", Value::from(entry.product.item))?;
+    let members = with(
+        alloc,
+        members,
+        "priority",
+        Value::from(entry.priority.get()),
+    )?;
+    let members = with(alloc, members, "variation", variation)?;
+    let members = with(alloc, members, "voucher", count_or_null(entry.voucher))?;
+    Ok(Value::Object(members))
 }
 
 /// Appends an entry.

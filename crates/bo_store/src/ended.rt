@@ -13,6 +13,7 @@ use bo_base::{Moment, place_of};
 use bo_catalogue::Quota;
 use bo_indexed::Walk;
 use bo_lists::{CartPos, Voucher};
+use bo_usage::rules::cart_counts;
 use std::marker::Model;
 
 /// What ended in a store since the moment of its last changes, and what names that, by walks whose steps are counted.
@@ -88,7 +89,7 @@ impl<'s> Ended<'s> {
     pub fn counts(&self, at: Moment, quota: &Quota, cart: &CartPos) -> bool
         ensures { result ≡ cart_counts self.now.state.lists at quota.now cart.now }
     {
-        self.store.cart_counts(at, quota, cart)
+        cart_counts(self.store, at, quota, cart)
     }
 
     /// Where the voucher of an id stands among all by id, or where it would.

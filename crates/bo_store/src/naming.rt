@@ -16,6 +16,8 @@ use crate::store::Store;
 use bo_base::Moment;
 use bo_catalogue::Quota;
 use bo_index::Found;
+use bo_usage::LookUps;
+use bo_usage::rules::is_in_force;
 use std::alloc::{AllocError, Global};
 
 impl Store {
@@ -70,7 +72,7 @@ impl Store {
     {
         match self.position(id) {
             None => 0,
-            Some(row) => count_one(self.is_in_force(row.order)),
+            Some(row) => count_one(is_in_force(self.order(row.order))),
         }
     }
 

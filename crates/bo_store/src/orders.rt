@@ -4,11 +4,9 @@ ghost use Rattle.std.specs.Prelude.{◌≡◌, ◌≤◌, ◌&&◌, ◌==◌, �
 ghost use Rattle.std.specs.Option.{option_copied};
 ghost use Rattle.bo_base.specs.Texts.{same_text};
 ghost use Rattle.bo_catalogue.specs.Member.{is_in};
-ghost use Rattle.bo_lists.specs.Conditions.{is_paid, is_pending, is_in_force};
-ghost use Rattle.bo_lists.specs.Lists.{order_at, position_at, positions_of};
+ghost use Rattle.bo_lists.specs.Lists.{position_at, positions_of};
 ghost use Rattle.bo_lists.specs.Named.{with_secret};
 ghost use Rattle.bo_lists.specs.Due.{due_orders};
-ghost use Rattle.bo_lists.specs.Usage.{stands_as};
 ghost use Rattle.bo_indexed.specs.Indexes.{Finds};
 ghost use Rattle.bo_store.specs.Walks.{listed, passing, one_if};
 
@@ -19,31 +17,10 @@ use bo_catalogue::Quota;
 use bo_index::Found;
 use bo_indexed::digest;
 use bo_lists::OrderPos;
-use bo_usage::PositionTest;
+use bo_usage::{LookUps, PositionTest};
 use std::alloc::{AllocError, Global};
 
 impl Store {
-    /// Whether the order stands and is paid.
-    pub fn is_paid(&self, order: u64) -> bool
-        ensures { result ≡ stands_as is_paid (order_at order self.now.state.lists) }
-    {
-        self.order(order).is_some_and(|o| o.status.is_paid())
-    }
-
-    /// Whether the order stands and waits for its payment.
-    pub fn is_pending(&self, order: u64) -> bool
-        ensures { result ≡ stands_as is_pending (order_at order self.now.state.lists) }
-    {
-        self.order(order).is_some_and(|o| o.status.is_pending())
-    }
-
-    /// Whether the order stands and its positions use vouchers.
-    pub fn is_in_force(&self, order: u64) -> bool
-        ensures { result ≡ stands_as is_in_force (order_at order self.now.state.lists) }
-    {
-        self.order(order).is_some_and(|o| o.status.is_in_force())
-    }
-
     /// The ids of the positions of an order, rising.
     pub fn positions_ordered(&self, order: u64) -> Found<'_>
         ensures finds { Finds (λ r. r.id) (λ p. order == p.order) self.now.state.lists.positions result }

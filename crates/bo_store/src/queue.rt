@@ -10,6 +10,7 @@ use crate::store::Store;
 use bo_catalogue::Product;
 use bo_indexed::digest;
 use bo_lists::Waiting;
+use bo_usage::LookUps;
 use std::alloc::{AllocError, Global};
 
 /// All entries without voucher belong to this one.

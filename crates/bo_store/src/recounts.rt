@@ -9,6 +9,7 @@ use crate::store::Store;
 use bo_base::{Moment, Steps};
 use bo_catalogue::Quota;
 use bo_lists::{Usage, Voucher};
+use bo_usage::rules::{cart_counts, is_paid_in, is_pending_in, left_of};
 use std::sync::ledger::Ledger;
 
 impl Store {
@@ -36,7 +37,7 @@ impl Store {
         let mut count = 0;
         for row in self.positions().as_slice() {
             steps.tick();
-            count += count_one(self.is_paid(row.order) && quota.has(row.product));
+            count += count_one(is_paid_in(self, quota, row));
         }
         count
     }
@@ -49,7 +50,7 @@ impl Store {
         let mut count = 0;
         for row in self.positions().as_slice() {
             steps.tick();
-            count += count_one(self.is_pending(row.order) && quota.has(row.product));
+            count += count_one(is_pending_in(self, quota, row));
         }
         count
     }
@@ -74,7 +75,7 @@ impl Store {
         ensures small { result ≤ 4294967295 }
     {
         if voucher.blocks(at, quota) {
-            u64::from(voucher.max_usages.get()).saturating_sub(self.redeemed(voucher.id))
+            left_of(voucher, self.redeemed(voucher.id))
         } else {
             0
         }
@@ -88,7 +89,7 @@ impl Store {
         let mut count = 0;
         for row in self.carts().as_slice() {
             steps.tick();
-            count += count_one(self.cart_counts(at, quota, row));
+            count += count_one(cart_counts(self, at, quota, row));
         }
         count
     }

@@ -2,7 +2,7 @@
 
 ghost use Rattle.std.specs.Prelude.{◌≡◌, ◌≤◌, ◌+◌, OnOk};
 ghost use Rattle.std.specs.Option.{option_copied};
-ghost use Rattle.bo_lists.specs.Lists.{empty, voucher_at, cart_at, order_at, position_at, waiting_at, checkin_list_at, checkin_at};
+ghost use Rattle.bo_lists.specs.Lists.{empty, checkin_list_at, checkin_at};
 ghost use Rattle.bo_lists.specs.Change.{after_change};
 ghost use Rattle.bo_lists.specs.Weight.{change_weight};
 ghost use Rattle.bo_lists.specs.Kept.{IsKept};
@@ -11,6 +11,7 @@ use bo_base::{Moment, Rows};
 use bo_catalogue::Catalogue;
 use bo_indexed::Indexed;
 use bo_lists::{CartPos, Change, Checkin, CheckinList, NextIds, Order, OrderPos, Voucher, Waiting};
+use bo_usage::LookUps;
 use std::alloc::{AllocError, Global};
 use std::marker::Model;
 
@@ -159,41 +160,6 @@ impl Store {
         &self.checkins
     }
 
-    /// The voucher of an id.
-    pub fn voucher(&self, id: u64) -> Option<&Voucher>
-        ensures { option_copied result ≡ voucher_at id self.now.state.lists }
-    {
-        self.vouchers.get(id)
-    }
-
-    /// The cart position of an id.
-    pub fn cart(&self, id: u64) -> Option<&CartPos>
-        ensures { option_copied result ≡ cart_at id self.now.state.lists }
-    {
-        self.carts.get(id)
-    }
-
-    /// The order of an id.
-    pub fn order(&self, id: u64) -> Option<&Order>
-        ensures { option_copied result ≡ order_at id self.now.state.lists }
-    {
-        self.orders.get(id)
-    }
-
-    /// The order position of an id.
-    pub fn position(&self, id: u64) -> Option<&OrderPos>
-        ensures { option_copied result ≡ position_at id self.now.state.lists }
-    {
-        self.positions.get(id)
-    }
-
-    /// The waiting entry of an id.
-    pub fn entry(&self, id: u64) -> Option<&Waiting>
-        ensures { option_copied result ≡ waiting_at id self.now.state.lists }
-    {
-        self.waiting.get(id)
-    }
-
     /// The check-in list of an id.
     pub fn checkin_list(&self, id: u64) -> Option<&CheckinList>
         ensures { option_copied result ≡ checkin_list_at id self.now.state.lists }
@@ -206,6 +172,30 @@ impl Store {
         ensures { option_copied result ≡ checkin_at id self.now.state.lists }
     {
         self.checkins.get(id)
+    }
+}
+
+impl LookUps for Store {
+    ghost rows = { λ b. b.state.lists };
+
+    fn voucher(&self, id: u64) -> Option<&Voucher> {
+        self.vouchers.get(id)
+    }
+
+    fn cart(&self, id: u64) -> Option<&CartPos> {
+        self.carts.get(id)
+    }
+
+    fn order(&self, id: u64) -> Option<&Order> {
+        self.orders.get(id)
+    }
+
+    fn position(&self, id: u64) -> Option<&OrderPos> {
+        self.positions.get(id)
+    }
+
+    fn entry(&self, id: u64) -> Option<&Waiting> {
+        self.waiting.get(id)
     }
 }
 

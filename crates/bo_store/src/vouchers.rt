@@ -14,6 +14,7 @@ use bo_base::Moment;
 use bo_index::Found;
 use bo_indexed::digest;
 use bo_lists::Voucher;
+use bo_usage::LookUps;
 
 impl Store {
     // The voucher of an id, if it has the code.

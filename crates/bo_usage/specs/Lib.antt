@@ -1,3 +1,4 @@
 pub mod BookView
 pub mod Naming
 pub mod OfOrder
+pub mod Shares

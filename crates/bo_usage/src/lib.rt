@@ -1,10 +1,11 @@
-//! The book that keeps the rows, and what is used of a quota at a moment.
+//! The book that keeps the rows, when a row counts, and what is used of a quota at a moment.
 #![tactic(auto)]
 
 pub mod available;
 pub mod book;
-pub mod recount;
+pub mod look_ups;
+pub mod rules;
 
 pub use available::availability;
 pub use book::{Book, PositionTest};
-pub use recount::Recount;
+pub use look_ups::LookUps;

@@ -3,7 +3,7 @@ use Rattle.bo_lists.specs.Headroom.{held}
 use Rattle.bo_lists.specs.Change.{after_change}
 use Rattle.bo_lists.specs.declared.changes.Change.TheVariants.{PutCart}
 use Rattle.std.specs.Prelude.{true, Some}
-use Rattle.bo_counters.specs.Held.{held_name}
+use Rattle.bo_usage.specs.Shares.{held_name}
 use Rattle.bo_counters.specs.Turns.{turn}
 use Rattle.bo_counters.proofs.HoldLemmas.{held_put}
 use Rattle.bo_counters.proofs.ShiftLemmas.{same_map}

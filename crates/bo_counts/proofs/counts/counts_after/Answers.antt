@@ -1,18 +1,19 @@
-use Rattle.std.proofs.Common.{◌++◌, map, sym, ◌∙◌}
-use Rattle.std.specs.Prelude.{flat_map}
-use Rattle.bo_lists.specs.Lists.{State}
-use Rattle.bo_counts.specs.Touched.{quotas_by}
-use Rattle.bo_counts.proofs.ToldRows.{others_none, rises, counts_are}
+use Rattle.std.proofs.Common.{List, sym, ap, ◌∙◌, subst}
+use Rattle.bo_lists.specs.declared.changes.Change.{Change}
+use Rattle.bo_lists.specs.Change.{after_all}
+use Rattle.bo_lists.specs.Lists.{Lists, State}
+use Rattle.bo_counts.specs.Reached.{AreAsked}
+use Rattle.bo_counts.proofs.ToldRows.{counts_are}
 use Rattle.bo_counts.proofs.counts.counts_after.Goals as goal
 
-pub quotas-requires-clause-order : goal.quotas-requires-clause-order
-quotas-requires-clause-order g c =
-    let state : State = g.B.Book.state c.args.book.now in
-    rises c.as_slice-3.result.now (map (λ q. q.id) state.lists.catalogue.quotas ++ flat_map quotas_by c.as_slice-2.result.now) (c.as_slice-3.ensures ∙ c.in_ok-ids.ensures)
+pub asked-requires : goal.asked-requires
+asked-requires g c =
+    ap (λ (s : State). s.lists) c.in_ok-sides.ensures.after
+    ∙ ap (λ (s : State). after_all c.in_ok-log.log s.lists) (sym c.in_ok-sides.ensures.before)
+    ∙ ap (λ (changes : List Change). after_all changes c.in_ok-sides.sides.before.lists) (c.in_ok-log.ensures ∙ c.as_slice.ensures ∙ sym c.as_slice-2.ensures)
 
-pub quotas-requires-clause-others : goal.quotas-requires-clause-others
-quotas-requires-clause-others g c =
-    others_none (g.B.Book.state c.args.book.now) c.args.at c.in_ok-log.log c.as_slice-2.result.now c.as_slice-3.result.now c.in_ok-sides.sides c.in_ok-sides.ensures.after (c.as_slice-2.ensures ∙ sym (c.in_ok-log.ensures ∙ c.as_slice.ensures)) (c.as_slice-3.ensures ∙ c.in_ok-ids.ensures)
+pub quotas-requires : goal.quotas-requires
+quotas-requires g c = subst (AreAsked c.in_ok-sides.sides) (sym c.as_slice-3.ensures) c.in_ok-ids.ensures
 
 pub returns : goal.returns
 returns g c =

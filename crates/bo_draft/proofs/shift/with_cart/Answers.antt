@@ -1,7 +1,7 @@
 use Rattle.std.proofs.Common.{ap, ◌∙◌}
 use Rattle.std.proofs.lemmas.Result.{on_ok_weaker}
 use Rattle.bo_overlay.specs.Logs.{rows_of}
-use Rattle.bo_draft.specs.Shift.{cart_share}
+use Rattle.bo_usage.specs.Shares.{cart_share}
 use Rattle.bo_draft.proofs.Values.{more_same}
 use Rattle.bo_draft.proofs.shift.with_cart.Goals as goal
 

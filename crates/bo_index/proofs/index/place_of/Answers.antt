@@ -1,10 +1,23 @@
-use Rattle.std.proofs.Common.{rules}
-use Rattle.std.proofs.lemmas.List.Sorted.{answers_always}
-use Rattle.bo_base.proofs.Places.{searched}
+use Rattle.std.proofs.Common.{ℕ, ◌+◌, ◌-◌, ◌/◌, ◌<◌, ◌≤◌, length, get_or, arith}
+use Rattle.bo_index.proofs.Cuts.{below_too, above_too}
 use Rattle.bo_index.proofs.index.place_of.Goals as goal
 
-pub returns : goal.returns
-returns c =
-    let facts = c.binary_search_by_key.ensures in
-    let by_key = facts.position (λ n. n) (answers_always _ _ _ (λ f a r h called. search rules)) in
-    searched _ _ c.requires c.args.entry _ facts.bound by_key
+pub halve-preserved : goal.halve-preserved
+halve-preserved c =
+    let rows = c.args.entries.now.rows in
+    let middle = c.halve.low + (c.halve.high - c.halve.low) / 2 in
+    record {
+      within = (omega arith, omega (arith, c.halve.invariant.within.1));
+      below = c.halve.invariant.below;
+      above = λ j d le lt. above_too rows c.args.entry middle j d c.requires (omega (arith, c.at-there.ensures d)) le lt;
+    }
+
+pub halve-preserved-then-there-entry-2 : goal.halve-preserved-then-there-entry-2
+halve-preserved-then-there-entry-2 c =
+    let rows = c.args.entries.now.rows in
+    let middle = c.halve.low + (c.halve.high - c.halve.low) / 2 in
+    record {
+      within = (omega arith, c.halve.invariant.within.1);
+      below = λ j d lt. below_too rows c.args.entry middle j d c.requires (omega (arith, c.at-there.ensures d)) (omega arith) (omega (arith, c.halve.invariant.within.1));
+      above = c.halve.invariant.above;
+    }

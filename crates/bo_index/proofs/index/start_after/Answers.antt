@@ -1,12 +1,14 @@
-use Rattle.std.proofs.Common.{◌≤◌, ◌+◌, arith}
-use Rattle.std.proofs.lemmas.List.{get_or_default}
+use Rattle.std.proofs.Common.{◌≡◌, ℕ, ◌+◌, subst, arith}
+use Rattle.bo_index.specs.Entries.{IsStart, entry}
+use Rattle.bo_index.proofs.Cuts.{start_behind_place, start_behind_gap}
 use Rattle.bo_index.proofs.index.start_after.Goals as goal
 
-pub returns-in-None : goal.returns-in-None
-returns-in-None c =
-    let last : 18446744073709551616 ≤ c.args.key + 1 = omega (arith, c.in-None.ensures {u = tt}) in
-    record {
-      in_range = omega arith;
-      smaller_before = λ j d lt. omega (arith, get_or_default c.args.entries.now j d 0 lt, c.type_inv.entries j);
-      not_after = λ j d le lt. absurd (omega arith);
-    }
+pub returns-in-Ok : goal.returns-in-Ok
+returns-in-Ok c =
+    let next : c.entry.result + 1 ≡ entry (c.args.key + 1) 0 = omega arith in
+    subst (λ (e : ℕ). IsStart c.args.entries.now.rows e (c.in-Ok.at + 1)) next (start_behind_place c.args.entries.now.rows c.entry.result c.in-Ok.at c.requires c.in-Ok.ensures.found)
+
+pub returns-in-Err : goal.returns-in-Err
+returns-in-Err c =
+    let next : c.entry.result + 1 ≡ entry (c.args.key + 1) 0 = omega arith in
+    subst (λ (e : ℕ). IsStart c.args.entries.now.rows e c.in-Err.at) next (start_behind_gap c.args.entries.now.rows c.entry.result c.in-Err.at c.in-Err.ensures.absent)

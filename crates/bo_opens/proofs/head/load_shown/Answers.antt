@@ -1,18 +1,26 @@
-use Rattle.std.proofs.Common.{map, sym, subst}
-use Rattle.std.specs.List.Sorted.{IsPermutation}
-use Rattle.std.proofs.lemmas.List.{map-id}
+use Rattle.std.proofs.Common.{sym, subst}
 use Rattle.sqlite.specs.Held.{state}
-use Rattle.bo_schema.specs.Tables.{schema}
-use Rattle.bo_schema.specs.Parts.{shown}
+use Rattle.bo_loads.specs.Damage.{IsFor}
+use Rattle.bo_loads.proofs.Causes.{failed}
 use Rattle.bo_loads.proofs.Loads.{loads, still, shown_keeps, failed_keeps}
-use Rattle.bo_loads.proofs.ShopLemmas.{select_text, select_is}
+use Rattle.bo_loads.proofs.Queries.{query_reads}
+use Rattle.bo_loads.proofs.ShopLemmas.{select_text, select_is, asks}
+use Rattle.bo_opens.proofs.CauseLemmas.{shown_by}
 use Rattle.bo_opens.proofs.head.load_shown.Goals as goal
 
 pub returns-in-Ok-clause-loaded : goal.returns-in-Ok-clause-loaded
 returns-in-Ok-clause-loaded g c clean known =
+    loads select_text 0 select_is (state g.S.Store c.args.tx.now.conn.now) (state g.S.Store c.query_all.new.self.conn.now) known c.in-Ok.rows.items (c.in-Ok.ensures.ok clean)
+
+pub returns-in-Ok-clause-shown : goal.returns-in-Ok-clause-shown
+returns-in-Ok-clause-shown g c clean =
     let old = state g.S.Store c.args.tx.now.conn.now in
-    let new = state g.S.Store c.query_all.new.self.conn.now in
-    subst (λ l. IsPermutation l (map (shown schema 0) (old.now.trees 0))) (sym (map-id c.in-Ok.rows.items)) (loads select_text 0 select_is old new known c.in-Ok.rows.items (c.in-Ok.ensures.ok clean))
+    shown_by select_text old (state g.S.Store c.query_all.new.self.conn.now) c.in-Ok.rows.items (query_reads select_text asks old.now.schema) (c.in-Ok.ensures.ok clean)
+
+pub returns-in-Err-clause-refused : goal.returns-in-Err-clause-refused
+returns-in-Err-clause-refused g c clean =
+    let old = state g.S.Store c.args.tx.now.conn.now in
+    subst (IsFor _ _) (sym c.of.ensures) (failed old (state g.S.Store c.query_all.new.self.conn.now) _ _ c.in-Err.error _ (query_reads select_text asks old.now.schema) (c.in-Err.ensures.err clean))
 
 pub returns-in-Ok-clause-still : goal.returns-in-Ok-clause-still
 returns-in-Ok-clause-still g c clean known =

@@ -1,25 +1,22 @@
-use Rattle.std.proofs.Common.{subst, sym, ◌∙◌, arith, length-set}
-use Rattle.std.proofs.lemmas.List.Edits.{length-insert}
+use Rattle.std.proofs.Common.{subst, sym, ◌∙◌, arith}
 use Rattle.bo_base.specs.Tables.{AreInOrder}
 use Rattle.bo_base.proofs.Places.{set_is_with_row, insert_is_with_row, with_row_in_order}
 use Rattle.bo_index.proofs.index.Index.put.Goals as goal
 
 pub invariant_of-self : goal.invariant_of-self
 invariant_of-self c =
-    let place = rw c.deref.ensures.value at c.in-Ok.ensures.found in
-    let is = set_is_with_row (λ n. n) 0 _ c.args.entry c.in-Ok.at c.self.invariant.0 place in
-    (subst (λ l. AreInOrder (λ n. n) l) (sym is) (with_row_in_order (λ n. n) 0 c.args.entry _ (omega arith) c.self.invariant.0), rw length-set c.self.invariant.1)
+    let is = c.set.ensures.rows ∙ set_is_with_row (λ n. n) 0 _ c.args.entry c.in-Ok.at c.self.invariant c.in-Ok.ensures.found in
+    subst (λ l. AreInOrder (λ n. n) l) (sym is) (with_row_in_order (λ n. n) 0 c.args.entry _ (omega arith) c.self.invariant)
 
 pub invariant_of-self-in-Err : goal.invariant_of-self-in-Err
 invariant_of-self-in-Err c =
-    let gap = rw c.deref.ensures.value at c.in-Err.ensures.absent in
-    let is = c.insert_reserved.ensures.items ∙ insert_is_with_row (λ n. n) _ c.args.entry c.in-Err.at gap in
-    (subst (λ l. AreInOrder (λ n. n) l) (sym is) (with_row_in_order (λ n. n) 0 c.args.entry _ (omega arith) c.self.invariant.0), rw c.insert_reserved.ensures.items (omega (arith, length-insert c.self.inside.entries.items c.in-Err.at c.args.entry gap.in_range, rw (← c.self.view_is) at c.requires)))
+    let is = c.insert.ensures.rows ∙ insert_is_with_row (λ n. n) _ c.args.entry c.in-Err.at c.in-Err.ensures.absent in
+    subst (λ l. AreInOrder (λ n. n) l) (sym is) (with_row_in_order (λ n. n) 0 c.args.entry _ (omega arith) c.self.invariant)
 
 pub returns-in-Ok-clause-rows : goal.returns-in-Ok-clause-rows
 returns-in-Ok-clause-rows c =
-    rw (← c.self.view_is) (set_is_with_row (λ n. n) 0 _ c.args.entry c.in-Ok.at c.self.invariant.0 (rw c.deref.ensures.value at c.in-Ok.ensures.found))
+    rw (← c.self.view_is) (c.set.ensures.rows ∙ set_is_with_row (λ n. n) 0 _ c.args.entry c.in-Ok.at c.self.invariant c.in-Ok.ensures.found)
 
 pub returns-in-Err-clause-rows : goal.returns-in-Err-clause-rows
 returns-in-Err-clause-rows c =
-    rw (← c.self.view_is) (c.insert_reserved.ensures.items ∙ insert_is_with_row (λ n. n) _ c.args.entry c.in-Err.at (rw c.deref.ensures.value at c.in-Err.ensures.absent))
+    rw (← c.self.view_is) (c.insert.ensures.rows ∙ insert_is_with_row (λ n. n) _ c.args.entry c.in-Err.at c.in-Err.ensures.absent)

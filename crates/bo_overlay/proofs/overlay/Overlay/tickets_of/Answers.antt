@@ -3,7 +3,7 @@ use Rattle.bo_lists.specs.declared.rows.OrderPos.{OrderPos}
 use Rattle.bo_lists.specs.Kept.{IsKept}
 use Rattle.bo_lists.specs.Lists.{positions_of}
 use Rattle.bo_overlay.specs.Logs.{Log, AreSales}
-use Rattle.bo_overlay.specs.Steps.{puts}
+use Rattle.bo_log.specs.Puts.{puts}
 use Rattle.bo_overlay.specs.Tickets.{ticket}
 use Rattle.bo_overlay.proofs.OfOrder.{of_order}
 use Rattle.bo_overlay.proofs.Sales.{sales_count}

@@ -1,0 +1,99 @@
+-- Why a file isn't opened: one cause for another.
+use Rattle.std.proofs.Common.{◌≡◌, ◌≢◌, ◌⊎◌, inl, inr, ℕ, ℤ, pos, ◌≤◌, List, [], ◌∷◌, length, map, filter, Result, Ok, Err, IfErr, refl, sym, subst, subst₂, ap, ◌∙◌, arith}
+use Rattle.std.specs.List.Sorted.{IsPermutation}
+use Rattle.std.proofs.lemmas.List.Sorted.{IsPermutation-sym}
+use Rattle.sqlite_value.specs.declared.value.Value.TheVariants.{Null, Int}
+use Rattle.sqlite_value.specs.Order.{Row, column}
+use Rattle.sqlite_sql.specs.Term.{eval_all}
+use Rattle.sqlite.specs.Effect.{Database, Reads}
+use Rattle.sqlite.specs.Clock.{timed}
+use Rattle.sqlite.specs.Listing.{understood, reads_listing, IsSourceOf}
+use Rattle.sqlite.specs.State.{State, Shown, ShowsRows}
+use Rattle.sqlite.proofs.Callers.{IsPlain, command_of}
+use Rattle.bo_schema.specs.Tables.{schema}
+use Rattle.bo_schema.specs.Parts.{shown}
+use Rattle.bo_schema.proofs.Answered.{passes, answered}
+use Rattle.bo_schema.specs.declared.error.RowError.{RowError}
+use Rattle.bo_schema.specs.declared.error.RowError.TheVariants.{Memory, Foreign, Damaged, Store}
+use Rattle.bo_columns.specs.declared.rows.Shop.{Shop}
+use Rattle.bo_columns.specs.Rows.{shop_row}
+use Rattle.bo_loads.specs.Damage.{IsFor, IsForReading}
+use Rattle.bo_loads.proofs.Loads.{IsSelect}
+use Rattle.bo_opens.specs.Causes.{ShowsBy, HasOtherVersion, HasNoOtherVersion, IsOneShop}
+
+-- ---- one table
+
+joined : (F K D : Type 0) (e : RowError) → (e ≡ Foreign → F) → (K → IsFor ⊥ D e) → IsFor F (K → D) e
+joined F K D Memory f k = tt
+joined F K D Foreign f k = f refl
+joined F K D Damaged f k = k
+joined F K D Store f k = tt
+
+-- 60 because the table lacks, 62 because a row is damaged where the tables are ours
+pub joined_err : {T : Type 0} (r : Result T RowError) (F K D : Type 0) → IfErr r (λ e. e ≡ Foreign → F) → (K → IfErr r (IsFor ⊥ D)) → IfErr r (IsFor F (K → D))
+joined_err (Ok x) F K D f k = tt
+joined_err (Err e) F K D f k = joined F K D e f k
+
+-- a query shows what a SELECT shows of what stood
+pub shown_by : (sql : List ℕ) (old new : State) (rows : List Row) → IsForReading old.now.schema sql → Shown sql [] old new rows → ShowsBy sql old.now rows
+unfolding Shown
+shown_by sql old new rows reads h =
+    let it = subst (ShowsRows old new sql h.0 (timed [] h.0.formats h.1.now) rows) (reads h.0 h.1.is) h.2 in
+    (h.0, h.1.is, it.0, it.1, h.1.now, it.2)
+
+keep_all : (rows : List Row) → filter (passes [] []) rows ≡ rows
+keep_all [] = refl
+keep_all (r ∷ rows) = ap (λ l. r ∷ l) (keep_all rows)
+
+map_same : (f g : Row → Row) → ((r : Row) → f r ≡ g r) → (rows : List Row) → map f rows ≡ map g rows
+map_same f g same [] = refl
+map_same f g same (r ∷ rows) = rw (same r, map_same f g same rows)
+
+-- of our tables these are the rows of the tree
+pub shows_rows : (sql : List ℕ) (tree : ℕ) → IsSelect sql tree → (db : Database) → db.schema ≡ schema → (rows : List Row) → ShowsBy sql db rows → IsPermutation rows (map (shown schema tree) (db.trees tree))
+shows_rows sql tree is db has rows h =
+    let known = sym h.1 ∙ ap (λ s. understood s sql) has in
+    let bare = subst IsPlain (sym known) is.plain in
+    let source : h.2 ≡ db = subst (λ b. IsSourceOf b db h.2) (ap (λ s. reads_listing s sql) has ∙ is.unlisted) h.3 in
+    let plainly_read : Reads h.0.command h.2 [] rows = rw bare.1 at h.5 in
+    let read = subst₂ (λ k d. Reads k d [] rows) (ap command_of known ∙ is.command) source plainly_read in
+    IsPermutation-sym _ _ (subst (λ l. IsPermutation l rows)
+    (ap (map (λ (r : Row). eval_all is.project ([] ∷ r ∷ []))) (keep_all (db.trees tree)) ∙ map_same (λ (r : Row). eval_all is.project ([] ∷ r ∷ [])) (shown schema tree) is.shows (db.trees tree)) (answered db tree [] is.project is.order [] rows read))
+
+-- ---- one table and then others
+
+-- of the first, or of the others
+pub of_first : (F G K D E : Type 0) (e : RowError) → IsFor F (K → D) e → IsFor (F ⊎ G) (K → D ⊎ E) e
+of_first F G K D E Memory h = tt
+of_first F G K D E Foreign h = inl h
+of_first F G K D E Damaged h = λ k. inl (h k)
+of_first F G K D E Store h = tt
+
+pub of_second : (F G K D E : Type 0) (e : RowError) → IsFor G (K → E) e → IsFor (F ⊎ G) (K → D ⊎ E) e
+of_second F G K D E Memory h = tt
+of_second F G K D E Foreign h = inr h
+of_second F G K D E Damaged h = λ k. inr (h k)
+of_second F G K D E Store h = tt
+
+-- ---- the version
+
+-- a row that ends before its version
+pub short_row : (r : Row) → length r ≤ 1 → column r 1 ≡ Null
+short_row [] h = refl
+short_row (x ∷ []) h = refl
+short_row (x ∷ (y ∷ r)) h = absurd (omega (arith, h))
+
+pub version_told : (shop : Shop) (row : Row) (version : ℤ) → row ≡ shop_row shop → column row 1 ≡ Int version → pos shop.version ≡ version
+version_told shop row version is told = let both = sym (ap (λ (r : Row). column r 1) is) ∙ told in cc
+
+-- the shop's row has version 1
+pub one_is_ours : (rows : List Row) → IsOneShop rows → HasNoOtherVersion rows
+one_is_ours rows (shop, fit, ids, first, is) version (row, one, told, other) =
+    let same : row ≡ shop_row shop = cc in
+    other (sym (version_told shop row version same told) ∙ ap pos first)
+
+pub not_one : (rows : List Row) → length rows ≢ 1 → HasNoOtherVersion rows
+not_one rows many version (row, one, told, other) = many (ap length one)
+
+pub other_length : (rows : List Row) → length rows ≢ 1 → IsOneShop rows → ⊥
+other_length rows many (shop, fit, ids, first, is) = many (ap length is)

@@ -1,0 +1,120 @@
+-- The values of a box office that is limited fit the columns of the file.
+use Rattle.std.proofs.Common.{◌≡◌, ℕ, ◌<◌, ◌^◌, List, [], ◌∷◌, map, Option, Some, None, IfSome, sym, subst, arith}
+use Rattle.std.specs.List.{All, AllByRecursion}
+use Rattle.std.specs.List.Sorted.{IsPermutation}
+use Rattle.std.specs.Str.{IsUtf8}
+use Rattle.std.proofs.lemmas.List.Elements.{All-nil, All-cons, All-head, All-tail}
+use Rattle.std.proofs.lemmas.List.Sorted.{IsPermutation-sym}
+use Rattle.sqlite_trees.proofs.ListLemmas.{all-permutation}
+use Rattle.bo_base.specs.Counts.{IsSize}
+use Rattle.bo_base.specs.Moments.{IsMoment}
+use Rattle.bo_base.specs.Money.{IsMoney}
+use Rattle.bo_base.specs.Slugs.{IsSlug}
+use Rattle.bo_base.specs.Texts.{IsText}
+use Rattle.bo_base.specs.declared.price_mode.PriceMode.{PriceMode}
+use Rattle.bo_base.specs.declared.price_mode.PriceMode.TheVariants as modes
+use Rattle.bo_catalogue.specs.declared.rows.Quota.{Quota}
+use Rattle.bo_catalogue.specs.Limits.{last_id}
+use Rattle.bo_lists.specs.declared.rows.CheckinList.{CheckinList}
+use Rattle.bo_lists.specs.declared.rows.OrderPos.{OrderPos}
+use Rattle.bo_lists.specs.Lists.{State}
+use Rattle.bo_sound.specs.Limits.{IsValue, IsLimitedItem, IsLimitedVariation, IsLimitedQuota, IsLimitedVoucher, IsLimitedCart, IsLimitedOrder, IsLimitedPosition, IsLimitedWaiting, IsLimitedCheckinList, IsLimitedCheckin}
+use Rattle.bo_sound.specs.Range.{IsNextId, AllNextIds}
+use Rattle.bo_sound.specs.Sound.{IsSound}
+use Rattle.bo_kept.specs.declared.kept.Kept.{Kept}
+use Rattle.bo_columns.specs.declared.rows.Shop.{Shop}
+use Rattle.bo_columns.specs.declared.rows.QuotaRow.{QuotaRow}
+use Rattle.bo_columns.specs.declared.rows.VoucherRow.{VoucherRow}
+use Rattle.bo_columns.specs.declared.rows.ListRow.{ListRow}
+use Rattle.bo_columns.specs.Changes.{head_of_quota, head_of_list}
+use Rattle.bo_columns.specs.Fit.{IsStored, IsFitItem, IsFitVariation, IsFitQuota, IsFitVoucher, IsFitCart, IsFitOrder, IsFitPosition, IsFitWaiting, IsFitList, IsFitCheckin}
+use Rattle.bo_columns.specs.Tables.{Tables}
+use Rattle.bo_stand.specs.Stands.{Stand}
+use Rattle.bo_opens.specs.Lawful.{AreFit, AreTyped}
+
+-- ---- lists
+
+-- what holds of each row of a list and of each row of the same rows in another order
+with_both : {T : Type 0} (P Q R : T → Type 0) → ((x : T) → P x → Q x → R x) → (xs : List T) → AllByRecursion P xs → All Q xs → All R xs
+with_both P Q R k [] h i = All-nil R
+with_both P Q R k (x ∷ xs) h i = All-cons R x xs (k x h.0 (All-head Q x xs i)) (with_both P Q R k xs h.1 (All-tail Q x xs i))
+
+joined : {T : Type 0} (P Q R : T → Type 0) → ((x : T) → P x → Q x → R x) → (rows list : List T) → IsPermutation rows list → AllByRecursion P list → All Q rows → All R rows
+joined P Q R k rows list same h i = with_both P Q R k rows (all-permutation P list rows (IsPermutation-sym rows list same) h) i
+
+-- of what is made of each
+mapped : {A B : Type 0} (f : A → B) (P : A → Type 0) (Q : B → Type 0) → ((a : A) → P a → Q (f a)) → (xs : List A) → AllByRecursion P xs → AllByRecursion Q (map f xs)
+mapped f P Q k [] h = tt
+mapped f P Q k (x ∷ xs) h = (k x h.0, mapped f P Q k xs h.1)
+
+-- and of what it was made of
+unmapped : {A B : Type 0} (f : A → B) (P : B → Type 0) (xs : List A) → AllByRecursion P (map f xs) → AllByRecursion (λ a. P (f a)) xs
+unmapped f P [] h = tt
+unmapped f P (x ∷ xs) h = (h.0, unmapped f P xs h.1)
+
+-- ---- values
+
+stored : (t : List ℕ) → IsText t → IsUtf8 t → IsStored t
+stored t text utf8 = record { text = text; utf8 = utf8 }
+
+stored_or_none : (o : Option (List ℕ)) → IfSome o IsText → IfSome o IsUtf8 → IfSome o IsStored
+stored_or_none None text utf8 = tt
+stored_or_none (Some t) text utf8 = stored t text utf8
+
+money : (mode : PriceMode) (value : ℕ) → IsValue mode value → IsMoney value
+money modes.None value h = h
+money modes.Set value h = h
+money modes.Subtract value h = h
+money modes.Percent value h = omega (arith, h)
+
+money_or_none : (mode : PriceMode) (o : Option ℕ) → IfSome o (IsValue mode) → IfSome o IsMoney
+money_or_none mode None h = tt
+money_or_none mode (Some value) h = money mode value h
+
+-- ---- rows without their members
+
+record IsLimitedHead (row : QuotaRow) : Type 0 where
+  name : IsText row.name
+  size : IfSome row.size IsSize
+
+voucher_fits : (w : VoucherRow) → IsLimitedVoucher w.voucher → IsUtf8 w.voucher.code × IsUtf8 w.voucher.tag × IsUtf8 w.voucher.comment → IsFitVoucher w
+voucher_fits w h utf8 = record {
+  code = stored w.voucher.code h.code utf8.0;
+  uses = h.uses;
+  end = h.end;
+  value = money_or_none w.voucher.price_mode w.voucher.value h.value;
+  tag = stored w.voucher.tag h.tag utf8.1;
+  comment = stored w.voucher.comment h.comment utf8.2;
+}
+
+-- ---- the tables
+
+pub sound_fits : (shop : Shop) (t : Tables) (state : State) (answers : List Kept) → shop.version ≡ 1 → IsSlug shop.organizer → IsSlug shop.event → IsNextId last_id shop.next_token → Stand shop t state answers → IsSound state → AreTyped t → AreFit t
+sound_fits shop t state answers first organizer event token stand sound typed =
+    let lists = state.lists in
+    let limited = sound.limits in
+    record {
+      shop = shop;
+      alone = stand.shop_is;
+      first = first;
+      shop_fits = record { organizer = organizer; event = event; moment = subst IsMoment (sym stand.moment) sound.range.moment };
+      ids = record { ids = subst AllNextIds (sym stand.next) sound.range.next_ids; token = token };
+      items = joined IsLimitedItem _ IsFitItem (λ w h utf8. record { name = stored w.name h.name utf8; price = h.price }) t.items lists.catalogue.items stand.rows.items limited.items typed.items;
+      variations = joined IsLimitedVariation _ IsFitVariation (λ w h utf8. record { name = stored w.name h.name utf8; price = h.price }) t.variations lists.catalogue.variations stand.rows.variations limited.variations typed.variations;
+      quotas =
+          joined IsLimitedHead _ IsFitQuota (λ w h utf8. record { name = stored w.name h.name utf8; size = h.size }) t.quotas (map head_of_quota lists.catalogue.quotas) stand.rows.quotas
+          (mapped head_of_quota IsLimitedQuota IsLimitedHead (λ (q : Quota) h. record { name = h.name; size = h.size }) lists.catalogue.quotas limited.quotas) typed.quotas;
+      vouchers =
+          with_both (λ (w : VoucherRow). IsLimitedVoucher w.voucher) _ IsFitVoucher voucher_fits t.vouchers
+          (unmapped (λ (w : VoucherRow). w.voucher) IsLimitedVoucher t.vouchers (all-permutation IsLimitedVoucher lists.vouchers (map (λ (w : VoucherRow). w.voucher) t.vouchers) (IsPermutation-sym _ _ stand.rows.vouchers) limited.vouchers)) typed.vouchers;
+      carts = joined IsLimitedCart _ IsFitCart (λ w h utf8. record { cart_id = stored w.cart_id h.cart_id utf8; price = h.price; made_at = h.made_at; expires = h.expires }) t.carts lists.carts stand.rows.carts limited.carts typed.carts;
+      orders = joined IsLimitedOrder _ IsFitOrder (λ w h utf8. record { email = stored_or_none w.email h.email utf8; made_at = h.made_at; expires = h.expires }) t.orders lists.orders stand.rows.orders limited.orders typed.orders;
+      positions = joined IsLimitedPosition (λ (w : OrderPos). (w.positionid < 2 ^ 32) × IsUtf8 w.secret) IsFitPosition (λ w h of. record { positionid = of.0; price = h.price; secret = stored w.secret h.secret of.1 }) t.positions lists.positions stand.rows.positions limited.positions typed.positions;
+      waiting = joined IsLimitedWaiting _ IsFitWaiting (λ w h utf8. record { email = stored w.email h.email utf8; priority = h.priority; created = h.created }) t.waiting lists.waiting stand.rows.waiting limited.waiting typed.waiting;
+      checkin_lists =
+          joined (λ (w : ListRow). IsText w.name) _ IsFitList (λ w h utf8. record { name = stored w.name h utf8 }) t.checkin_lists (map head_of_list lists.checkin_lists) stand.rows.checkin_lists
+          (mapped head_of_list IsLimitedCheckinList (λ (w : ListRow). IsText w.name) (λ (l : CheckinList) h. h.name) lists.checkin_lists limited.checkin_lists) typed.checkin_lists;
+      checkins = joined IsLimitedCheckin _ IsFitCheckin (λ w h utf8. record { datetime = h.datetime; nonce = stored_or_none w.nonce h.nonce utf8 }) t.checkins lists.checkins stand.rows.checkins limited.checkins typed.checkins;
+      tokens = typed.tokens;
+      kept = typed.kept;
+    }

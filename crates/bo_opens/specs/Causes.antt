@@ -1,0 +1,156 @@
+-- Why a file isn't opened, and what holds of one whose rows were all read.
+use Rattle.std.specs.Prelude.{◌≡◌, ◌≢◌, ◌⊎◌, ℕ, ℤ, pos, List, [], ◌∷◌, map, All, Ok}
+use Rattle.sqlite_value.specs.declared.value.Value.TheVariants.{Int}
+use Rattle.sqlite_value.specs.Order.{Row, column}
+use Rattle.sqlite_trees.specs.Tree.{Trees}
+use Rattle.sqlite_schema.specs.declared.schema.Schema.{Schema}
+use Rattle.sqlite_resolve.specs.declared.compiled.Compiled.{Compiled}
+use Rattle.sqlite.specs.Clock.{timed}
+use Rattle.sqlite.specs.Effect.{Database, Reads}
+use Rattle.sqlite.specs.Listing.{understood, reads_listing, IsSourceOf}
+use Rattle.bo_schema.specs.Tables.{schema}
+use Rattle.bo_schema.specs.Parts.{shown}
+use Rattle.bo_catalogue.specs.Limits.{last_id}
+use Rattle.bo_sound.specs.Range.{IsNextId, AllNextIds}
+use Rattle.bo_columns.specs.declared.rows.Shop.{Shop}
+use Rattle.bo_columns.specs.Rows.{shop_row, item_row, variation_row, quota_row, quota_item_row, quota_variation_row, voucher_row, cart_row, order_row, position_row, waiting_row, list_row, list_item_row, checkin_row, count_row, token_row, kept_row}
+use Rattle.bo_columns.specs.Fit.{IsFitShop, IsFitItem, IsFitVariation, IsFitQuota, IsFitVoucher, IsFitCart, IsFitOrder, IsFitPosition, IsFitWaiting, IsFitList, IsFitCheckin, IsFitToken, IsFitKept}
+use Rattle.bo_loads.specs.Damage.{HasMeaning, HasNoMeaning, IsDamaged}
+use Rattle.bo_loads.specs.Texts.{shop_text, items_text, variations_text, quotas_text, quota_items_text, quota_variations_text, vouchers_text, carts_text, orders_text, positions_text, waiting_text, checkin_lists_text, list_items_text, checkins_text, counts_text, tokens_text, kept_text}
+use Rattle.bo_rules.specs.declared.rule.Rule.TheVariants as rule
+use Rattle.bo_opens.specs.declared.error.OpenError.{OpenError}
+use Rattle.bo_opens.specs.declared.error.OpenError.TheVariants.{Memory, NotAShop, Version, Damaged, Store}
+use Rattle.bo_opens.specs.declared.file.FileTables.{FileTables}
+use Rattle.bo_opens.specs.declared.read.CatalogueRows.{CatalogueRows}
+use Rattle.bo_opens.specs.declared.read.SaleRows.{SaleRows}
+use Rattle.bo_opens.specs.declared.read.DoorRows.{DoorRows}
+use Rattle.bo_opens.specs.declared.read.OtherRows.{OtherRows}
+use Rattle.bo_opens.specs.declared.read.TableRows.{TableRows}
+
+-- ---- the file lacks one of these tables, or one of its columns
+
+abbrev pub LacksCatalogue : Schema → Type 0
+LacksCatalogue s = HasNoMeaning s items_text ⊎ (HasNoMeaning s variations_text ⊎ (HasNoMeaning s quotas_text ⊎ (HasNoMeaning s quota_items_text ⊎ HasNoMeaning s quota_variations_text)))
+
+abbrev pub LacksSales : Schema → Type 0
+LacksSales s = HasNoMeaning s vouchers_text ⊎ (HasNoMeaning s carts_text ⊎ (HasNoMeaning s orders_text ⊎ (HasNoMeaning s positions_text ⊎ HasNoMeaning s waiting_text)))
+
+abbrev pub LacksDoors : Schema → Type 0
+LacksDoors s = HasNoMeaning s checkin_lists_text ⊎ (HasNoMeaning s list_items_text ⊎ HasNoMeaning s checkins_text)
+
+abbrev pub LacksOthers : Schema → Type 0
+LacksOthers s = HasNoMeaning s counts_text ⊎ (HasNoMeaning s tokens_text ⊎ HasNoMeaning s kept_text)
+
+-- a table beside the shop's own
+abbrev pub LacksTable : Schema → Type 0
+LacksTable s = LacksCatalogue s ⊎ (LacksSales s ⊎ (LacksDoors s ⊎ LacksOthers s))
+
+-- ---- the file has all of these tables with their columns
+
+abbrev pub HasCatalogue : Schema → Type 0
+HasCatalogue s = HasMeaning s items_text × (HasMeaning s variations_text × (HasMeaning s quotas_text × (HasMeaning s quota_items_text × HasMeaning s quota_variations_text)))
+
+abbrev pub HasSales : Schema → Type 0
+HasSales s = HasMeaning s vouchers_text × (HasMeaning s carts_text × (HasMeaning s orders_text × (HasMeaning s positions_text × HasMeaning s waiting_text)))
+
+abbrev pub HasDoors : Schema → Type 0
+HasDoors s = HasMeaning s checkin_lists_text × (HasMeaning s list_items_text × HasMeaning s checkins_text)
+
+abbrev pub HasOthers : Schema → Type 0
+HasOthers s = HasMeaning s counts_text × (HasMeaning s tokens_text × HasMeaning s kept_text)
+
+-- all tables beside the shop's own
+abbrev pub HasTables : Schema → Type 0
+HasTables s = HasCatalogue s × (HasSales s × (HasDoors s × HasOthers s))
+
+-- ---- a row of one of these tables is that of no value within its limits
+
+-- the rows that the table of this tree shows
+abbrev pub rows_at : Trees → ℕ → List Row
+rows_at trees tree = map (shown schema tree) (trees tree)
+
+abbrev pub IsDamagedCatalogue : Trees → Type 0
+IsDamagedCatalogue db = IsDamaged item_row IsFitItem (rows_at db 1) ⊎ (IsDamaged variation_row IsFitVariation (rows_at db 2) ⊎ (IsDamaged quota_row IsFitQuota (rows_at db 3) ⊎ (IsDamaged quota_item_row (λ w. Unit {0}) (rows_at db 4) ⊎ IsDamaged quota_variation_row (λ w. Unit {0}) (rows_at db 6))))
+
+abbrev pub AreDamagedSales : Trees → Type 0
+AreDamagedSales db = IsDamaged voucher_row IsFitVoucher (rows_at db 8) ⊎ (IsDamaged cart_row IsFitCart (rows_at db 10) ⊎ (IsDamaged order_row IsFitOrder (rows_at db 11) ⊎ (IsDamaged position_row IsFitPosition (rows_at db 12) ⊎ IsDamaged waiting_row IsFitWaiting (rows_at db 15))))
+
+abbrev pub AreDamagedDoors : Trees → Type 0
+AreDamagedDoors db = IsDamaged list_row IsFitList (rows_at db 16) ⊎ (IsDamaged list_item_row (λ w. Unit {0}) (rows_at db 17) ⊎ IsDamaged checkin_row IsFitCheckin (rows_at db 19))
+
+abbrev pub AreDamagedOthers : Trees → Type 0
+AreDamagedOthers db = IsDamaged count_row (λ w. Unit {0}) (rows_at db 21) ⊎ (IsDamaged token_row IsFitToken (rows_at db 22) ⊎ IsDamaged kept_row IsFitKept (rows_at db 24))
+
+-- a table beside the shop's own
+abbrev pub HasDamage : Trees → Type 0
+HasDamage db = IsDamagedCatalogue db ⊎ (AreDamagedSales db ⊎ (AreDamagedDoors db ⊎ AreDamagedOthers db))
+
+-- ---- all values are within their limits; the tables that aren't named have none
+
+-- each next id is in range, that of the tokens too
+pub record HasNextIds (shop : Shop) : Type 0 where
+  pub ids : AllNextIds shop.next
+  pub token : IsNextId last_id shop.next_token
+
+pub record IsFitCatalogue (rows : CatalogueRows) : Type 0 where
+  pub items : All IsFitItem rows.items.items
+  pub variations : All IsFitVariation rows.variations.items
+  pub quotas : All IsFitQuota rows.quotas.items
+
+pub record AreFitSales (rows : SaleRows) : Type 0 where
+  pub vouchers : All IsFitVoucher rows.vouchers.items
+  pub carts : All IsFitCart rows.carts.items
+  pub orders : All IsFitOrder rows.orders.items
+  pub positions : All IsFitPosition rows.positions.items
+  pub waiting : All IsFitWaiting rows.waiting.items
+
+pub record AreFitDoors (rows : DoorRows) : Type 0 where
+  pub checkin_lists : All IsFitList rows.checkin_lists.items
+  pub checkins : All IsFitCheckin rows.checkins.items
+
+pub record AreFitOthers (rows : OtherRows) : Type 0 where
+  pub tokens : All IsFitToken rows.tokens.items
+  pub kept : All IsFitKept rows.kept.items
+
+pub record AreFitTables (rows : TableRows) : Type 0 where
+  pub catalogue : IsFitCatalogue rows.catalogue
+  pub sales : AreFitSales rows.sales
+  pub doors : AreFitDoors rows.doors
+  pub others : AreFitOthers rows.others
+
+pub record IsFitFile (file : FileTables) : Type 0 where
+  pub shop : IsFitShop file.shop
+  pub ids : HasNextIds file.shop
+  pub tables : AreFitTables file.tables
+
+-- ---- why a file isn't opened
+
+-- a SELECT without parameters shows these rows of what a file holds
+abbrev pub ShowsBy : List ℕ → Database → List Row → Type 0
+ShowsBy sql db rows = (c : Compiled) × (understood db.schema sql ≡ Ok c) × (source : Database) × IsSourceOf (reads_listing db.schema sql) db source × (now : ℕ) × Reads c.command source (timed [] c.formats now) rows
+
+-- there is one row, whose version is this number, and not 1
+abbrev pub HasOtherVersion : ℤ → List Row → Type 0
+HasOtherVersion version rows = (row : Row) × (rows ≡ row ∷ []) × (column row 1 ≡ Int version) × (version ≢ pos 1)
+
+abbrev pub HasNoOtherVersion : List Row → Type 0
+HasNoOtherVersion rows = (version : ℤ) → HasOtherVersion version rows → ⊥
+
+-- there is one row, which is that of a shop of version 1 within its limits, whose next ids are in range
+abbrev pub IsOneShop : List Row → Type 0
+IsOneShop rows = (shop : Shop) × IsFitShop shop × HasNextIds shop × (shop.version ≡ 1) × (rows ≡ shop_row shop ∷ [])
+
+-- the file has the table `shop`, and of the rows that are shown of it this holds
+abbrev pub OfTheShop : Database → (List Row → Type 0) → Type 0
+OfTheShop db holds = (rows : List Row) × ShowsBy shop_text db rows × holds rows
+
+-- Why each refusal is told, which also says that none before it was to be told: 60 for the table `shop`, 61, 60 for another table, 62.1, 62.2.
+-- Of rows in tables that are declared in another way than ours nothing is said. That memory is refused or the store fails has no cause in the file.
+abbrev pub IsCause : Database → OpenError → Type 0
+IsCause db Memory = Unit {0}
+IsCause db NotAShop = HasNoMeaning db.schema shop_text ⊎ OfTheShop db (λ rows. HasNoOtherVersion rows × LacksTable db.schema)
+IsCause db (Version version) = OfTheShop db (HasOtherVersion version)
+IsCause db (Damaged rule.Shop) = OfTheShop db (λ rows. HasNoOtherVersion rows × (¬ IsOneShop rows))
+IsCause db (Damaged rule.Limits) = OfTheShop db (λ rows. IsOneShop rows × (db.schema ≡ schema → HasDamage db.trees))
+IsCause db (Damaged _) = ⊥
+IsCause db Store = Unit {0}

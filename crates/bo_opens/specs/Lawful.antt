@@ -1,0 +1,53 @@
+-- Tables that a shop has written.
+use Rattle.std.specs.Prelude.{◌≡◌, ◌<◌, ◌^◌, [], ◌∷◌, All, IfSome}
+use Rattle.std.specs.Str.{IsUtf8}
+use Rattle.bo_columns.specs.declared.rows.Shop.{Shop}
+use Rattle.bo_columns.specs.Tables.{Tables}
+use Rattle.bo_columns.specs.Fit.{IsFitShop, IsFitItem, IsFitVariation, IsFitQuota, IsFitVoucher, IsFitCart, IsFitOrder, IsFitPosition, IsFitWaiting, IsFitList, IsFitCheckin, IsFitToken, IsFitKept}
+use Rattle.bo_opens.specs.Causes.{HasNextIds}
+use Rattle.bo_opens.specs.declared.error.OpenError.{OpenError}
+use Rattle.bo_opens.specs.declared.error.OpenError.TheVariants.{Memory, NotAShop, Version, Damaged, Store}
+
+-- all values are within their limits, and there is one shop, of version 1; the tables that aren't named have no limits
+pub record AreFit (t : Tables) : Type 0 where
+  pub shop : Shop
+  pub alone : t.shop ≡ shop ∷ []
+  pub first : shop.version ≡ 1
+  pub shop_fits : IsFitShop shop
+  pub ids : HasNextIds shop
+  pub items : All IsFitItem t.items
+  pub variations : All IsFitVariation t.variations
+  pub quotas : All IsFitQuota t.quotas
+  pub vouchers : All IsFitVoucher t.vouchers
+  pub carts : All IsFitCart t.carts
+  pub orders : All IsFitOrder t.orders
+  pub positions : All IsFitPosition t.positions
+  pub waiting : All IsFitWaiting t.waiting
+  pub checkin_lists : All IsFitList t.checkin_lists
+  pub checkins : All IsFitCheckin t.checkins
+  pub tokens : All IsFitToken t.tokens
+  pub kept : All IsFitKept t.kept
+
+-- What the types of values promise, and the rules of a box office don't say: texts are UTF-8, the place of a ticket has 32 bits,
+-- digests have 32 bytes, kept answers a moment and a status of three digits.
+pub record AreTyped (t : Tables) : Type 0 where
+  pub items : All (λ w. IsUtf8 w.name) t.items
+  pub variations : All (λ w. IsUtf8 w.name) t.variations
+  pub quotas : All (λ w. IsUtf8 w.name) t.quotas
+  pub vouchers : All (λ w. IsUtf8 w.voucher.code × IsUtf8 w.voucher.tag × IsUtf8 w.voucher.comment) t.vouchers
+  pub carts : All (λ w. IsUtf8 w.cart_id) t.carts
+  pub orders : All (λ w. IfSome w.email IsUtf8) t.orders
+  pub positions : All (λ w. (w.positionid < 2 ^ 32) × IsUtf8 w.secret) t.positions
+  pub waiting : All (λ w. IsUtf8 w.email) t.waiting
+  pub checkin_lists : All (λ w. IsUtf8 w.name) t.checkin_lists
+  pub checkins : All (λ w. IfSome w.nonce IsUtf8) t.checkins
+  pub tokens : All IsFitToken t.tokens
+  pub kept : All IsFitKept t.kept
+
+-- memory was refused or the store failed, and nothing is wrong with the file
+abbrev pub IsOfMachine : OpenError → Type 0
+IsOfMachine Memory = Unit {0}
+IsOfMachine NotAShop = ⊥
+IsOfMachine (Version version) = ⊥
+IsOfMachine (Damaged rule) = ⊥
+IsOfMachine Store = Unit {0}

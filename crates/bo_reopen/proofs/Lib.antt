@@ -1,0 +1,4 @@
+pub mod Freed
+pub mod Least
+pub mod Opening
+pub mod Undamaged

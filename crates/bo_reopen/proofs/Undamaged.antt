@@ -1,0 +1,107 @@
+-- Tables that hold an office are opened as that office.
+use Rattle.std.proofs.Common.{◌≡◌, ℕ, List, [], ◌∷◌, map, IsTrue, refl, sym, ap, subst, ◌∙◌}
+use Rattle.std.specs.List.Sorted.{IsPermutation}
+use Rattle.std.proofs.lemmas.List.Sorted.{IsPermutation-map, IsPermutation-sym, IsPermutation-trans}
+use Rattle.sqlite.specs.State.{State as Connected}
+use Rattle.bo_base.specs.Slugs.{IsSlug}
+use Rattle.bo_lists.specs.Lists.{State}
+use Rattle.bo_lists.specs.CountRows.{quota_count, quota_counts, voucher_count, voucher_counts}
+use Rattle.bo_sound.specs.Sound.{IsSound}
+use Rattle.bo_kept.specs.declared.kept.Kept.{Kept}
+use Rattle.bo_kept.specs.ShopView.{IsSame}
+use Rattle.bo_columns.specs.declared.rows.Shop.{Shop}
+use Rattle.bo_columns.specs.Tables.{Tables}
+use Rattle.bo_stand.specs.Rows.{OfficeRows, rows_of}
+use Rattle.bo_stand.specs.Stands.{AreRowsOf, AreSameRows, Stand}
+use Rattle.bo_stand.proofs.Follow.{rows_along, same_rows}
+use Rattle.bo_stand.proofs.Order.{same_order}
+use Rattle.bo_stand.proofs.Told.{order_of_parts, tell_one}
+use Rattle.bo_rules.specs.declared.rule.Rule.{Rule}
+use Rattle.bo_rules.specs.Rules.{File, IsCounted, Keeps}
+use Rattle.bo_rules.proofs.Sounds.{keeps_all}
+use Rattle.bo_opens.specs.declared.file.FileTables.{FileTables}
+use Rattle.bo_opens.specs.declared.read.TableRows.{TableRows}
+use Rattle.bo_opens.specs.Read.{AreTableRows, IsFileOf}
+use Rattle.bo_opens.specs.Rests.{ShowsTables}
+use Rattle.bo_arrange.specs.Arranged.{arranged, rows_in, told_by, count_in, IsInOrder}
+use Rattle.bo_arrange.proofs.Offices.{office_told}
+use Rattle.bo_tables.specs.Shops.{Keeps as Held}
+use Rattle.bo_reopen.specs.Opened.{IsDamagedBy, IsOpened}
+use Rattle.bo_reopen.proofs.Least.{kept_in}
+use Rattle.bo_reopen.proofs.Opening.{same_rows as read_rows}
+
+same_again : (a b : OfficeRows) → AreSameRows a b → AreSameRows b a
+same_again a b h = record {
+  items = IsPermutation-sym _ _ h.items;
+  variations = IsPermutation-sym _ _ h.variations;
+  quotas = IsPermutation-sym _ _ h.quotas;
+  quota_items = IsPermutation-sym _ _ h.quota_items;
+  quota_variations = IsPermutation-sym _ _ h.quota_variations;
+  vouchers = IsPermutation-sym _ _ h.vouchers;
+  carts = IsPermutation-sym _ _ h.carts;
+  orders = IsPermutation-sym _ _ h.orders;
+  positions = IsPermutation-sym _ _ h.positions;
+  waiting = IsPermutation-sym _ _ h.waiting;
+  checkin_lists = IsPermutation-sym _ _ h.checkin_lists;
+  list_items = IsPermutation-sym _ _ h.list_items;
+  checkins = IsPermutation-sym _ _ h.checkins;
+}
+
+-- one row is one shop
+one_row : (rows : List Shop) (a b : Shop) → rows ≡ a ∷ [] → rows ≡ b ∷ [] → a ≡ b
+one_row rows a b h k = let is : a ∷ [] ≡ b ∷ [] = sym h ∙ k in cc
+
+module _ (head : Shop) (t : Tables) (s : State) (ks : List Kept) (stand : Stand head t s ks) where
+  module _ (read : FileTables) (of : IsFileOf t read) (order : IsInOrder (arranged read.shop read.tables)) where
+    abbrev file : File
+    file = arranged read.shop read.tables
+
+    shop_is : read.shop ≡ head
+    shop_is = one_row t.shop read.shop head of.shop stand.shop_is
+
+    rows_are : AreRowsOf s.lists (rows_in read.tables)
+    rows_are = rows_along s.lists (rows_in read.tables) (rows_of t) (same_again (rows_of t) (rows_in read.tables) (read_rows t read.tables of.tables)) stand.rows
+
+    lists_are : told_by (rows_in read.tables) ≡ s.lists
+    lists_are = office_told s.lists (rows_in read.tables) stand.ordered order.lists rows_are
+
+    state_is : file.state ≡ s
+    state_is =
+        let next = ap (λ (h : Shop). h.next) shop_is ∙ stand.next in
+        let moment = ap (λ (h : Shop). h.moment) shop_is ∙ stand.moment in
+        λ i. record { lists = lists_are i; next = next i; moment = moment i }
+
+    used_is : file.used ≡ quota_counts s
+    used_is =
+        same_order (λ c. c.quota) file.used (quota_counts s) order.used (order_of_parts (λ q. q.id) (quota_count s) (λ c. c.quota) (λ r. refl) 0 s.lists.catalogue.quotas stand.ordered.ids.quotas)
+        (IsPermutation-trans _ _ _ (IsPermutation-sym _ _ of.tables.others.counts) stand.used)
+
+    redeemed_is : file.redeemed ≡ voucher_counts s
+    redeemed_is =
+        same_order (λ c. c.voucher) file.redeemed (voucher_counts s) order.redeemed (order_of_parts (λ v. v.id) (voucher_count s) (λ c. c.voucher) (λ r. refl) 0 s.lists.vouchers stand.ordered.ids.vouchers)
+        (IsPermutation-trans _ _ _ (IsPermutation-sym _ _ (IsPermutation-map count_in _ _ of.tables.sales.vouchers)) stand.redeemed)
+
+    counted : IsCounted file
+    counted = record { used = used_is ∙ ap quota_counts (sym state_is); redeemed = redeemed_is ∙ ap voucher_counts (sym state_is) }
+
+    keeps : IsSlug head.organizer → IsSlug head.event → IsSound s → (rule : Rule) → Keeps rule file
+    keeps organizer event sound rule =
+        keeps_all file rule (subst (λ (h : Shop). IsSlug h.organizer) (sym shop_is) organizer) (subst (λ (h : Shop). IsSlug h.event) (sym shop_is) event) (subst IsSound (sym state_is) sound) counted
+
+  -- they break no rule
+  pub undamaged : IsSlug head.organizer → IsSlug head.event → IsSound s → (rule : Rule) → ¬ IsDamagedBy rule t
+  undamaged organizer event sound rule d =
+      let is = lists_are d.read d.of d.order in
+      d.least.broken (kept_in (rows_in d.read.tables) (arranged d.read.shop d.read.tables) rule (subst (λ l. AreRowsOf l (rows_in d.read.tables)) (sym is) (rows_are d.read d.of d.order)) (keeps d.read d.of d.order organizer event sound rule))
+
+  -- another shop that they hold is this one
+  pub same_shop : (shop : Shop) (z : State) (js : List Kept) → Stand shop t z js → (shop ≡ head) × IsSame (record { state = z; kept = js }) (record { state = s; kept = ks })
+  same_shop shop z js other =
+      let is : shop ≡ head = one_row t.shop shop head other.shop_is stand.shop_is in
+      let lists = tell_one z.lists s.lists (rows_of t) (rows_of t) other.ordered stand.ordered other.rows stand.rows (same_rows (rows_of t)) in
+      let next : z.next ≡ s.next = sym other.next ∙ ap (λ (h : Shop). h.next) is ∙ stand.next in
+      let moment : z.moment ≡ s.moment = sym other.moment ∙ ap (λ (h : Shop). h.moment) is ∙ stand.moment in
+      (is, record { state = λ i. record { lists = lists i; next = next i; moment = moment i }; kept = IsPermutation-trans _ _ _ (IsPermutation-sym _ _ other.kept) stand.kept })
+
+pub shows_held : (head : Shop) (next : ℕ) (c : Connected) (s : State) (ks : List Kept) (held : Held head next c s ks) → ShowsTables held.tables c
+shows_held head next c s ks held = record { db = c.now; at = record { now = refl; committed = sym held.settled }; known = held.known; holds = held.held }

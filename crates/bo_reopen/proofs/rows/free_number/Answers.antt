@@ -1,0 +1,16 @@
+use Rattle.std.proofs.Common.{map, subst}
+use Rattle.bo_columns.specs.declared.rows.QuotaItem.{QuotaItem}
+use Rattle.bo_columns.specs.declared.rows.QuotaVariation.{QuotaVariation}
+use Rattle.bo_columns.specs.declared.rows.ListItem.{ListItem}
+use Rattle.bo_columns.specs.declared.rows.KeptRow.{KeptRow}
+use Rattle.bo_stand.specs.Free.{AreBelow}
+use Rattle.bo_reopen.proofs.Freed.{free}
+use Rattle.bo_reopen.proofs.rows.free_number.Goals as goal
+
+pub returns : goal.returns
+returns c = λ t of.
+    free t c.args.tables.now c.greatest.result c.in_ok-items.items c.in_ok-variations.variations c.in_ok-limits.limits c.in_ok-kept.kept c.greatest.ensures.one c.greatest.ensures.two c.greatest.ensures.three c.greatest.ensures.four of
+    (subst (λ l. AreBelow c.in_ok-items.items (map (λ (r : QuotaItem). r.rowid) l)) c.as_slice.ensures.value c.in_ok-items.ensures)
+    (subst (λ l. AreBelow c.in_ok-variations.variations (map (λ (r : QuotaVariation). r.rowid) l)) c.as_slice-2.ensures.value c.in_ok-variations.ensures)
+    (subst (λ l. AreBelow c.in_ok-limits.limits (map (λ (r : ListItem). r.rowid) l)) c.as_slice-3.ensures.value c.in_ok-limits.ensures)
+    (subst (λ l. AreBelow c.in_ok-kept.kept (map (λ (r : KeptRow). r.rowid) l)) c.as_slice-4.ensures.value c.in_ok-kept.ensures)

@@ -1,0 +1,187 @@
+//! When a row counts, and what it counts: one function for each rule, over whatever finds the rows.
+
+ghost use Rattle.std.specs.Prelude.{◌≡◌, ◌≤◌, ◌-◌};
+ghost use Rattle.std.specs.Option.{option_copied};
+ghost use Rattle.bo_lists.specs.Conditions.{is_paid, is_pending, is_in_force};
+ghost use Rattle.bo_lists.specs.Over.{ignores};
+ghost use Rattle.bo_lists.specs.Usage.{stands_as, position_counts, uses, blocks_if, is_covered_by, cart_counts};
+ghost use Rattle.bo_usage.specs.Shares.{status_share, cart_share, waiting_share, blocked_share, held_name, used_name};
+
+use crate::look_ups::LookUps;
+use bo_base::Moment;
+use bo_catalogue::Quota;
+use bo_lists::{CartPos, Order, OrderPos, Voucher, Waiting};
+
+/// Whether an order stands and is paid.
+pub fn is_paid(order: Option<&Order>) -> bool
+    ensures { result ≡ stands_as is_paid (option_copied order.entry) }
+{
+    order.is_some_and(|o| o.status.is_paid())
+}
+
+/// Whether an order stands and waits for its payment.
+pub fn is_pending(order: Option<&Order>) -> bool
+    ensures { result ≡ stands_as is_pending (option_copied order.entry) }
+{
+    order.is_some_and(|o| o.status.is_pending())
+}
+
+/// Whether an order stands and its positions use vouchers.
+pub fn is_in_force(order: Option<&Order>) -> bool
+    ensures { result ≡ stands_as is_in_force (option_copied order.entry) }
+{
+    order.is_some_and(|o| o.status.is_in_force())
+}
+
+/// Whether an order position is of a paid order, and for a product of the quota.
+pub fn is_paid_in<R: LookUps>(rows: &R, quota: &Quota, position: &OrderPos) -> bool
+    ensures { result ≡ position_counts is_paid (R.rows rows.now) quota.now position.now }
+{
+    is_paid(rows.order(position.order)) && quota.has(position.product)
+}
+
+/// Whether it is of a pending order, and for a product of the quota.
+pub fn is_pending_in<R: LookUps>(rows: &R, quota: &Quota, position: &OrderPos) -> bool
+    ensures { result ≡ position_counts is_pending (R.rows rows.now) quota.now position.now }
+{
+    is_pending(rows.order(position.order)) && quota.has(position.product)
+}
+
+/// Whether it is of a paid or pending order, and for a product of the quota.
+pub fn is_sold_in<R: LookUps>(rows: &R, quota: &Quota, position: &OrderPos) -> bool
+    ensures { result ≡ position_counts is_in_force (R.rows rows.now) quota.now position.now }
+{
+    is_in_force(rows.order(position.order)) && quota.has(position.product)
+}
+
+/// Whether an order position uses the voucher: it names it, and its order is paid or pending.
+pub fn uses<R: LookUps>(rows: &R, voucher: u64, position: &OrderPos) -> bool
+    ensures { result ≡ uses voucher (R.rows rows.now) position.now }
+{
+    position.voucher == Some(voucher) && is_in_force(rows.order(position.order))
+}
+
+/// Whether a voucher, if there is one, blocks places of the quota.
+pub fn blocks(at: Moment, quota: &Quota, voucher: Option<&Voucher>) -> bool
+    ensures { result ≡ blocks_if at quota.now (option_copied voucher.entry) }
+{
+    match voucher {
+        None => false,
+        Some(voucher) => voucher.blocks(at, quota),
+    }
+}
+
+/// Whether the voucher that a row names stands and blocks places of the quota.
+pub fn covers<R: LookUps>(rows: &R, at: Moment, quota: &Quota, voucher: Option<u64>) -> bool
+    ensures { result ≡ is_covered_by (R.rows rows.now) at quota.now voucher }
+{
+    match voucher {
+        None => false,
+        Some(id) => blocks(at, quota, rows.voucher(id)),
+    }
+}
+
+/// Whether the voucher that a row names stands and ignores quotas.
+pub fn ignores<R: LookUps>(rows: &R, voucher: Option<u64>) -> bool
+    ensures { result ≡ ignores (R.rows rows.now) voucher }
+{
+    match voucher {
+        None => false,
+        Some(id) => rows.voucher(id).is_some_and(|v| v.allow_ignore_quota),
+    }
+}
+
+/// Whether a cart position counts in the quota: it is live, for one of its products, and its voucher blocks no place of it.
+pub fn cart_counts<R: LookUps>(rows: &R, at: Moment, quota: &Quota, cart: &CartPos) -> bool
+    ensures { result ≡ cart_counts (R.rows rows.now) at quota.now cart.now }
+{
+    cart.is_live(at) && quota.has(cart.product) && !covers(rows, at, quota, cart.voucher)
+}
+
+/// 1 where an order position is of a paid order, and for a product of the quota.
+#[tactic(auto, unfolding(crate::specs::Shares::status_share))]
+pub fn paid_share<R: LookUps>(rows: &R, quota: &Quota, position: Option<&OrderPos>) -> u64
+    ensures value { result ≡ status_share is_paid (R.rows rows.now) quota.now (option_copied position.entry) }
+    ensures small { result ≤ 1 }
+{
+    match position {
+        None => 0,
+        Some(row) => u64::from(is_paid_in(rows, quota, row)),
+    }
+}
+
+/// 1 where it is of a pending order, and for a product of the quota.
+#[tactic(auto, unfolding(crate::specs::Shares::status_share))]
+pub fn pending_share<R: LookUps>(rows: &R, quota: &Quota, position: Option<&OrderPos>) -> u64
+    ensures value { result ≡ status_share is_pending (R.rows rows.now) quota.now (option_copied position.entry) }
+    ensures small { result ≤ 1 }
+{
+    match position {
+        None => 0,
+        Some(row) => u64::from(is_pending_in(rows, quota, row)),
+    }
+}
+
+/// 1 where a cart position counts in the quota.
+#[tactic(auto, unfolding(crate::specs::Shares::cart_share))]
+pub fn cart_share<R: LookUps>(rows: &R, at: Moment, quota: &Quota, cart: Option<&CartPos>) -> u64
+    ensures value { result ≡ cart_share (R.rows rows.now) at quota.now (option_copied cart.entry) }
+    ensures small { result ≤ 1 }
+{
+    match cart {
+        None => 0,
+        Some(row) => u64::from(cart_counts(rows, at, quota, row)),
+    }
+}
+
+/// 1 where a waiting entry counts in the quota: it has no voucher, and is for a product of the quota.
+#[tactic(auto, unfolding(crate::specs::Shares::waiting_share))]
+pub fn waiting_share(quota: &Quota, entry: Option<&Waiting>) -> u64
+    ensures value { result ≡ waiting_share quota.now (option_copied entry.entry) }
+    ensures small { result ≤ 1 }
+{
+    match entry {
+        None => 0,
+        Some(row) => u64::from(row.waits_for(quota)),
+    }
+}
+
+/// How many of its uses a voucher that is redeemed so often has left.
+pub fn left_of(voucher: &Voucher, redeemed: u64) -> u64
+    ensures value { result ≡ voucher.now.max_usages - redeemed }
+    ensures small { result ≤ 4294967295 }
+{
+    u64::from(voucher.max_usages.get()).saturating_sub(redeemed)
+}
+
+/// How many places of the quota a voucher that is redeemed so often blocks.
+#[tactic(auto, unfolding(crate::specs::Shares::blocked_share))]
+pub fn blocked_share(at: Moment, quota: &Quota, redeemed: u64, voucher: Option<&Voucher>) -> u64
+    ensures value { result ≡ blocked_share at quota.now redeemed (option_copied voucher.entry) }
+    ensures small { result ≤ 4294967295 }
+{
+    match voucher {
+        Some(voucher) if voucher.blocks(at, quota) => left_of(voucher, redeemed),
+        _ => 0,
+    }
+}
+
+/// The voucher of which a cart position holds a use: the one that it names, while it is live.
+pub fn held_name(at: Moment, cart: Option<&CartPos>) -> Option<u64>
+    ensures { result ≡ held_name at (option_copied cart.entry) }
+{
+    match cart {
+        Some(row) if row.is_live(at) => row.voucher,
+        _ => None,
+    }
+}
+
+/// The voucher that an order position uses: the one that it names, while its order is paid or pending.
+pub fn used_name<R: LookUps>(rows: &R, position: Option<&OrderPos>) -> Option<u64>
+    ensures { result ≡ used_name (R.rows rows.now) (option_copied position.entry) }
+{
+    match position {
+        Some(row) if is_in_force(rows.order(row.order)) => row.voucher,
+        _ => None,
+    }
+}
