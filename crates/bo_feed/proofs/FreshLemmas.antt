@@ -1,33 +1,28 @@
--- The shop that `feed` begins with.
-use Rattle.std.proofs.Common.{◌≡◌, List, [], IsPermutation, refl, sym, subst}
+-- A desk that `feed` begins with, as a shop and as one that stands for no arrivals; and that of `feed` itself.
+use Rattle.std.proofs.Common.{◌≡◌, ℕ, Bool, true, false, List, [], Option, Some, None, option_map, bytes_eq, if◌then◌else◌, refl}
 use Rattle.std.proofs.lemmas.List.Sorted.{IsPermutation-refl}
-use Rattle.bo_lists.specs.Lists.{empty}
-use Rattle.bo_kept.specs.declared.kept.Kept.{Kept}
 use Rattle.bo_deliveries.specs.Shops.{StandsFor, Views}
-use Rattle.bo_memory.specs.declared.tables.MemoryTables.{MemoryTables}
-use Rattle.bo_desk.specs.DeskView.{DeskView, House, IsOf, words_of}
-use Rattle.bo_feed.specs.House.{feed_house, fresh_house, fresh_opening, fresh_shop, fresh_tables, memory}
+use Rattle.bo_memory.specs.declared.token.Token.{Token}
+use Rattle.bo_memory.specs.Memory.{number_of}
+use Rattle.bo_desk.specs.DeskView.{DeskView, Meaning, words_of}
+use Rattle.bo_feed.specs.House.{IsFresh, feed_digest, feed_house, feed_tokens, fresh_house, fresh_opening, fresh_shop, fresh_tables, memory}
 
-pub fresh_is : IsOf memory feed_house fresh_house
-fresh_is = record { organizer = refl; event = refl; tokens = λ digest. refl }
+module _ {T : Type 0} (tables : Meaning T) (d : DeskView T) (fresh : IsFresh tables d) where
+  pub fresh_views : Views tables.holds d.tables d.state fresh_shop
+  fresh_views = record { state_is = fresh.state; held = fresh.held; one = tt }
 
-none_kept : fresh_house.tables.kept ≡ []
+  pub fresh_stands : StandsFor (words_of feed_house) tables.holds d.tables d.state fresh_opening []
+  fresh_stands = fresh_views
+
+-- a token that is the only one has its number
+one_token : (t : Token) (found : Bool) → (if found then Some t.number else None) ≡ option_map (λ (k : Token). k.number) (if found then Some t else None)
+one_token t true = refl
+one_token t false = refl
+
+told : (digest : List ℕ) → feed_tokens digest ≡ number_of fresh_tables.tokens digest
+unfolding fresh_tables
+told digest = one_token (record { number = 1; digest = feed_digest }) (bytes_eq feed_digest digest)
+
+pub house_is_fresh : IsFresh memory fresh_house
 unfolding fresh_house fresh_tables
-none_kept = refl
-
-no_rows : fresh_house.state ≡ empty
-unfolding fresh_house
-no_rows = refl
-
--- a desk without rows and answers
-views_at : (d : DeskView MemoryTables) → d.tables.kept ≡ [] → d.state ≡ empty → Views memory.holds d.tables d.state fresh_shop
-views_at d none is = record { state_is = is; held = subst (λ (ks : List Kept). IsPermutation ks []) (sym none) (IsPermutation-refl []); one = tt }
-
-stands_at : (house : House) (d : DeskView MemoryTables) → d.tables.kept ≡ [] → d.state ≡ empty → StandsFor (words_of house) memory.holds d.tables d.state fresh_opening []
-stands_at house d none is = views_at d none is
-
-pub fresh_views : Views memory.holds fresh_house.tables fresh_house.state fresh_shop
-fresh_views = views_at fresh_house none_kept no_rows
-
-pub fresh_stands : StandsFor (words_of feed_house) memory.holds fresh_house.tables fresh_house.state fresh_opening []
-fresh_stands = stands_at feed_house fresh_house none_kept no_rows
+house_is_fresh = record { of = record { organizer = refl; event = refl; tokens = told }; state = refl; held = IsPermutation-refl [] }

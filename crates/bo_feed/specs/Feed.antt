@@ -7,8 +7,7 @@ use Rattle.bo_base.specs.Moments.{moment_of}
 use Rattle.bo_connection.specs.declared.failure.Failure.{Failure}
 use Rattle.bo_connection.specs.declared.failure.Failure.TheVariants as failures
 use Rattle.bo_connection.specs.Run.{Counts, CountedAll, Devices, RunLeads}
-use Rattle.bo_memory.specs.declared.tables.MemoryTables.{MemoryTables}
-use Rattle.bo_desk.specs.DeskView.{DeskView}
+use Rattle.bo_desk.specs.DeskView.{DeskView, Meaning}
 use Rattle.bo_desk.specs.Served.{Serves}
 use Rattle.bo_feed.specs.declared.fault.Fault.{Fault}
 use Rattle.bo_feed.specs.declared.fault.Fault.TheVariants as faults
@@ -37,16 +36,20 @@ abbrev pub EndsTicks : ℕ → Result (Unit {0}) Failure → Type 0
 EndsTicks count (Err failures.Clock) = count ≡ 18446744073709551615
 EndsTicks count _ = ⊤
 
--- What is read, what is written, and how it ends: a run from the fresh shop with the first ticks, one for each whole
+-- What is read, what is written, and how it ends, over any tables: a run from this desk with the first ticks, one for each whole
 -- request. It ends with the failure of the reader, the writer or the ticks only where that one failed, and no other one did.
-pub record Feeds (from step : ℕ) (old new : Ports) (result : Result (Unit {0}) Failure) : Type 0 where
+pub record FeedsDesk {T : Type 0} (tables : Meaning T) (first : DeskView T) (from step : ℕ) (old new : Ports) (result : Result (Unit {0}) Failure) : Type 0 where
   pub count : ℕ
   pub clock : ℕ
-  pub house : DeskView MemoryTables
-  pub leads : RunLeads (Serves memory) (devices old [] fresh_house) (devices new (feed_ticks from step count) house) result
+  pub house : DeskView T
+  pub leads : RunLeads (Serves tables) (devices old [] first) (devices new (feed_ticks from step count) house) result
   pub ends_ticks : EndsTicks count result
   pub counted : CountedAll result (counts old 0) (counts new clock)
   pub calls : new.calls ≤ old.calls + 1000000
+
+-- the same from the fresh shop, over tables in memory
+abbrev pub Feeds : ℕ → ℕ → Ports → Ports → Result (Unit {0}) Failure → Type 0
+Feeds from step old new result = FeedsDesk memory fresh_house from step old new result
 
 -- 0 to 31536000 seconds
 abbrev pub step_within : Option ℕ → Option ℕ

@@ -1,13 +1,17 @@
 //! `feed`: requests from a reader, answers to a writer.
 
 ghost use Rattle.std.specs.Prelude.{◌≡◌, ◌<◌};
-ghost use Rattle.bo_feed.specs.Feed.{Feeds, FeedsTexts, as_fault, feed_values};
+ghost use Rattle.bo_desk.specs.DeskView.{meaning};
+ghost use Rattle.bo_feed.specs.Feed.{Feeds, FeedsDesk, FeedsTexts, as_fault, feed_values};
 
 use crate::fault::Fault;
-use crate::house::serve_house;
+use crate::house::{open_house, serve_desk};
 use crate::ticks::{FeedTicks, Pace};
 use bo_base::{Device, Drain, Moment, Source, Steps, number_of, read_moment};
 use bo_connection::Failure;
+use bo_counters::Counters;
+use bo_desk::ShopDesk;
+use bo_kept::Tables;
 use std::alloc::Global;
 use std::marker::{Brand, PhantomData};
 use std::sync::ledger::{Blank, Ledger};
@@ -29,9 +33,10 @@ pub fn counted<X, L: Ledger, M: Ledger>(inner: X, calls: Blank, failures: Blank)
     }
 }
 
-// The same as `feed`, with a ledger for the failures of its ticks.
-fn feed_with<P: Pace, E: Ledger, R: Source, W: Drain>(
+// The same as `feed_desk`, with a ledger for the failures of its ticks.
+fn feed_with<P: Pace, E: Ledger, T: Tables + Drop, R: Source, W: Drain>(
     alloc: Global,
+    desk: ShopDesk<T, Counters>,
     from: Moment,
     step: u64,
     reader: &mut R,
@@ -41,7 +46,7 @@ fn feed_with<P: Pace, E: Ledger, R: Source, W: Drain>(
     requires from { from ≡ P.from }
     requires step { step ≡ P.step }
     requires blank { (blank.name ≡ E.name) × (blank.parts ≡ E.parts) × (0 < E.parts) }
-    ensures { Feeds P.from P.step
+    ensures { FeedsDesk (meaning T.sure T.holds T.knows T.may_leave) desk P.from P.step
         (record { left = R.left reader.old; taken = W.taken writer.old; calls = R.calls reader.old; input = R.failures reader.old; output = W.failures writer.old })
         (record { left = R.left reader.new; taken = W.taken writer.new; calls = R.calls reader.new; input = R.failures reader.new; output = W.failures writer.new }) result }
 {
@@ -52,13 +57,29 @@ fn feed_with<P: Pace, E: Ledger, R: Source, W: Drain>(
         failures: Steps::<E>::new(blank),
         pace: PhantomData,
     };
-    serve_house(alloc, reader, &mut ticks, writer)
+    serve_desk(alloc, reader, &mut ticks, desk, writer)
 }
 
-/// Reads requests to the end of the input, and writes their answers. The first request comes at that moment, and each
-/// other one that many seconds after the one before it, but none after the last moment that there is. It reads at most
-/// 1,000,000 times. Faults: 6 (there was no memory for the box office or for what is read), 82 (the reader failed, or its
-/// limit is met), 83 (the writer failed), 85 (2^64 - 1 ticks were told).
+/// Reads requests to the end of the input, and writes the answers that a shop gives, whatever its tables are. The first request
+/// comes at that moment, and each other one that many seconds after the one before it, but none after the last moment that there
+/// is. It reads at most 1,000,000 times. Faults: 6 (there was no memory for what is read), 82 (the reader failed, or its limit is
+/// met), 83 (the writer failed), 85 (2^64 - 1 ticks were told).
+pub fn feed_desk<T: Tables + Drop, R: Source, W: Drain>(
+    alloc: Global,
+    desk: ShopDesk<T, Counters>,
+    from: Moment,
+    step: u64,
+    reader: &mut R,
+    writer: &mut W,
+) -> Result<(), Failure>
+    ensures { FeedsDesk (meaning T.sure T.holds T.knows T.may_leave) desk from step
+        (record { left = R.left reader.old; taken = W.taken writer.old; calls = R.calls reader.old; input = R.failures reader.old; output = W.failures writer.old })
+        (record { left = R.left reader.new; taken = W.taken writer.new; calls = R.calls reader.new; input = R.failures reader.new; output = W.failures writer.new }) result }
+{
+    feed_with::<Brand, Brand, T, R, W>(alloc, desk, from, step, reader, writer, Blank::new(1))
+}
+
+/// The same of the shop that is opened for it, over tables in memory. Fault 6 also where there is no memory for that shop.
 pub fn feed<R: Source, W: Drain>(
     alloc: Global,
     from: Moment,
@@ -70,7 +91,10 @@ pub fn feed<R: Source, W: Drain>(
         (record { left = R.left reader.old; taken = W.taken writer.old; calls = R.calls reader.old; input = R.failures reader.old; output = W.failures writer.old })
         (record { left = R.left reader.new; taken = W.taken writer.new; calls = R.calls reader.new; input = R.failures reader.new; output = W.failures writer.new }) result }
 {
-    feed_with::<Brand, Brand, R, W>(alloc, from, step, reader, writer, Blank::new(1))
+    let Ok(house) = open_house(alloc) else {
+        return Err(Failure::Memory);
+    };
+    feed_desk(alloc, house, from, step, reader, writer)
 }
 
 /// The values of `--from` and `--step`: a moment, and 0 to 31536000 seconds as plain digits.

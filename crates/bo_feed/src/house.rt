@@ -6,7 +6,7 @@ ghost use Rattle.bo_memory.specs.declared.tables.MemoryTables.{MemoryTables};
 ghost use Rattle.bo_connection.specs.Run.{RunLeads, CountedAll};
 ghost use Rattle.bo_desk.specs.DeskView.{DeskView};
 ghost use Rattle.bo_desk.specs.Served.{Serves};
-ghost use Rattle.bo_feed.specs.House.{fresh_house, fresh_tables, house_with, memory};
+ghost use Rattle.bo_feed.specs.House.{feed_digest, fresh_house, fresh_tables, house_with, memory};
 
 use bo_base::{Drain, Slug, Source, Ticks};
 use bo_connection::{Desk, Failure, Room, run_stream};
@@ -27,6 +27,14 @@ fn empty_office(alloc: Global, organizer: Slug, event: Slug) -> Office<Counters>
     Office::over(organizer, event, Counters::new(alloc))
 }
 
+// The digest of the token `feed`.
+#[tactic(auto, unfolding(crate::specs::House::feed_digest))]
+fn digest_of_feed() -> [u8; 32]
+    ensures { result ≡ feed_digest }
+{
+    Sha256::digest(b"feed")
+}
+
 // Tables that keep no answer, and know one token, `feed`, with the number 1.
 #[tactic(auto, unfolding(crate::specs::House::fresh_tables))]
 fn empty_tables(alloc: Global) -> Result<MemoryTables, AllocError>
@@ -35,7 +43,7 @@ fn empty_tables(alloc: Global) -> Result<MemoryTables, AllocError>
     let mut tokens = Vec::new(alloc);
     tokens.push(Token {
         number: 1,
-        digest: Sha256::digest(b"feed"),
+        digest: digest_of_feed(),
     })?;
     MemoryTables::new(alloc, tokens)
 }
@@ -77,8 +85,8 @@ pub fn open_house(alloc: Global) -> Result<ShopDesk<MemoryTables, Counters>, All
     house_over(alloc, tables)
 }
 
-// Answers a stream of requests at a desk that is there for it alone.
-fn serve_desk<R: Source, T: Ticks, D: Desk + Drop, W: Drain>(
+/// Answers a stream of requests at a desk that is there for it alone.
+pub fn serve_desk<R: Source, T: Ticks, D: Desk + Drop, W: Drain>(
     alloc: Global,
     reader: &mut R,
     ticks: &mut T,

@@ -1,3 +1,4 @@
 pub mod Held
 pub mod Shops
 pub mod Committed
+pub mod Refusals

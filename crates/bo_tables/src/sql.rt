@@ -3,6 +3,7 @@
 ghost use Rattle.std.specs.Prelude.{◌≡◌};
 ghost use Rattle.sqlite.specs.Held.{state};
 ghost use Rattle.sqlite.specs.State.{HasCleanDisk};
+ghost use Rattle.bo_tables.specs.Refusals.{refusal_of};
 ghost use Rattle.bo_tables.specs.Shops.{HoldsWhileOpen, KnowsWhileOpen, Leaves, reordered};
 
 use crate::answers::find_answer;
@@ -52,7 +53,9 @@ impl<S: Alter> SqlTables<S> {
 }
 
 // Why the tables refuse.
-fn refused(error: RowError) -> TablesError {
+fn refused(error: RowError) -> TablesError
+    ensures { result ≡ refusal_of error }
+{
     match error {
         RowError::Memory => TablesError::Memory,
         RowError::Foreign | RowError::Damaged | RowError::Store => TablesError::Store,
