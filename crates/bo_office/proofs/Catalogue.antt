@@ -39,7 +39,7 @@ use Rattle.bo_lists.proofs.Lowers.{catalogue_apart, put_variations_apart}
 use Rattle.bo_sound.proofs.Sound.{sound_item, variation_rows_count, sound_changed_item, sound_variation, sound_quota, sound_resized}
 use Rattle.bo_sound.proofs.Numbered.{TakesSome, takes_it, takes_them}
 use Rattle.bo_sound.proofs.Varied.{made_of_it}
-use Rattle.bo_vouchers.proofs.Limited.{given_or}
+use Rattle.bo_sound.proofs.Given.{given_or}
 use Rattle.bo_office.proofs.Members.{added_members}
 
 and_first : (a b : Bool) → (a && b) ≡ true → a ≡ true

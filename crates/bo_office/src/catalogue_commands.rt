@@ -62,10 +62,10 @@ impl<B: Book> Office<B> {
         let catalogue = self.book().catalogue();
         match catalogue.change_item(alloc, id, patch) {
             Ok(row) => {
-                let shown = Shown::Item(catalogue.with_variations(alloc, &row)?);
+                let rows = catalogue.with_variations(alloc, &row)?;
                 let list = vec![in alloc; Change::PutItem(row)]?;
                 let changes = Changes::new(list, self.book().next_ids());
-                Ok((changes, Reply::Found(shown)))
+                Ok((changes, Reply::Found(Shown::Item(rows))))
             }
             Err(CatalogueRefusal::Memory) => Err(AllocError),
             Err(refusal) => Ok(self.refused(alloc, Kind::ChangeItem, Refusal::Catalogue(refusal))),
@@ -119,13 +119,13 @@ impl<B: Book> Office<B> {
         let next = self.book().next_ids();
         match self.book().catalogue().add_quota(alloc, new, next.quota) {
             Ok(row) => {
-                let reply = Reply::Made(Shown::Quota(row.copy(alloc)?));
+                let copy = row.copy(alloc)?;
                 let next = NextIds {
                     quota: next.quota + 1,
                     ..next
                 };
                 let list = vec![in alloc; Change::PutQuota(row)]?;
-                Ok((Changes::new(list, next), reply))
+                Ok((Changes::new(list, next), Reply::Made(Shown::Quota(copy))))
             }
             Err(CatalogueRefusal::Memory) => Err(AllocError),
             Err(refusal) => Ok(self.refused(alloc, Kind::AddQuota, Refusal::Catalogue(refusal))),
@@ -145,9 +145,10 @@ impl<B: Book> Office<B> {
     {
         match self.book().catalogue().resize(alloc, id, patch) {
             Ok(row) => {
-                let reply = Reply::Found(Shown::Quota(row.copy(alloc)?));
+                let copy = row.copy(alloc)?;
                 let list = vec![in alloc; Change::PutQuota(row)]?;
-                Ok((Changes::new(list, self.book().next_ids()), reply))
+                let changes = Changes::new(list, self.book().next_ids());
+                Ok((changes, Reply::Found(Shown::Quota(copy))))
             }
             Err(CatalogueRefusal::Memory) => Err(AllocError),
             Err(refusal) => Ok(self.refused(alloc, Kind::ResizeQuota, Refusal::Catalogue(refusal))),

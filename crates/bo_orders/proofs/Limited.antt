@@ -23,7 +23,7 @@ use Rattle.bo_commands.specs.declared.orders.Move.{Move}
 use Rattle.bo_commands.specs.declared.orders.Move.TheVariants as moves
 use Rattle.bo_commands.specs.declared.orders.NewOrder.{NewOrder}
 use Rattle.bo_commands.specs.declared.orders.OrderRefusal.TheVariants.{Voucher as OfVoucher}
-use Rattle.bo_vouchers.proofs.Limited.{given_or}
+use Rattle.bo_sound.proofs.Given.{given_or}
 use Rattle.bo_orders.specs.CartId.{cart_id_test, made_cart_id, cart_id_of}
 use Rattle.bo_orders.specs.Carts.{cart_row, row_of_sold}
 use Rattle.bo_orders.specs.Created.{order_row, position_row, position_for, rows_for}

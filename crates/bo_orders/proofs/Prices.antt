@@ -22,8 +22,8 @@ use Rattle.bo_lists.proofs.Found.{row_at_found}
 use Rattle.bo_sound.specs.Limits.{IsValue, IsLimitedItem, IsLimitedVariation, IsLimitedVoucher, AllLimited}
 use Rattle.bo_commands.specs.FitRequests.{IsFitAsked}
 use Rattle.bo_commands.specs.declared.carts.Asked.{Asked}
-use Rattle.bo_vouchers.specs.Usable.{usable}
-use Rattle.bo_vouchers.proofs.Limited.{given_or}
+use Rattle.bo_orders.specs.Usable.{usable}
+use Rattle.bo_sound.proofs.Given.{given_or}
 use Rattle.bo_orders.specs.declared.sold.Sold.{Sold}
 use Rattle.bo_orders.specs.Sold.{sold_for, voucher_asked, price_with}
 use Rattle.bo_orders.proofs.SoldLemmas.{sold_is}

@@ -20,7 +20,7 @@ use Rattle.bo_commands.specs.declared.vouchers.VoucherRefusal.TheVariants.{Catal
 use Rattle.bo_commands.specs.declared.carts.Asked.{Asked}
 use Rattle.bo_orders.specs.declared.sold.Sold.{Sold}
 use Rattle.bo_orders.specs.Sold.{sold_for, sold_at, product_for_sale, voucher_asked}
-use Rattle.bo_vouchers.specs.Usable.{usable}
+use Rattle.bo_orders.specs.Usable.{usable}
 
 -- a voucher that may be used for a product stands, and is for it
 asked_fits : (state : State) (order : AreInOrder (λ r. r.id) state.lists.vouchers) (product : Product) (asked : Option Voucher) (code : Option (List ℕ)) → voucher_asked code state product ≡ Ok asked → is_fit state.lists product (option_map (λ v. v.id) asked) ≡ true

@@ -1,4 +1,5 @@
 pub mod CartId
+pub mod Usable
 pub mod Sold
 pub mod Carts
 pub mod Bulk

@@ -12,7 +12,7 @@ use Rattle.bo_lists.specs.Lists.{State}
 use Rattle.bo_lists.specs.Named.{voucher_of}
 use Rattle.bo_commands.specs.declared.vouchers.VoucherRefusal.{VoucherRefusal}
 use Rattle.bo_commands.specs.declared.vouchers.VoucherRefusal.TheVariants.{Catalogue, NoVoucher}
-use Rattle.bo_vouchers.specs.Usable.{usable}
+use Rattle.bo_orders.specs.Usable.{usable}
 use Rattle.bo_commands.specs.declared.carts.Asked.{Asked}
 use Rattle.bo_orders.specs.declared.sold.Sold.{Sold}
 

@@ -9,6 +9,7 @@ pub mod laws;
 pub mod moves;
 pub mod periodic;
 pub mod sold;
+pub mod usability;
 
 pub use bulk::add_many;
 pub use carts::{add_position, drop_position};

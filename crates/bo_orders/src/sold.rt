@@ -5,13 +5,13 @@ ghost use Rattle.std.specs.Option.{option_copied};
 ghost use Rattle.bo_draft.specs.DraftState.{now};
 ghost use Rattle.bo_orders.specs.Sold.{product_for_sale, voucher_asked, price_with, sold_for};
 
+use crate::usability::usable;
 use bo_base::{Cents, Text, price};
 use bo_catalogue::{CatalogueRefusal, Product};
 use bo_commands::{Asked, VoucherRefusal};
 use bo_draft::Draft;
 use bo_lists::Voucher;
 use bo_usage::Book;
-use bo_vouchers::usable;
 
 /// What is sold: a product, at a price, with a voucher or without one. Its base price is what it costs without a voucher.
 #[derive(Clone, Copy, Debug, PartialEq, Eq)]

@@ -9,6 +9,8 @@ pub mod Fresh
 pub mod Codes
 pub mod Endings
 pub mod OwnCodes
+pub mod MadeCodes
+pub mod Given
 pub mod Apart
 pub mod Secrets
 pub mod Positions

@@ -6,6 +6,7 @@ pub mod Targets
 pub mod Varied
 pub mod Reserved
 pub mod OwnCodes
+pub mod MadeCodes
 pub mod Secrets
 pub mod Positions
 pub mod Sent

@@ -1,8 +1,7 @@
 -- The rows of vouchers that are made or changed are within their limits.
-use Rattle.std.proofs.Common.{◌≡◌, ℕ, ◌^◌, ◌<◌, ◌≤◌, true, List, ◌++◌, codes, nat_le, Option, Some, None, refl, arith}
+use Rattle.std.proofs.Common.{◌≡◌, ℕ, ◌^◌, ◌<◌, ◌≤◌, true, List, nat_le, Option, Some, None, arith}
 use Rattle.std.specs.Prelude.{IfSome, unwrap_or}
 use Rattle.std.proofs.lemmas.Bool.Decides.{nat_tests}
-use Rattle.hex.specs.Hex.{encode_lower}
 use Rattle.bo_base.specs.Draws.{IsDraw}
 use Rattle.bo_base.specs.Moments.{IsMoment}
 use Rattle.bo_base.specs.Money.{IsMoney}
@@ -12,27 +11,16 @@ use Rattle.bo_base.specs.Texts.{IsText}
 use Rattle.bo_base.specs.declared.draw.Draw.{Draw}
 use Rattle.bo_base.specs.declared.price_mode.PriceMode.{PriceMode}
 use Rattle.bo_base.specs.declared.price_mode.PriceMode.TheVariants as modes
-use Rattle.bo_base.proofs.Pieces.{text_of, behind, with_number, hex_piece}
 use Rattle.bo_lists.specs.declared.rows.Voucher.{Voucher}
 use Rattle.bo_sound.specs.Limits.{IsValue, IsLimitedVoucher}
 use Rattle.bo_commands.specs.FitRequests.{IsFitVoucher, IsFitVoucherPatch}
 use Rattle.bo_commands.specs.declared.vouchers.NewVoucher.{NewVoucher}
 use Rattle.bo_commands.specs.declared.vouchers.VoucherPatch.{VoucherPatch}
 use Rattle.bo_vouchers.specs.Checks.{value_fits}
-use Rattle.bo_vouchers.specs.Codes.{made_code, code_of}
+use Rattle.bo_sound.proofs.Given.{given_or}
+use Rattle.bo_sound.proofs.MadeCodes.{made_text}
+use Rattle.bo_vouchers.specs.Codes.{code_of}
 use Rattle.bo_vouchers.specs.Rows.{voucher_row, patched_voucher}
-
--- what is given, or else what stood
-pub given_or : {A : Type 0} (P : A → Type 0) (given : Option A) (old : A) → IfSome given P → P old → P (unwrap_or given old)
-given_or P None old its stood = stood
-given_or P (Some new) old its stood = its
-
--- a code that is made is a text
-pub made_text : (draw : Draw) (id : ℕ) → IsDraw draw → id < 2 ^ 64 → IsText (made_code draw id)
-unfolding made_code
-made_text draw id sixteen small =
-    let front = behind 1 32 (codes "W") (encode_lower draw.bytes) (record { short = omega arith; plain = refl }) (hex_piece draw sixteen) in
-    text_of 54 (made_code draw id) (with_number 33 (codes "W" ++ encode_lower draw.bytes) id front small) (omega arith)
 
 code_text : (given : Option (List ℕ)) (draw : Draw) (id : ℕ) → IsDraw draw → id < 2 ^ 64 → IfSome given IsText → IsText (code_of given draw id)
 code_text None draw id sixteen small its = made_text draw id sixteen small

@@ -5,4 +5,3 @@ pub mod Placed
 pub mod Made
 pub mod Changed
 pub mod Deleted
-pub mod Usable

@@ -1,13 +1,14 @@
 //! The codes of vouchers.
 
-ghost use Rattle.std.specs.Prelude.{◌≡◌, IfOk, string_bytes};
+ghost use Rattle.std.specs.Prelude.{◌≡◌, IfOk};
 ghost use Rattle.std.specs.Option.{option_copied};
 ghost use Rattle.bo_draft.specs.DraftState.{now};
-ghost use Rattle.bo_vouchers.specs.Codes.{made_code, code_of, is_reserved_if, new_code, is_another, has_anothers_code};
+ghost use Rattle.bo_vouchers.specs.Codes.{code_of, is_reserved_if, new_code, is_another, has_anothers_code};
 
 use bo_base::{Draw, Text};
 use bo_draft::Draft;
 use bo_lists::Voucher;
+use bo_sound::made_codes::made_code;
 use bo_sound::reserved::is_reserved;
 use bo_usage::Book;
 use std::alloc::{AllocError, Global};
@@ -20,23 +21,6 @@ pub fn code_of(alloc: Global, given: &Option<Text>, draw: Draw, id: u64) -> Resu
         Some(given) => given.copy(alloc),
         None => made_code(alloc, draw, id),
     }
-}
-
-/// `W`, the draw in 32 lower case hex digits, `z` and the id.
-pub fn made_code(alloc: Global, draw: Draw, id: u64) -> Result<Text, AllocError>
-    ensures { IfOk result (λ text. text ≡ made_code draw id) }
-{
-    draw.known();
-    Ok(Text::new(code_chars(alloc, draw, id)?))
-}
-
-#[tactic(auto, unfolding(crate::specs::Codes::made_code))]
-fn code_chars(alloc: Global, draw: Draw, id: u64) -> Result<String, AllocError>
-    ensures { IfOk result (λ chars. string_bytes chars ≡ made_code draw id) }
-{
-    let digits = hex::encode(alloc, draw.bytes)?;
-    let chars = format!(in alloc; "W{digits}z{id}")?;
-    Ok(chars)
 }
 
 /// Whether a code is given that has the form of those that the shop makes.

@@ -13,7 +13,7 @@ ghost use Rattle.bo_commands.specs.declared.vouchers.VoucherPatch.{VoucherPatch}
 ghost use Rattle.bo_lists.specs.Named.{voucher_of};
 ghost use Rattle.bo_base.specs.Draws.{IsDraw};
 ghost use Rattle.bo_commands.specs.FitRequests.{IsFitVoucher, IsFitVoucherPatch};
-ghost use Rattle.bo_vouchers.specs.Codes.{made_code};
+ghost use Rattle.bo_sound.specs.MadeCodes.{made_code};
 ghost use Rattle.bo_vouchers.specs.Made.{voucher_made};
 ghost use Rattle.bo_vouchers.specs.Changed.{voucher_changed};
 ghost use Rattle.bo_vouchers.specs.Deleted.{voucher_deleted};

@@ -7,6 +7,3 @@ pub mod laws;
 mod place;
 mod row_checks;
 mod rows;
-pub mod usability;
-
-pub use usability::usable;

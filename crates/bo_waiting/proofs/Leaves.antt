@@ -19,7 +19,7 @@ use Rattle.bo_sound.proofs.SoundWaiting.{sound_changed_waiting, sound_drop_waiti
 use Rattle.bo_commands.specs.FitRequests.{IsFitWaitingPatch}
 use Rattle.bo_commands.specs.declared.waiting.WaitingPatch.{WaitingPatch}
 use Rattle.bo_commands.specs.declared.waiting.WaitingRefusal.{WaitingRefusal}
-use Rattle.bo_vouchers.proofs.Limited.{given_or}
+use Rattle.bo_sound.proofs.Given.{given_or}
 use Rattle.bo_waiting.specs.Changed.{changed_entry, entry_changed}
 use Rattle.bo_waiting.specs.Left.{entry_left}
 use Rattle.bo_waiting.proofs.WaitingUsage.{put_alike, drop_lowers}

@@ -27,8 +27,7 @@ use Rattle.bo_sound.proofs.Numbered.{takes_it}
 use Rattle.bo_sound.proofs.Sound.{sound_new_voucher}
 use Rattle.bo_sound.proofs.SoundWaiting.{sound_changed_waiting}
 use Rattle.bo_commands.specs.declared.waiting.WaitingRefusal.{WaitingRefusal}
-use Rattle.bo_vouchers.proofs.Limited.{made_text}
-use Rattle.bo_vouchers.proofs.OwnCodes.{next_code_its_own}
+use Rattle.bo_sound.proofs.MadeCodes.{made_text, next_code_its_own}
 use Rattle.bo_waiting.proofs.SentTexts.{tag_text, no_text}
 use Rattle.bo_waiting.specs.Sending.{sent_voucher, with_its_voucher, with_sent, sent_changes, voucher_sent}
 use Rattle.bo_waiting.specs.Serving.{Run, run_with, state_after, each_sent, queue, served_in_turn, all_served, served_changes}

@@ -23,7 +23,7 @@ use Rattle.bo_lists.specs.Lists.{State, waiting_at}
 use Rattle.bo_lists.specs.Numbered.{with_voucher}
 use Rattle.bo_lists.specs.Usage.{has_none}
 use Rattle.bo_sound.specs.Ids.{AreNumbered}
-use Rattle.bo_vouchers.specs.Codes.{made_code}
+use Rattle.bo_sound.specs.MadeCodes.{made_code}
 use Rattle.bo_commands.specs.declared.waiting.WaitingRefusal.{WaitingRefusal}
 use Rattle.bo_commands.specs.declared.waiting.WaitingRefusal.TheVariants.{Catalogue, SoldOut, AlreadySent, NoEntry}
 use Rattle.bo_waiting.specs.Places.{first_closed}

@@ -14,8 +14,8 @@ use bo_catalogue::{CatalogueRefusal, Product};
 use bo_commands::WaitingRefusal;
 use bo_draft::Draft;
 use bo_lists::{Voucher, Waiting};
+use bo_sound::made_codes::made_code;
 use bo_usage::Book;
-use bo_vouchers::codes::made_code;
 use std::alloc::{AllocError, Global};
 
 // How long a voucher that is sent can be used: two days.
