@@ -1,18 +1,18 @@
--- What each CREATE TABLE makes.
-use Rattle.std.proofs.Common.{◌≡◌, ◌++◌, ℕ, List, [], ◌∷◌, true, false, Ok, refl, sym, subst, arith}
+-- What each CREATE TABLE makes, and the one CREATE INDEX.
+use Rattle.std.proofs.Common.{◌≡◌, ◌++◌, ℕ, List, [], ◌∷◌, false, Ok, refl, sym, subst, arith}
 use Rattle.sqlite_tied.specs.Compute.{everything}
 use Rattle.sqlite_trees.specs.Tree.{Trees}
 use Rattle.sqlite_schema.specs.declared.schema.Schema.{Schema}
 use Rattle.sqlite_schema.specs.declared.schema.Table.{Table}
-use Rattle.sqlite_schema.specs.declared.command.Command.TheVariants.{CreateTable}
-use Rattle.sqlite.specs.Compile.{table_defined_by}
-use Rattle.sqlite.specs.Change.{created, next_tree}
+use Rattle.sqlite_schema.specs.declared.command.Command.TheVariants.{CreateTable, CreateIndex}
+use Rattle.sqlite.specs.Compile.{table_defined_by, index_defined_by}
+use Rattle.sqlite.specs.Change.{created, indexed, next_tree}
 use Rattle.sqlite.specs.Does.{lacks_sequence}
 use Rattle.sqlite.specs.Listing.{understood}
 use Rattle.sqlite.specs.State.{State, Executes, HasCleanDisk, Survives}
 use Rattle.sqlite.proofs.Callers.{IsPlain, command_of, statement_of}
-use Rattle.bo_schema.specs.Tables.{schema_of, shop_text, shop_table, items_text, items_table, variations_text, variations_table, quotas_text, quotas_table, quota_items_text, quota_items_table, quota_variations_text, quota_variations_table, vouchers_text, vouchers_table, cart_positions_text, cart_positions_table, orders_text, orders_table, order_positions_text, order_positions_table, waiting_text, waiting_table, checkin_lists_text, checkin_lists_table, list_items_text, list_items_table, checkins_text, checkins_table, quota_count_text, quota_count_table, tokens_text, tokens_table, kept_text, kept_table}
-use Rattle.bo_schema.proofs.Creating.{AreEmpty, creates}
+use Rattle.bo_schema.specs.Tables.{schema_of, shop_text, shop_table, items_text, items_table, variations_text, variations_table, quotas_text, quotas_table, quota_items_text, quota_items_table, quota_variations_text, quota_variations_table, vouchers_text, vouchers_table, cart_positions_text, cart_positions_table, orders_text, orders_table, order_positions_text, order_positions_table, waiting_text, waiting_table, checkin_lists_text, checkin_lists_table, list_items_text, list_items_table, checkins_text, checkins_table, quota_count_text, quota_count_table, tokens_text, tokens_table, kept_text, kept_table, kept_by_moment, kept_by_moment_text}
+use Rattle.bo_schema.proofs.Creating.{AreEmpty, creates, indexes}
 use Rattle.bo_make.specs.Blank.{IsEmptyOver}
 
 one_more : (db : Trees) (tables : List Table) (t : Table) → AreEmpty db tables → db t.tree ≡ [] → AreEmpty db (tables ++ t ∷ [])
@@ -223,3 +223,29 @@ kept_next = refl
 
 pub makes_kept : (old new : State) → IsEmptyOver (schema_of 16 8) old → (count : ℕ) → Executes kept_text [] old new (Ok count) → IsEmptyOver (schema_of 17 9) new
 makes_kept = makes_table (schema_of 16 8) (schema_of 17 9) kept_text kept_table kept_is kept_next refl refl refl
+
+-- CREATE INDEX leaves the tables as they are
+kept_by_moment_next : indexed (schema_of 17 9) kept_table (record kept_by_moment { tree = 0 }) ≡ schema_of 17 10
+unfolding everything
+kept_by_moment_next = refl
+
+kept_by_moment_defined : index_defined_by kept_table kept_by_moment_text ≡ Ok (record kept_by_moment { tree = 0 })
+unfolding everything
+kept_by_moment_defined = refl
+
+kept_by_moment_command : command_of (understood (schema_of 17 9) kept_by_moment_text) ≡ CreateIndex 16
+unfolding understood everything
+kept_by_moment_command = refl
+
+kept_by_moment_text_is : statement_of kept_by_moment_text (understood (schema_of 17 9) kept_by_moment_text) ≡ kept_by_moment_text
+unfolding understood everything
+kept_by_moment_text_is = refl
+
+kept_by_moment_plain : IsPlain (understood (schema_of 17 9) kept_by_moment_text)
+unfolding understood everything
+kept_by_moment_plain = (refl, refl)
+
+pub indexes_kept : (old new : State) → IsEmptyOver (schema_of 17 9) old → (count : ℕ) → Executes kept_by_moment_text [] old new (Ok count) → IsEmptyOver (schema_of 17 10) new
+indexes_kept old new at count h =
+    let it = indexes (schema_of 17 9) (schema_of 17 10) kept_by_moment_text 16 kept_table (record kept_by_moment { tree = 0 }) kept_by_moment_command kept_by_moment_text_is refl kept_by_moment_defined kept_by_moment_plain kept_by_moment_next old new at.known at.inside at.empty count h in
+    record { known = it.0; empty = it.1; inside = it.2 }

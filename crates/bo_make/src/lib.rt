@@ -265,6 +265,21 @@ fn make_kept<S: Alter>(tx: &mut Transaction<'_, S>) -> Result<(), RowError>
     Ok(())
 }
 
+// The index of kept answers by their moment.
+fn index_kept<S: Alter>(tx: &mut Transaction<'_, S>) -> Result<(), RowError>
+    ensures same { tx.new.conn.ghost_name ≡ tx.old.conn.ghost_name }
+    ensures made { HasCleanDisk (state S.Store tx.new.conn.now) → IsEmptyOver (schema_of 17 9) (state S.Store tx.old.conn.now) → OnOk result (IsEmptyOver (schema_of 17 10) (state S.Store tx.new.conn.now)) }
+    ensures kept { HasCleanDisk (state S.Store tx.new.conn.now) → KeepsCommit (state S.Store tx.old.conn.now) (state S.Store tx.new.conn.now) }
+    ensures crash { Survives (state S.Store tx.old.conn.now) (state S.Store tx.new.conn.now) (λ _. ⊥) }
+{
+    run(
+        tx,
+        "CREATE INDEX kept_by_moment ON kept (first_moment)",
+        &[],
+    )?;
+    Ok(())
+}
+
 // The shop and its catalogue.
 fn make_catalogue<S: Alter>(tx: &mut Transaction<'_, S>) -> Result<(), RowError>
     ensures same { tx.new.conn.ghost_name ≡ tx.old.conn.ghost_name }
@@ -299,7 +314,7 @@ fn make_sales<S: Alter>(tx: &mut Transaction<'_, S>) -> Result<(), RowError>
 // The doors, the counts of quotas and what was told.
 fn make_rest<S: Alter>(tx: &mut Transaction<'_, S>) -> Result<(), RowError>
     ensures same { tx.new.conn.ghost_name ≡ tx.old.conn.ghost_name }
-    ensures made { HasCleanDisk (state S.Store tx.new.conn.now) → IsEmptyOver (schema_of 11 5) (state S.Store tx.old.conn.now) → OnOk result (IsEmptyOver (schema_of 17 9) (state S.Store tx.new.conn.now)) }
+    ensures made { HasCleanDisk (state S.Store tx.new.conn.now) → IsEmptyOver (schema_of 11 5) (state S.Store tx.old.conn.now) → OnOk result (IsEmptyOver (schema_of 17 10) (state S.Store tx.new.conn.now)) }
     ensures kept { HasCleanDisk (state S.Store tx.new.conn.now) → KeepsCommit (state S.Store tx.old.conn.now) (state S.Store tx.new.conn.now) }
     ensures crash { Survives (state S.Store tx.old.conn.now) (state S.Store tx.new.conn.now) (λ _. ⊥) }
 {
@@ -309,6 +324,7 @@ fn make_rest<S: Alter>(tx: &mut Transaction<'_, S>) -> Result<(), RowError>
     make_quota_count(tx)?;
     make_tokens(tx)?;
     make_kept(tx)?;
+    index_kept(tx)?;
     Ok(())
 }
 

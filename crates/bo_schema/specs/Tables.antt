@@ -302,6 +302,13 @@ all_tables =
 abbrev index : List ℕ → ℕ → ℕ → List ℕ → Index
 index name tree table columns = record { name = name; tree = tree; table = table; columns = columns; order = plain; is_unique = true }
 
+-- kept answers by their moment, so that those which are past are found without a walk over all
+abbrev pub kept_by_moment_text : List ℕ
+kept_by_moment_text = codes "CREATE INDEX kept_by_moment ON kept (first_moment)"
+
+abbrev pub kept_by_moment : Index
+kept_by_moment = record { name = codes "kept_by_moment"; tree = 26; table = 24; columns = 3 ∷ []; order = plain; is_unique = false }
+
 abbrev pub all_indexes : List Index
 all_indexes =
     index (codes "sqlite_autoindex_quota_items_1") 5 4 (1 ∷ 2 ∷ [])
@@ -312,7 +319,8 @@ all_indexes =
     ∷ index (codes "sqlite_autoindex_list_items_1") 18 17 (1 ∷ 2 ∷ [])
     ∷ index (codes "sqlite_autoindex_checkins_1") 20 19 (2 ∷ 3 ∷ 6 ∷ [])
     ∷ index (codes "sqlite_autoindex_tokens_1") 23 22 (2 ∷ [])
-    ∷ index (codes "sqlite_autoindex_kept_1") 25 24 (1 ∷ 2 ∷ []) ∷ []
+    ∷ index (codes "sqlite_autoindex_kept_1") 25 24 (1 ∷ 2 ∷ [])
+    ∷ kept_by_moment ∷ []
 
 -- the first tables, with the indexes of them
 abbrev pub schema_of : ℕ → ℕ → Schema

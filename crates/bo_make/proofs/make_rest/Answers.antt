@@ -11,7 +11,9 @@ returns-clause-made g c clean at0 =
     let s4 = state g.S.Store c.make_quota_count.new.tx.conn.now in
     let s5 = state g.S.Store c.make_tokens.new.tx.conn.now in
     let s6 = state g.S.Store c.make_kept.new.tx.conn.now in
-    let clean6 : HasCleanDisk s6 = clean in
+    let s7 = state g.S.Store c.index_kept.new.tx.conn.now in
+    let clean7 : HasCleanDisk s7 = clean in
+    let clean6 : HasCleanDisk s6 = before s6 s7 c.index_kept.ensures.crash clean7 in
     let clean5 : HasCleanDisk s5 = before s5 s6 c.make_kept.ensures.crash clean6 in
     let clean4 : HasCleanDisk s4 = before s4 s5 c.make_tokens.ensures.crash clean5 in
     let clean3 : HasCleanDisk s3 = before s3 s4 c.make_quota_count.ensures.crash clean4 in
@@ -23,4 +25,4 @@ returns-clause-made g c clean at0 =
     let at4 = c.in_ok-make_quota_count.ensures.made clean4 at3 in
     let at5 = c.in_ok-make_tokens.ensures.made clean5 at4 in
     let at6 = c.in_ok-make_kept.ensures.made clean6 at5 in
-    at6
+    c.in_ok-index_kept.ensures.made clean7 at6

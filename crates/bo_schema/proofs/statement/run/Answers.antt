@@ -1,6 +1,5 @@
 use Rattle.std.proofs.Common.{Err}
 use Rattle.sqlite.specs.Values.{bound}
-use Rattle.sqlite.specs.State.{HasCleanDisk}
 use Rattle.bo_schema.proofs.Inside.{kept}
 use Rattle.bo_schema.proofs.statement.run.Goals as goal
 
