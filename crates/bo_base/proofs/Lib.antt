@@ -2,6 +2,7 @@ pub mod Decided
 pub mod Places
 pub mod RisingLemmas
 pub mod Edits
+pub mod Drops
 pub mod ToldLemmas
 mod CivilLemmas
 mod TextLemmas

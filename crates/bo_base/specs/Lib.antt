@@ -1,5 +1,6 @@
 pub mod Deciding
 pub mod Tables
+pub mod Dropped
 pub mod Texts
 pub mod Slugs
 pub mod Counts

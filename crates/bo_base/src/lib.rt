@@ -32,7 +32,7 @@ pub use counts::{Priority, Size, Uses};
 pub use device::{Drain, Refused, Source, Tick, Ticks};
 pub use digits::number_of;
 pub use draw::Draw;
-pub use ids::Ids;
+pub use ids::{Ids, id_at};
 pub use known::Known;
 pub use list::List;
 pub use moment::{Moment, moment_text, read_day, read_moment};

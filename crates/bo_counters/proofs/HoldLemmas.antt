@@ -33,7 +33,7 @@ held_use at x cart = by_test (is_live_cart at cart)
     by_test true = refl
     by_test false = refl
 
-held_use_if : (at x : ℕ) (cart : Option CartPos) → one_use x (held_name at cart) ≡ sum_at (λ c. one (holds at x c)) cart
+pub held_use_if : (at x : ℕ) (cart : Option CartPos) → one_use x (held_name at cart) ≡ sum_at (λ c. one (holds at x c)) cart
 held_use_if at x None = refl
 held_use_if at x (Some cart) = held_use at x cart
 

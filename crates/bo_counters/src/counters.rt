@@ -1,6 +1,6 @@
 //! A book that keeps counters.
 
-ghost use Rattle.std.specs.Prelude.{◌≡◌, ◌≤◌, ◌<◌, ◌+◌, ◌-◌, min, map, length, vec_capacity, Some, None, OnOk, IsTrue, ◌↔◌, true};
+ghost use Rattle.std.specs.Prelude.{◌≡◌, ◌≤◌, ◌<◌, ◌+◌, ◌-◌, min, map, reverse, length, vec_len, vec_capacity, Some, None, OnOk, IsTrue, ◌↔◌, true};
 ghost use Rattle.std.specs.Bool.{Decides};
 ghost use Rattle.std.specs.Option.{option_copied};
 ghost use Rattle.bo_catalogue.specs.CatalogueLists.{quota_at};
@@ -15,8 +15,9 @@ ghost use Rattle.bo_counters.specs.Shifts.{map_beside, waiting_shift};
 
 use crate::blocking::shift_voucher;
 use crate::carts::shift_cart;
-use crate::holds::{held_by, hold_at, hold_drop, hold_put};
-use crate::passing::count_at;
+use crate::dropping::gather;
+use crate::holds::{held_by, hold_at, hold_drop, hold_drops, hold_put};
+use crate::passing::{count_at, drop_each};
 use crate::shift::{WaitingShift, forget, keep};
 use crate::touched::shift_product;
 use crate::turns::{count_order, count_position, redeemed_in, vouchers};
@@ -41,6 +42,8 @@ pub struct Counters {
     usages: Vec<Usage>,
     redeems: Vec<u64>,
     holds: Vec<u64>,
+    // The cart positions that are being dropped.
+    gone: Vec<u64>,
 }
 
 impl Model for Counters {
@@ -431,6 +434,37 @@ impl Counters {
         }
     }
 
+    // Takes the changes off the end of a list that drop cart positions whose ids rise, if some do, and makes them all at
+    // once, so that those that stay are moved once.
+    fn drop_run(&mut self, list: &mut Vec<Change>)
+        requires { weight (reverse list.old.items) ≤ self.old.room }
+        ensures rest { after_all (reverse list.new.items) self.new.state.lists ≡ after_all (reverse list.old.items) self.old.state.lists }
+        ensures next { self.new.state.next ≡ self.old.state.next }
+        ensures moment { self.new.state.moment ≡ self.old.state.moment }
+        ensures room { weight (reverse list.new.items) ≤ self.new.room }
+        ensures shorter { vec_len list.new ≤ vec_len list.old }
+    {
+        gather(&mut self.gone, list);
+        self.store.known();
+        let ids = self.gone.as_slice();
+        drop_each(&self.store, &mut self.usages, ids);
+        hold_drops(&self.store, &mut self.holds, ids);
+        self.store.drop_carts(ids);
+    }
+
+    // Makes the last change of a reversed list, and the cart positions dropped behind it.
+    fn apply_last(&mut self, change: Change, list: &mut Vec<Change>)
+        requires { change_weight change + weight (reverse list.old.items) ≤ self.old.room }
+        ensures rest { after_all (reverse list.new.items) self.new.state.lists ≡ after_all (reverse list.old.items) (after_change change self.old.state.lists) }
+        ensures next { self.new.state.next ≡ self.old.state.next }
+        ensures moment { self.new.state.moment ≡ self.old.state.moment }
+        ensures room { weight (reverse list.new.items) ≤ self.new.room }
+        ensures shorter { vec_len list.new ≤ vec_len list.old }
+    {
+        self.apply_one(change);
+        self.drop_run(list);
+    }
+
     // Makes these changes in order.
     fn apply_list(&mut self, mut list: Vec<Change>)
         requires { weight list.items ≤ self.old.room }
@@ -438,7 +472,7 @@ impl Counters {
     {
         list.reverse();
         while let Some(change) = list.pop() {
-            self.apply_one(change);
+            self.apply_last(change, &mut list);
         }
     }
 
@@ -462,6 +496,7 @@ impl Counters {
             usages: Vec::new(alloc),
             redeems: Vec::new(alloc),
             holds: Vec::new(alloc),
+            gone: Vec::new(alloc),
         }
     }
 
@@ -476,6 +511,8 @@ impl Counters {
         self.usages.reserve(count)?;
         self.redeems.reserve(count)?;
         self.holds.reserve(count)?;
+        self.gone.clear();
+        self.gone.reserve(count)?;
         self.store.reserve(count)
     }
 

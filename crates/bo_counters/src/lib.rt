@@ -5,6 +5,7 @@ pub mod blocking;
 pub mod book;
 pub mod carts;
 pub mod counters;
+pub mod dropping;
 pub mod holds;
 pub mod passing;
 pub mod shift;

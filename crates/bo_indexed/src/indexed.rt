@@ -1,17 +1,18 @@
 //! Tables of rows that are found by keys, too.
 
-ghost use Rattle.std.specs.Prelude.{◌≡◌, ◌≤◌, ◌+◌, ℕ, [], length, map, filter, OnOk};
+ghost use Rattle.std.specs.Prelude.{◌≡◌, ◌≤◌, ◌+◌, ℕ, List, [], length, map, filter, take, OnOk};
 ghost use Rattle.std.specs.Option.{option_copied};
+ghost use Rattle.bo_base.specs.Dropped.{without_rows};
 ghost use Rattle.bo_base.specs.Rising.{rising};
 ghost use Rattle.bo_base.specs.Tables.{row_at, with_row, without_row, AreInOrder, AreKept};
 ghost use Rattle.bo_lists.specs.CameDue.{ends_between};
 ghost use Rattle.bo_lists.specs.Conditions.{names};
 ghost use Rattle.bo_indexed.specs.Keys.{keys_if};
-ghost use Rattle.bo_indexed.specs.Indexes.{Finds, with_entry, without_entry};
+ghost use Rattle.bo_indexed.specs.Indexes.{AreIndexed, Finds, with_entry, without_entry};
 
 use crate::keyed::Keyed;
 use crate::keys::Keys;
-use bo_base::Rows;
+use bo_base::{Rows, id_at};
 use bo_index::{Found, Index};
 use std::alloc::{AllocError, Global};
 use std::marker::Model;
@@ -184,6 +185,78 @@ impl<T: Keyed + Drop> Indexed<T> {
         remove(&mut self.by_text, id, old.text);
         remove(&mut self.by_group, id, old.group);
         self.rows.delete(id);
+    }
+
+    /// Removes the rows of these ids, which rise: one pass over the rows, however many of them go.
+    pub fn delete_all(&mut self, ids: &[u64])
+        requires rising { AreInOrder (λ n. n) ids.now }
+        ensures rows { self.new.rows ≡ without_rows T.key ids.now self.old.rows }
+        ensures room { self.old.room ≤ self.new.room }
+    {
+        unlist_all(
+            &self.rows,
+            ids,
+            &mut self.by_until,
+            &mut self.by_voucher,
+            &mut self.by_text,
+            &mut self.by_group,
+        );
+        self.rows.delete_all(ids);
+    }
+}
+
+// The keys of the row of an id.
+fn keys_in<T: Keyed>(rows: &Rows<T>, id: u64) -> Keys
+    ensures { result ≡ keys_if T.keys (row_at T.key id rows.now.rows) }
+{
+    match rows.get(id) {
+        None => Keys::none(),
+        Some(row) => row.keys(),
+    }
+}
+
+// Removes the entries of the row of an id.
+fn unlist<T: Keyed>(
+    rows: &Rows<T>,
+    id: u64,
+    until: &mut Index,
+    voucher: &mut Index,
+    text: &mut Index,
+    group: &mut Index,
+)
+    ensures listed { (kept : List T) → AreInOrder T.key kept → row_at T.key id kept ≡ row_at T.key id rows.now.rows → AreIndexed T.key T.keys kept until.old.rows voucher.old.rows text.old.rows group.old.rows → AreIndexed T.key T.keys (without_row T.key id kept) until.new.rows voucher.new.rows text.new.rows group.new.rows }
+    ensures until_room { until.old.room ≤ until.new.room }
+    ensures voucher_room { voucher.old.room ≤ voucher.new.room }
+    ensures text_room { text.old.room ≤ text.new.room }
+    ensures group_room { group.old.room ≤ group.new.room }
+{
+    let old = keys_in(rows, id);
+    remove(until, id, old.until);
+    remove(voucher, id, old.voucher);
+    remove(text, id, old.text);
+    remove(group, id, old.group);
+}
+
+// Removes the entries of the rows of these ids, which rise.
+fn unlist_all<T: Keyed>(
+    rows: &Rows<T>,
+    ids: &[u64],
+    until: &mut Index,
+    voucher: &mut Index,
+    text: &mut Index,
+    group: &mut Index,
+)
+    requires rising { AreInOrder (λ n. n) ids.now }
+    requires listed { AreIndexed T.key T.keys rows.now.rows until.old.rows voucher.old.rows text.old.rows group.old.rows }
+    ensures listed { AreIndexed T.key T.keys (without_rows T.key ids.now rows.now.rows) until.new.rows voucher.new.rows text.new.rows group.new.rows }
+    ensures until_room { until.old.room ≤ until.new.room }
+    ensures voucher_room { voucher.old.room ≤ voucher.new.room }
+    ensures text_room { text.old.room ≤ text.new.room }
+    ensures group_room { group.old.room ≤ group.new.room }
+{
+    rows.known();
+    for place in 0..ids.len() {
+        unlist(rows, id_at(ids, place), until, voucher, text, group);
     }
 }
 
