@@ -15,11 +15,9 @@ use Rattle.bo_loads.specs.Lookups.{has_digest}
 use Rattle.bo_transaction.specs.Whole.{IsOver, IsStill, IsWritten, MayBeWritten}
 use Rattle.bo_begins.specs.Begun.{HasToken, token_added}
 use Rattle.bo_begins.proofs.Begins.{token_stands, token_free}
-use Rattle.bo_stand.specs.Stands.{Stand}
 use Rattle.bo_tables.specs.Held.{number_of}
-use Rattle.bo_tables.specs.Shops.{HoldsWhileOpen, Knows, KnowsWhileOpen, Leaves}
+use Rattle.bo_tables.specs.Shops.{HoldsWhileOpen, Knows, KnowsWhileOpen, HoldNoOther, Leaves}
 use Rattle.bo_tables.proofs.ShopLemmas.{still_holds, still_knows, leaves_still}
-use Rattle.bo_tables.proofs.Told.{one_shop}
 use Rattle.bo_file.specs.Tokens.{most_tokens, also_known, IsNumbered, HasNoRoom, raised, next_one, head_after, tables_after}
 
 -- ---- nothing changed
@@ -79,7 +77,7 @@ module _ (head : Shop) (digest : List ℕ) (next : ℕ) (old new : Connected) wh
         free = token_free (raised head) token it.tables next it.free;
       }
 
-  number_too : (tokens : List ℕ → Option ℕ) (all : List Token) → ((other : List ℕ) → tokens other ≡ number_of all other) → (other : List ℕ) → also_known digest head.next_token tokens other ≡ number_of (token ∷ all) other
+  pub number_too : (tokens : List ℕ → Option ℕ) (all : List Token) → ((other : List ℕ) → tokens other ≡ number_of all other) → (other : List ℕ) → also_known digest head.next_token tokens other ≡ number_of (token ∷ all) other
   number_too tokens all told other = elim (bytes_eq digest other) as (λ b. cond b (Some head.next_token) (tokens other) ≡ option_map (λ (t : Token). t.id) (cond b (Some token) (find (has_digest other) all))) [ true ↦ refl | false ↦ told other ]
 
   pub added_knows : IsWritten adds old new → (tokens : List ℕ → Option ℕ) → KnowsWhileOpen next old tokens → KnowsWhileOpen next new (also_known digest head.next_token tokens)
@@ -95,19 +93,18 @@ module _ (head : Shop) (digest : List ℕ) (next : ℕ) (old new : Connected) wh
         free = token_free (raised head) token it.told.tables next it.free;
       }
 
-  left_so : (db : Trees) → MayBeWritten schema (λ (_ : Unit {0}). adds) old db → (l : Tables) (other : Shop) (left : ShopView) → Holds db l → Stand other l left.state left.kept → (s : State) (ks : List Kept) → HoldsWhileOpen head next old s ks
-      → IsSame left (record { state = s; kept = ks })
-  left_so db may l other left held stand s ks holds =
+  left_so : (db : Trees) → MayBeWritten schema (λ (_ : Unit {0}). adds) old db → (left : ShopView) → HoldNoOther db left → (s : State) (ks : List Kept) → HoldsWhileOpen head next old s ks → IsSame left (record { state = s; kept = ks })
+  left_so db may left only s ks holds =
       let it = holds may.was_open in
       let here : Holds db (token_added (raised head) token it.tables) = subst (λ d. Holds d (token_added (raised head) token it.tables)) (sym may.is) ((may.turned it.known).holds it.tables it.held) in
-      one_shop db l (token_added (raised head) token it.tables) held here other (raised head) left.state s left.kept ks stand (token_stands head (raised head) token it.tables s ks refl refl it.stand)
+      only (raised head) (token_added (raised head) token it.tables) (record { state = s; kept = ks }) here (token_stands head (raised head) token it.tables s ks refl refl it.stand)
 
   pub leaves_or : Survives old new (MayBeWritten schema (λ (_ : Unit {0}). adds) old) → (left : ShopView) → Leaves new left → Leaves old left ⊎ ((s : State) (ks : List Kept) → HoldsWhileOpen head next old s ks → IsSame left (record { state = s; kept = ks }))
   leaves_or h left l =
       let clean : HasCleanDisk old = let more = l.clean in omega (arith, h.clean) in
       elim (h.crash l.clean l.trees l.may) [
-        | inl may ↦ inl (record { clean = clean; trees = l.trees; may = may; head = l.head; tables = l.tables; held = l.held; stand = l.stand })
-        | inr may ↦ inr (left_so l.trees may l.tables l.head left l.held l.stand)
+        | inl may ↦ inl (record { clean = clean; trees = l.trees; may = may; only = l.only })
+        | inr may ↦ inr (left_so l.trees may left l.only)
       ]
 
 -- ---- by the number that the digest has already

@@ -3,14 +3,12 @@ use Rattle.std.proofs.Common.{◌≡◌, ℕ, List, [], IsTrue, refl, sym, ap, s
 use Rattle.sqlite_trees.specs.Tree.{Trees}
 use Rattle.sqlite.specs.Effect.{Database}
 use Rattle.sqlite.specs.State.{State as Connected}
-use Rattle.bo_lists.specs.Lists.{empty}
 use Rattle.bo_columns.specs.declared.rows.Shop.{Shop}
 use Rattle.bo_columns.specs.Tables.{Holds}
 use Rattle.bo_transaction.specs.Whole.{IsStill, IsWritten}
 use Rattle.bo_begins.specs.Begun.{IsBegun, first_tables}
 use Rattle.bo_begins.proofs.Begins.{begins_empty, begins_free}
-use Rattle.bo_tables.proofs.Told.{one_shop}
-use Rattle.bo_file.specs.Made.{first_shop, IsMade}
+use Rattle.bo_file.specs.Made.{first_shop, nothing_yet, IsMade}
 
 -- where nothing was called, nothing changed
 pub as_it_was : (s : Connected) → IsStill s s
@@ -26,6 +24,8 @@ module _ (organizer event : List ℕ) (old new : Connected) where
     was_open = w.was_open;
     is_open = w.is_open;
     head_is = refl;
+    known = w.turned.known;
+    held = w.turned.held;
     holds = λ is_open. record {
       known = w.turned.known;
       outside = w.outside;
@@ -41,5 +41,5 @@ module _ (organizer event : List ℕ) (old new : Connected) where
     };
     leaves = λ left l.
         let db : l.trees ≡ new.now.trees = law l.trees w.is_open l.may ∙ sym (ap (λ (d : Database). d.trees) w.settled) in
-        one_shop new.now.trees l.tables (first_tables first) (subst (λ d. Holds d l.tables) db l.held) w.turned.held l.head first left.state empty left.kept [] l.stand (begins_empty first refl refl);
+        l.only first (first_tables first) nothing_yet (subst (λ d. Holds d (first_tables first)) (sym db) w.turned.held) (begins_empty first refl refl);
   })

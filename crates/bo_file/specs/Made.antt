@@ -1,8 +1,11 @@
 -- A shop's file that was just made.
 use Rattle.std.specs.Prelude.{◌≡◌, ℕ, List, [], Option, None, IsTrue}
 use Rattle.sqlite.specs.State.{State as Connected}
+use Rattle.bo_schema.specs.Tables.{schema}
 use Rattle.bo_lists.specs.Lists.{empty, first_ids}
 use Rattle.bo_columns.specs.declared.rows.Shop.{Shop}
+use Rattle.bo_columns.specs.Tables.{Holds}
+use Rattle.bo_begins.specs.Begun.{first_tables}
 use Rattle.bo_kept.specs.ShopView.{ShopView, IsSame}
 use Rattle.bo_tables.specs.Shops.{HoldsWhileOpen, KnowsWhileOpen, Leaves}
 
@@ -14,12 +17,14 @@ first_shop organizer event = record { version = 1; organizer = organizer; event 
 abbrev pub nothing_yet : ShopView
 nothing_yet = record { state = empty; kept = [] }
 
--- The connection was open and is. The tables hold an office without rows and no answer, and know no token; a crash leaves them
--- so; and the shop's row is its first one.
+-- The connection was open and is. The tables are a shop's, with its first row alone; they hold an office without rows and no answer,
+-- and know no token; a crash leaves them so.
 pub record IsMade (first : Shop) (old : Connected) (head : Shop) (next : ℕ) (new : Connected) : Type 0 where
   pub was_open : IsTrue old.is_open
   pub is_open : IsTrue new.is_open
   pub head_is : head ≡ first
+  pub known : new.now.schema ≡ schema
+  pub held : Holds new.now.trees (first_tables first)
   pub holds : HoldsWhileOpen head next new empty []
   pub knows : KnowsWhileOpen next new (λ digest. None)
   pub leaves : (left : ShopView) → Leaves new left → IsSame left nothing_yet

@@ -1,13 +1,16 @@
 //! A shop's file is opened.
 
-ghost use Rattle.std.specs.Prelude.{◌≡◌, [], ◌∷◌, IfOk, IfErr, IsTrue};
+ghost use Rattle.std.specs.Prelude.{◌≡◌, IfOk, IfErr, IsTrue};
+ghost use Rattle.sqlite.specs.Effect.{Database};
 ghost use Rattle.sqlite.specs.Held.{state};
 ghost use Rattle.sqlite.specs.State.{HasCleanDisk, Survives};
-ghost use Rattle.bo_columns.specs.declared.rows.Shop.{Shop};
-ghost use Rattle.bo_columns.specs.Tables.{Tables};
-ghost use Rattle.bo_opens.specs.Rests.{ShowsTables, Rests};
-ghost use Rattle.bo_opens.specs.Read.{TellsVersion};
-ghost use Rattle.bo_reopen.specs.Opened.{TellsDamage, IsOpened};
+ghost use Rattle.bo_schema.specs.Tables.{schema};
+ghost use Rattle.bo_sound.specs.Sound.{IsSound};
+ghost use Rattle.bo_opens.specs.declared.error.OpenError.{OpenError};
+ghost use Rattle.bo_opens.specs.Rests.{IsAt, Rests};
+ghost use Rattle.bo_opens.specs.Causes.{IsReadable};
+ghost use Rattle.bo_opens.specs.Lawful.{IsOfMachine};
+ghost use Rattle.bo_reopen.specs.Opened.{IsReason, IsOpened};
 
 use crate::error::Refused;
 use bo_counters::Counters;
@@ -22,16 +25,19 @@ use std::alloc::Global;
 /// it with all answers that stand in them, and know their tokens. Nothing in the file changes, and a crash leaves what stood.
 /// Beside a refusal the connection is handed back: 6; 60 where the table `shop` isn't there with its columns; 61 where its row has
 /// another version; 60 where another table isn't there; 62 by the least rule that is broken; 63 where a transaction is open, the
-/// connection is shut, the store fails or doesn't show rows in order.
+/// connection is shut, the store fails or doesn't show rows in order. Of 60, 61 and 62 each is told only for its cause, the first
+/// that has one; where the file is opened none has.
 pub fn open_file<S: Alter>(
     alloc: Global,
     mut connection: Connection<S>,
 ) -> Result<(SqlTables<S>, Office<Counters>), Refused<S, OpenError>>
-    ensures opened { IfOk result (λ it. HasCleanDisk (state S.Store it.0.connection) → IsTrue (state S.Store it.0.connection).is_open → (t : Tables) → ShowsTables t (state S.Store connection) → IsOpened t it.0.head it.0.next_row it.1.state (state S.Store it.0.connection)) }
+    ensures opened { IfOk result (λ it. HasCleanDisk (state S.Store it.0.connection) → IsTrue (state S.Store it.0.connection).is_open → (db : Database) → IsAt db (state S.Store connection) → db.schema ≡ schema → IsOpened db.trees it.0.head it.0.next_row it.1.state (state S.Store it.0.connection)) }
     ensures names { IfOk result (λ it. (it.1.organizer ≡ it.0.head.organizer) × (it.1.event ≡ it.0.head.event)) }
     ensures version { IfOk result (λ it. it.0.head.version ≡ 1) }
-    ensures refused { IfErr result (λ it. HasCleanDisk (state S.Store it.connection) → IsTrue (state S.Store it.connection).is_open → (t : Tables) → ShowsTables t (state S.Store connection) → (shop : Shop) → t.shop ≡ shop ∷ [] → TellsVersion shop it.error) }
-    ensures damaged { IfErr result (λ it. HasCleanDisk (state S.Store it.connection) → IsTrue (state S.Store it.connection).is_open → (t : Tables) → ShowsTables t (state S.Store connection) → TellsDamage t it.error) }
+    ensures sound { IfOk result (λ it. IsSound it.1.state) }
+    ensures found { IfOk result (λ it. HasCleanDisk (state S.Store it.0.connection) → IsTrue (state S.Store it.0.connection).is_open → (db : Database) → IsAt db (state S.Store connection) → IsReadable db) }
+    ensures whole { IfOk result (λ it. HasCleanDisk (state S.Store it.0.connection) → IsTrue (state S.Store it.0.connection).is_open → (db : Database) → IsAt db (state S.Store connection) → db.schema ≡ schema → (error : OpenError) → IsReason db error → IsOfMachine error) }
+    ensures cause { IfErr result (λ it. HasCleanDisk (state S.Store it.connection) → IsTrue (state S.Store it.connection).is_open → (db : Database) → IsAt db (state S.Store connection) → IsReason db it.error) }
     ensures rests { IfOk result (λ it. Rests (state S.Store connection) (state S.Store it.0.connection)) }
     ensures rests_none { IfErr result (λ it. Rests (state S.Store connection) (state S.Store it.connection)) }
     ensures crash { IfOk result (λ it. Survives (state S.Store connection) (state S.Store it.0.connection) (λ _. ⊥)) }

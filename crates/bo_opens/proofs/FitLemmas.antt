@@ -1,12 +1,14 @@
 -- Tables whose values are within their limits have no cause to be refused.
-use Rattle.std.proofs.Common.{◌≡◌, inl, inr, List, [], ◌∷◌}
+use Rattle.std.proofs.Common.{◌≡◌, ◌≢◌, inl, inr, ℤ, pos, List, [], ◌∷◌, Option, Some, Result, Ok, Err, IfOk, IfSome, OnOk, refl, subst}
 use Rattle.std.specs.List.{All}
 use Rattle.std.proofs.lemmas.List.Elements.{All-nil, All-cons}
+use Rattle.std.specs.List.Sorted.{IsPermutation}
 use Rattle.std.proofs.lemmas.List.Sorted.{IsPermutation-sym, IsPermutation-trans}
 use Rattle.sqlite_value.specs.Order.{Row}
 use Rattle.sqlite_trees.specs.Tree.{Trees}
 use Rattle.sqlite_schema.specs.declared.schema.Schema.{Schema}
 use Rattle.sqlite.specs.Effect.{Database}
+use Rattle.sqlite.proofs.Callers.{one_permutation}
 use Rattle.bo_schema.specs.Tables.{schema}
 use Rattle.bo_columns.specs.declared.rows.Shop.{Shop}
 use Rattle.bo_columns.specs.Rows.{shop_row, item_row, variation_row, quota_row, quota_item_row, quota_variation_row, voucher_row, cart_row, order_row, position_row, waiting_row, list_row, list_item_row, checkin_row, count_row, token_row, kept_row}
@@ -33,10 +35,13 @@ use Rattle.bo_loads.proofs.KeptLemmas as of_kept
 use Rattle.bo_opens.specs.declared.error.OpenError.{OpenError}
 use Rattle.bo_opens.specs.declared.error.OpenError.TheVariants.{Memory, NotAShop, Version, Damaged, Store}
 use Rattle.bo_rules.specs.declared.rule.Rule.TheVariants as rule
-use Rattle.bo_opens.specs.Causes.{rows_at, LacksCatalogue, LacksSales, LacksDoors, LacksOthers, LacksTable, IsDamagedCatalogue, AreDamagedSales, AreDamagedDoors, AreDamagedOthers, HasDamage, ShowsBy, IsOneShop, IsCause}
+use Rattle.bo_opens.specs.declared.file.FileTables.{FileTables}
+use Rattle.bo_opens.specs.declared.read.TableRows.{TableRows}
+use Rattle.bo_opens.specs.Read.{HoldsRows, tables_of}
+use Rattle.bo_opens.specs.Causes.{rows_at, LacksCatalogue, LacksSales, LacksDoors, LacksOthers, LacksTable, IsDamagedCatalogue, AreDamagedSales, AreDamagedDoors, AreDamagedOthers, HasTables, HasDamage, IsFitFile, IsReadable, ShowsBy, OfTheShop, IsOneShop, IsCause}
 use Rattle.bo_opens.specs.Lawful.{AreFit, IsOfMachine}
-use Rattle.bo_opens.proofs.CauseLemmas.{shows_rows, one_is_ours}
-use Rattle.bo_opens.proofs.ReadLemmas.{one_shown}
+use Rattle.bo_opens.proofs.CauseLemmas.{shows_rows, one_is_ours, version_told}
+use Rattle.bo_opens.proofs.ReadLemmas.{one_shown, was_some}
 
 -- what has no limits is within them
 all_free : {T : Type 0} (xs : List T) → All (λ w. Unit {0}) xs
@@ -107,22 +112,89 @@ has_tables s known (inr (inr (inr none))) = has_others s known none
 
 -- ---- the shop's row
 
-shop_stands : (t : Tables) (db : Database) → db.schema ≡ schema → Holds db.trees t → AreFit t → (rows : List Row) → ShowsBy of_shop.select_text db rows → IsOneShop rows
-shop_stands t db known held fit rows shows =
-    let same = shows_rows of_shop.select_text 0 of_shop.select_is db known rows shows in
-    (fit.shop, fit.shop_fits, fit.ids, fit.first, one_shown t.shop fit.shop rows (IsPermutation-trans _ _ _ held.0 (IsPermutation-sym _ _ same)) fit.alone)
+-- the row that is shown is the one that tables hold
+alone : (t : Tables) (db : Database) → db.schema ≡ schema → Holds db.trees t → (shop : Shop) → t.shop ≡ shop ∷ [] → (rows : List Row) → ShowsBy of_shop.select_text db rows → rows ≡ shop_row shop ∷ []
+alone t db known held shop one rows shows =
+    one_shown t.shop shop rows (IsPermutation-trans _ _ _ held.0 (IsPermutation-sym _ _ (shows_rows of_shop.select_text 0 of_shop.select_is db known rows shows))) one
 
--- such a file is refused for want of memory, or because the store fails
-pub of_machine : (t : Tables) (db : Database) → db.schema ≡ schema → Holds db.trees t → AreFit t → (e : OpenError) → IsCause db e → IsOfMachine e
-of_machine t db known held fit Memory h = tt
-of_machine t db known held fit NotAShop (inl none) = means of_shop.select_text db.schema of_shop.select_is.plain known none
-of_machine t db known held fit NotAShop (inr h) = has_tables db.schema known h.2.1
-of_machine t db known held fit (Version version) h = one_is_ours h.0 (shop_stands t db known held fit h.0 h.1) version h.2
-of_machine t db known held fit (Damaged rule.Shop) h = h.2.1 (shop_stands t db known held fit h.0 h.1)
-of_machine t db known held fit (Damaged rule.Limits) h = undamaged_tables t db.trees held fit (h.2.1 known)
-of_machine t db known held fit (Damaged rule.Ids) h = h
-of_machine t db known held fit (Damaged rule.Names) h = h
-of_machine t db known held fit (Damaged rule.Positions) h = h
-of_machine t db known held fit (Damaged rule.Headroom) h = h
-of_machine t db known held fit (Damaged rule.Counters) h = h
-of_machine t db known held fit Store h = tt
+shop_stands : (t : Tables) (db : Database) → db.schema ≡ schema → Holds db.trees t → AreFit t → (rows : List Row) → ShowsBy of_shop.select_text db rows → IsOneShop rows
+shop_stands t db known held fit rows shows = (fit.shop, fit.shop_fits, fit.ids, fit.first, alone t db known held fit.shop fit.alone rows shows)
+
+-- where one shop was shown, no other rows are
+shown_again : (db : Database) → db.schema ≡ schema → OfTheShop db IsOneShop → (rows : List Row) → ShowsBy of_shop.select_text db rows → IsOneShop rows
+shown_again db known (all, shows, (shop, fit, ids, first, is)) rows again =
+    let one = subst (λ l. IsPermutation l (rows_at db.trees 0)) is (shows_rows of_shop.select_text 0 of_shop.select_is db known all shows) in
+    (shop, fit, ids, first, one_permutation (shop_row shop) rows (IsPermutation-trans _ _ _ one (IsPermutation-sym _ _ (shows_rows of_shop.select_text 0 of_shop.select_is db known rows again))))
+
+-- a version that is told is that of the shop's row
+pub tells : (t : Tables) (db : Database) → db.schema ≡ schema → Holds db.trees t → (shop : Shop) → t.shop ≡ shop ∷ [] → (version : ℤ) → IsCause db (Version version) → (pos shop.version ≡ version) × (version ≢ pos 1)
+tells t db known held shop one version (rows, shows, (row, single, told, other)) =
+    let is = alone t db known held shop one rows shows in
+    let same : row ≡ shop_row shop = cc in
+    (version_told shop row version same told, other)
+
+-- ---- no cause
+
+module _ (db : Database) (known : db.schema ≡ schema) where
+  -- such a file is refused for want of memory, or because the store fails
+  clear : (of : (rows : List Row) → ShowsBy of_shop.select_text db rows → IsOneShop rows) → (HasDamage db.trees → ⊥) → (e : OpenError) → IsCause db e → IsOfMachine e
+  clear of whole Memory h = tt
+  clear of whole NotAShop (inl none) = means of_shop.select_text db.schema of_shop.select_is.plain known none
+  clear of whole NotAShop (inr h) = has_tables db.schema known h.2.1
+  clear of whole (Version version) h = one_is_ours h.0 (of h.0 h.1) version h.2
+  clear of whole (Damaged rule.Shop) h = h.2.1 (of h.0 h.1)
+  clear of whole (Damaged rule.Limits) h = whole (h.2.1 known)
+  clear of whole (Damaged rule.Ids) h = h
+  clear of whole (Damaged rule.Names) h = h
+  clear of whole (Damaged rule.Positions) h = h
+  clear of whole (Damaged rule.Headroom) h = h
+  clear of whole (Damaged rule.Counters) h = h
+  clear of whole Store h = tt
+
+  pub of_machine : (t : Tables) → Holds db.trees t → AreFit t → (e : OpenError) → IsCause db e → IsOfMachine e
+  of_machine t held fit = clear (shop_stands t db known held fit) (undamaged_tables t db.trees held fit)
+
+  pub of_readable : IsReadable db → (e : OpenError) → IsCause db e → IsOfMachine e
+  of_readable r = clear (shown_again db known r.shop) (r.values known)
+
+-- ---- a file that was read
+
+pub fit_read : (file : FileTables) → file.shop.version ≡ 1 → IsFitFile file → AreFit (tables_of file)
+fit_read file first fit = record {
+  shop = file.shop;
+  alone = refl;
+  first = first;
+  shop_fits = fit.shop;
+  ids = fit.ids;
+  items = fit.tables.catalogue.items;
+  variations = fit.tables.catalogue.variations;
+  quotas = fit.tables.catalogue.quotas;
+  vouchers = fit.tables.sales.vouchers;
+  carts = fit.tables.sales.carts;
+  orders = fit.tables.sales.orders;
+  positions = fit.tables.sales.positions;
+  waiting = fit.tables.sales.waiting;
+  checkin_lists = fit.tables.doors.checkin_lists;
+  checkins = fit.tables.doors.checkins;
+  tokens = fit.tables.others.tokens;
+  kept = fit.tables.others.kept;
+}
+
+-- the trees hold what was read
+pub read_holds : (db : Database) (rows : List Row) (file : FileTables) → db.schema ≡ schema → ShowsBy of_shop.select_text db rows → rows ≡ shop_row file.shop ∷ [] → HoldsRows db.trees file.tables → Holds db.trees (tables_of file)
+read_holds db rows file known shows is held =
+    let shop = subst (λ l. IsPermutation l (rows_at db.trees 0)) is (shows_rows of_shop.select_text 0 of_shop.select_is db known rows shows) in
+    let a = held.catalogue in
+    let b = held.sales in
+    let d = held.doors in
+    let e = held.others in
+    (shop, (a.items, (a.variations, (a.quotas, (a.quota_items, (a.quota_variations, (b.vouchers, (b.carts, (b.orders, (b.positions, (b.waiting, (d.checkin_lists, (d.list_items, (d.checkins, (e.counts, (e.tokens, (e.kept, tt)))))))))))))))))
+
+pub readable : (db : Database) (rows : List Row) (o : Option TableRows) (r : Result FileTables OpenError) → ShowsBy of_shop.select_text db rows → IfOk r (λ file. rows ≡ shop_row file.shop ∷ []) → IfOk r (λ file. file.shop.version ≡ 1) → IfOk r (λ file. o ≡ Some file.tables)
+    → IfOk r IsFitFile → IfSome o (λ _. HasTables db.schema) → (db.schema ≡ schema → IfSome o (HoldsRows db.trees)) → OnOk r (IsReadable db)
+readable db rows o (Ok file) shows is first some fit has held = record {
+  shop = (rows, shows, (file.shop, fit.shop, fit.ids, first, is));
+  tables = was_some o file.tables (λ _. HasTables db.schema) some has;
+  values = λ known. undamaged_tables (tables_of file) db.trees (read_holds db rows file known shows is (was_some o file.tables (HoldsRows db.trees) some (held known))) (fit_read file first fit);
+}
+readable db rows o (Err e) shows is first some fit has held = tt

@@ -3,3 +3,4 @@ pub mod RiseLemmas
 pub mod CauseLemmas
 pub mod FitLemmas
 pub mod LimitLemmas
+pub mod SameLemmas

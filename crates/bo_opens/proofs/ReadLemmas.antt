@@ -1,15 +1,12 @@
 -- What is read of a connection that stays as it is.
-use Rattle.std.proofs.Common.{◌≡◌, List, [], ◌∷◌, map, IsTrue, Result, Ok, Err, IfOk, IfErr, OnOk, Option, Some, None, IfSome, subst, sym, ◌∙◌, refl}
+use Rattle.std.proofs.Common.{◌≡◌, List, [], ◌∷◌, map, IsTrue, Result, Ok, Err, IfOk, IfErr, OnOk, Option, Some, None, IfSome, subst, sym, ◌∙◌}
 use Rattle.std.specs.List.Sorted.{IsPermutation}
-use Rattle.std.proofs.lemmas.List.Sorted.{IsPermutation-map, IsPermutation-refl, IsPermutation-sym, IsPermutation-trans}
 use Rattle.sqlite_value.specs.Order.{Row}
 use Rattle.sqlite.specs.State.{State, IsRolledBack}
 use Rattle.sqlite.proofs.Callers.{one_permutation}
 use Rattle.bo_columns.specs.declared.rows.Shop.{Shop}
 use Rattle.bo_columns.specs.Rows.{shop_row}
-use Rattle.bo_columns.specs.Tables.{Tables}
-use Rattle.bo_loads.proofs.Back.{shop_in, shop_back}
-use Rattle.bo_opens.specs.Rests.{ShowsTables, StaysOpen}
+use Rattle.bo_opens.specs.Rests.{StaysOpen}
 
 -- one table was read in a transaction, which was rolled back
 pub rolled : (old mid new : State) → IsTrue mid.is_open → mid.committed ≡ old.committed → IsRolledBack mid new → IsTrue new.is_open → IsTrue old.is_open → StaysOpen old new
@@ -18,21 +15,8 @@ rolled old mid new was same back is_open opened = record {
   stays = λ db at. record { now = (back.undone is_open).0 ∙ same ∙ at.committed; committed = (back.undone is_open).1 ∙ same ∙ at.committed };
 }
 
-pub shows_on : (t : Tables) (old new : State) → StaysOpen old new → ShowsTables t old → ShowsTables t new
-shows_on t old new stays shows = record { db = shows.db; at = stays.stays shows.db shows.at; known = shows.known; holds = shows.holds }
-
 pub then : (a b c : State) → StaysOpen a b → StaysOpen b c → StaysOpen a c
 then a b c h k = record { was_open = h.was_open; stays = λ db at. k.stays db (h.stays db at) }
-
-map_back : {A : Type 0} (row : A → Row) (back : Row → A) → ((a : A) → back (row a) ≡ a) → (xs : List A) → map back (map row xs) ≡ xs
-map_back row back same [] = refl
-map_back row back same (x ∷ xs) = rw (same x, map_back row back same xs)
-
--- two lists whose rows a table shows are one list, up to order
-pub alike : {A : Type 0} (row : A → Row) (back : Row → A) → ((a : A) → back (row a) ≡ a) → (xs ys : List A) (rows : List Row) → IsPermutation (map row xs) rows → IsPermutation (map row ys) rows → IsPermutation xs ys
-alike row back same xs ys rows h k =
-    let both : IsPermutation (map back (map row xs)) (map back (map row ys)) = IsPermutation-map back _ _ (IsPermutation-trans _ _ _ h (IsPermutation-sym _ _ k)) in
-    subst (λ l. IsPermutation l ys) (map_back row back same xs) (subst (IsPermutation (map back (map row xs))) (map_back row back same ys) both)
 
 pub if_ok : {T E : Type 0} (r : Result T E) (P Q : T → Type 0) → IfOk r P → ((x : T) → P x → Q x) → IfOk r Q
 if_ok (Ok x) P Q h k = k x h
@@ -53,10 +37,6 @@ both_ok (Err e) P Q R h i k = tt
 pub was_ok : {T E : Type 0} (r : Result T E) (x : T) (P : T → Type 0) → r ≡ Ok x → IfOk r P → P x
 was_ok r x P is h = subst (λ s. IfOk s P) is h
 
-pub same_ok : {T E : Type 0} (r : Result T E) (x : T) (P : T → Type 0) → IfOk r (λ y. y ≡ x) → P x → IfOk r P
-same_ok (Ok y) x P is h = subst P (sym is) h
-same_ok (Err e) x P is h = tt
-
 pub same_when : {T E : Type 0} (r : Result T E) (x : T) (P : T → Type 0) (Q : Type 0) → IfOk r (λ y. y ≡ x) → OnOk r Q → (Q → P x) → IfOk r P
 same_when (Ok y) x P Q is h k = subst P (sym is) (k h)
 same_when (Err e) x P Q is h k = tt
@@ -74,11 +54,6 @@ pub on_ok : {T E : Type 0} (r : Result T E) (P : T → Type 0) (Q : Type 0) → 
 on_ok (Ok x) P Q h k = k x h
 on_ok (Err e) P Q h k = tt
 
--- the shop's row that was shown is the one that the table holds
-pub one_shop : (shops : List Shop) (shop : Shop) (rows : List Row) → IsPermutation (map shop_row shops) rows → rows ≡ shop_row shop ∷ [] → shops ≡ shop ∷ []
-one_shop shops shop rows h is =
-    let shown : IsPermutation (map shop_row (shop ∷ [])) rows = subst (IsPermutation (shop_row shop ∷ [])) (sym is) (IsPermutation-refl (shop_row shop ∷ [])) in
-    one_permutation shop shops (IsPermutation-sym _ _ (alike shop_row shop_in shop_back shops (shop ∷ []) rows h shown))
-
+-- the shop's row is the one that is shown
 pub one_shown : (shops : List Shop) (shop : Shop) (rows : List Row) → IsPermutation (map shop_row shops) rows → shops ≡ shop ∷ [] → rows ≡ shop_row shop ∷ []
 one_shown shops shop rows h is = one_permutation (shop_row shop) rows (subst (λ l. IsPermutation (map shop_row l) rows) is h)

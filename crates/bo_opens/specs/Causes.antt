@@ -144,6 +144,13 @@ IsOneShop rows = (shop : Shop) × IsFitShop shop × HasNextIds shop × (shop.ver
 abbrev pub OfTheShop : Database → (List Row → Type 0) → Type 0
 OfTheShop db holds = (rows : List Row) × ShowsBy shop_text db rows × holds rows
 
+-- None of 60, 61 and 62 by the first two rules has its cause: no table lacks, there is one shop of version 1 within its limits, and so is
+-- each value of the other tables, where these are declared as ours.
+pub record IsReadable (db : Database) : Type 0 where
+  pub shop : OfTheShop db IsOneShop
+  pub tables : HasTables db.schema
+  pub values : db.schema ≡ schema → HasDamage db.trees → ⊥
+
 -- Why each refusal is told, which also says that none before it was to be told: 60 for the table `shop`, 61, 60 for another table, 62.1, 62.2.
 -- Of rows in tables that are declared in another way than ours nothing is said. That memory is refused or the store fails has no cause in the file.
 abbrev pub IsCause : Database → OpenError → Type 0

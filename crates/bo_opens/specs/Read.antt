@@ -1,15 +1,71 @@
--- What was read, beside what tables hold: the rows of each table, in whatever order.
-use Rattle.std.specs.Prelude.{◌≡◌, ◌≢◌, pos, [], ◌∷◌, IsPermutation}
-use Rattle.bo_columns.specs.declared.rows.Shop.{Shop}
+-- What was read of a file, beside what its trees show and what tables hold: the rows of each table, in whatever order.
+use Rattle.std.specs.Prelude.{◌≡◌, List, [], ◌∷◌, map, IsPermutation}
+use Rattle.sqlite_trees.specs.Tree.{Trees}
+use Rattle.bo_columns.specs.Rows.{item_row, variation_row, quota_row, quota_item_row, quota_variation_row, voucher_row, cart_row, order_row, position_row, waiting_row, list_row, list_item_row, checkin_row, count_row, token_row, kept_row}
 use Rattle.bo_columns.specs.Tables.{Tables}
-use Rattle.bo_opens.specs.declared.error.OpenError.{OpenError}
-use Rattle.bo_opens.specs.declared.error.OpenError.TheVariants.{Version}
+use Rattle.bo_opens.specs.Causes.{rows_at}
 use Rattle.bo_opens.specs.declared.file.FileTables.{FileTables}
 use Rattle.bo_opens.specs.declared.read.CatalogueRows.{CatalogueRows}
 use Rattle.bo_opens.specs.declared.read.SaleRows.{SaleRows}
 use Rattle.bo_opens.specs.declared.read.DoorRows.{DoorRows}
 use Rattle.bo_opens.specs.declared.read.OtherRows.{OtherRows}
 use Rattle.bo_opens.specs.declared.read.TableRows.{TableRows}
+
+-- ---- the trees show these rows
+
+pub record HoldsCatalogue (db : Trees) (rows : CatalogueRows) : Type 0 where
+  pub items : IsPermutation (map item_row rows.items.items) (rows_at db 1)
+  pub variations : IsPermutation (map variation_row rows.variations.items) (rows_at db 2)
+  pub quotas : IsPermutation (map quota_row rows.quotas.items) (rows_at db 3)
+  pub quota_items : IsPermutation (map quota_item_row rows.quota_items.items) (rows_at db 4)
+  pub quota_variations : IsPermutation (map quota_variation_row rows.quota_variations.items) (rows_at db 6)
+
+pub record HoldsSales (db : Trees) (rows : SaleRows) : Type 0 where
+  pub vouchers : IsPermutation (map voucher_row rows.vouchers.items) (rows_at db 8)
+  pub carts : IsPermutation (map cart_row rows.carts.items) (rows_at db 10)
+  pub orders : IsPermutation (map order_row rows.orders.items) (rows_at db 11)
+  pub positions : IsPermutation (map position_row rows.positions.items) (rows_at db 12)
+  pub waiting : IsPermutation (map waiting_row rows.waiting.items) (rows_at db 15)
+
+pub record HoldsDoors (db : Trees) (rows : DoorRows) : Type 0 where
+  pub checkin_lists : IsPermutation (map list_row rows.checkin_lists.items) (rows_at db 16)
+  pub list_items : IsPermutation (map list_item_row rows.list_items.items) (rows_at db 17)
+  pub checkins : IsPermutation (map checkin_row rows.checkins.items) (rows_at db 19)
+
+pub record HoldsOthers (db : Trees) (rows : OtherRows) : Type 0 where
+  pub counts : IsPermutation (map count_row rows.counts.items) (rows_at db 21)
+  pub tokens : IsPermutation (map token_row rows.tokens.items) (rows_at db 22)
+  pub kept : IsPermutation (map kept_row rows.kept.items) (rows_at db 24)
+
+pub record HoldsRows (db : Trees) (rows : TableRows) : Type 0 where
+  pub catalogue : HoldsCatalogue db rows.catalogue
+  pub sales : HoldsSales db rows.sales
+  pub doors : HoldsDoors db rows.doors
+  pub others : HoldsOthers db rows.others
+
+-- what was read, as what tables hold
+abbrev pub tables_of : FileTables → Tables
+tables_of file = record {
+  shop = file.shop ∷ [];
+  items = file.tables.catalogue.items.items;
+  variations = file.tables.catalogue.variations.items;
+  quotas = file.tables.catalogue.quotas.items;
+  quota_items = file.tables.catalogue.quota_items.items;
+  quota_variations = file.tables.catalogue.quota_variations.items;
+  vouchers = file.tables.sales.vouchers.items;
+  carts = file.tables.sales.carts.items;
+  orders = file.tables.sales.orders.items;
+  positions = file.tables.sales.positions.items;
+  waiting = file.tables.sales.waiting.items;
+  checkin_lists = file.tables.doors.checkin_lists.items;
+  list_items = file.tables.doors.list_items.items;
+  checkins = file.tables.doors.checkins.items;
+  counts = file.tables.others.counts.items;
+  tokens = file.tables.others.tokens.items;
+  kept = file.tables.others.kept.items;
+}
+
+-- ---- tables hold these rows
 
 pub record AreCatalogueRows (t : Tables) (rows : CatalogueRows) : Type 0 where
   pub items : IsPermutation t.items rows.items.items
@@ -40,11 +96,6 @@ pub record AreTableRows (t : Tables) (rows : TableRows) : Type 0 where
   pub sales : AreSaleRows t rows.sales
   pub doors : AreDoorRows t rows.doors
   pub others : AreOtherRows t rows.others
-
--- where a version is told, it is that of the shop's row, and not 1
-abbrev pub TellsVersion : Shop → OpenError → Type 0
-TellsVersion shop (Version version) = (pos shop.version ≡ version) × (version ≢ pos 1)
-TellsVersion shop _ = Unit {0}
 
 -- the shop has one row, which is this one, and the other tables hold these rows
 pub record IsFileOf (t : Tables) (file : FileTables) : Type 0 where

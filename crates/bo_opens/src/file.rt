@@ -1,19 +1,18 @@
 //! The tables of a file, read in the order in which it is told what is wrong.
 
-ghost use Rattle.std.specs.Prelude.{◌≡◌, false, [], ◌∷◌, map, IfOk, IfErr, IfSome, OnOk, IsPermutation, IsTrue, Ok, Err, Some, None};
+ghost use Rattle.std.specs.Prelude.{◌≡◌, false, [], ◌∷◌, IfOk, IfErr, IfSome, OnOk, IsTrue, Ok, Err, Some, None};
 ghost use Rattle.sqlite.specs.Effect.{Database};
 ghost use Rattle.sqlite.specs.Held.{state};
 ghost use Rattle.sqlite.specs.State.{HasCleanDisk, Survives};
 ghost use Rattle.bo_schema.specs.declared.error.RowError.TheVariants.{Damaged};
 ghost use Rattle.bo_schema.specs.Tables.{schema};
-ghost use Rattle.bo_columns.specs.declared.rows.Shop.{Shop};
 ghost use Rattle.bo_columns.specs.Rows.{shop_row};
-ghost use Rattle.bo_columns.specs.Tables.{Tables};
-ghost use Rattle.bo_loads.specs.Damage.{HasMeaning, HasNoMeaning, IsFor};
+ghost use Rattle.bo_columns.specs.Tables.{Holds};
+ghost use Rattle.bo_loads.specs.Damage.{HasNoMeaning, IsFor};
 ghost use Rattle.bo_loads.specs.Texts.{shop_text};
-ghost use Rattle.bo_opens.specs.Rests.{IsAt, ShowsTables, Rests};
-ghost use Rattle.bo_opens.specs.Read.{AreTableRows, TellsVersion, IsFileOf};
-ghost use Rattle.bo_opens.specs.Causes.{LacksTable, HasTables, HasDamage, AreFitTables, IsFitFile, ShowsBy, OfTheShop, HasNoOtherVersion, IsCause};
+ghost use Rattle.bo_opens.specs.Rests.{IsAt, Rests};
+ghost use Rattle.bo_opens.specs.Read.{HoldsRows, tables_of};
+ghost use Rattle.bo_opens.specs.Causes.{LacksTable, HasTables, HasDamage, AreFitTables, IsFitFile, IsReadable, ShowsBy, OfTheShop, HasNoOtherVersion, IsCause};
 
 use crate::error::OpenError;
 use crate::head::{read_shop, shop_rows, test_version};
@@ -33,8 +32,7 @@ pub struct FileTables {
 
 // What a refusal means where the shop's rows are read, which aren't damaged before they are looked at.
 fn refusal(error: RowError) -> OpenError
-    ensures told { (shop : Shop) → TellsVersion shop result }
-    ensures cause { (db : Database) → IsFor (HasNoMeaning db.schema shop_text) ⊥ error → IsCause db result }
+    ensures { (db : Database) → IsFor (HasNoMeaning db.schema shop_text) ⊥ error → IsCause db result }
 {
     match error {
         RowError::Memory => OpenError::Memory,
@@ -48,7 +46,6 @@ fn refusal(error: RowError) -> OpenError
 fn readable(read: Result<TableRows, RowError>) -> Result<Option<TableRows>, OpenError>
     ensures read { IfOk result (λ found. IfSome found (λ rows. read ≡ Ok rows)) }
     ensures unread { IfOk result (λ found. found ≡ None → read ≡ Err Damaged) }
-    ensures refused { IfErr result (λ error. (shop : Shop) → TellsVersion shop error) }
     ensures cause { (db : Database) → OfTheShop db HasNoOtherVersion → IfErr read (IsFor (LacksTable db.schema) (db.schema ≡ schema → HasDamage db.trees)) → IfErr result (IsCause db) }
 {
     match read {
@@ -64,7 +61,6 @@ fn readable(read: Result<TableRows, RowError>) -> Result<Option<TableRows>, Open
 fn tested(rows: Vec<Row>) -> Result<Vec<Row>, OpenError>
     ensures same { IfOk result (λ same. same ≡ rows) }
     ensures passed { OnOk result (HasNoOtherVersion rows.items) }
-    ensures refused { IfErr result (λ error. (shop : Shop) → rows.items ≡ shop_row shop ∷ [] → TellsVersion shop error) }
     ensures cause { (db : Database) → ShowsBy shop_text db rows.items → IfErr result (IsCause db) }
 {
     match test_version(rows.as_slice()) {
@@ -76,8 +72,6 @@ fn tested(rows: Vec<Row>) -> Result<Vec<Row>, OpenError>
 // The rows of the table `shop`, and that their version is this program's. Refusals: 6, 60, 61, 63.
 fn read_head<S: Alter>(conn: &mut Connection<S>) -> Result<Vec<Row>, OpenError>
     requires { conn.old.in_transaction ≡ false }
-    ensures loaded { HasCleanDisk (state S.Store conn.new) → IsTrue (state S.Store conn.new).is_open → (t : Tables) → ShowsTables t (state S.Store conn.old) → IfOk result (λ rows. IsPermutation (map shop_row t.shop) rows.items) }
-    ensures refused { HasCleanDisk (state S.Store conn.new) → IsTrue (state S.Store conn.new).is_open → (t : Tables) → ShowsTables t (state S.Store conn.old) → (shop : Shop) → t.shop ≡ shop ∷ [] → IfErr result (TellsVersion shop) }
     ensures found { HasCleanDisk (state S.Store conn.new) → IsTrue (state S.Store conn.new).is_open → (db : Database) → IsAt db (state S.Store conn.old) → IfOk result (λ rows. ShowsBy shop_text db rows.items × HasNoOtherVersion rows.items) }
     ensures cause { HasCleanDisk (state S.Store conn.new) → IsTrue (state S.Store conn.new).is_open → (db : Database) → IsAt db (state S.Store conn.old) → IfErr result (IsCause db) }
     ensures rests { Rests (state S.Store conn.old) (state S.Store conn.new) }
@@ -96,8 +90,7 @@ fn read_all<S: Alter>(
     conn: &mut Connection<S>,
 ) -> Result<(Vec<Row>, Option<TableRows>), OpenError>
     requires { conn.old.in_transaction ≡ false }
-    ensures loaded { HasCleanDisk (state S.Store conn.new) → IsTrue (state S.Store conn.new).is_open → (t : Tables) → ShowsTables t (state S.Store conn.old) → IfOk result (λ read. IsPermutation (map shop_row t.shop) read.0.items × IfSome read.1 (AreTableRows t)) }
-    ensures refused { HasCleanDisk (state S.Store conn.new) → IsTrue (state S.Store conn.new).is_open → (t : Tables) → ShowsTables t (state S.Store conn.old) → (shop : Shop) → t.shop ≡ shop ∷ [] → IfErr result (TellsVersion shop) }
+    ensures loaded { HasCleanDisk (state S.Store conn.new) → IsTrue (state S.Store conn.new).is_open → (db : Database) → IsAt db (state S.Store conn.old) → db.schema ≡ schema → IfOk result (λ read. IfSome read.1 (HoldsRows db.trees)) }
     ensures limits { IfOk result (λ read. IfSome read.1 AreFitTables) }
     ensures found { HasCleanDisk (state S.Store conn.new) → IsTrue (state S.Store conn.new).is_open → (db : Database) → IsAt db (state S.Store conn.old) → IfOk result (λ read. ShowsBy shop_text db read.0.items × HasNoOtherVersion read.0.items × IfSome read.1 (λ _. HasTables db.schema) × (read.1 ≡ None → db.schema ≡ schema → HasDamage db.trees)) }
     ensures cause { HasCleanDisk (state S.Store conn.new) → IsTrue (state S.Store conn.new).is_open → (db : Database) → IsAt db (state S.Store conn.old) → IfErr result (IsCause db) }
@@ -124,7 +117,6 @@ fn whole_file(
     ensures version { IfOk result (λ file. file.shop.version ≡ 1) }
     ensures tables { IfOk result (λ file. tables ≡ Some file.tables) }
     ensures limits { IfSome tables AreFitTables → IfOk result IsFitFile }
-    ensures refused { IfErr result (λ error. (shop : Shop) → TellsVersion shop error) }
     ensures cause { (db : Database) → ShowsBy shop_text db rows.now → HasNoOtherVersion rows.now → (tables ≡ None → db.schema ≡ schema → HasDamage db.trees) → IfErr result (IsCause db) }
 {
     match (read_shop(alloc, rows), tables) {
@@ -140,11 +132,10 @@ fn whole_file(
 /// a value of another table is; 63. They are told in this order.
 pub fn read_file<S: Alter>(alloc: Global, conn: &mut Connection<S>) -> Result<FileTables, OpenError>
     requires { conn.old.in_transaction ≡ false }
-    ensures loaded { HasCleanDisk (state S.Store conn.new) → IsTrue (state S.Store conn.new).is_open → (t : Tables) → ShowsTables t (state S.Store conn.old) → IfOk result (IsFileOf t) }
+    ensures held { HasCleanDisk (state S.Store conn.new) → IsTrue (state S.Store conn.new).is_open → (db : Database) → IsAt db (state S.Store conn.old) → db.schema ≡ schema → IfOk result (λ file. Holds db.trees (tables_of file)) }
     ensures version { IfOk result (λ file. file.shop.version ≡ 1) }
-    ensures refused { HasCleanDisk (state S.Store conn.new) → IsTrue (state S.Store conn.new).is_open → (t : Tables) → ShowsTables t (state S.Store conn.old) → (shop : Shop) → t.shop ≡ shop ∷ [] → IfErr result (TellsVersion shop) }
     ensures limits { IfOk result IsFitFile }
-    ensures found { HasCleanDisk (state S.Store conn.new) → IsTrue (state S.Store conn.new).is_open → (db : Database) → IsAt db (state S.Store conn.old) → OnOk result (HasMeaning db.schema shop_text × HasTables db.schema) }
+    ensures found { HasCleanDisk (state S.Store conn.new) → IsTrue (state S.Store conn.new).is_open → (db : Database) → IsAt db (state S.Store conn.old) → OnOk result (IsReadable db) }
     ensures cause { HasCleanDisk (state S.Store conn.new) → IsTrue (state S.Store conn.new).is_open → (db : Database) → IsAt db (state S.Store conn.old) → IfErr result (IsCause db) }
     ensures rests { Rests (state S.Store conn.old) (state S.Store conn.new) }
     ensures mode { conn.new.in_transaction ≡ false }

@@ -1,22 +1,18 @@
 //! The shop's own row.
 
-ghost use Rattle.std.specs.Prelude.{◌≡◌, ◌≢◌, ℤ, true, false, [], ◌∷◌, map, IfOk, IfErr, OnOk, IsPermutation, IsTrue};
+ghost use Rattle.std.specs.Prelude.{◌≡◌, ◌≢◌, ℤ, true, false, [], ◌∷◌, IfOk, IfErr, OnOk, IsTrue};
 ghost use Rattle.sqlite_value.specs.declared.value.Value.TheVariants.{Int};
 ghost use Rattle.sqlite_value.specs.Order.{column};
 ghost use Rattle.sqlite.specs.Effect.{Database};
 ghost use Rattle.sqlite.specs.Held.{state};
 ghost use Rattle.sqlite.specs.State.{HasCleanDisk, Survives, KeepsCommit};
 ghost use Rattle.bo_schema.specs.Tables.{schema};
-ghost use Rattle.bo_schema.specs.Parts.{shown};
-ghost use Rattle.bo_columns.specs.declared.rows.Shop.{Shop};
 ghost use Rattle.bo_columns.specs.Rows.{shop_row};
 ghost use Rattle.bo_columns.specs.Fit.{IsFitShop};
-ghost use Rattle.bo_columns.specs.Tables.{Tables};
 ghost use Rattle.bo_columns.specs.Unread.{IsUnread};
 ghost use Rattle.bo_loads.specs.Damage.{HasNoMeaning, IsFor};
 ghost use Rattle.bo_loads.specs.Texts.{shop_text};
-ghost use Rattle.bo_opens.specs.Rests.{IsAt, ShowsTables, Rests};
-ghost use Rattle.bo_opens.specs.Read.{TellsVersion};
+ghost use Rattle.bo_opens.specs.Rests.{IsAt, Rests};
 ghost use Rattle.bo_opens.specs.Causes.{HasNextIds, ShowsBy, HasNoOtherVersion, IsCause};
 
 use crate::error::OpenError;
@@ -38,7 +34,6 @@ const SHOWN_VERSION: i64 = 1;
 /// Refusals: 6, 60 where the file has no such table with these columns, 63.
 pub(crate) fn load_shown<S: Alter>(tx: &mut Transaction<'_, S>) -> Result<Vec<Row>, RowError>
     ensures same { tx.new.conn.ghost_name ≡ tx.old.conn.ghost_name }
-    ensures loaded { HasCleanDisk (state S.Store tx.new.conn.now) → (state S.Store tx.old.conn.now).now.schema ≡ schema → IfOk result (λ all. IsPermutation all.items (map (shown schema 0) ((state S.Store tx.old.conn.now).now.trees 0))) }
     ensures shown { HasCleanDisk (state S.Store tx.new.conn.now) → IfOk result (λ all. ShowsBy shop_text (state S.Store tx.old.conn.now).now all.items) }
     ensures refused { HasCleanDisk (state S.Store tx.new.conn.now) → IfErr result (IsFor (HasNoMeaning (state S.Store tx.old.conn.now).now.schema shop_text) ⊥) }
     ensures still { HasCleanDisk (state S.Store tx.new.conn.now) → (state S.Store tx.old.conn.now).now.schema ≡ schema → OnOk result ((state S.Store tx.new.conn.now).now ≡ (state S.Store tx.old.conn.now).now) }
@@ -56,7 +51,6 @@ pub(crate) fn load_shown<S: Alter>(tx: &mut Transaction<'_, S>) -> Result<Vec<Ro
 /// The rows of the table `shop`, as they are shown. The connection stays as it is. Refusals: 6, 60, 63.
 pub(crate) fn shop_rows<S: Alter>(conn: &mut Connection<S>) -> Result<Vec<Row>, RowError>
     requires { conn.old.in_transaction ≡ false }
-    ensures loaded { HasCleanDisk (state S.Store conn.new) → IsTrue (state S.Store conn.new).is_open → (t : Tables) → ShowsTables t (state S.Store conn.old) → IfOk result (λ rows. IsPermutation (map shop_row t.shop) rows.items) }
     ensures shown { HasCleanDisk (state S.Store conn.new) → IsTrue (state S.Store conn.new).is_open → (db : Database) → IsAt db (state S.Store conn.old) → IfOk result (λ rows. ShowsBy shop_text db rows.items) }
     ensures refused { HasCleanDisk (state S.Store conn.new) → IsTrue (state S.Store conn.new).is_open → (db : Database) → IsAt db (state S.Store conn.old) → IfErr result (IsFor (HasNoMeaning db.schema shop_text) ⊥) }
     ensures rests { Rests (state S.Store conn.old) (state S.Store conn.new) }
@@ -84,7 +78,6 @@ fn version_in(row: &Row) -> Result<i64, RowError>
 /// A row whose version is no number passes, since it has a value of another kind.
 pub(crate) fn test_version(rows: &[Row]) -> Result<(), OpenError>
     ensures passed { OnOk result (HasNoOtherVersion rows.now) }
-    ensures refused { IfErr result (λ error. (shop : Shop) → rows.now ≡ shop_row shop ∷ [] → TellsVersion shop error) }
     ensures cause { (db : Database) → ShowsBy shop_text db rows.now → IfErr result (IsCause db) }
 {
     let [row] = rows else {
@@ -104,7 +97,6 @@ pub(crate) fn read_shop(alloc: Global, rows: &[Row]) -> Result<Shop, OpenError>
     ensures version { IfOk result (λ shop. shop.version ≡ 1) }
     ensures limits { IfOk result IsFitShop }
     ensures ids { IfOk result HasNextIds }
-    ensures refused { IfErr result (λ error. (shop : Shop) → TellsVersion shop error) }
     ensures cause { (db : Database) → ShowsBy shop_text db rows.now → HasNoOtherVersion rows.now → IfErr result (IsCause db) }
 {
     let [row] = rows else {

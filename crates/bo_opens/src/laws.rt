@@ -1,6 +1,6 @@
 //! Which files are opened.
 
-ghost use Rattle.std.specs.Prelude.{◌≡◌, List};
+ghost use Rattle.std.specs.Prelude.{◌≡◌, ◌≢◌, ℤ, pos, List, [], ◌∷◌};
 ghost use Rattle.sqlite.specs.Effect.{Database};
 ghost use Rattle.bo_schema.specs.Tables.{schema};
 ghost use Rattle.bo_lists.specs.Lists.{State};
@@ -13,7 +13,8 @@ ghost use Rattle.bo_columns.specs.declared.rows.Shop.{Shop};
 ghost use Rattle.bo_columns.specs.Tables.{Tables, Holds};
 ghost use Rattle.bo_stand.specs.Stands.{Stand};
 ghost use Rattle.bo_opens.specs.declared.error.OpenError.{OpenError};
-ghost use Rattle.bo_opens.specs.Causes.{IsCause};
+ghost use Rattle.bo_opens.specs.declared.error.OpenError.TheVariants.{Version};
+ghost use Rattle.bo_opens.specs.Causes.{IsReadable, IsCause};
 ghost use Rattle.bo_opens.specs.Lawful.{AreFit, AreTyped, IsOfMachine};
 
 /// A file whose tables hold one shop of version 1, and values within their limits, is refused for want of memory or because the
@@ -22,7 +23,17 @@ pub fn fit_tables_are_no_fault()
     ensures { (t : Tables) (db : Database) → db.schema ≡ schema → Holds db.trees t → AreFit t → (e : OpenError) → IsCause db e → IsOfMachine e }
 {}
 
-/// Tables that hold a sound box office are such, where the types of their values keep what they promise.
+/// So it is of a file that was read: none of 60, 61 and 62 by the first two rules has its cause.
+pub fn readable_files_are_no_fault()
+    ensures { (db : Database) → db.schema ≡ schema → IsReadable db → (e : OpenError) → IsCause db e → IsOfMachine e }
+{}
+
+/// A version that is told is that of the shop's row, and not 1.
+pub fn a_version_is_told_of_the_shop()
+    ensures { (t : Tables) (db : Database) → db.schema ≡ schema → Holds db.trees t → (shop : Shop) → t.shop ≡ shop ∷ [] → (version : ℤ) → IsCause db (Version version) → (pos shop.version ≡ version) × (version ≢ pos 1) }
+{}
+
+/// The values of tables that hold a sound box office are within their limits, where their types keep what they promise.
 pub fn a_sound_office_is_fit()
     ensures { (shop : Shop) (t : Tables) (state : State) (answers : List Kept) → shop.version ≡ 1 → IsSlug shop.organizer → IsSlug shop.event → IsNextId last_id shop.next_token → Stand shop t state answers → IsSound state → AreTyped t → AreFit t }
 {}

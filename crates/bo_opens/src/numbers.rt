@@ -1,10 +1,8 @@
 //! The numbers of rows, as they were read.
 
-ghost use Rattle.std.specs.Prelude.{◌≡◌, ℕ, map, IsTrue, IfSome};
-ghost use Rattle.bo_base.specs.Tables.{AreInOrder};
+ghost use Rattle.std.specs.Prelude.{◌≡◌, ℕ, map, IfSome};
 ghost use Rattle.bo_stand.specs.Free.{AreBelow};
 
-use bo_base::Row;
 use bo_columns::{KeptRow, ListItem, QuotaItem, QuotaVariation};
 
 /// A row that has a number, and no id of its own.
@@ -47,24 +45,9 @@ impl Numbered for KeptRow {
     }
 }
 
-/// Whether each id is below the next one.
-pub(crate) fn rise<T: Row>(rows: &[T]) -> bool
-    ensures { IsTrue result → AreInOrder T.key rows.now }
-{
-    let mut from: u64 = 0;
-    for row in rows {
-        let id = row.id();
-        if id < from || id == u64::MAX {
-            return false;
-        }
-        from = id + 1;
-    }
-    true
-}
-
 /// The number that follows on the last one, where the numbers rise.
 #[tactic(auto, using(crate::proofs::RiseLemmas::rise_below))]
-pub(crate) fn next_number<T: Numbered>(rows: &[T]) -> Option<u64>
+pub fn next_number<T: Numbered>(rows: &[T]) -> Option<u64>
     ensures { IfSome result (λ next. AreBelow next (map T.number rows.now)) }
 {
     let mut from: u64 = 0;

@@ -4,12 +4,11 @@ ghost use Rattle.std.specs.Prelude.{◌≡◌, false, IfOk, IfErr, OnOk, IsTrue}
 ghost use Rattle.sqlite.specs.Effect.{Database};
 ghost use Rattle.sqlite.specs.Held.{state};
 ghost use Rattle.sqlite.specs.State.{HasCleanDisk, Survives};
-ghost use Rattle.bo_columns.specs.Tables.{Tables};
 ghost use Rattle.bo_schema.specs.Tables.{schema};
 ghost use Rattle.bo_loads.specs.Damage.{IsFor};
-ghost use Rattle.bo_opens.specs.Rests.{IsAt, ShowsTables, Rests};
+ghost use Rattle.bo_opens.specs.Rests.{IsAt, Rests};
 ghost use Rattle.bo_opens.specs.Causes.{IsFitCatalogue, HasCatalogue, LacksCatalogue, IsDamagedCatalogue, AreFitSales, HasSales, LacksSales, AreDamagedSales, AreFitDoors, HasDoors, LacksDoors, AreDamagedDoors, AreFitOthers, HasOthers, LacksOthers, AreDamagedOthers, AreFitTables, HasTables, LacksTable, HasDamage};
-ghost use Rattle.bo_opens.specs.Read.{AreCatalogueRows, AreSaleRows, AreDoorRows, AreOtherRows, AreTableRows};
+ghost use Rattle.bo_opens.specs.Read.{HoldsCatalogue, HoldsSales, HoldsDoors, HoldsOthers, HoldsRows};
 
 use crate::whole::Whole;
 use bo_catalogue::{Item, Variation};
@@ -67,7 +66,7 @@ pub struct TableRows {
 }
 
 impl Whole for CatalogueRows {
-    ghost is_of = { AreCatalogueRows };
+    ghost is_in = { HoldsCatalogue };
 
     ghost fits = { IsFitCatalogue };
 
@@ -94,7 +93,7 @@ impl Whole for CatalogueRows {
 }
 
 impl Whole for SaleRows {
-    ghost is_of = { AreSaleRows };
+    ghost is_in = { HoldsSales };
 
     ghost fits = { AreFitSales };
 
@@ -119,7 +118,7 @@ impl Whole for SaleRows {
 }
 
 impl Whole for DoorRows {
-    ghost is_of = { AreDoorRows };
+    ghost is_in = { HoldsDoors };
 
     ghost fits = { AreFitDoors };
 
@@ -142,7 +141,7 @@ impl Whole for DoorRows {
 }
 
 impl Whole for OtherRows {
-    ghost is_of = { AreOtherRows };
+    ghost is_in = { HoldsOthers };
 
     ghost fits = { AreFitOthers };
 
@@ -165,7 +164,7 @@ impl Whole for OtherRows {
 }
 
 impl Whole for TableRows {
-    ghost is_of = { AreTableRows };
+    ghost is_in = { HoldsRows };
 
     ghost fits = { AreFitTables };
 
@@ -193,7 +192,7 @@ impl Whole for TableRows {
 /// lacking is told though a value of another one can't be read.
 pub fn read_tables<S: Alter>(alloc: Global, conn: &mut Connection<S>) -> Result<TableRows, RowError>
     requires { conn.old.in_transaction ≡ false }
-    ensures loaded { HasCleanDisk (state S.Store conn.new) → IsTrue (state S.Store conn.new).is_open → (t : Tables) → ShowsTables t (state S.Store conn.old) → IfOk result (AreTableRows t) }
+    ensures loaded { HasCleanDisk (state S.Store conn.new) → IsTrue (state S.Store conn.new).is_open → (db : Database) → IsAt db (state S.Store conn.old) → db.schema ≡ schema → IfOk result (HoldsRows db.trees) }
     ensures limits { IfOk result AreFitTables }
     ensures found { HasCleanDisk (state S.Store conn.new) → IsTrue (state S.Store conn.new).is_open → (db : Database) → IsAt db (state S.Store conn.old) → OnOk result (HasTables db.schema) }
     ensures refused { HasCleanDisk (state S.Store conn.new) → IsTrue (state S.Store conn.new).is_open → (db : Database) → IsAt db (state S.Store conn.old) → IfErr result (IsFor (LacksTable db.schema) (db.schema ≡ schema → HasDamage db.trees)) }

@@ -2,16 +2,14 @@
 
 ghost use Rattle.std.specs.Prelude.{◌≡◌, ℕ, List, true, false, map, All, IfOk, IfErr, OnOk, IsPermutation, IsTrue};
 ghost use Rattle.sqlite_value.specs.Order.{Row as Shown};
-ghost use Rattle.sqlite_trees.specs.Tree.{Trees};
 ghost use Rattle.sqlite.specs.Effect.{Database};
 ghost use Rattle.sqlite.specs.Held.{state};
 ghost use Rattle.sqlite.specs.State.{HasCleanDisk, Survives, KeepsCommit};
 ghost use Rattle.bo_schema.specs.declared.error.RowError.TheVariants.{Foreign};
 ghost use Rattle.bo_schema.specs.Tables.{schema};
 ghost use Rattle.bo_schema.specs.Parts.{shown};
-ghost use Rattle.bo_columns.specs.Tables.{Tables, Holds};
 ghost use Rattle.bo_loads.specs.Damage.{HasMeaning, HasNoMeaning, IsDamaged, IsFor};
-ghost use Rattle.bo_opens.specs.Rests.{IsAt, ShowsTables, Rests};
+ghost use Rattle.bo_opens.specs.Rests.{IsAt, Rests};
 
 use bo_schema::RowError;
 use sqlite::{Alter, Connection, Transaction};
@@ -28,18 +26,8 @@ pub trait Table: Drop {
     // the SELECT of all columns of the table
     ghost text: { List ℕ };
 
-    // the number of the table's tree, and the rows of the table among all tables
+    // the number of the table's tree
     ghost tree: { ℕ };
-
-    ghost among: { Tables → List Self };
-
-    // trees that hold the tables show these rows there
-    ghost shows: { (db : Trees) (t : Tables) → Holds db t → IsPermutation (map as_row (among t)) (map (shown schema tree) (db tree)) };
-
-    // no two rows are shown alike
-    ghost from_row: { Shown → Self };
-
-    ghost is_back: { (row : Self) → from_row (as_row row) ≡ row };
 
     /// All rows of the table, by their numbers. Nothing changes.
     /// Refusals: 6, 60 where the file has no such table with these columns, 62, 63.
@@ -61,7 +49,7 @@ pub(crate) fn rows_in<S: Alter, T: Table>(
     conn: &mut Connection<S>,
 ) -> Result<Vec<T>, RowError>
     requires { conn.old.in_transaction ≡ false }
-    ensures loaded { HasCleanDisk (state S.Store conn.new) → IsTrue (state S.Store conn.new).is_open → (t : Tables) → ShowsTables t (state S.Store conn.old) → IfOk result (λ all. IsPermutation (T.among t) all.items) }
+    ensures loaded { HasCleanDisk (state S.Store conn.new) → IsTrue (state S.Store conn.new).is_open → (db : Database) → IsAt db (state S.Store conn.old) → db.schema ≡ schema → IfOk result (λ all. IsPermutation (map T.as_row all.items) (map (shown schema T.tree) (db.trees T.tree))) }
     ensures limits { IfOk result (λ all. All T.fits all.items) }
     ensures found { HasCleanDisk (state S.Store conn.new) → IsTrue (state S.Store conn.new).is_open → (db : Database) → IsAt db (state S.Store conn.old) → OnOk result (HasMeaning db.schema T.text) }
     ensures refused { HasCleanDisk (state S.Store conn.new) → IsTrue (state S.Store conn.new).is_open → (db : Database) → IsAt db (state S.Store conn.old) → IfErr result (IsFor (HasNoMeaning db.schema T.text) (db.schema ≡ schema → IsDamaged T.as_row T.fits (map (shown schema T.tree) (db.trees T.tree)))) }

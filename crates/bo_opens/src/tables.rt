@@ -4,7 +4,6 @@ ghost use Rattle.std.specs.Prelude.{⊤};
 ghost use Rattle.bo_columns.specs.Rows.{shop_row, item_row, variation_row, quota_row, quota_item_row, quota_variation_row, voucher_row, cart_row, order_row, position_row, waiting_row, list_row, list_item_row, checkin_row, count_row, token_row, kept_row};
 ghost use Rattle.bo_columns.specs.Fit.{IsFitShop, IsFitItem, IsFitVariation, IsFitQuota, IsFitVoucher, IsFitCart, IsFitOrder, IsFitPosition, IsFitWaiting, IsFitList, IsFitCheckin, IsFitToken, IsFitKept};
 ghost use Rattle.bo_loads.specs.Texts.{shop_text, items_text, variations_text, quotas_text, quota_items_text, quota_variations_text, vouchers_text, carts_text, orders_text, positions_text, waiting_text, checkin_lists_text, list_items_text, checkins_text, counts_text, tokens_text, kept_text};
-ghost use Rattle.bo_loads.proofs.Back.{shop_in, shop_back, item_in, item_back, variation_in, variation_back, quota_in, quota_back, quota_item_in, quota_item_back, quota_variation_in, quota_variation_back, voucher_in, voucher_back, cart_in, cart_back, order_in, order_back, position_in, position_back, waiting_in, waiting_back, list_in, list_back, list_item_in, list_item_back, checkin_in, checkin_back, count_in, count_back, token_in, token_back, kept_in, kept_back};
 
 use crate::table::Table;
 use bo_catalogue::{Item, Variation};
@@ -25,14 +24,6 @@ impl Table for Shop {
 
     ghost tree = { 0 };
 
-    ghost among = { λ t. t.shop };
-
-    ghost shows = { λ db t held. held.0 };
-
-    ghost from_row = { shop_in };
-
-    ghost is_back = { shop_back };
-
     fn load<S: Alter>(alloc: Global, tx: &mut Transaction<'_, S>) -> Result<Vec<Shop>, RowError> {
         bo_loads::shop::load(alloc, tx)
     }
@@ -47,14 +38,6 @@ impl Table for Item {
 
     ghost tree = { 1 };
 
-    ghost among = { λ t. t.items };
-
-    ghost shows = { λ db t held. held.1.0 };
-
-    ghost from_row = { item_in };
-
-    ghost is_back = { item_back };
-
     fn load<S: Alter>(alloc: Global, tx: &mut Transaction<'_, S>) -> Result<Vec<Item>, RowError> {
         bo_loads::items::load(alloc, tx)
     }
@@ -68,14 +51,6 @@ impl Table for Variation {
     ghost text = { variations_text };
 
     ghost tree = { 2 };
-
-    ghost among = { λ t. t.variations };
-
-    ghost shows = { λ db t held. held.1.1.0 };
-
-    ghost from_row = { variation_in };
-
-    ghost is_back = { variation_back };
 
     fn load<S: Alter>(
         alloc: Global,
@@ -94,14 +69,6 @@ impl Table for QuotaRow {
 
     ghost tree = { 3 };
 
-    ghost among = { λ t. t.quotas };
-
-    ghost shows = { λ db t held. held.1.1.1.0 };
-
-    ghost from_row = { quota_in };
-
-    ghost is_back = { quota_back };
-
     fn load<S: Alter>(
         alloc: Global,
         tx: &mut Transaction<'_, S>,
@@ -118,14 +85,6 @@ impl Table for QuotaItem {
     ghost text = { quota_items_text };
 
     ghost tree = { 4 };
-
-    ghost among = { λ t. t.quota_items };
-
-    ghost shows = { λ db t held. held.1.1.1.1.0 };
-
-    ghost from_row = { quota_item_in };
-
-    ghost is_back = { quota_item_back };
 
     fn load<S: Alter>(
         alloc: Global,
@@ -144,14 +103,6 @@ impl Table for QuotaVariation {
 
     ghost tree = { 6 };
 
-    ghost among = { λ t. t.quota_variations };
-
-    ghost shows = { λ db t held. held.1.1.1.1.1.0 };
-
-    ghost from_row = { quota_variation_in };
-
-    ghost is_back = { quota_variation_back };
-
     fn load<S: Alter>(
         alloc: Global,
         tx: &mut Transaction<'_, S>,
@@ -168,14 +119,6 @@ impl Table for VoucherRow {
     ghost text = { vouchers_text };
 
     ghost tree = { 8 };
-
-    ghost among = { λ t. t.vouchers };
-
-    ghost shows = { λ db t held. held.1.1.1.1.1.1.0 };
-
-    ghost from_row = { voucher_in };
-
-    ghost is_back = { voucher_back };
 
     fn load<S: Alter>(
         alloc: Global,
@@ -194,14 +137,6 @@ impl Table for CartPos {
 
     ghost tree = { 10 };
 
-    ghost among = { λ t. t.carts };
-
-    ghost shows = { λ db t held. held.1.1.1.1.1.1.1.0 };
-
-    ghost from_row = { cart_in };
-
-    ghost is_back = { cart_back };
-
     fn load<S: Alter>(
         alloc: Global,
         tx: &mut Transaction<'_, S>,
@@ -219,14 +154,6 @@ impl Table for Order {
 
     ghost tree = { 11 };
 
-    ghost among = { λ t. t.orders };
-
-    ghost shows = { λ db t held. held.1.1.1.1.1.1.1.1.0 };
-
-    ghost from_row = { order_in };
-
-    ghost is_back = { order_back };
-
     fn load<S: Alter>(alloc: Global, tx: &mut Transaction<'_, S>) -> Result<Vec<Order>, RowError> {
         bo_loads::orders::load(alloc, tx)
     }
@@ -240,14 +167,6 @@ impl Table for OrderPos {
     ghost text = { positions_text };
 
     ghost tree = { 12 };
-
-    ghost among = { λ t. t.positions };
-
-    ghost shows = { λ db t held. held.1.1.1.1.1.1.1.1.1.0 };
-
-    ghost from_row = { position_in };
-
-    ghost is_back = { position_back };
 
     fn load<S: Alter>(
         alloc: Global,
@@ -266,14 +185,6 @@ impl Table for Waiting {
 
     ghost tree = { 15 };
 
-    ghost among = { λ t. t.waiting };
-
-    ghost shows = { λ db t held. held.1.1.1.1.1.1.1.1.1.1.0 };
-
-    ghost from_row = { waiting_in };
-
-    ghost is_back = { waiting_back };
-
     fn load<S: Alter>(
         alloc: Global,
         tx: &mut Transaction<'_, S>,
@@ -290,14 +201,6 @@ impl Table for ListRow {
     ghost text = { checkin_lists_text };
 
     ghost tree = { 16 };
-
-    ghost among = { λ t. t.checkin_lists };
-
-    ghost shows = { λ db t held. held.1.1.1.1.1.1.1.1.1.1.1.0 };
-
-    ghost from_row = { list_in };
-
-    ghost is_back = { list_back };
 
     fn load<S: Alter>(
         alloc: Global,
@@ -316,14 +219,6 @@ impl Table for ListItem {
 
     ghost tree = { 17 };
 
-    ghost among = { λ t. t.list_items };
-
-    ghost shows = { λ db t held. held.1.1.1.1.1.1.1.1.1.1.1.1.0 };
-
-    ghost from_row = { list_item_in };
-
-    ghost is_back = { list_item_back };
-
     fn load<S: Alter>(
         alloc: Global,
         tx: &mut Transaction<'_, S>,
@@ -340,14 +235,6 @@ impl Table for Checkin {
     ghost text = { checkins_text };
 
     ghost tree = { 19 };
-
-    ghost among = { λ t. t.checkins };
-
-    ghost shows = { λ db t held. held.1.1.1.1.1.1.1.1.1.1.1.1.1.0 };
-
-    ghost from_row = { checkin_in };
-
-    ghost is_back = { checkin_back };
 
     fn load<S: Alter>(
         alloc: Global,
@@ -366,14 +253,6 @@ impl Table for QuotaCount {
 
     ghost tree = { 21 };
 
-    ghost among = { λ t. t.counts };
-
-    ghost shows = { λ db t held. held.1.1.1.1.1.1.1.1.1.1.1.1.1.1.0 };
-
-    ghost from_row = { count_in };
-
-    ghost is_back = { count_back };
-
     fn load<S: Alter>(
         alloc: Global,
         tx: &mut Transaction<'_, S>,
@@ -391,14 +270,6 @@ impl Table for Token {
 
     ghost tree = { 22 };
 
-    ghost among = { λ t. t.tokens };
-
-    ghost shows = { λ db t held. held.1.1.1.1.1.1.1.1.1.1.1.1.1.1.1.0 };
-
-    ghost from_row = { token_in };
-
-    ghost is_back = { token_back };
-
     fn load<S: Alter>(alloc: Global, tx: &mut Transaction<'_, S>) -> Result<Vec<Token>, RowError> {
         bo_loads::tokens::load(alloc, tx)
     }
@@ -412,14 +283,6 @@ impl Table for KeptRow {
     ghost text = { kept_text };
 
     ghost tree = { 24 };
-
-    ghost among = { λ t. t.kept };
-
-    ghost shows = { λ db t held. held.1.1.1.1.1.1.1.1.1.1.1.1.1.1.1.1.0 };
-
-    ghost from_row = { kept_in };
-
-    ghost is_back = { kept_back };
 
     fn load<S: Alter>(
         alloc: Global,

@@ -6,11 +6,10 @@ ghost use Rattle.sqlite_schema.specs.declared.schema.Schema.{Schema};
 ghost use Rattle.sqlite.specs.Effect.{Database};
 ghost use Rattle.sqlite.specs.Held.{state};
 ghost use Rattle.sqlite.specs.State.{HasCleanDisk, Survives};
-ghost use Rattle.bo_columns.specs.Tables.{Tables};
 ghost use Rattle.bo_schema.specs.Tables.{schema};
 ghost use Rattle.bo_schema.specs.Parts.{shown};
 ghost use Rattle.bo_loads.specs.Damage.{HasMeaning, HasNoMeaning, IsDamaged, IsFor};
-ghost use Rattle.bo_opens.specs.Rests.{IsAt, ShowsTables, Rests};
+ghost use Rattle.bo_opens.specs.Rests.{IsAt, Rests};
 
 use crate::table::{Table, rows_in};
 use bo_schema::RowError;
@@ -19,8 +18,8 @@ use std::alloc::Global;
 
 /// What can be read of a file.
 pub(crate) trait Whole: Drop {
-    // it is what these tables hold
-    ghost is_of: { Tables → Self → Type 0 };
+    // it is what trees show
+    ghost is_in: { Trees → Self → Type 0 };
 
     // its values are within their limits
     ghost fits: { Self → Type 0 };
@@ -38,7 +37,7 @@ pub(crate) trait Whole: Drop {
     /// is lacking is told though a value of another one can't be read.
     fn read<S: Alter>(alloc: Global, conn: &mut Connection<S>) -> Result<Self, RowError>
         requires { conn.old.in_transaction ≡ false }
-        ensures loaded { HasCleanDisk (state S.Store conn.new) → IsTrue (state S.Store conn.new).is_open → (t : Tables) → ShowsTables t (state S.Store conn.old) → IfOk result (is_of t) }
+        ensures loaded { HasCleanDisk (state S.Store conn.new) → IsTrue (state S.Store conn.new).is_open → (db : Database) → IsAt db (state S.Store conn.old) → db.schema ≡ schema → IfOk result (is_in db.trees) }
         ensures limits { IfOk result fits }
         ensures found { HasCleanDisk (state S.Store conn.new) → IsTrue (state S.Store conn.new).is_open → (db : Database) → IsAt db (state S.Store conn.old) → OnOk result (stands db.schema) }
         ensures refused { HasCleanDisk (state S.Store conn.new) → IsTrue (state S.Store conn.new).is_open → (db : Database) → IsAt db (state S.Store conn.old) → IfErr result (IsFor (lacks db.schema) (db.schema ≡ schema → is_damaged db.trees)) }
@@ -49,7 +48,7 @@ pub(crate) trait Whole: Drop {
 
 /// One table's rows.
 impl<T: Table> Whole for Vec<T> {
-    ghost is_of = { λ t rows. IsPermutation (T.among t) rows.items };
+    ghost is_in = { λ trees rows. IsPermutation (map T.as_row rows.items) (map (shown schema T.tree) (trees T.tree)) };
 
     ghost fits = { λ rows. All T.fits rows.items };
 
@@ -70,7 +69,7 @@ fn read_both<S: Alter, A: Whole, B: Whole>(
     conn: &mut Connection<S>,
 ) -> Result<(A, B), RowError>
     requires { conn.old.in_transaction ≡ false }
-    ensures loaded { HasCleanDisk (state S.Store conn.new) → IsTrue (state S.Store conn.new).is_open → (t : Tables) → ShowsTables t (state S.Store conn.old) → IfOk result (λ both. A.is_of t both.0 × B.is_of t both.1) }
+    ensures loaded { HasCleanDisk (state S.Store conn.new) → IsTrue (state S.Store conn.new).is_open → (db : Database) → IsAt db (state S.Store conn.old) → db.schema ≡ schema → IfOk result (λ both. A.is_in db.trees both.0 × B.is_in db.trees both.1) }
     ensures limits { IfOk result (λ both. A.fits both.0 × B.fits both.1) }
     ensures found { HasCleanDisk (state S.Store conn.new) → IsTrue (state S.Store conn.new).is_open → (db : Database) → IsAt db (state S.Store conn.old) → OnOk result (A.stands db.schema × B.stands db.schema) }
     ensures refused { HasCleanDisk (state S.Store conn.new) → IsTrue (state S.Store conn.new).is_open → (db : Database) → IsAt db (state S.Store conn.old) → IfErr result (IsFor (A.lacks db.schema ⊎ B.lacks db.schema) (db.schema ≡ schema → A.is_damaged db.trees ⊎ B.is_damaged db.trees)) }
@@ -92,7 +91,7 @@ fn read_both<S: Alter, A: Whole, B: Whole>(
 }
 
 impl<A: Whole, B: Whole> Whole for (A, B) {
-    ghost is_of = { λ t both. A.is_of t both.0 × B.is_of t both.1 };
+    ghost is_in = { λ trees both. A.is_in trees both.0 × B.is_in trees both.1 };
 
     ghost fits = { λ both. A.fits both.0 × B.fits both.1 };
 

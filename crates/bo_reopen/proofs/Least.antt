@@ -1,5 +1,7 @@
 -- The least rule that is broken.
-use Rattle.std.proofs.Common.{◌≡◌, ℕ, ◌<◌, ◌≤◌, Bool, List, IsTrue, subst, sym, arith, Option, Some, None, IfSome, IfNone}
+use Rattle.std.proofs.Common.{◌≡◌, ◌⊎◌, ◌↔◌, ℕ, ◌<◌, ◌≤◌, Bool, List, IsTrue, inl, inr, subst, sym, arith, Option, Some, None, IfSome, IfNone}
+use Rattle.sqlite.specs.Effect.{Database}
+use Rattle.bo_schema.specs.Tables.{schema}
 use Rattle.bo_stand.specs.Rows.{OfficeRows}
 use Rattle.bo_stand.specs.Stands.{AreRowsOf}
 use Rattle.bo_rules.specs.declared.rule.Rule.{Rule}
@@ -13,70 +15,95 @@ use Rattle.bo_rules.specs.declared.file_rows.FileRows.{FileRows}
 use Rattle.bo_rules.specs.Told.{state_of, file_of}
 use Rattle.bo_checks.specs.Last.{KeepsFirst, KeepsAll, IsLeastOf, file_with}
 use Rattle.bo_columns.specs.declared.rows.Shop.{Shop}
-use Rattle.bo_columns.specs.Tables.{Tables}
+use Rattle.bo_columns.specs.declared.rows.Token.{Token}
+use Rattle.bo_columns.specs.Tables.{Holds}
 use Rattle.bo_opens.specs.declared.error.OpenError.{OpenError}
 use Rattle.bo_opens.specs.declared.error.OpenError.TheVariants.{Memory, NotAShop, Version, Damaged, Store}
 use Rattle.bo_opens.specs.declared.file.FileTables.{FileTables}
-use Rattle.bo_opens.specs.Read.{IsFileOf, TellsVersion}
+use Rattle.bo_opens.specs.Causes.{IsReadable, IsCause}
+use Rattle.bo_opens.specs.Lawful.{IsOfMachine}
+use Rattle.bo_opens.specs.Read.{tables_of}
 use Rattle.bo_arrange.specs.Arranged.{arranged, rows_in, IsInOrder}
-use Rattle.bo_reopen.specs.Opened.{KeepsIn, IsLeastIn, IsDamagedBy, IsWhy, IsBroken, IsEarly, TellsDamage}
+use Rattle.bo_reopen.specs.Opened.{AreBelowNext, KeepsIn, IsLeastIn, IsDamagedBy, IsWhy, IsBroken, IsReason}
 
-module _ (rows : OfficeRows) (file : File) where
-  -- rules other than that of names speak of no links
-  early : (rule : Rule) → number rule < 4 → Keeps rule file → KeepsIn rows file rule
+module _ (shop : Shop) (tokens : List Token) (rows : OfficeRows) (file : File) where
+  -- the first two rules speak of nothing beside the office
+  early : (rule : Rule) → number rule < 3 → Keeps rule file → KeepsIn shop tokens rows file rule
   early rules.Shop lt k = k
   early rules.Limits lt k = k
-  early rules.Ids lt k = k
+  early rules.Ids lt k = absurd (omega (arith, lt))
   early rules.Names lt k = absurd (omega (arith, lt))
-  early rules.Positions lt k = k
-  early rules.Headroom lt k = k
-  early rules.Counters lt k = k
+  early rules.Positions lt k = absurd (omega (arith, lt))
+  early rules.Headroom lt k = absurd (omega (arith, lt))
+  early rules.Counters lt k = absurd (omega (arith, lt))
 
-  pub kept_in : (rule : Rule) → AreRowsOf file.state.lists rows → Keeps rule file → KeepsIn rows file rule
-  kept_in rules.Shop whole k = k
-  kept_in rules.Limits whole k = k
-  kept_in rules.Ids whole k = k
-  kept_in rules.Names whole k = (whole, k)
-  kept_in rules.Positions whole k = k
-  kept_in rules.Headroom whole k = k
-  kept_in rules.Counters whole k = k
+  pub kept_in : (rule : Rule) → AreBelowNext shop tokens → AreRowsOf file.state.lists rows → Keeps rule file → KeepsIn shop tokens rows file rule
+  kept_in rules.Shop below whole k = k
+  kept_in rules.Limits below whole k = k
+  kept_in rules.Ids below whole k = (below, k)
+  kept_in rules.Names below whole k = (whole, k)
+  kept_in rules.Positions below whole k = k
+  kept_in rules.Headroom below whole k = k
+  kept_in rules.Counters below whole k = k
 
-  kept : (rule : Rule) → KeepsIn rows file rule → Keeps rule file
+  kept : (rule : Rule) → KeepsIn shop tokens rows file rule → Keeps rule file
   kept rules.Shop k = k
   kept rules.Limits k = k
-  kept rules.Ids k = k
+  kept rules.Ids k = k.1
   kept rules.Names k = k.1
   kept rules.Positions k = k
   kept rules.Headroom k = k
   kept rules.Counters k = k
 
-  one_of_three : (rule : Rule) → number rule < 4 → KeepsFirst file → Keeps rule file
-  one_of_three rules.Shop lt k = k.shop
-  one_of_three rules.Limits lt k = k.limits
-  one_of_three rules.Ids lt k = k.ids
-  one_of_three rules.Names lt k = absurd (omega (arith, lt))
-  one_of_three rules.Positions lt k = absurd (omega (arith, lt))
-  one_of_three rules.Headroom lt k = absurd (omega (arith, lt))
-  one_of_three rules.Counters lt k = absurd (omega (arith, lt))
+  one_of_two : (rule : Rule) → number rule < 3 → KeepsFirst file → KeepsIn shop tokens rows file rule
+  one_of_two rules.Shop lt k = k.shop
+  one_of_two rules.Limits lt k = k.limits
+  one_of_two rules.Ids lt k = absurd (omega (arith, lt))
+  one_of_two rules.Names lt k = absurd (omega (arith, lt))
+  one_of_two rules.Positions lt k = absurd (omega (arith, lt))
+  one_of_two rules.Headroom lt k = absurd (omega (arith, lt))
+  one_of_two rules.Counters lt k = absurd (omega (arith, lt))
+
+  one_of_three : (rule : Rule) → number rule < 4 → AreBelowNext shop tokens → KeepsFirst file → KeepsIn shop tokens rows file rule
+  one_of_three rules.Shop lt below k = k.shop
+  one_of_three rules.Limits lt below k = k.limits
+  one_of_three rules.Ids lt below k = (below, k.ids)
+  one_of_three rules.Names lt below k = absurd (omega (arith, lt))
+  one_of_three rules.Positions lt below k = absurd (omega (arith, lt))
+  one_of_three rules.Headroom lt below k = absurd (omega (arith, lt))
+  one_of_three rules.Counters lt below k = absurd (omega (arith, lt))
 
   -- one of the first three
-  pub least_first : (rule : Rule) → number rule ≤ 3 → IsLeastBroken rule file → IsLeastIn rows file rule
+  pub least_first : (rule : Rule) → number rule ≤ 3 → IsLeastBroken rule file → IsLeastIn shop tokens rows file rule
   least_first rule le h = record { before = λ other lt. early other (omega (arith, lt, le)) (h.before other lt); broken = λ k. h.broken (kept rule k) }
 
-  -- a link that tells no member, where the first three are kept
-  pub least_links : KeepsFirst file → ¬ AreRowsOf file.state.lists rows → IsLeastIn rows file rules.Names
-  least_links first lost = record { before = λ other lt. early other lt (one_of_three other lt first); broken = λ k. lost k.0 }
+  -- a token's number, where the first three are kept
+  least_tokens : KeepsFirst file → ¬ AreBelowNext shop tokens → IsLeastIn shop tokens rows file rules.Ids
+  least_tokens first lost = record { before = λ other lt. one_of_two other lt first; broken = λ k. lost k.0 }
+
+  -- a link that tells no member, where these and the tokens' numbers are kept
+  least_links : KeepsFirst file → AreBelowNext shop tokens → ¬ AreRowsOf file.state.lists rows → IsLeastIn shop tokens rows file rules.Names
+  least_links first below lost = record { before = λ other lt. one_of_three other lt below first; broken = λ k. lost k.0 }
 
   -- any other, where each link tells a member
-  pub least_later : (rule : Rule) → AreRowsOf file.state.lists rows → IsLeastBroken rule file → IsLeastIn rows file rule
-  least_later rule whole h = record { before = λ other lt. kept_in other whole (h.before other lt); broken = λ k. h.broken (kept rule k) }
+  pub least_later : (rule : Rule) → AreBelowNext shop tokens → AreRowsOf file.state.lists rows → IsLeastBroken rule file → IsLeastIn shop tokens rows file rule
+  least_later rule below whole h = record { before = λ other lt. kept_in other below whole (h.before other lt); broken = λ k. h.broken (kept rule k) }
 
--- links that aren't whole
-pub links_lost : (file : File) (o : Option Rule) (whole : Bool) → Keeps rules.Shop file × Keeps rules.Limits file × Keeps rules.Ids file → IfSome o (λ rule. (rule ≡ rules.Names) × (¬ IsTrue whole))
-    → IfSome o (λ rule. (links : OfficeRows) → (AreRowsOf file.state.lists links → IsTrue whole) → IsLeastIn links file rule)
-links_lost file None whole first h = tt
-links_lost file (Some rule) whole first h = λ links is_whole.
-    subst (IsLeastIn links file) (sym h.0) (least_links links file (record { shop = first.0; limits = first.1; ids = first.2 }) (λ k. h.1 (is_whole k)))
+-- what stands beside the office is broken
+abbrev pub IsBeside : (numbered whole : Bool) → Rule → Type 0
+IsBeside numbered whole rule = ((rule ≡ rules.Ids) × (¬ IsTrue numbered)) ⊎ ((rule ≡ rules.Names) × IsTrue numbered × (¬ IsTrue whole))
+
+abbrev pub IsToldFor : File → (numbered whole : Bool) → Rule → Type 0
+IsToldFor file numbered whole rule = (shop : Shop) (tokens : List Token) (links : OfficeRows) → (IsTrue numbered ↔ AreBelowNext shop tokens) → (AreRowsOf file.state.lists links → IsTrue whole) → IsLeastIn shop tokens links file rule
+
+beside_is : (file : File) (rule : Rule) (numbered whole : Bool) → KeepsFirst file → IsBeside numbered whole rule → IsToldFor file numbered whole rule
+beside_is file rule numbered whole first (inl (is, lost)) = λ shop tokens links is_numbered is_whole. subst (IsLeastIn shop tokens links file) (sym is) (least_tokens shop tokens links file first (λ k. lost (is_numbered.1 k)))
+beside_is file rule numbered whole first (inr (is, below, lost)) = λ shop tokens links is_numbered is_whole.
+    subst (IsLeastIn shop tokens links file) (sym is) (least_links shop tokens links file first (is_numbered.0 below) (λ k. lost (is_whole k)))
+
+pub told_beside : (file : File) (o : Option Rule) (numbered whole : Bool) → Keeps rules.Shop file × Keeps rules.Limits file × Keeps rules.Ids file → IfSome o (IsBeside numbered whole) → IfSome o (IsToldFor file numbered whole)
+told_beside file None numbered whole first h = tt
+told_beside file (Some rule) numbered whole first h = beside_is file rule numbered whole (record { shop = first.0; limits = first.1; ids = first.2 }) h
 
 -- a book that was filled with rows stands for their file
 filled_file : (rows : FileRows) (s : State) (used : List QuotaCount) (redeemed : List VoucherCount) → s ≡ state_of rows → used ≡ rows.used.items → redeemed ≡ rows.redeemed.items → file_with s used redeemed rows.organizer rows.event ≡ file_of rows
@@ -93,31 +120,33 @@ kept_of rows s used redeemed a b d first h rule =
     subst (Keeps rule) is (h rows.organizer rows.event rule (subst KeepsFirst (sym is) first))
 
 -- why the rows of an office are broken is why the file isn't opened
-pub why : (read : FileTables) (file : File) (e : OpenError) → file ≡ arranged read.shop read.tables → IsInOrder (arranged read.shop read.tables) → AreRowsOf (arranged read.shop read.tables).state.lists (rows_in read.tables) → IsBroken file e → IsWhy read e
-why read file Memory is order whole h = tt
-why read file (Damaged rule) is order whole h = (order, least_later (rows_in read.tables) (arranged read.shop read.tables) rule whole (subst (IsLeastBroken rule) is h))
-why read file NotAShop is order whole h = absurd h
-why read file (Version version) is order whole h = absurd h
-why read file Store is order whole h = absurd h
+pub why : (read : FileTables) (file : File) (e : OpenError) → file ≡ arranged read.shop read.tables → IsInOrder (arranged read.shop read.tables) → AreBelowNext read.shop read.tables.others.tokens.items → AreRowsOf (arranged read.shop read.tables).state.lists (rows_in read.tables) → IsBroken file e → IsWhy read e
+why read file Memory is order below whole h = tt
+why read file (Damaged rule) is order below whole h = (order, least_later read.shop read.tables.others.tokens.items (rows_in read.tables) (arranged read.shop read.tables) rule below whole (subst (IsLeastBroken rule) is h))
+why read file NotAShop is order below whole h = absurd h
+why read file (Version version) is order below whole h = absurd h
+why read file Store is order below whole h = absurd h
 
--- and so it is told
-pub tells : (t : Tables) (read : FileTables) (e : OpenError) → IsFileOf t read → IsWhy read e → TellsDamage t e
-tells t read Memory of h = tt
-tells t read (Damaged rule) of h = λ later. record { read = read; of = of; order = h.0; least = h.1 }
-tells t read NotAShop of h = tt
-tells t read (Version version) of h = tt
-tells t read Store of h = tt
+-- and so it is told of what was read
+pub reason : (db : Database) (read : FileTables) → IsReadable db → (db.schema ≡ schema → Holds db.trees (tables_of read)) → (e : OpenError) → IsWhy read e → IsReason db e
+reason db read readable held Memory h = tt
+reason db read readable held NotAShop h = absurd h
+reason db read readable held (Version version) h = absurd h
+reason db read readable held (Damaged rule) h = inr (readable, λ known. record { read = read; held = held known; order = h.0; least = h.1 })
+reason db read readable held Store h = tt
 
-pub no_version : (read : FileTables) (e : OpenError) → IsWhy read e → (shop : Shop) → TellsVersion shop e
-no_version read Memory h shop = tt
-no_version read (Damaged rule) h shop = tt
-no_version read NotAShop h shop = tt
-no_version read (Version version) h shop = absurd h
-no_version read Store h shop = tt
+pub unread : (db : Database) (e : OpenError) → IsCause db e → IsReason db e
+unread db Memory h = tt
+unread db NotAShop h = h
+unread db (Version version) h = h
+unread db (Damaged rule) h = inl h
+unread db Store h = tt
 
-pub early_tells : (t : Tables) (e : OpenError) → IsEarly e → TellsDamage t e
-early_tells t Memory h = tt
-early_tells t (Damaged rule) h = λ later. absurd (omega (arith, h, later))
-early_tells t NotAShop h = tt
-early_tells t (Version version) h = tt
-early_tells t Store h = tt
+-- no reason but that of the machine
+pub clear : (db : Database) → db.schema ≡ schema → ((e : OpenError) → IsCause db e → IsOfMachine e) → ((rule : Rule) → ¬ IsDamagedBy rule db.trees) → (e : OpenError) → IsReason db e → IsOfMachine e
+clear db known read kept Memory h = tt
+clear db known read kept NotAShop h = read NotAShop h
+clear db known read kept (Version version) h = read (Version version) h
+clear db known read kept (Damaged rule) (inl h) = read (Damaged rule) h
+clear db known read kept (Damaged rule) (inr h) = kept rule (h.1 known)
+clear db known read kept Store h = tt

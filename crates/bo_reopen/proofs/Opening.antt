@@ -1,5 +1,5 @@
 -- What was read of a file, and what its tables hold of an office.
-use Rattle.std.proofs.Common.{◌≡◌, ℕ, false, List, [], ◌∷◌, map, IsTrue, refl, sym, ap, subst, ◌∙◌}
+use Rattle.std.proofs.Common.{◌≡◌, ℕ, false, List, [], ◌∷◌, map, IsTrue, Result, Ok, Err, IfOk, OnOk, refl, sym, ap, subst, ◌∙◌}
 use Rattle.std.specs.List.Sorted.{IsPermutation}
 use Rattle.std.proofs.lemmas.List.Sorted.{IsPermutation-map, IsPermutation-refl, IsPermutation-sym}
 use Rattle.sqlite_trees.specs.Tree.{Trees}
@@ -19,10 +19,9 @@ use Rattle.bo_rules.specs.Rules.{File, IsCounted}
 use Rattle.bo_opens.specs.declared.file.FileTables.{FileTables}
 use Rattle.bo_opens.specs.declared.read.TableRows.{TableRows}
 use Rattle.bo_opens.specs.Read.{AreTableRows, IsFileOf}
-use Rattle.bo_opens.specs.Rests.{ShowsTables, StaysOpen}
+use Rattle.bo_opens.specs.Rests.{IsAt, StaysOpen}
 use Rattle.bo_arrange.specs.Arranged.{arranged, rows_in, told_by, count_in, item_link, variation_link, list_link, IsInOrder}
-use Rattle.bo_tables.proofs.Told.{one_shop}
-use Rattle.bo_reopen.specs.Opened.{IsOpened}
+use Rattle.bo_reopen.specs.Opened.{AreBelowNext, IsOpened}
 
 -- the rows that were read are those of the tables
 pub same_rows : (t : Tables) (rows : TableRows) → AreTableRows t rows → AreSameRows (rows_of t) (rows_in rows)
@@ -63,17 +62,29 @@ stand_as t read file s is state of order whole counted =
 
 -- of an open connection a crash leaves the last commit
 pub is_opened : (t : Tables) (head : Shop) (next : ℕ) (s : State) (old new : Connected) → ((db : Trees) → IsTrue new.is_open → new.may_leave db → db ≡ new.committed.trees) → IsTrue new.is_open → new.in_transaction ≡ false → StaysOpen old new
-    → ShowsTables t old → Stand head t s (map (λ r. r.kept) t.kept) → IsFree next t → IsOpened t head next s new
-is_opened t head next s old new law opened outside stays shows stand free =
-    let at = stays.stays shows.db shows.at in
-    let known : new.now.schema ≡ schema = ap (λ (d : Database). d.schema) at.now ∙ shows.known in
-    let held : Holds new.now.trees t = subst (λ (d : Database). Holds d.trees t) (sym at.now) shows.holds in
+    → (db : Database) → IsAt db old → db.schema ≡ schema → Holds db.trees t → Stand head t s (map (λ r. r.kept) t.kept) → ((u : Tables) → Holds db.trees u → IsFree next u) → AreBelowNext head t.tokens → IsOpened db.trees head next s new
+is_opened t head next s old new law opened outside stays db was has holds stand free numbered =
+    let at = stays.stays db was in
+    let known : new.now.schema ≡ schema = ap (λ (d : Database). d.schema) at.now ∙ has in
+    let held : Holds new.now.trees t = subst (λ (d : Database). Holds d.trees t) (sym at.now) holds in
     let settled : new.now ≡ new.committed = at.now ∙ sym at.committed in
     record {
+      tables = t;
+      held = holds;
       stand = stand;
-      holds = λ is_open. record { known = known; outside = outside; settled = settled; tables = t; held = held; stand = stand; free = free };
-      knows = λ is_open. record { told = record { known = known; tables = t; held = held; told = λ digest. refl }; free = free };
+      numbered = numbered;
+      holds = λ is_open. record { known = known; outside = outside; settled = settled; tables = t; held = held; stand = stand; free = free t holds };
+      knows = λ u also is_open. record { told = record { known = known; tables = u; held = subst (λ (d : Database). Holds d.trees u) (sym at.now) also; told = λ digest. refl }; free = free u also };
       leaves = λ left l.
-          let db : l.trees ≡ new.now.trees = law l.trees opened l.may ∙ sym (ap (λ (d : Database). d.trees) settled) in
-          one_shop new.now.trees l.tables t (subst (λ d. Holds d l.tables) db l.held) held l.head head left.state s left.kept (map (λ r. r.kept) t.kept) l.stand stand;
+          let same : l.trees ≡ new.now.trees = law l.trees opened l.may ∙ sym (ap (λ (d : Database). d.trees) settled) in
+          l.only head t (record { state = s; kept = map (λ r. r.kept) t.kept }) (subst (λ d. Holds d t) (sym same) held) stand;
     }
+
+-- what follows of a value from what holds of it
+pub both_on : {T E : Type 0} (r : Result T E) (P Q R : T → Type 0) {O : Type 0} → IfOk r P → IfOk r Q → OnOk r O → ((x : T) → P x → Q x → O → R x) → IfOk r R
+both_on (Ok x) P Q R h i o k = k x h i o
+both_on (Err e) P Q R h i o k = tt
+
+pub on_three : {T E : Type 0} (r : Result T E) (P Q R : T → Type 0) (O S : Type 0) → IfOk r P → IfOk r Q → IfOk r R → OnOk r O → ((x : T) → P x → Q x → R x → O → S) → OnOk r S
+on_three (Ok x) P Q R O S h i j o k = k x h i j o
+on_three (Err e) P Q R O S h i j o k = tt

@@ -1,8 +1,10 @@
 -- Tables that hold an office are opened as that office.
-use Rattle.std.proofs.Common.{◌≡◌, ℕ, List, [], ◌∷◌, map, IsTrue, refl, sym, ap, subst, ◌∙◌}
+use Rattle.std.proofs.Common.{◌≡◌, ℕ, ◌<◌, List, [], ◌∷◌, map, IsTrue, refl, sym, ap, subst, ◌∙◌}
 use Rattle.std.specs.List.Sorted.{IsPermutation}
 use Rattle.std.proofs.lemmas.List.Sorted.{IsPermutation-map, IsPermutation-sym, IsPermutation-trans}
-use Rattle.sqlite.specs.State.{State as Connected}
+use Rattle.sqlite_trees.specs.Tree.{Trees}
+use Rattle.sqlite_trees.proofs.ListLemmas.{all-permutation}
+use Rattle.sqlite.proofs.Callers.{one_permutation}
 use Rattle.bo_base.specs.Slugs.{IsSlug}
 use Rattle.bo_lists.specs.Lists.{State}
 use Rattle.bo_lists.specs.CountRows.{quota_count, quota_counts, voucher_count, voucher_counts}
@@ -10,23 +12,26 @@ use Rattle.bo_sound.specs.Sound.{IsSound}
 use Rattle.bo_kept.specs.declared.kept.Kept.{Kept}
 use Rattle.bo_kept.specs.ShopView.{IsSame}
 use Rattle.bo_columns.specs.declared.rows.Shop.{Shop}
-use Rattle.bo_columns.specs.Tables.{Tables}
+use Rattle.bo_columns.specs.declared.rows.Token.{Token}
+use Rattle.bo_columns.specs.Rows.{shop_row}
+use Rattle.bo_columns.specs.Tables.{Tables, Holds}
+use Rattle.bo_loads.proofs.Back.{alike, shop_in, shop_back}
 use Rattle.bo_stand.specs.Rows.{OfficeRows, rows_of}
 use Rattle.bo_stand.specs.Stands.{AreRowsOf, AreSameRows, Stand}
-use Rattle.bo_stand.proofs.Follow.{rows_along, same_rows}
+use Rattle.bo_stand.proofs.Follow.{rows_along}
 use Rattle.bo_stand.proofs.Order.{same_order}
-use Rattle.bo_stand.proofs.Told.{order_of_parts, tell_one}
+use Rattle.bo_stand.proofs.Told.{order_of_parts}
 use Rattle.bo_rules.specs.declared.rule.Rule.{Rule}
 use Rattle.bo_rules.specs.Rules.{File, IsCounted, Keeps}
 use Rattle.bo_rules.proofs.Sounds.{keeps_all}
 use Rattle.bo_opens.specs.declared.file.FileTables.{FileTables}
 use Rattle.bo_opens.specs.declared.read.TableRows.{TableRows}
 use Rattle.bo_opens.specs.Read.{AreTableRows, IsFileOf}
-use Rattle.bo_opens.specs.Rests.{ShowsTables}
+use Rattle.bo_opens.proofs.SameLemmas.{file_of}
 use Rattle.bo_arrange.specs.Arranged.{arranged, rows_in, told_by, count_in, IsInOrder}
 use Rattle.bo_arrange.proofs.Offices.{office_told}
-use Rattle.bo_tables.specs.Shops.{Keeps as Held}
-use Rattle.bo_reopen.specs.Opened.{IsDamagedBy, IsOpened}
+use Rattle.bo_tables.proofs.Told.{one_shop}
+use Rattle.bo_reopen.specs.Opened.{AreBelowNext, IsDamagedBy}
 use Rattle.bo_reopen.proofs.Least.{kept_in}
 use Rattle.bo_reopen.proofs.Opening.{same_rows as read_rows}
 
@@ -88,20 +93,21 @@ module _ (head : Shop) (t : Tables) (s : State) (ks : List Kept) (stand : Stand 
     keeps organizer event sound rule =
         keeps_all file rule (subst (λ (h : Shop). IsSlug h.organizer) (sym shop_is) organizer) (subst (λ (h : Shop). IsSlug h.event) (sym shop_is) event) (subst IsSound (sym state_is) sound) counted
 
-  -- they break no rule
-  pub undamaged : IsSlug head.organizer → IsSlug head.event → IsSound s → (rule : Rule) → ¬ IsDamagedBy rule t
-  undamaged organizer event sound rule d =
-      let is = lists_are d.read d.of d.order in
-      d.least.broken (kept_in (rows_in d.read.tables) (arranged d.read.shop d.read.tables) rule (subst (λ l. AreRowsOf l (rows_in d.read.tables)) (sym is) (rows_are d.read d.of d.order)) (keeps d.read d.of d.order organizer event sound rule))
+    below : AreBelowNext head t.tokens → AreBelowNext read.shop read.tables.others.tokens.items
+    below numbered = subst (λ (h : Shop). AreBelowNext h read.tables.others.tokens.items) (sym shop_is) (all-permutation (λ (w : Token). w.id < head.next_token) t.tokens read.tables.others.tokens.items of.tables.others.tokens numbered)
 
-  -- another shop that they hold is this one
-  pub same_shop : (shop : Shop) (z : State) (js : List Kept) → Stand shop t z js → (shop ≡ head) × IsSame (record { state = z; kept = js }) (record { state = s; kept = ks })
-  same_shop shop z js other =
-      let is : shop ≡ head = one_row t.shop shop head other.shop_is stand.shop_is in
-      let lists = tell_one z.lists s.lists (rows_of t) (rows_of t) other.ordered stand.ordered other.rows stand.rows (same_rows (rows_of t)) in
-      let next : z.next ≡ s.next = sym other.next ∙ ap (λ (h : Shop). h.next) is ∙ stand.next in
-      let moment : z.moment ≡ s.moment = sym other.moment ∙ ap (λ (h : Shop). h.moment) is ∙ stand.moment in
-      (is, record { state = λ i. record { lists = lists i; next = next i; moment = moment i }; kept = IsPermutation-trans _ _ _ (IsPermutation-sym _ _ other.kept) stand.kept })
+  -- trees that hold them break no rule
+  pub undamaged : (db : Trees) → Holds db t → AreBelowNext head t.tokens → IsSlug head.organizer → IsSlug head.event → IsSound s → (rule : Rule) → ¬ IsDamagedBy rule db
+  undamaged db held numbered organizer event sound rule d =
+      let of = file_of db t d.read held d.held in
+      let rows = rows_in d.read.tables in
+      let whole : AreRowsOf (told_by rows) rows = subst (λ l. AreRowsOf l rows) (sym (lists_are d.read of d.order)) (rows_are d.read of d.order) in
+      d.least.broken (kept_in d.read.shop d.read.tables.others.tokens.items rows (arranged d.read.shop d.read.tables) rule (below d.read of d.order numbered) whole (keeps d.read of d.order organizer event sound rule))
 
-pub shows_held : (head : Shop) (next : ℕ) (c : Connected) (s : State) (ks : List Kept) (held : Held head next c s ks) → ShowsTables held.tables c
-shows_held head next c s ks held = record { db = c.now; at = record { now = refl; committed = sym held.settled }; known = held.known; holds = held.held }
+-- what trees hold is one shop
+pub same_shop : (db : Trees) (t u : Tables) → Holds db t → Holds db u → (head shop : Shop) (s z : State) (ks js : List Kept) → Stand head t s ks → Stand shop u z js → (shop ≡ head) × IsSame (record { state = z; kept = js }) (record { state = s; kept = ks })
+same_shop db t u h k head shop s z ks js stand other =
+    let shops = alike shop_row shop_in shop_back u.shop t.shop _ k.0 h.0 in
+    let one : IsPermutation (shop ∷ []) (head ∷ []) = subst (λ l. IsPermutation l (head ∷ [])) other.shop_is (subst (IsPermutation u.shop) stand.shop_is shops) in
+    let is : head ∷ [] ≡ shop ∷ [] = one_permutation shop (head ∷ []) one in
+    (cc, one_shop db u t k h shop head z s js ks other stand)

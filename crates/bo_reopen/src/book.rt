@@ -11,7 +11,7 @@ ghost use Rattle.bo_rules.specs.Rules.{Keeps};
 ghost use Rattle.bo_rules.specs.Told.{state_of, file_of};
 ghost use Rattle.bo_checks.specs.Last.{KeepsFirst};
 ghost use Rattle.bo_opens.specs.Read.{IsFileOf};
-ghost use Rattle.bo_reopen.specs.Opened.{IsBroken, IsWhy};
+ghost use Rattle.bo_reopen.specs.Opened.{AreBelowNext, IsBroken, IsWhy};
 
 use crate::rows::{first_kept, free_number};
 use bo_base::Slug;
@@ -77,6 +77,7 @@ pub(crate) fn open_rows<B: Book + Drop>(
     ensures head { IfOk result (λ it. it.head ≡ file.shop) }
     ensures names { IfOk result (λ it. (it.organizer ≡ it.head.organizer) × (it.event ≡ it.head.event)) }
     ensures sound { IfOk result (λ it. IsSound (B.state it.book)) }
+    ensures numbered { OnOk result (AreBelowNext file.shop file.tables.others.tokens.items) }
     ensures held { IfOk result (λ it. (t : Tables) → IsFileOf t file → Stand it.head t (B.state it.book) (map (λ r. r.kept) t.kept) × IsFree it.next_row t) }
     ensures refused { IfErr result (IsWhy file) }
 {

@@ -4,7 +4,6 @@
 mod book;
 pub mod file;
 pub mod laws;
-mod numbers;
 mod rows;
 
 pub use book::Reopened;

@@ -21,8 +21,7 @@ use Rattle.bo_stand.proofs.Carried.{carried, free_done, tokens_stay}
 use Rattle.bo_transaction.specs.Whole.{IsStill, IsWritten, MayBeWritten}
 use Rattle.bo_tables.specs.Held.{KeepsAnswers, KnowsTokens, number_of}
 use Rattle.bo_tables.specs.Committed.{Turns}
-use Rattle.bo_tables.specs.Shops.{Keeps, HoldsWhileOpen, Knows, KnowsWhileOpen, Leaves}
-use Rattle.bo_tables.proofs.Told.{one_shop}
+use Rattle.bo_tables.specs.Shops.{Keeps, HoldsWhileOpen, Knows, KnowsWhileOpen, HoldNoOther, Leaves}
 
 -- ---- nothing changed
 
@@ -49,7 +48,7 @@ pub leaves_still : (old new : Connected) → Survives old new (λ _. ⊥) → (l
 leaves_still old new h left l =
     let clean : HasCleanDisk old = let more = l.clean in omega (arith, h.clean) in
     elim (h.crash l.clean l.trees l.may) [
-      | inl may ↦ record { clean = clean; trees = l.trees; may = may; head = l.head; tables = l.tables; held = l.held; stand = l.stand }
+      | inl may ↦ record { clean = clean; trees = l.trees; may = may; only = l.only }
       | inr none ↦ absurd none
     ]
 
@@ -93,20 +92,19 @@ module _ (head shop : Shop) (changes : Changed) (counts : CountRows) (from : ℕ
         free = rw w.turned.0 (free_done shop changes.list counts from (listed o) shop.moment it.told.tables it.free);
       }
 
-  left_so : (db : Trees) → MayBeWritten schema turns old db → (l : Tables) (other : Shop) (left : ShopView) → Holds db l → Stand other l left.state left.kept → (s : State) (ks : List Kept) → HoldsWhileOpen head from old s ks → is_right s
-      → IsSame left (committed changes shop.moment o s ks)
-  left_so db may l other left held stand s ks holds right =
+  left_so : (db : Trees) → MayBeWritten schema turns old db → (left : ShopView) → HoldNoOther db left → (s : State) (ks : List Kept) → HoldsWhileOpen head from old s ks → is_right s → IsSame left (committed changes shop.moment o s ks)
+  left_so db may left only s ks holds right =
       let it = holds may.was_open in
       let turned = may.turned it.known in
       let here : Holds db (change it.tables) = subst (λ d. Holds d (change it.tables)) (sym may.is) (turned.1.holds it.tables it.free it.held) in
-      one_shop db l (change it.tables) held here other shop left.state (applied changes shop.moment s) left.kept (with_kept shop.moment ks (listed o)) stand (carried_here s ks it right)
+      only shop (change it.tables) (committed changes shop.moment o s ks) here (carried_here s ks it right)
 
   pub leaves_or : Survives old new (MayBeWritten schema turns old) → (left : ShopView) → Leaves new left → Leaves old left ⊎ ((s : State) (ks : List Kept) → HoldsWhileOpen head from old s ks → is_right s → IsSame left (committed changes shop.moment o s ks))
   leaves_or h left l =
       let clean : HasCleanDisk old = let more = l.clean in omega (arith, h.clean) in
       elim (h.crash l.clean l.trees l.may) [
-        | inl may ↦ inl (record { clean = clean; trees = l.trees; may = may; head = l.head; tables = l.tables; held = l.held; stand = l.stand })
-        | inr may ↦ inr (left_so l.trees may l.tables l.head left l.held l.stand)
+        | inl may ↦ inl (record { clean = clean; trees = l.trees; may = may; only = l.only })
+        | inr may ↦ inr (left_so l.trees may left l.only)
       ]
 
   -- of an open connection a crash leaves the last commit
@@ -115,4 +113,4 @@ module _ (head shop : Shop) (changes : Changed) (counts : CountRows) (from : ℕ
   leaves_written law free w left l s ks holds right =
       let it = written_holds free w s ks holds right w.is_open in
       let db : l.trees ≡ new.now.trees = law l.trees w.is_open l.may ∙ sym (ap (λ (d : Database). d.trees) w.settled) in
-      one_shop new.now.trees l.tables it.tables (subst (λ d. Holds d l.tables) db l.held) it.held l.head shop left.state (applied changes shop.moment s) left.kept (with_kept shop.moment ks (listed o)) l.stand it.stand
+      l.only shop it.tables (committed changes shop.moment o s ks) (subst (λ d. Holds d it.tables) (sym db) it.held) it.stand

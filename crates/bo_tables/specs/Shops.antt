@@ -7,7 +7,7 @@ use Rattle.sqlite.specs.State.{State as Connected, HasCleanDisk}
 use Rattle.bo_schema.specs.Tables.{schema}
 use Rattle.bo_lists.specs.Lists.{State}
 use Rattle.bo_kept.specs.declared.kept.Kept.{Kept}
-use Rattle.bo_kept.specs.ShopView.{ShopView}
+use Rattle.bo_kept.specs.ShopView.{ShopView, IsSame}
 use Rattle.bo_columns.specs.declared.rows.Shop.{Shop}
 use Rattle.bo_columns.specs.Tables.{Tables, Holds}
 use Rattle.bo_stand.specs.Free.{IsFree}
@@ -37,15 +37,17 @@ pub record Knows (next : ℕ) (db : Database) (tokens : List ℕ → Option ℕ)
 abbrev pub KnowsWhileOpen : ℕ → Connected → (List ℕ → Option ℕ) → Type 0
 KnowsWhileOpen next c tokens = IsTrue c.is_open → Knows next c.now tokens
 
--- the disk has returned what was written, and a crash may leave trees that hold this
+-- whatever shop these trees hold is this one
+abbrev pub HoldNoOther : Trees → ShopView → Type 0
+HoldNoOther trees left = (head : Shop) (tables : Tables) (it : ShopView) → Holds trees tables → Stand head tables it.state it.kept → IsSame left it
+
+-- The disk has returned what was written, and a crash may leave trees that hold no other shop than this. Of trees that hold none so it is
+-- with each shop: where all that a crash may leave are some shops, it leaves one of them, and nothing else.
 pub record Leaves (c : Connected) (left : ShopView) : Type 0 where
   pub clean : HasCleanDisk c
   pub trees : Trees
   pub may : c.may_leave trees
-  pub head : Shop
-  pub tables : Tables
-  pub held : Holds trees tables
-  pub stand : Stand head tables left.state left.kept
+  pub only : HoldNoOther trees left
 
 -- the order of the answers doesn't matter
 pub reordered : (head : Shop) (next : ℕ) (c : Connected) (s : State) (ks js : List Kept) → HoldsWhileOpen head next c s ks → IsPermutation ks js → HoldsWhileOpen head next c s js

@@ -2,19 +2,17 @@ use Rattle.std.proofs.Common.{IsTrue, arith}
 use Rattle.sqlite.specs.Held.{state}
 use Rattle.sqlite.specs.State.{HasCleanDisk}
 use Rattle.bo_schema.specs.declared.error.RowError.TheVariants.{Damaged}
-use Rattle.bo_opens.proofs.ReadLemmas.{shows_on, then, if_some, was_ok, was_on, was_err}
+use Rattle.bo_opens.proofs.ReadLemmas.{then, if_some, was_ok, was_on, was_err}
 use Rattle.bo_opens.proofs.file.read_all.Goals as goal
 
 pub returns-in-Ok-readable-clause-loaded : goal.returns-in-Ok-readable-clause-loaded
-returns-in-Ok-readable-clause-loaded g c clean opened t shows =
-    let start = state g.S.Store c.args.conn.now in
+returns-in-Ok-readable-clause-loaded g c clean opened db at known =
     let mid = state g.S.Store c.read_head.new.conn in
-    let end = state g.S.Store c.read_tables.new.conn in
     let clean_mid : HasCleanDisk mid = omega (arith, clean, c.read_tables.ensures.crash.clean) in
     let later = c.read_tables.ensures.rests clean opened in
     let open_mid : IsTrue mid.is_open = later.was_open in
     let earlier = c.read_head.ensures.rests clean_mid open_mid in
-    (c.in-Ok.ensures.loaded clean_mid open_mid t shows, if_some c.in-Ok-readable.tables _ _ c.in-Ok-readable.ensures.read (λ rows is. was_ok c.read_tables.result rows _ is (c.read_tables.ensures.loaded clean opened t (shows_on t start mid earlier shows))))
+    if_some c.in-Ok-readable.tables _ _ c.in-Ok-readable.ensures.read (λ rows is. was_ok c.read_tables.result rows _ is (c.read_tables.ensures.loaded clean opened db (earlier.stays db at) known))
 
 pub returns-in-Ok-readable-clause-limits : goal.returns-in-Ok-readable-clause-limits
 returns-in-Ok-readable-clause-limits g c =
@@ -58,9 +56,6 @@ returns-in-Ok-readable-clause-rests g c clean opened =
     let open_mid : IsTrue mid.is_open = later.was_open in
     let earlier = c.read_head.ensures.rests clean_mid open_mid in
     then start mid end earlier later
-
-pub returns-in-Err-readable-clause-refused : goal.returns-in-Err-readable-clause-refused
-returns-in-Err-readable-clause-refused g c clean opened t shows shop one = c.in-Err-readable.ensures.refused shop
 
 pub returns-in-Err-readable-clause-rests : goal.returns-in-Err-readable-clause-rests
 returns-in-Err-readable-clause-rests g c clean opened =

@@ -1,15 +1,18 @@
-use Rattle.std.proofs.Common.{◌∙◌, IfSome, sym, subst}
-use Rattle.bo_opens.specs.Read.{AreTableRows, IsFileOf}
+use Rattle.std.proofs.Common.{◌∙◌, sym, subst}
+use Rattle.bo_columns.specs.Tables.{Holds}
 use Rattle.bo_loads.specs.Texts.{shop_text}
+use Rattle.bo_opens.specs.Read.{tables_of}
 use Rattle.bo_opens.specs.Causes.{ShowsBy, HasNoOtherVersion}
-use Rattle.bo_opens.proofs.ReadLemmas.{both_ok, on_ok, was_some, one_shop}
+use Rattle.bo_opens.proofs.FitLemmas.{read_holds, readable}
+use Rattle.bo_opens.proofs.ReadLemmas.{both_ok, was_some}
 use Rattle.bo_opens.proofs.file.read_file.Goals as goal
 
-pub returns-in-Ok-clause-loaded : goal.returns-in-Ok-clause-loaded
-returns-in-Ok-clause-loaded g c clean opened t shows =
-    let held = c.in-Ok.ensures.loaded clean opened t shows in
-    both_ok c.whole_file.result _ _ (IsFileOf t) c.whole_file.ensures.shop c.whole_file.ensures.tables
-    (λ file is some. record { shop = one_shop t.shop file.shop c.in-Ok.rows.items held.0 (sym c.as_slice.ensures.value ∙ is); tables = subst (λ o. IfSome o (AreTableRows t)) some held.1 })
+pub returns-in-Ok-clause-held : goal.returns-in-Ok-clause-held
+returns-in-Ok-clause-held g c clean opened db at known =
+    let found = c.in-Ok.ensures.found clean opened db at in
+    let loaded = c.in-Ok.ensures.loaded clean opened db at known in
+    both_ok c.whole_file.result _ _ (λ file. Holds db.trees (tables_of file)) c.whole_file.ensures.shop c.whole_file.ensures.tables
+    (λ file is some. read_holds db c.in-Ok.rows.items file known found.0 (sym c.as_slice.ensures.value ∙ is) (was_some c.in-Ok.tables file.tables _ some loaded))
 
 pub returns-in-Ok-clause-limits : goal.returns-in-Ok-clause-limits
 returns-in-Ok-clause-limits g c = c.whole_file.ensures.limits c.in-Ok.ensures.limits
@@ -17,7 +20,8 @@ returns-in-Ok-clause-limits g c = c.whole_file.ensures.limits c.in-Ok.ensures.li
 pub returns-in-Ok-clause-found : goal.returns-in-Ok-clause-found
 returns-in-Ok-clause-found g c clean opened db at =
     let found = c.in-Ok.ensures.found clean opened db at in
-    on_ok c.whole_file.result _ _ c.whole_file.ensures.tables (λ file some. ((found.0.0, found.0.1), was_some c.in-Ok.tables file.tables _ some found.2))
+    readable db c.as_slice.result.now c.in-Ok.tables c.whole_file.result (subst (ShowsBy shop_text db) (sym c.as_slice.ensures.value) found.0) c.whole_file.ensures.shop c.whole_file.ensures.version c.whole_file.ensures.tables (c.whole_file.ensures.limits c.in-Ok.ensures.limits)
+    found.2 (c.in-Ok.ensures.loaded clean opened db at)
 
 pub returns-in-Ok-clause-cause : goal.returns-in-Ok-clause-cause
 returns-in-Ok-clause-cause g c clean opened db at =

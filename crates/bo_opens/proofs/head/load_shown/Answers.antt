@@ -2,15 +2,11 @@ use Rattle.std.proofs.Common.{sym, subst}
 use Rattle.sqlite.specs.Held.{state}
 use Rattle.bo_loads.specs.Damage.{IsFor}
 use Rattle.bo_loads.proofs.Causes.{failed}
-use Rattle.bo_loads.proofs.Loads.{loads, still, shown_keeps, failed_keeps}
+use Rattle.bo_loads.proofs.Loads.{still, shown_keeps, failed_keeps}
 use Rattle.bo_loads.proofs.Queries.{query_reads}
 use Rattle.bo_loads.proofs.ShopLemmas.{select_text, select_is, asks}
 use Rattle.bo_opens.proofs.CauseLemmas.{shown_by}
 use Rattle.bo_opens.proofs.head.load_shown.Goals as goal
-
-pub returns-in-Ok-clause-loaded : goal.returns-in-Ok-clause-loaded
-returns-in-Ok-clause-loaded g c clean known =
-    loads select_text 0 select_is (state g.S.Store c.args.tx.now.conn.now) (state g.S.Store c.query_all.new.self.conn.now) known c.in-Ok.rows.items (c.in-Ok.ensures.ok clean)
 
 pub returns-in-Ok-clause-shown : goal.returns-in-Ok-clause-shown
 returns-in-Ok-clause-shown g c clean =

@@ -5,19 +5,18 @@ use Rattle.bo_schema.specs.Tables.{schema}
 use Rattle.bo_schema.specs.declared.error.RowError.TheVariants.{Damaged}
 use Rattle.bo_loads.specs.Damage.{IsFor}
 use Rattle.bo_opens.proofs.CauseLemmas.{of_first, of_second}
-use Rattle.bo_opens.proofs.ReadLemmas.{shows_on, was_err}
+use Rattle.bo_opens.proofs.ReadLemmas.{was_err}
 use Rattle.bo_opens.proofs.whole.read_both.Goals as goal
 use Rattle.bo_opens.proofs.whole.read_both.Goals.{in-Ok-read-2, in-Err-read-2}
 
 pub returns-in-Ok-read-clause-loaded : goal.returns-in-Ok-read-clause-loaded
-returns-in-Ok-read-clause-loaded g c clean opened t shows =
-    let start = state g.S.Store c.args.conn.now in
+returns-in-Ok-read-clause-loaded g c clean opened db at known =
     let mid = state g.S.Store c.read.new.conn in
     let clean_mid : HasCleanDisk mid = omega (arith, clean, c.read-in-Ok.ensures.crash.clean) in
     let later = c.read-in-Ok.ensures.rests clean opened in
     let open_mid : IsTrue mid.is_open = later.was_open in
     let earlier = c.read.ensures.rests clean_mid open_mid in
-    (c.in-Ok.ensures.loaded clean_mid open_mid t shows, c.in-Ok-read.ensures.loaded clean opened t (shows_on t start mid earlier shows))
+    (c.in-Ok.ensures.loaded clean_mid open_mid db at known, c.in-Ok-read.ensures.loaded clean opened db (earlier.stays db at) known)
 
 pub returns-in-Err-read-clause-refused : goal.returns-in-Err-read-clause-refused
 returns-in-Err-read-clause-refused g c clean opened db at =

@@ -23,4 +23,4 @@ returns-in-Ok-book_of-clause-held g c = λ t of. (
 )
 
 pub returns-in-Err-book_of-clause-refused : goal.returns-in-Err-book_of-clause-refused
-returns-in-Err-book_of-clause-refused g c = why c.args.file (file_of c.in-Ok.rows) c.in-Err-book_of.error c.in-Ok.ensures.told c.in-Ok.ensures.order c.in-Ok.ensures.whole c.in-Err-book_of.ensures.refused
+returns-in-Err-book_of-clause-refused g c = why c.args.file (file_of c.in-Ok.rows) c.in-Err-book_of.error c.in-Ok.ensures.told c.in-Ok.ensures.order c.in-Ok.ensures.numbered c.in-Ok.ensures.whole c.in-Err-book_of.ensures.refused

@@ -1,13 +1,21 @@
-use Rattle.std.proofs.Common.{map}
+use Rattle.std.proofs.Common.{map, refl, sym}
 use Rattle.sqlite.specs.Held.{state}
-use Rattle.bo_reopen.proofs.Undamaged.{shows_held, undamaged, same_shop}
+use Rattle.bo_opens.proofs.FitLemmas.{of_machine}
+use Rattle.bo_reopen.proofs.Least.{clear}
+use Rattle.bo_reopen.proofs.Undamaged.{undamaged, same_shop}
 use Rattle.bo_reopen.proofs.laws.what_is_held_is_opened.Goals as goal
 
 pub returns-clause-shows : goal.returns-clause-shows
-returns-clause-shows g c head next s ks its = shows_held head next (state g.S.Store c.args.held.now) s ks its
+returns-clause-shows g c = λ head next s ks its. (record { now = refl; committed = sym its.settled }, its.known)
 
 pub returns-clause-whole : goal.returns-clause-whole
-returns-clause-whole g c head next s ks its = undamaged head its.tables s ks its.stand
+returns-clause-whole g c = λ head next s ks its numbered. undamaged head its.tables s ks its.stand (state g.S.Store c.args.held.now).now.trees its.held numbered
+
+pub returns-clause-no_fault : goal.returns-clause-no_fault
+returns-clause-no_fault g c = λ head next s ks its numbered organizer event sound fit.
+    let db = (state g.S.Store c.args.held.now).now in
+    clear db its.known (of_machine db its.known its.tables its.held fit) (undamaged head its.tables s ks its.stand db.trees its.held numbered organizer event sound)
 
 pub returns-clause-same : goal.returns-clause-same
-returns-clause-same g c head next s ks its shop number z o = same_shop head its.tables s ks its.stand shop z (map (λ r. r.kept) its.tables.kept) o.stand
+returns-clause-same g c = λ head next s ks its shop number z o.
+    same_shop (state g.S.Store c.args.held.now).now.trees its.tables o.tables its.held o.held head shop s z ks (map (λ r. r.kept) o.tables.kept) its.stand o.stand

@@ -1,6 +1,0 @@
-use Rattle.std.proofs.Common.{ℕ, drop, map}
-use Rattle.bo_opens.specs.Numbers.{RiseTo}
-use Rattle.bo_reopen.proofs.numbers.next_number.Given as goal
-
-abbrev pub invariant-loop-row : goal.invariant-loop-row
-invariant-loop-row g l = (m : ℕ) → RiseTo l.from m (map g.T.Numbered.number (drop l.row-index l.rows)) → RiseTo 0 m (map g.T.Numbered.number l.rows)
