@@ -31,7 +31,7 @@ pub fn add_list<B: Book>(
     ensures changes { IfOk result (λ row. draft.new.log.changes ≡ draft.old.log.changes ++ PutCheckinList row ∷ []) }
 {
     let row = new_row(alloc, new, draft.next_checkin_list())?;
-    if !items_stand(draft.catalogue(), row.limit_products.as_slice()) {
+    if !items_stand(draft.rows().catalogue(), row.limit_products.as_slice()) {
         return Err(DoorRefusal::Catalogue(CatalogueRefusal::NoItem));
     }
     if !draft.takes_checkin_list() {

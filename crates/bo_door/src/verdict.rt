@@ -15,7 +15,7 @@ use bo_base::Text;
 use bo_commands::{DoorRefusal, Scan, Ticket};
 use bo_draft::Draft;
 use bo_lists::{Checkin, CheckinKind, CheckinList, OrderPos, Status};
-use bo_usage::Book;
+use bo_usage::{Book, LookUps};
 use std::alloc::Global;
 
 /// A ticket that is let through, with a copy of its position.
@@ -42,7 +42,7 @@ pub fn judge<B: Book>(
     ensures done { IfOk result (λ admission. verdict_of list ticket.now scan.now (now draft.now) ≡ Ok admission) }
     ensures refused { IfErr result (λ e. e ≢ DoorRefusal.Memory → verdict_of list ticket.now scan.now (now draft.now) ≡ Err e) }
 {
-    let Some(list) = draft.checkin_list(list) else {
+    let Some(list) = draft.rows().checkin_list(list) else {
         return Err(DoorRefusal::NoList);
     };
     let Some(position) = shown_by(draft, ticket) else {
@@ -73,7 +73,7 @@ fn judge_position<B: Book>(
     if is_unpaid(draft, list, position, scan) {
         return Err(DoorRefusal::Unpaid);
     }
-    let stored = draft.checkins_of(alloc, list.id, position.id)?;
+    let stored = draft.book().checkins_of(alloc, list.id, position.id)?;
     let checkins = stored.as_slice();
     if is_stored(checkins, list.id, position.id, &scan.nonce) {
         return Ok(Admission::Again(position.copy(alloc)?));
@@ -90,8 +90,8 @@ fn shown_by<'d, B: Book>(draft: &'d Draft<'_, B>, ticket: &Ticket) -> Option<&'d
     ensures { option_copied result ≡ shown_by ticket.now (now draft.now).lists }
 {
     match ticket {
-        Ticket::Position(id) => draft.position(*id),
-        Ticket::Secret(secret) => draft.position_with(secret.as_str()),
+        Ticket::Position(id) => draft.rows().position(*id),
+        Ticket::Secret(secret) => draft.book().position_with(secret.as_str()),
         Ticket::Unreadable => None,
     }
 }
@@ -100,7 +100,7 @@ fn shown_by<'d, B: Book>(draft: &'d Draft<'_, B>, ticket: &Ticket) -> Option<&'d
 fn is_in_force<B: Book>(draft: &Draft<'_, B>, position: &OrderPos) -> bool
     ensures { result ≡ is_in_force_if (order_at position.now.order (now draft.now).lists) }
 {
-    match draft.order(position.order) {
+    match draft.rows().order(position.order) {
         None => false,
         Some(order) => order.status.is_in_force(),
     }
@@ -115,7 +115,7 @@ fn is_unpaid<B: Book>(
 ) -> bool
     ensures { result ≡ is_unpaid_if list.now scan.now (order_at position.now.order (now draft.now).lists) }
 {
-    match draft.order(position.order) {
+    match draft.rows().order(position.order) {
         None => false,
         Some(order) => lacks_payment(list, scan, order.status),
     }

@@ -1,20 +1,15 @@
 //! A book with changes that aren't applied yet.
 
-ghost use Rattle.std.specs.Prelude.{true, not, ◌||◌, ◌≡◌, [], ◌≤◌, ◌<◌, ◌+◌, ◌-◌, IfOk, OnOk, OnErr, length, map, count_by, Some, None};
-ghost use Rattle.std.specs.Option.{option_copied};
+ghost use Rattle.std.specs.Prelude.{true, not, ◌||◌, ◌≡◌, [], ◌≤◌, ◌<◌, ◌+◌, ◌-◌, IfOk, OnOk, OnErr, count_by, Some, None};
 ghost use Rattle.bo_lists.specs.Full.{takes_cart, takes_voucher, takes_order, takes_positions, takes_waiting, takes_checkin_list, takes_checkin};
-ghost use Rattle.bo_lists.specs.Lists.{voucher_at, cart_at, order_at, position_at, positions_of, waiting_at, checkin_list_at, checkin_at, checkins_by};
-ghost use Rattle.bo_lists.specs.Consumed.{consumed};
+ghost use Rattle.bo_lists.specs.Lists.{position_at};
 ghost use Rattle.bo_lists.specs.Headroom.{has_use, held, HasHeadroom, AllHaveHeadroom};
 ghost use Rattle.bo_lists.specs.Conditions.{is_live_cart};
 ghost use Rattle.bo_base.specs.Tables.{AreInOrder};
-ghost use Rattle.bo_lists.specs.Named.{voucher_of, with_secret, is_used};
-ghost use Rattle.bo_lists.specs.Waits.{waiters, is_waiting};
 ghost use Rattle.bo_lists.specs.Over.{first_over};
 ghost use Rattle.bo_lists.specs.Change.{changed};
 ghost use Rattle.bo_draft.specs.DraftState.{DraftState, MarkState, IsMarkOf, Extends, now, back, with_change};
 ghost use Rattle.bo_overlay.specs.Logs.{rows_of};
-ghost use Rattle.bo_lists.specs.Due.{due_orders, dead_carts};
 ghost use Rattle.bo_draft.specs.Shift.{CanCome};
 ghost use Rattle.bo_lists.specs.Usage.{redeemed, usage_of, waits_for};
 ghost use Rattle.bo_lists.specs.Total.{total};
@@ -26,9 +21,9 @@ use crate::over::{first_over, used_now};
 use crate::shift::{carts_after, counts_after, turned_tickets, vouchers_after};
 use crate::use_shift::use_shift;
 use crate::uses::Uses;
+use bo_base::Moment;
 use bo_base::codes::LAST_ORDER;
-use bo_base::{List, Moment, Text};
-use bo_catalogue::{Catalogue, LAST_ID, MOST_ROWS, Product, Quota, takes_rows};
+use bo_catalogue::{LAST_ID, MOST_ROWS, Quota, takes_rows};
 use bo_lists::{
     CartPos, Change, Changes, Checkin, CheckinList, NextIds, Order, OrderPos, Own, Voucher, Waiting,
 };
@@ -128,32 +123,18 @@ impl<'a, B: Book> Draft<'a, B> {
         self.moment
     }
 
-    /// All that is for sale.
-    pub fn catalogue(&self) -> &Catalogue
-        ensures { result.now.lists ≡ (now self.now).lists.catalogue }
+    /// The rows with the changes, which are looked up there.
+    pub fn rows(&self) -> &Overlay<'a, B>
+        ensures { result.now ≡ self.now.log }
     {
-        self.overlay.catalogue()
+        &self.overlay
     }
 
-    /// The voucher of an id.
-    pub fn voucher(&self, id: u64) -> Option<&Voucher>
-        ensures { option_copied result ≡ voucher_at id (now self.now).lists }
+    /// The book below the changes. Of what no change touched it tells what stands in the draft too.
+    pub fn book(&self) -> &B
+        ensures { (B.state result.now).lists ≡ self.now.log.base }
     {
-        self.overlay.voucher(id)
-    }
-
-    /// The first voucher with that code.
-    pub fn voucher_of(&self, code: &str) -> Option<&Voucher>
-        ensures { option_copied result ≡ voucher_of code.now (now self.now).lists }
-    {
-        self.overlay.voucher_of(code)
-    }
-
-    /// Whether an order position, a cart position or a waiting entry names the voucher.
-    pub fn is_used(&self, voucher: u64) -> bool
-        ensures { result ≡ is_used voucher (now self.now).lists }
-    {
-        self.overlay.is_used(voucher)
+        self.book
     }
 
     /// How often the voucher is used: by the positions of pending and paid orders, and by live cart positions.
@@ -169,48 +150,6 @@ impl<'a, B: Book> Draft<'a, B> {
         let before = self.overlay.uses_before(voucher, self.moment);
         let since = self.uses.of(voucher);
         (u128::from(before) + u128::from(since.come)).saturating_sub(u128::from(since.gone))
-    }
-
-    /// The cart position of an id.
-    pub fn cart(&self, id: u64) -> Option<&CartPos>
-        ensures { option_copied result ≡ cart_at id (now self.now).lists }
-    {
-        self.overlay.cart(id)
-    }
-
-    /// The order of an id.
-    pub fn order(&self, id: u64) -> Option<&Order>
-        ensures { option_copied result ≡ order_at id (now self.now).lists }
-    {
-        self.overlay.order(id)
-    }
-
-    /// The order position of an id.
-    pub fn position(&self, id: u64) -> Option<&OrderPos>
-        ensures { option_copied result ≡ position_at id (now self.now).lists }
-    {
-        self.overlay.position(id)
-    }
-
-    /// The check-in list of an id.
-    pub fn checkin_list(&self, id: u64) -> Option<&CheckinList>
-        ensures { option_copied result ≡ checkin_list_at id (now self.now).lists }
-    {
-        self.overlay.checkin_list(id)
-    }
-
-    /// The check-in of an id.
-    pub fn checkin(&self, id: u64) -> Option<&Checkin>
-        ensures { option_copied result ≡ checkin_at id (now self.now).lists }
-    {
-        self.overlay.checkin(id)
-    }
-
-    /// The waiting entry of an id.
-    pub fn waiting(&self, id: u64) -> Option<&Waiting>
-        ensures { option_copied result ≡ waiting_at id (now self.now).lists }
-    {
-        self.overlay.entry(id)
     }
 
     /// All that is used of a quota that stands: its five counts together.
@@ -239,82 +178,6 @@ impl<'a, B: Book> Draft<'a, B> {
     {
         self.overlay.known();
         usage_in_book(self.book, quota, self.moment).waiting
-    }
-
-    /// Whether an entry of this email waits, without a voucher, for this product, in a draft that has changed no
-    /// waiting entry.
-    pub fn is_waiting(&self, email: &str, product: Product) -> bool
-        requires { (now self.now).lists.waiting ≡ self.now.log.base.waiting }
-        ensures { result ≡ is_waiting email.now product (now self.now).lists }
-    {
-        self.book.is_waiting(email, product)
-    }
-
-    /// The ids of the waiting entries without voucher, in order, in a draft that has changed no waiting entry.
-    /// `Err` where there is no memory for them.
-    pub fn waiters(&self, alloc: Global) -> Result<Vec<u64>, AllocError>
-        requires { (now self.now).lists.waiting ≡ self.now.log.base.waiting }
-        ensures { IfOk result (λ ids. ids.items ≡ map (λ e. e.id) (waiters (now self.now).lists)) }
-    {
-        self.book.waiters(alloc)
-    }
-
-    /// The first order position with that secret, in a draft that has changed no order position.
-    pub fn position_with(&self, secret: &str) -> Option<&OrderPos>
-        requires { (now self.now).lists.positions ≡ self.now.log.base.positions }
-        ensures { option_copied result ≡ with_secret secret.now (now self.now).lists }
-    {
-        self.book.position_with(secret)
-    }
-
-    /// Copies of the check-ins of a position by a list, by id, in a draft that has changed no check-in.
-    /// `Err` where there is no memory for them.
-    pub fn checkins_of(
-        &self,
-        alloc: Global,
-        list: u64,
-        position: u64,
-    ) -> Result<List<Checkin>, AllocError>
-        requires { (now self.now).lists.checkins ≡ self.now.log.base.checkins }
-        ensures { IfOk result (λ rows. rows ≡ checkins_by list position (now self.now).lists) }
-    {
-        self.book.checkins_of(alloc, list, position)
-    }
-
-    /// Copies of the positions of an order, by id, in a draft that has changed no order position.
-    /// `Err` where there is no memory for them.
-    pub fn positions_of(&self, alloc: Global, order: u64) -> Result<List<OrderPos>, AllocError>
-        requires { (now self.now).lists.positions ≡ self.now.log.base.positions }
-        ensures { IfOk result (λ rows. rows ≡ positions_of order (now self.now).lists) }
-    {
-        self.book.positions_of(alloc, order)
-    }
-
-    /// The ids of the cart positions of these carts, dead ones too, in order,
-    /// in a draft that has changed no cart position. `Err` where there is no memory for them.
-    pub fn carts_in(&self, alloc: Global, carts: &[Text]) -> Result<Vec<u64>, AllocError>
-        requires { (now self.now).lists.carts ≡ self.now.log.base.carts }
-        ensures { IfOk result (λ ids. ids.items ≡ consumed carts.now (now self.now).lists) }
-    {
-        self.book.carts_in(alloc, carts)
-    }
-
-    /// The numbers of the pending orders that ended before the draft's moment, in order, in a draft that has changed
-    /// no order. `Err` where there is no memory for them.
-    pub fn due_orders(&self, alloc: Global) -> Result<Vec<u64>, AllocError>
-        requires { (now self.now).lists.orders ≡ self.now.log.base.orders }
-        ensures { IfOk result (λ ids. ids.items ≡ due_orders (now self.now).moment (now self.now).lists) }
-    {
-        self.book.due_orders(alloc, self.moment)
-    }
-
-    /// The ids of the cart positions that are dead at the draft's moment, in order, in a draft that has changed no
-    /// cart position. `Err` where there is no memory for them.
-    pub fn dead_carts(&self, alloc: Global) -> Result<Vec<u64>, AllocError>
-        requires { (now self.now).lists.carts ≡ self.now.log.base.carts }
-        ensures { IfOk result (λ ids. ids.items ≡ dead_carts (now self.now).moment (now self.now).lists) }
-    {
-        self.book.dead_carts(alloc, self.moment)
     }
 
     /// Whether one more cart position may name the voucher.
@@ -721,8 +584,21 @@ impl<'a, B: Book> Draft<'a, B> {
         )
     }
 
-    /// Undoes all that came after the mark.
-    pub fn back_to(&mut self, mark: Mark)
+    /// Ends an attempt that began at the mark: what was made stays, and where it was refused all since then is undone.
+    pub fn end_attempt<T, E>(&mut self, mark: Mark, made: Result<T, E>) -> Result<T, E>
+        requires { IsMarkOf self.old mark }
+        ensures answer { result ≡ made }
+        ensures kept { OnOk result (self.new ≡ self.old) }
+        ensures undone { OnErr result (self.new ≡ back mark self.old) }
+    {
+        if made.is_err() {
+            self.back_to(mark);
+        }
+        made
+    }
+
+    // Undoes all that came after the mark.
+    fn back_to(&mut self, mark: Mark)
         requires { IsMarkOf self.old mark }
         ensures { self.new ≡ back mark self.old }
     {

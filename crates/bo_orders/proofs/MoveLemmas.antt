@@ -1,5 +1,5 @@
 -- What the moves of an order rest on.
-use Rattle.std.proofs.Common.{◌≡◌, ℕ, ◌+◌, Bool, true, false, cond, eqb, List, [], ◌∷◌, map, Option, Some, Ok, Err, refl, sym, ap, ◌∙◌, count_by, arith}
+use Rattle.std.proofs.Common.{◌≡◌, ℕ, ◌+◌, Bool, true, false, cond, eqb, List, [], ◌∷◌, Option, Some, refl, sym, ap, ◌∙◌, count_by, arith}
 use Rattle.std.specs.Prelude.{if◌then◌else◌}
 use Rattle.std.proofs.lemmas.Bool.Decides.{nat_tests}
 use Rattle.bo_lists.specs.declared.rows.Order.{Order}
@@ -12,17 +12,11 @@ use Rattle.bo_lists.specs.Change.{after_change}
 use Rattle.bo_lists.specs.Usage.{stands_as, redeemed}
 use Rattle.bo_lists.specs.Headroom.{held}
 use Rattle.bo_lists.proofs.OrderHeadroom.{redeemed_order}
-use Rattle.bo_base.specs.Deciding.{◌>>◌, refuse_some}
 use Rattle.bo_base.specs.Tables.{row_at}
 use Rattle.bo_commands.specs.declared.orders.Move.{Move}
 use Rattle.bo_commands.specs.declared.orders.Move.TheVariants.{MarkPaid, MarkPending, MarkExpired, MarkCanceled, Extend}
 use Rattle.bo_orders.specs.declared.moves.Turn.{Turn}
-use Rattle.bo_lists.specs.declared.rows.Own.TheVariants.{Position}
-use Rattle.bo_lists.specs.Lists.{State}
-use Rattle.bo_lists.specs.Over.{first_over}
-use Rattle.bo_commands.specs.declared.vouchers.VoucherRefusal.TheVariants.{SoldOut}
-use Rattle.bo_commands.specs.declared.orders.OrderRefusal.TheVariants.{Voucher as OfVoucher}
-use Rattle.bo_orders.specs.Moves.{to, revived, turned, have_uses_again, moved_to, revival}
+use Rattle.bo_orders.specs.Moves.{to, revived, turned}
 
 -- an order that comes back takes a use for each of its positions that name the voucher
 pub uses_more : (row : Order) (lists : Lists) (at v : ℕ) → stands_as is_in_force (order_at row.id lists) ≡ false → is_in_force row.status ≡ true → redeemed v lists + held at v lists + count_by (λ p. names v p.voucher) (positions_of row.id lists) ≡ redeemed v (after_change (PutOrder row) lists) + held at v lists
@@ -88,8 +82,3 @@ kept_force Expired (Extend end) turn h e force = absurd (cc (e, is_revival Pendi
 kept_force Expired MarkPending turn h e force = absurd (cc)
 kept_force Expired MarkExpired turn h e force = absurd (cc)
 kept_force Cancelled change turn h e force = absurd (cc)
-
--- an order that comes back is refused with the quota of which it takes too much
-pub revived_over : (row : Order) (state : State) (quota : ℕ) → have_uses_again row state ≡ true → first_over state.lists (after_change (PutOrder row) state.lists) state.moment (map (λ p. Position p.id) (positions_of row.id state.lists)) ≡ Some quota → revival row state ≡ Err (OfVoucher (SoldOut quota))
-unfolding revival
-revived_over row state quota uses over = rw uses (ap (λ (o : Option ℕ). refuse_some (λ q. OfVoucher (SoldOut q)) o >> Ok (moved_to row state)) over)

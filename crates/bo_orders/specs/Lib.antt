@@ -7,3 +7,4 @@ pub mod Created
 pub mod Moves
 pub mod Dropped
 pub mod Expired
+pub mod Places

@@ -36,13 +36,9 @@ pub fn add_many<B: Book>(
         return Err(OrderRefusal::TooMany);
     }
     let mark = draft.mark(alloc)?;
-    match add_all(draft, alloc, draw, entries) {
-        Ok(outcomes) => Ok(List::new(outcomes)),
-        Err(refusal) => {
-            draft.back_to(mark);
-            Err(refusal.into())
-        }
-    }
+    let added = add_all(draft, alloc, draw, entries);
+    let outcomes = draft.end_attempt(mark, added)?;
+    Ok(List::new(outcomes))
 }
 
 // Adds each entry after those before it. Without memory some of them are added.

@@ -7,13 +7,13 @@ ghost use Rattle.bo_orders.specs.Carts.{cart_row, placed, position_added, has_us
 ghost use Rattle.bo_orders.specs.Dropped.{position_dropped};
 
 use crate::cart_id::{cart_id, test_cart_id};
+use crate::places::test_places;
 use crate::sold::sold_for;
 use bo_base::Draw;
-use bo_catalogue::CatalogueRefusal;
 use bo_commands::{NewCart, OrderRefusal, VoucherRefusal};
 use bo_draft::Draft;
 use bo_lists::{CartPos, Own};
-use bo_usage::Book;
+use bo_usage::{Book, LookUps};
 use std::alloc::Global;
 
 /// Adds a cart position, and answers a copy of it.
@@ -91,14 +91,8 @@ fn place<B: Book>(
     let copy = row.copy(alloc)?;
     let mark = draft.mark(alloc)?;
     draft.put_cart(alloc, row)?;
-    if let Some(quota) = draft.first_over(&mark, &[Own::Cart(id)]) {
-        draft.back_to(mark);
-        return Err(OrderRefusal::Voucher(VoucherRefusal::SoldOut(quota)));
-    }
-    if !takes_cart {
-        draft.back_to(mark);
-        return Err(OrderRefusal::Voucher(VoucherRefusal::Catalogue(CatalogueRefusal::Full)));
-    }
+    let tested = test_places(draft, &mark, &[Own::Cart(id)], takes_cart);
+    draft.end_attempt(mark, tested)?;
     draft.use_cart_id();
     Ok(copy)
 }
@@ -117,7 +111,7 @@ pub fn drop_position<B: Book>(
     ensures extends { Extends draft.old draft.new }
     ensures same { OnErr result (draft.new ≡ draft.old) }
 {
-    if draft.cart(id).is_none() {
+    if draft.rows().cart(id).is_none() {
         return Err(OrderRefusal::NoPosition);
     }
     draft.drop_cart(alloc, id)?;

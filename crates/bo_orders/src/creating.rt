@@ -1,19 +1,19 @@
 //! Making an order.
 
-ghost use Rattle.std.specs.Prelude.{◌≡◌, ◌≢◌, ◌≤◌, ◌+◌, Ok, Err, IfOk, IfErr, OnOk, OnErr, ◌&&◌, [], ◌∷◌, ◌++◌, length, map};
-ghost use Rattle.bo_draft.specs.DraftState.{now, Extends};
+ghost use Rattle.std.specs.Prelude.{◌≡◌, ◌≢◌, ◌≤◌, ◌+◌, true, Ok, Err, IfOk, IfErr, OnOk, OnErr, ◌&&◌, [], ◌∷◌, ◌++◌, length, map};
+ghost use Rattle.bo_draft.specs.DraftState.{now, back, Extends, IsMarkOf};
 ghost use Rattle.bo_lists.specs.declared.changes.Change.TheVariants.{PutPosition, DropCart};
 ghost use Rattle.bo_lists.specs.Change.{without_carts};
 ghost use Rattle.bo_lists.specs.Full.{takes_order, takes_positions};
 ghost use Rattle.bo_sound.specs.Sound.{IsSound};
 ghost use Rattle.bo_lists.specs.declared.rows.Own.TheVariants.{Position};
-ghost use Rattle.bo_orders.specs.Created.{order_changes, order_created, counts_test, order_row, position_for, rows_for, position_put, with_positions, with_order_row, order_placed, IsReady, AreCounted};
+ghost use Rattle.bo_orders.specs.Created.{order_changes, order_created, counts_test, order_row, position_for, rows_for, position_put, with_positions, with_order_row, with_ids_used, order_placed, IsReady, AreCounted};
 
+use crate::places::test_places;
 use crate::sold::sold_for;
 use bo_base::{Draw, List, Text, secret};
-use bo_catalogue::CatalogueRefusal;
 use bo_commands::{Asked, NewOrder, OrderRefusal, VoucherRefusal};
-use bo_draft::Draft;
+use bo_draft::{Draft, Mark};
 use bo_lists::{Order, OrderPos, OrderRows, Own};
 use bo_usage::Book;
 use std::alloc::{AllocError, Global};
@@ -166,7 +166,7 @@ fn put_order<B: Book>(
     ensures changes { OnOk result (draft.new.log.changes ≡ draft.old.log.changes ++ order_changes carts.now order.now [] (now draft.old).lists) }
     ensures extends { Extends draft.old draft.new }
 {
-    let ids = draft.carts_in(alloc, carts)?;
+    let ids = draft.book().carts_in(alloc, carts)?;
     drop_carts(draft, alloc, &ids)?;
     draft.put_order(alloc, order.copy(alloc)?)
 }
@@ -248,6 +248,37 @@ fn takes<B: Book>(draft: &Draft<'_, B>, count: usize) -> bool
     draft.takes_order() && draft.takes_positions(count)
 }
 
+// Puts all of it, where vouchers have their uses left, no quota is then over and the tables take the rows. A refusal may
+// leave some of it.
+#[tactic(auto, unfolding(crate::specs::Created::order_placed))]
+fn put_tested<B: Book>(
+    draft: &mut Draft<'_, B>,
+    alloc: Global,
+    mark: &Mark,
+    own: &[Own],
+    carts: &[Text],
+    order: &Order,
+    rows: &[OrderPos],
+) -> Result<(), OrderRefusal>
+    requires fresh { draft.old.log.changes ≡ [] }
+    requires sound { IsSound (now draft.old) }
+    requires new { order.now.id ≡ (now draft.old).next.order }
+    requires counted { AreCounted (now draft.old).next.position rows.now }
+    requires mark { IsMarkOf draft.old mark.now }
+    requires here { back mark.now draft.old ≡ draft.old }
+    requires own { own.now ≡ map (λ p. Position p.id) rows.now }
+    ensures put { OnOk result (with_positions rows.now (Ok (with_order_row order.now carts.now (now draft.old))) ≡ Ok (now draft.new)) }
+    ensures takes { OnOk result ((takes_order (now draft.old) && takes_positions (length rows.now) (now draft.old)) ≡ true) }
+    ensures done { OnOk result (order_placed order.now rows.now carts.now (now draft.old) ≡ Ok (with_ids_used (length rows.now) (now draft.new), record { order = order.now; positions = rows.now })) }
+    ensures refused { IfErr result (λ e. e ≢ OrderRefusal.Memory → order_placed order.now rows.now carts.now (now draft.old) ≡ Err e) }
+    ensures changes { OnOk result (draft.new.log.changes ≡ draft.old.log.changes ++ order_changes carts.now order.now rows.now (now draft.old).lists) }
+    ensures extends { Extends draft.old draft.new }
+{
+    let takes = takes(draft, rows.len());
+    put_all(draft, alloc, carts, order, rows)?;
+    test_places(draft, mark, own, takes)
+}
+
 // Puts all of it, if vouchers have their uses left, no quota is then over and the tables take the rows.
 #[tactic(auto, unfolding(crate::specs::Created::order_placed))]
 fn place<B: Book>(
@@ -267,21 +298,10 @@ fn place<B: Book>(
     ensures extends { Extends draft.old draft.new }
     ensures same { OnErr result (draft.new ≡ draft.old) }
 {
-    let takes = takes(draft, rows.len());
     let own = own_of(alloc, &rows)?;
     let mark = draft.mark(alloc)?;
-    if let Err(refusal) = put_all(draft, alloc, carts, &order, &rows) {
-        draft.back_to(mark);
-        return Err(refusal);
-    }
-    if let Some(quota) = draft.first_over(&mark, &own) {
-        draft.back_to(mark);
-        return Err(OrderRefusal::Voucher(VoucherRefusal::SoldOut(quota)));
-    }
-    if !takes {
-        draft.back_to(mark);
-        return Err(OrderRefusal::Voucher(VoucherRefusal::Catalogue(CatalogueRefusal::Full)));
-    }
+    let put = put_tested(draft, alloc, &mark, &own, carts, &order, &rows);
+    draft.end_attempt(mark, put)?;
     draft.use_order_id();
     draft.use_position_ids(rows.len());
     Ok(OrderRows {

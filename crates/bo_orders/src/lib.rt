@@ -8,6 +8,7 @@ pub mod creating;
 pub mod laws;
 pub mod moves;
 pub mod periodic;
+pub mod places;
 pub mod sold;
 pub mod usability;
 

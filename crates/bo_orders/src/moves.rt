@@ -12,11 +12,12 @@ ghost use Rattle.bo_lists.specs.Conditions.{is_in_force, names};
 ghost use Rattle.bo_lists.specs.Usage.{stands_as, redeemed};
 ghost use Rattle.bo_orders.specs.Moves.{to, revived, turned, end_after, moved_row, moved_to, moved_as, have_uses_again, revival, order_moved};
 
+use crate::places::test_places;
 use bo_base::Moment;
 use bo_commands::{Move, OrderRefusal, VoucherRefusal};
 use bo_draft::Draft;
 use bo_lists::{Order, OrderPos, OrderRows, Own, Status};
-use bo_usage::Book;
+use bo_usage::{Book, LookUps};
 use std::alloc::{AllocError, Global};
 
 /// The status that follows, and whether an order comes back to life.
@@ -96,7 +97,7 @@ fn order_of<B: Book>(
     ensures absent { IfErr result (λ e. e ≢ OrderRefusal.Memory → order_at number (now draft.now).lists ≡ None) }
     ensures refused { IfErr result (λ e. e ≢ OrderRefusal.Memory → e ≡ OrderRefusal.NoOrder) }
 {
-    match draft.order(number) {
+    match draft.rows().order(number) {
         None => Err(OrderRefusal::NoOrder),
         Some(order) => Ok(order.copy(alloc)?),
     }
@@ -174,7 +175,7 @@ fn put<B: Book>(
     ensures extends { Extends draft.old draft.new }
     ensures same { OnErr result (draft.new ≡ draft.old) }
 {
-    let positions = draft.positions_of(alloc, row.id)?;
+    let positions = draft.book().positions_of(alloc, row.id)?;
     let order = row.copy(alloc)?;
     draft.put_order(alloc, row)?;
     Ok(OrderRows { order, positions })
@@ -198,7 +199,7 @@ fn revive<B: Book>(
     ensures extends { Extends draft.old draft.new }
     ensures same { OnErr result (draft.new ≡ draft.old) }
 {
-    let positions = draft.positions_of(alloc, row.id)?;
+    let positions = draft.book().positions_of(alloc, row.id)?;
     if !have_uses_again(draft, &row, positions.as_slice()) {
         return Err(OrderRefusal::Voucher(VoucherRefusal::NoHeadroom));
     }
@@ -206,10 +207,8 @@ fn revive<B: Book>(
     let order = row.copy(alloc)?;
     let mark = draft.mark(alloc)?;
     draft.put_order(alloc, row)?;
-    if let Some(quota) = draft.first_over(&mark, &own) {
-        draft.back_to(mark);
-        return Err(OrderRefusal::Voucher(VoucherRefusal::SoldOut(quota)));
-    }
+    let tested = test_places(draft, &mark, &own, true);
+    draft.end_attempt(mark, tested)?;
     Ok(OrderRows { order, positions })
 }
 
@@ -248,7 +247,7 @@ fn has_room_again<B: Book>(
     let Some(id) = voucher else {
         return true;
     };
-    match draft.voucher(id) {
+    match draft.rows().voucher(id) {
         None => true,
         Some(voucher) => {
             uses_again(draft, row, positions, voucher.id) <= u128::from(voucher.max_usages.get())

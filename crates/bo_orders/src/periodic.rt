@@ -10,7 +10,7 @@ ghost use Rattle.bo_orders.specs.Expired.{expired_row, expired_changes, orders_e
 use crate::creating::drop_carts;
 use bo_draft::Draft;
 use bo_lists::{Order, Status};
-use bo_usage::Book;
+use bo_usage::{Book, LookUps};
 use std::alloc::{AllocError, Global};
 
 /// Each pending order that ended before the draft's moment becomes expired, in a draft that has changed no order.
@@ -24,15 +24,11 @@ pub fn expire_orders<B: Book>(draft: &mut Draft<'_, B>, alloc: Global) -> Result
     ensures same { OnErr result (draft.new ≡ draft.old) }
     ensures changes { OnOk result (draft.new.log.changes ≡ draft.old.log.changes ++ expired_changes (now draft.old)) }
 {
-    let ids = draft.due_orders(alloc)?;
+    let ids = draft.book().due_orders(alloc, draft.moment())?;
     let mark = draft.mark(alloc)?;
-    match expire_each(draft, alloc, &ids) {
-        Ok(()) => Ok(ids.len() as u64),
-        Err(refusal) => {
-            draft.back_to(mark);
-            Err(refusal)
-        }
-    }
+    let expired = expire_each(draft, alloc, &ids);
+    draft.end_attempt(mark, expired)?;
+    Ok(ids.len() as u64)
 }
 
 // Expires the orders of these numbers, one after another.
@@ -57,7 +53,7 @@ fn expire<B: Book>(draft: &mut Draft<'_, B>, alloc: Global, id: u64) -> Result<(
     ensures changes { OnOk result (draft.new.log.changes ≡ draft.old.log.changes ++ expiry_of (order_at id (now draft.old).lists)) }
     ensures extends { Extends draft.old draft.new }
 {
-    let row = match draft.order(id) {
+    let row = match draft.rows().order(id) {
         None => return Ok(()),
         Some(order) => expired_row(alloc, order)?,
     };
@@ -87,13 +83,9 @@ pub fn drop_dead_carts<B: Book>(draft: &mut Draft<'_, B>, alloc: Global) -> Resu
     ensures changes { OnOk result (draft.new.log.changes ≡ draft.old.log.changes ++ dropped_changes (now draft.old)) }
 {
     draft.known();
-    let ids = draft.dead_carts(alloc)?;
+    let ids = draft.book().dead_carts(alloc, draft.moment())?;
     let mark = draft.mark(alloc)?;
-    match drop_carts(draft, alloc, &ids) {
-        Ok(()) => Ok(ids.len() as u64),
-        Err(refusal) => {
-            draft.back_to(mark);
-            Err(refusal)
-        }
-    }
+    let dropped = drop_carts(draft, alloc, &ids);
+    draft.end_attempt(mark, dropped)?;
+    Ok(ids.len() as u64)
 }

@@ -31,7 +31,7 @@ pub fn sold_for<B: Book>(draft: &Draft<'_, B>, asked: &Asked) -> Result<Sold, Vo
 {
     let product = product_for_sale(draft, asked)?;
     let voucher = voucher_asked(draft, asked.voucher.as_ref(), product)?;
-    let Some(base) = draft.catalogue().base_price(product) else {
+    let Some(base) = draft.rows().catalogue().base_price(product) else {
         return Err(VoucherRefusal::Catalogue(CatalogueRefusal::NoItem));
     };
     Ok(Sold {
@@ -49,11 +49,14 @@ fn product_for_sale<B: Book>(
 ) -> Result<Product, CatalogueRefusal>
     ensures { result ≡ product_for_sale asked.now.item asked.now.variation (now draft.now).lists.catalogue }
 {
-    let product = draft.catalogue().product(asked.item, asked.variation)?;
-    if !draft.catalogue().is_active(product) {
+    let product = draft
+        .rows()
+        .catalogue()
+        .product(asked.item, asked.variation)?;
+    if !draft.rows().catalogue().is_active(product) {
         return Err(CatalogueRefusal::Inactive);
     }
-    if !draft.catalogue().is_sold(product) {
+    if !draft.rows().catalogue().is_sold(product) {
         return Err(CatalogueRefusal::NotSold);
     }
     Ok(product)
@@ -72,10 +75,10 @@ fn voucher_asked<'d, B: Book>(
     let Some(code) = code else {
         return Ok(None);
     };
-    let Some(voucher) = draft.voucher_of(code.as_str()) else {
+    let Some(voucher) = draft.rows().voucher_of(code.as_str()) else {
         return Err(VoucherRefusal::NoVoucher);
     };
-    usable(voucher, draft.catalogue(), product, draft.moment())?;
+    usable(voucher, draft.rows().catalogue(), product, draft.moment())?;
     Ok(Some(voucher))
 }
 

@@ -47,7 +47,7 @@ pub fn new_code<'a>(given: &'a Option<Text>, old: &Text) -> Option<&'a Text>
 pub fn has_anothers_code<B: Book>(draft: &Draft<'_, B>, row: &Voucher) -> bool
     ensures { result ≡ has_anothers_code row.now (now draft.now).lists }
 {
-    match draft.voucher_of(row.code.as_str()) {
+    match draft.rows().voucher_of(row.code.as_str()) {
         None => false,
         Some(voucher) => voucher.id != row.id,
     }

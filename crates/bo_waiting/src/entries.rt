@@ -11,7 +11,7 @@ use crate::rows::patched;
 use bo_commands::{WaitingPatch, WaitingRefusal};
 use bo_draft::Draft;
 use bo_lists::Waiting;
-use bo_usage::Book;
+use bo_usage::{Book, LookUps};
 use std::alloc::Global;
 
 /// Gives the waiting entry of an id the priority that is given, if one is, and answers a copy of it.
@@ -30,7 +30,7 @@ pub fn change<B: Book>(
     ensures same { OnErr result (draft.new ≡ draft.old) }
     ensures changes { IfOk result (λ row. draft.new.log.changes ≡ draft.old.log.changes ++ PutWaiting row ∷ []) }
 {
-    let entry = match draft.waiting(id) {
+    let entry = match draft.rows().entry(id) {
         None => return Err(WaitingRefusal::NoEntry),
         Some(entry) => entry.copy(alloc)?,
     };
@@ -57,7 +57,7 @@ pub fn leave<B: Book>(
     ensures same { OnErr result (draft.new ≡ draft.old) }
     ensures changes { OnOk result (draft.new.log.changes ≡ draft.old.log.changes ++ DropWaiting id ∷ []) }
 {
-    let is_sent = match draft.waiting(id) {
+    let is_sent = match draft.rows().entry(id) {
         None => return Err(WaitingRefusal::NoEntry),
         Some(entry) => entry.voucher.is_some(),
     };

@@ -53,11 +53,11 @@ pub fn join<B: Book>(
     ensures same { OnErr result (draft.new ≡ draft.old) }
     ensures changes { IfOk result (λ row. draft.new.log.changes ≡ draft.old.log.changes ++ PutWaiting row ∷ []) }
 {
-    let product = draft.catalogue().product(new.item, new.variation)?;
-    if !draft.catalogue().is_active(product) {
+    let product = draft.rows().catalogue().product(new.item, new.variation)?;
+    if !draft.rows().catalogue().is_active(product) {
         return Err(WaitingRefusal::Catalogue(CatalogueRefusal::Inactive));
     }
-    if draft.is_waiting(new.email.as_str(), product) {
+    if draft.book().is_waiting(new.email.as_str(), product) {
         return Err(WaitingRefusal::AlreadyWaiting);
     }
     if is_open(draft, product) {

@@ -38,7 +38,7 @@ fn is_full_at<B: Book>(draft: &Draft<'_, B>, id: u64) -> bool
     requires waiting { (now draft.now).lists.waiting ≡ draft.now.log.base.waiting }
     ensures { result ≡ is_full_at (now draft.now) id }
 {
-    match draft.catalogue().quota(id) {
+    match draft.rows().catalogue().quota(id) {
         None => false,
         Some(quota) => is_full(draft, quota),
     }
@@ -50,7 +50,7 @@ pub fn first_closed<B: Book>(draft: &Draft<'_, B>, product: Product) -> Option<u
     requires waiting { (now draft.now).lists.waiting ≡ draft.now.log.base.waiting }
     ensures { result ≡ first_closed (now draft.now) product }
 {
-    let catalogue = draft.catalogue();
+    let catalogue = draft.rows().catalogue();
     catalogue.known();
     let quotas = catalogue.quotas_with(product);
     for place in 0..quotas.len() {
@@ -68,7 +68,7 @@ pub fn is_open<B: Book>(draft: &Draft<'_, B>, product: Product) -> bool
     requires waiting { (now draft.now).lists.waiting ≡ draft.now.log.base.waiting }
     ensures { result ≡ is_open (now draft.now) product }
 {
-    draft.catalogue().is_sold(product) && first_closed(draft, product).is_none()
+    draft.rows().catalogue().is_sold(product) && first_closed(draft, product).is_none()
 }
 
 // How many places a quota that stands has left but for those who wait; none where it has no size.
@@ -92,7 +92,7 @@ pub fn places_left<B: Book>(
     requires waiting { (now draft.now).lists.waiting ≡ draft.now.log.base.waiting }
     ensures { IfOk result (λ left. left.items ≡ map (places_left (now draft.now)) (now draft.now).lists.catalogue.quotas) }
 {
-    let catalogue = draft.catalogue();
+    let catalogue = draft.rows().catalogue();
     catalogue.known();
     let quotas = catalogue.quotas();
     let mut left = Vec::new(alloc);

@@ -15,7 +15,7 @@ use bo_commands::WaitingRefusal;
 use bo_draft::Draft;
 use bo_lists::{Voucher, Waiting};
 use bo_sound::made_codes::made_code;
-use bo_usage::Book;
+use bo_usage::{Book, LookUps};
 use std::alloc::{AllocError, Global};
 
 // How long a voucher that is sent can be used: two days.
@@ -40,19 +40,14 @@ pub fn send<B: Book>(
     ensures same { OnErr result (draft.new ≡ draft.old) }
     ensures changes { IfOk result (λ row. draft.new.log.changes ≡ draft.old.log.changes ++ sent_changes draw (now draft.old) row) }
 {
-    let entry = match draft.waiting(id) {
+    let entry = match draft.rows().entry(id) {
         None => return Err(WaitingRefusal::NoEntry),
         Some(entry) => entry.copy(alloc)?,
     };
     let closed = first_closed(draft, entry.product);
     let mark = draft.mark(alloc)?;
-    match send_to(draft, alloc, draw, entry, closed) {
-        Ok(row) => Ok(row),
-        Err(refusal) => {
-            draft.back_to(mark);
-            Err(refusal)
-        }
-    }
+    let sent = send_to(draft, alloc, draw, entry, closed);
+    draft.end_attempt(mark, sent)
 }
 
 /// Sends a voucher to an entry that stands, where `closed` is the least quota of its product without a place.
@@ -77,10 +72,10 @@ pub(crate) fn send_to<B: Book>(
     if entry.voucher.is_some() {
         return Err(WaitingRefusal::AlreadySent);
     }
-    if !draft.catalogue().is_active(entry.product) {
+    if !draft.rows().catalogue().is_active(entry.product) {
         return Err(WaitingRefusal::Catalogue(CatalogueRefusal::Inactive));
     }
-    if !draft.catalogue().is_sold(entry.product) {
+    if !draft.rows().catalogue().is_sold(entry.product) {
         return Err(WaitingRefusal::Catalogue(CatalogueRefusal::NotSold));
     }
     if let Some(quota) = closed {

@@ -13,7 +13,7 @@ use crate::turns::ids_in_turn;
 use bo_base::Draw;
 use bo_commands::WaitingRefusal;
 use bo_draft::Draft;
-use bo_usage::Book;
+use bo_usage::{Book, LookUps};
 use std::alloc::{AllocError, Global};
 
 /// Sends a voucher to each waiting entry that can be sent one in its turn, in a draft that has changed no waiting entry,
@@ -37,13 +37,8 @@ pub fn serve_all<B: Book>(
     }
     let mut left = places_left(draft, alloc)?;
     let mark = draft.mark(alloc)?;
-    match serve_each(draft, alloc, draw, &queue, &mut left) {
-        Ok(ids) => Ok(ids),
-        Err(refusal) => {
-            draft.back_to(mark);
-            Err(refusal)
-        }
-    }
+    let served = serve_each(draft, alloc, draw, &queue, &mut left);
+    draft.end_attempt(mark, served)
 }
 
 // Sends to each of these entries in turn, or skips it, until the table of vouchers is full.
@@ -88,15 +83,15 @@ fn serve_one<B: Book>(
     ensures left { OnOk result (left.new.items ≡ map (places_left (now draft.new)) (now draft.new).lists.catalogue.quotas) }
     ensures extends { Extends draft.old draft.new }
 {
-    let entry = match draft.waiting(id) {
+    let entry = match draft.rows().entry(id) {
         None => return Ok(()),
         Some(entry) => entry.copy(alloc)?,
     };
     let product = entry.product;
-    let closed = first_without_place(draft.catalogue().quotas(), left, product);
+    let closed = first_without_place(draft.rows().catalogue().quotas(), left, product);
     match send_to(draft, alloc, draw, entry, closed) {
         Ok(row) => {
-            *left = all_after_one(alloc, draft.catalogue().quotas(), left, product)?;
+            *left = all_after_one(alloc, draft.rows().catalogue().quotas(), left, product)?;
             Ok(ids.push(row.id)?)
         }
         Err(WaitingRefusal::Memory) => Err(AllocError),

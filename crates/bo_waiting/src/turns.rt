@@ -8,7 +8,7 @@ ghost use Rattle.bo_waiting.specs.Turns.{turn_of};
 
 use bo_draft::Draft;
 use bo_lists::Waiting;
-use bo_usage::Book;
+use bo_usage::{Book, LookUps};
 use std::alloc::{AllocError, Global};
 use std::cmp::Reverse;
 
@@ -27,7 +27,7 @@ pub fn ids_in_turn<B: Book>(draft: &Draft<'_, B>, alloc: Global) -> Result<Vec<u
     requires { (now draft.now).lists.waiting ≡ draft.now.log.base.waiting }
     ensures { IfOk result (λ ids. ids.items ≡ map (λ e. e.id) (queue (now draft.now).lists)) }
 {
-    let waiters = draft.waiters(alloc)?;
+    let waiters = draft.book().waiters(alloc)?;
     let mut turns = turns_of(draft, alloc, &waiters)?;
     turns.sort_unstable();
     ids_of(alloc, &turns)
@@ -45,7 +45,7 @@ fn turns_of<B: Book>(
     draft.known();
     let mut turns = Vec::new(alloc);
     for id in ids {
-        if let Some(entry) = draft.waiting(*id) {
+        if let Some(entry) = draft.rows().entry(*id) {
             turns.push(turn_of(entry))?;
         }
     }

@@ -1,9 +1,8 @@
-use Rattle.std.proofs.Common.{◌≡◌, true, ap, arith}
-use Rattle.std.specs.Prelude.{◌&&◌}
+use Rattle.std.proofs.Common.{◌≡◌, length, sym, ap, arith}
+use Rattle.std.proofs.lemmas.Result.{IfOk-at_ok}
 use Rattle.bo_lists.specs.declared.rows.NextIds.{NextIds}
-use Rattle.bo_lists.specs.Full.{takes_order, takes_positions}
 use Rattle.bo_lists.specs.Lists.{State}
-use Rattle.bo_draft.specs.DraftState.{now}
+use Rattle.bo_draft.specs.DraftState.{DraftState, now}
 use Rattle.bo_orders.specs.Created.{with_order_row}
 use Rattle.bo_orders.proofs.Rows.{puts_next, takes_ids}
 use Rattle.bo_orders.proofs.creating.place.Goals as goal
@@ -11,15 +10,19 @@ use Rattle.bo_orders.proofs.creating.place.Goals as goal
 pub use_order_id-requires : goal.use_order_id-requires
 use_order_id-requires g c =
     let state = now c.args.draft.now in
-    let same : (now c.put_all.new.draft).next ≡ state.next = puts_next c.deref-2.result.now (with_order_row c.args.order c.args.carts.now state) (now c.put_all.new.draft) c.in_default.ensures.done in
-    let takes : (takes_order state && takes_positions c.len.result state) ≡ true = cc (c.if-not-takes.ensures) in
-    let ids = takes_ids c.len.result state takes in
-    omega (arith, ids.0, ap (λ (n : NextIds). n.order) same)
+    let mid = c.put_tested-put.new.draft in
+    let rows = c.deref-3.result.now in
+    let made = sym c.in_ok-end_attempt.ensures.answer in
+    let same : (now mid).next ≡ state.next = puts_next rows (with_order_row c.args.order c.args.carts.now state) (now mid) (IfOk-at_ok _ made c.put_tested-put.ensures.put) in
+    let ids = takes_ids (length rows) state (IfOk-at_ok _ made c.put_tested-put.ensures.takes) in
+    omega (arith, ids.0, ap (λ (n : NextIds). n.order) same, ap (λ (d : DraftState). d.next.order) c.in_ok-end_attempt.ensures.kept)
 
 pub use_position_ids-requires : goal.use_position_ids-requires
 use_position_ids-requires g c =
     let state = now c.args.draft.now in
-    let same : (now c.put_all.new.draft).next ≡ state.next = puts_next c.deref-2.result.now (with_order_row c.args.order c.args.carts.now state) (now c.put_all.new.draft) c.in_default.ensures.done in
-    let takes : (takes_order state && takes_positions c.len.result state) ≡ true = cc (c.if-not-takes.ensures) in
-    let ids = takes_ids c.len.result state takes in
-    omega (arith, ids.1, ap (λ (n : NextIds). n.position) same, ap (λ (s : State). s.next.position) c.use_order_id.ensures.now, c.len.ensures, c.len-2.ensures)
+    let mid = c.put_tested-put.new.draft in
+    let rows = c.deref-3.result.now in
+    let made = sym c.in_ok-end_attempt.ensures.answer in
+    let same : (now mid).next ≡ state.next = puts_next rows (with_order_row c.args.order c.args.carts.now state) (now mid) (IfOk-at_ok _ made c.put_tested-put.ensures.put) in
+    let ids = takes_ids (length rows) state (IfOk-at_ok _ made c.put_tested-put.ensures.takes) in
+    omega (arith, ids.1, ap (λ (n : NextIds). n.position) same, ap (λ (d : DraftState). d.next.position) c.in_ok-end_attempt.ensures.kept, ap (λ (s : State). s.next.position) c.use_order_id.ensures.now, ap length c.deref-3.ensures.value, c.len.ensures)

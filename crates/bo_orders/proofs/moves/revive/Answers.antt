@@ -1,13 +1,14 @@
-use Rattle.bo_draft.specs.DraftState.{now, back}
+use Rattle.std.proofs.Common.{◌≡◌, true, Err, map, rules, sym, ap, ◌∙◌}
+use Rattle.std.proofs.lemmas.Result.{err_from_is_err_and}
+use Rattle.bo_draft.specs.DraftState.{now}
 use Rattle.bo_lists.specs.declared.changes.Change.TheVariants.{PutOrder}
-use Rattle.bo_lists.specs.declared.rows.Own.{Own}
 use Rattle.bo_lists.specs.declared.rows.Own.TheVariants.{Position}
-use Rattle.bo_lists.specs.Change.{after_change, changed}
-use Rattle.bo_lists.specs.Lists.{State, positions_of}
+use Rattle.bo_lists.specs.Change.{changed}
+use Rattle.bo_lists.specs.Lists.{positions_of}
 use Rattle.bo_lists.specs.Over.{first_over}
 use Rattle.bo_lists.proofs.OrderHeadroom.{headroom_revived_order}
-use Rattle.std.proofs.Common.{rules, ◌≡◌, List, map, Some, sym, ap, ◌∙◌}
-use Rattle.bo_orders.proofs.MoveLemmas.{revived_over}
+use Rattle.bo_orders.specs.Places.{places_test}
+use Rattle.bo_orders.proofs.Tested.{tested_since, revived_refused}
 use Rattle.bo_orders.proofs.moves.revive.Goals as goal
 
 pub put_order-requires : goal.put_order-requires
@@ -15,17 +16,15 @@ put_order-requires g c =
     let state = now c.args.draft.now in
     headroom_revived_order c.args.row state.lists state.moment c.requires.sound.ids.vouchers.in_order (sym c.have_uses_again.ensures ∙ c.if-not-have_uses_again.false) c.requires.sound.headroom
 
-pub returns-in-Some-clause-refused : goal.returns-in-Some-clause-refused
-returns-in-Some-clause-refused g c = λ not.
+pub returns-in_err-end_attempt-clause-refused : goal.returns-in_err-end_attempt-clause-refused
+returns-in_err-end_attempt-clause-refused g c =
     let row = c.args.row in
     let state = now c.args.draft.now in
     let after = now c.put_order.new.self in
-    let before = now (back c.in_ok-mark.mark c.put_order.new.self) in
-    let was : before ≡ state = ap now ((c.in_ok-put_order.ensures.extends.marks c.in_ok-mark.mark c.in_ok-mark.ensures.place).1 ∙ c.in_ok-mark.ensures.here) in
-    let put : after ≡ changed (PutOrder row) state = c.in_ok-put_order.ensures.ok in
     let own : c.deref.result.now ≡ map (λ p. Position p.id) (positions_of row.id state.lists) = search rules in
-    let over : first_over before.lists after.lists after.moment c.deref.result.now ≡ Some c.in-Some.quota = sym c.first_over.ensures ∙ c.in-Some.is in
-    let over_own : first_over before.lists after.lists after.moment (map (λ p. Position p.id) (positions_of row.id state.lists)) ≡ Some c.in-Some.quota = ap (λ (o : List Own). first_over before.lists after.lists after.moment o) (sym own) ∙ over in
-    let over_after : first_over before.lists (changed (PutOrder row) state).lists state.moment (map (λ p. Position p.id) (positions_of row.id state.lists)) ≡ Some c.in-Some.quota = ap (λ (s : State). first_over before.lists s.lists s.moment (map (λ p. Position p.id) (positions_of row.id state.lists))) (sym put) ∙ over_own in
-    let over_all : first_over state.lists (after_change (PutOrder row) state.lists) state.moment (map (λ p. Position p.id) (positions_of row.id state.lists)) ≡ Some c.in-Some.quota = ap (λ (s : State). first_over s.lists (after_change (PutOrder row) state.lists) state.moment (map (λ p. Position p.id) (positions_of row.id state.lists))) (sym was) ∙ over_after in
-    revived_over row state c.in-Some.quota (sym c.have_uses_again.ensures ∙ c.if-not-have_uses_again.false) over_all
+    let tested = tested_since true c.in_ok-put_order.ensures.extends c.in_ok-mark.ensures.place c.in_ok-mark.ensures.here own c.test_places-tested.ensures in
+    let put : after ≡ changed (PutOrder row) state = c.in_ok-put_order.ensures.ok in
+    let failed : c.test_places-tested.result ≡ Err c.in_err-end_attempt.field-0.0 = search rules in
+    let refused = revived_refused row state (sym c.have_uses_again.ensures ∙ c.if-not-have_uses_again.false) (sym (λ i. places_test (first_over state.lists (put i).lists state.moment (map (λ p. Position p.id) (positions_of row.id state.lists))) true) ∙ sym tested ∙ failed) in
+    let given = err_from_is_err_and c.from_residual-in_err-end_attempt.result c.from_residual-in_err-end_attempt.ensures.1 in
+    rw given.1 (λ _. refused ∙ ap (λ e. Err e) (sym given.2))

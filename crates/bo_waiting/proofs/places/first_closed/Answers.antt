@@ -1,4 +1,4 @@
-use Rattle.std.proofs.Common.{◌≡◌, ℕ, ◌+◌, ◌∷◌, List, drop, length, ◌<◌, sym, ap, ◌∙◌, subst, arith}
+use Rattle.std.proofs.Common.{◌≡◌, ℕ, ◌+◌, ◌∷◌, List, drop, length, ◌<◌, rules, sym, ap, ◌∙◌, subst, arith}
 use Rattle.std.specs.Prelude.{find}
 use Rattle.std.proofs.lemmas.List.{drop_more}
 use Rattle.bo_base.specs.Tables.{AreInOrder}
@@ -12,7 +12,7 @@ pub loop-place-init : goal.loop-place-init
 loop-place-init g c =
     let state = now c.args.draft.now in
     let product = c.args.product in
-    let lists = c.catalogue-catalogue.ensures in
+    let lists : c.catalogue-catalogue.result.now.lists ≡ state.lists.catalogue = search rules in
     ap (λ (ids : List ℕ). find (is_full_at state) ids) (c.quotas_with-quotas.ensures ∙ ap (λ (l : CatalogueLists). quotas_of product l) lists)
     ∙ first_by_ids state product (subst (λ (l : CatalogueLists). AreInOrder (λ q. q.id) l.quotas) lists c.known.ensures.in_order)
 

@@ -13,10 +13,10 @@ loop-id-preserved g c =
     let lists = (now c.args.draft.now).lists in
     let i = c.loop-id.id-index in
     let ids = c.args.ids.now in
-    elim c.match-waiting.branch [
+    elim c.match-entry.branch [
       | in-Some+in_ok-push w ↦
           let found : waiting_at (get_or ids i 0) lists ≡ Some w.in-Some.entry.now = search rules in
-          let pushed : c.match-waiting.turns.items ≡ c.loop-id.turns.items ++ turn_of w.in-Some.entry.now ∷ [] = search rules in
+          let pushed : c.match-entry.turns.items ≡ c.loop-id.turns.items ++ turn_of w.in-Some.entry.now ∷ [] = search rules in
           ap (λ (l : List Turn). l ++ map turn_of (drop (i + 1) (waiters lists))) pushed
           ∙ next_turn lists c.known.ensures.waiting ids c.requires i c.loop-id-test.true c.loop-id.turns.items w.in-Some.entry.now found
           ∙ c.loop-id.invariant

@@ -1,0 +1,13 @@
+-- Whether there are places for what was put.
+use Rattle.std.specs.Prelude.{ℕ, Bool, Option, Result}
+use Rattle.bo_base.specs.Deciding.{◌>>◌, check, refuse_some}
+use Rattle.bo_catalogue.specs.declared.refusal.CatalogueRefusal.TheVariants.{Full}
+use Rattle.bo_commands.specs.declared.vouchers.VoucherRefusal.TheVariants.{Catalogue, SoldOut}
+use Rattle.bo_commands.specs.declared.orders.OrderRefusal.{OrderRefusal}
+use Rattle.bo_commands.specs.declared.orders.OrderRefusal.TheVariants.{Voucher as OfVoucher}
+
+-- no quota may be taken too much of, and the tables have to take the rows
+abbrev pub places_test : Option ℕ → Bool → Result (Unit {0}) OrderRefusal
+places_test over takes = do
+  refuse_some (λ quota. OfVoucher (SoldOut quota)) over
+  check takes (OfVoucher (Catalogue Full))

@@ -1,0 +1,32 @@
+//! Whether there are places for what was put.
+
+ghost use Rattle.std.specs.Prelude.{◌≡◌};
+ghost use Rattle.bo_draft.specs.DraftState.{now, back, IsMarkOf};
+ghost use Rattle.bo_lists.specs.Over.{first_over};
+ghost use Rattle.bo_orders.specs.Places.{places_test};
+
+use bo_catalogue::CatalogueRefusal;
+use bo_commands::{OrderRefusal, VoucherRefusal};
+use bo_draft::{Draft, Mark};
+use bo_lists::Own;
+use bo_usage::Book;
+
+/// No quota may be over since the mark, where the own rows don't weigh if their vouchers ignore quotas; and the tables
+/// have to take the rows. Refusals, in this order: 28 `SoldOut` with the least such quota; 16 `Full`.
+pub fn test_places<B: Book>(
+    draft: &Draft<'_, B>,
+    mark: &Mark,
+    own: &[Own],
+    takes: bool,
+) -> Result<(), OrderRefusal>
+    requires { IsMarkOf draft.now mark.now }
+    ensures { result ≡ places_test (first_over (now (back mark.now draft.now)).lists (now draft.now).lists (now draft.now).moment own.now) takes }
+{
+    if let Some(quota) = draft.first_over(mark, own) {
+        return Err(OrderRefusal::Voucher(VoucherRefusal::SoldOut(quota)));
+    }
+    if !takes {
+        return Err(OrderRefusal::Voucher(VoucherRefusal::Catalogue(CatalogueRefusal::Full)));
+    }
+    Ok(())
+}
