@@ -130,11 +130,15 @@ asked_all p lists changes ids before_is after_is is = record {
 }
 
 -- the three lists together
-pub counts_are : (state : State) (changes : Changed) (at : ℕ) (before after : State) (log : List Change) → before ≡ state → after ≡ record { lists = after_all log state.lists; next = state.next; moment = at } → log ≡ changes.list → (rows : CountRows) (quotas : List QuotaCount) (vouchers : List VoucherCount) (gone : List ℕ) → rows.quotas ≡ quotas → rows.vouchers ≡ vouchers → rows.gone ≡ gone → quotas ≡ (counts_after before after).quotas → vouchers ≡ (counts_after before after).vouchers → gone ≡ (counts_after before after).gone → rows ≡ counts_after state (applied changes at state)
-counts_are state changes at before after log b a l rows quotas vouchers gone rq rv rg q v n =
-    let same : counts_after before after ≡ counts_after state (record { lists = after_all changes.list state.lists; next = state.next; moment = at }) =
-    ap (λ (s : State). counts_after s after) b ∙ ap (counts_after state) a ∙ ap (λ (cs : List Change). counts_after state (record { lists = after_all cs state.lists; next = state.next; moment = at })) l in
-    let one : rows.quotas ≡ (counts_after state (applied changes at state)).quotas = rq ∙ q ∙ ap (λ (r : CountRows). r.quotas) same in
-    let two : rows.vouchers ≡ (counts_after state (applied changes at state)).vouchers = rv ∙ v ∙ ap (λ (r : CountRows). r.vouchers) same in
-    let three : rows.gone ≡ (counts_after state (applied changes at state)).gone = rg ∙ n ∙ ap (λ (r : CountRows). r.gone) same in
+pub counts_are : (before after : State) (rows : CountRows) (quotas : List QuotaCount) (vouchers : List VoucherCount) (gone : List ℕ) → rows.quotas ≡ quotas → rows.vouchers ≡ vouchers → rows.gone ≡ gone → quotas ≡ (counts_after before after).quotas → vouchers ≡ (counts_after before after).vouchers → gone ≡ (counts_after before after).gone → rows ≡ counts_after before after
+counts_are before after rows quotas vouchers gone rq rv rg q v n =
+    let one : rows.quotas ≡ (counts_after before after).quotas = rq ∙ q in
+    let two : rows.vouchers ≡ (counts_after before after).vouchers = rv ∙ v in
+    let three : rows.gone ≡ (counts_after before after).gone = rg ∙ n in
     λ i. record { quotas = one i; vouchers = two i; gone = three i }
+
+-- of a book and its changes
+pub counts_of : (state : State) (changes log : List Change) (at : ℕ) (before after : State) (rows : CountRows) → before ≡ state → after ≡ record { lists = after_all log state.lists; next = state.next; moment = at } → log ≡ changes → rows ≡ counts_after before after
+    → rows ≡ counts_after state (record { lists = after_all changes state.lists; next = state.next; moment = at })
+counts_of state changes log at before after rows b a l is =
+    is ∙ ap (λ (s : State). counts_after s after) b ∙ ap (counts_after state) a ∙ ap (λ (cs : List Change). counts_after state (record { lists = after_all cs state.lists; next = state.next; moment = at })) l

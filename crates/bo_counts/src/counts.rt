@@ -1,6 +1,6 @@
 //! Which counts are to be written with changes.
 
-ghost use Rattle.std.specs.Prelude.{◌≡◌, ◌≤◌, ◌++◌, IfOk, OnOk, map, flat_map};
+ghost use Rattle.std.specs.Prelude.{◌≡◌, ◌≤◌, ◌++◌, [], IfOk, OnOk, map, flat_map};
 ghost use Rattle.bo_base.specs.Rising.{rising};
 ghost use Rattle.bo_lists.specs.Change.{applied, after_all};
 ghost use Rattle.bo_lists.specs.CountRows.{counts_after};
@@ -31,15 +31,40 @@ pub fn counts_after<B: Book>(
 {
     let none = ChangeLog::new(alloc);
     let log = log_of(alloc, changes.as_slice())?;
-    let sides = Sides::new(book, alloc, &none, &log, at)?;
-    let ids = sides.asked(alloc, changes.as_slice())?;
-    let quotas = sides.quotas(alloc, ids.as_slice())?;
-    let vouchers = sides.vouchers(alloc)?;
-    let gone = sides.gone(alloc)?;
-    Ok(CountRows::new(quotas, vouchers, gone))
+    counts_by(book, alloc, &none, &log, changes.as_slice(), at)
+}
+
+// The same, with the log of no change and that of the changes.
+fn counts_by<B: Book>(
+    book: &B,
+    alloc: Global,
+    none: &ChangeLog,
+    log: &ChangeLog,
+    changes: &[Change],
+    at: Moment,
+) -> Result<CountRows, AllocError>
+    requires moment { (B.state book.now).moment ≤ at }
+    requires none { none.now ≡ [] }
+    requires log { log.now ≡ changes.now }
+    ensures { IfOk result (λ rows. rows ≡ counts_after (B.state book.now) (record { lists = after_all changes.now (B.state book.now).lists; next = (B.state book.now).next; moment = at })) }
+{
+    let sides = Sides::new(book, alloc, none, log, at)?;
+    sides.counts(alloc, changes)
 }
 
 impl<'s, B: Book> Sides<'s, B> {
+    // What is told of these changes.
+    fn counts(&self, alloc: Global, changes: &[Change]) -> Result<CountRows, AllocError>
+        requires { self.now.after.lists ≡ after_all changes.now self.now.before.lists }
+        ensures { IfOk result (λ rows. rows ≡ counts_after self.now.before self.now.after) }
+    {
+        let ids = self.asked(alloc, changes)?;
+        let quotas = self.quotas(alloc, ids.as_slice())?;
+        let vouchers = self.vouchers(alloc)?;
+        let gone = self.gone(alloc)?;
+        Ok(CountRows::new(quotas, vouchers, gone))
+    }
+
     // The quotas whose counts may differ by these changes: where nothing came due, those that they put or reach.
     fn asked(&self, alloc: Global, changes: &[Change]) -> Result<Ids, AllocError>
         requires { self.now.after.lists ≡ after_all changes.now self.now.before.lists }

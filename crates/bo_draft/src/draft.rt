@@ -597,8 +597,8 @@ impl<'a, B: Book> Draft<'a, B> {
         made
     }
 
-    // Undoes all that came after the mark.
-    fn back_to(&mut self, mark: Mark)
+    /// Undoes all that came after the mark. It takes no memory.
+    pub fn back_to(&mut self, mark: Mark)
         requires { IsMarkOf self.old mark }
         ensures { self.new ≡ back mark self.old }
     {

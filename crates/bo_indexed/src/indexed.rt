@@ -187,7 +187,7 @@ impl<T: Keyed + Drop> Indexed<T> {
         self.rows.delete(id);
     }
 
-    /// Removes the rows of these ids, which rise: one pass over the rows, however many of them go.
+    /// Removes the rows of these ids, which rise. Fewer than 64 go one after another, and more in one pass over the rows.
     pub fn delete_all(&mut self, ids: &[u64])
         requires rising { AreInOrder (λ n. n) ids.now }
         ensures rows { self.new.rows ≡ without_rows T.key ids.now self.old.rows }

@@ -8,7 +8,7 @@ ghost use Rattle.bo_deliveries.specs.declared.arrival.Request.TheVariants.{Write
 ghost use Rattle.bo_deliveries.specs.Deliveries.{is_write, done};
 
 use crate::shop::Shop;
-use crate::wording::Wording;
+use crate::wording::{Wording, worded};
 use bo_base::{Draw, Moment, Response};
 use bo_commands::Command;
 use bo_counts::counts_after;
@@ -32,7 +32,7 @@ impl<T: Tables, B: Book, W: Wording> Shop<T, B, W> {
         ensures sound { IfOk result (λ r. IsSound (applied r.0 at self.now.state)) }
     {
         let (changes, reply) = self.office.decide(alloc, at, draw, command)?;
-        let response = self.wording.words(alloc, &reply)?;
+        let response = worded(&self.wording, alloc, reply)?;
         Ok((changes, response))
     }
 

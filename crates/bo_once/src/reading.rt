@@ -8,7 +8,7 @@ ghost use Rattle.bo_deliveries.specs.Histories.{Running, IsRunning, TellsIt, aft
 ghost use Rattle.bo_deliveries.specs.Shops.{Views, StandsFor, IsAnswered, delivered};
 
 use crate::shop::Shop;
-use crate::wording::Wording;
+use crate::wording::{Wording, worded};
 use bo_base::{Answer, Response};
 use bo_deliveries::{Arrival, Request};
 use bo_kept::Tables;
@@ -27,7 +27,7 @@ impl<T: Tables, B: Book, W: Wording> Shop<T, B, W> {
         match request {
             Request::Read(query) => {
                 let reply = self.office.ask(alloc, at, &query)?;
-                self.wording.words(alloc, &reply)
+                worded(&self.wording, alloc, reply)
             }
             Request::ReadRefused(response) => Ok(response),
             Request::Write(_) => unreachable!(),

@@ -251,7 +251,7 @@ impl Store {
         }
     }
 
-    /// Removes the cart positions of these ids, which rise: one pass over them, however many go.
+    /// Removes the cart positions of these ids, which rise. Fewer than 64 go one after another, and more in one pass over them.
     pub fn drop_carts(&mut self, ids: &[u64])
         requires rising { AreInOrder (λ n. n) ids.now }
         ensures lists { self.new.state ≡ record self.old.state { lists = record self.old.state.lists { carts = without_rows (λ c. c.id) ids.now self.old.state.lists.carts } } }
