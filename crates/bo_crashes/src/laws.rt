@@ -1,6 +1,6 @@
 //! Laws of a shop's file over crashes.
 
-ghost use Rattle.std.specs.Prelude.{◌⊎◌, ℕ, List, [], ◌∷◌, ◌++◌, map, Option, IsTrue};
+ghost use Rattle.std.specs.Prelude.{◌≡◌, ◌⊎◌, ℕ, List, [], ◌∷◌, ◌++◌, map, Option, IsTrue};
 ghost use Rattle.sqlite.specs.Held.{state};
 ghost use Rattle.sqlite.specs.State.{Survives};
 ghost use Rattle.bo_base.specs.declared.answer.Response.{Response};
@@ -20,9 +20,9 @@ ghost use Rattle.bo_reopen.specs.Opened.{IsReason, IsOpened};
 ghost use Rattle.bo_deliveries.specs.Deliveries.{Delivery, Opening};
 ghost use Rattle.bo_deliveries.specs.Shops.{Stands, stood};
 ghost use Rattle.bo_deliveries.specs.Histories.{Event, Crashed, Running, MayLeave, Happens, ComesTo, IsRunning, Reopened, opened};
-ghost use Rattle.bo_file.specs.Made.{IsMade};
-ghost use Rattle.bo_file.specs.Tokens.{also_known, raised, next_one};
-ghost use Rattle.bo_crashes.specs.Found.{IsFound, HoldTypedShop};
+ghost use Rattle.bo_made.specs.Made.{IsMade};
+ghost use Rattle.bo_made.specs.Tokens.{also_known, raised, next_one};
+ghost use Rattle.bo_crashes.specs.Found.{IsFound};
 
 use bo_kept::Tables;
 use bo_tables::SqlTables;
@@ -62,11 +62,34 @@ pub fn a_shop_runs_on_after_a_crash<S: Alter>(
     let _ = after;
 }
 
+/// A crash while a shop's file is opened loses nothing: what `open_file` promises of a crash is that it leaves only what stood. Where the
+/// file was found after a crash, is being opened, whether that came to an end or not, and the crash comes again, what is found then is
+/// what was found before, and so what the first crash may have left, however often that happens. So what is opened of it in the end is
+/// the shop that was running, as it was or with one undecided write carried out.
+pub fn a_crash_while_opening_loses_nothing<S: Alter>(
+    before: &SqlTables<S>,
+    fresh: &Connection<S>,
+    tried: &Connection<S>,
+    again: &Connection<S>,
+    after: &SqlTables<S>,
+)
+    ensures found { IsFound (state S.Store before.now.connection) (state S.Store fresh.now) → IsTrue (state S.Store fresh.now).is_open → Survives (state S.Store fresh.now) (state S.Store tried.now) (λ _. ⊥)
+        → IsFound (state S.Store tried.now) (state S.Store again.now) → IsFound (state S.Store before.now.connection) (state S.Store again.now) × ((state S.Store again.now).now ≡ (state S.Store fresh.now).now) }
+    ensures runs { (words : Reply → Response) (s : State) (r : Running) → IsRunning words ⟦<SqlTables<S> as Tables>⟧.holds ⟦<SqlTables<S> as Tables>⟧.may_leave before.now s r
+        → IsFound (state S.Store before.now.connection) (state S.Store fresh.now) → IsTrue (state S.Store fresh.now).is_open → Survives (state S.Store fresh.now) (state S.Store tried.now) (λ _. ⊥)
+        → IsFound (state S.Store tried.now) (state S.Store again.now) → (z : State) → IsOpened (state S.Store again.now).now.trees after.now.head after.now.next_row z (state S.Store after.now.connection)
+        → (x : ShopView) × MayLeave words r x × IsRunning words ⟦<SqlTables<S> as Tables>⟧.holds ⟦<SqlTables<S> as Tables>⟧.may_leave after.now z (opened words x) }
+{
+    let _ = fresh;
+    let _ = tried;
+    a_shop_runs_on_after_a_crash(before, again, after);
+}
+
 /// After a crash of a running shop its file holds a shop, and so is opened, or refused for want of memory or because the store
-/// fails, and never with 60, 61 or 62: where each shop is sound that the crash may have left, and values are what their types promise.
+/// fails, and never with 60, 61 or 62: where each shop is sound that the crash may have left.
 pub fn a_crash_damages_nothing<S: Alter>(before: &SqlTables<S>, fresh: &Connection<S>)
     ensures { (words : Reply → Response) (s : State) (r : Running) → IsRunning words ⟦<SqlTables<S> as Tables>⟧.holds ⟦<SqlTables<S> as Tables>⟧.may_leave before.now s r
-        → IsFound (state S.Store before.now.connection) (state S.Store fresh.now) → ((x : ShopView) → MayLeave words r x → IsSound x.state) → HoldTypedShop (state S.Store fresh.now).now.trees
+        → IsFound (state S.Store before.now.connection) (state S.Store fresh.now) → ((x : ShopView) → MayLeave words r x → IsSound x.state)
         → (error : OpenError) → IsReason (state S.Store fresh.now).now error → IsOfMachine error }
 {
     let _ = before;

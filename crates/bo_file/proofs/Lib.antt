@@ -1,3 +1,1 @@
-pub mod Added
-pub mod Made
 pub mod Opened

@@ -12,8 +12,8 @@ ghost use Rattle.bo_opens.specs.Causes.{IsReadable};
 ghost use Rattle.bo_opens.specs.Lawful.{IsOfMachine};
 ghost use Rattle.bo_reopen.specs.Opened.{IsReason, IsOpened};
 
-use crate::error::Refused;
 use bo_counters::Counters;
+use bo_made::Refused;
 use bo_office::Office;
 use bo_opens::OpenError;
 use bo_reopen::{Reopened, reopen};

@@ -30,7 +30,8 @@ use Rattle.bo_columns.specs.Changes.{head_of_quota, head_of_list}
 use Rattle.bo_columns.specs.Fit.{IsStored, IsFitItem, IsFitVariation, IsFitQuota, IsFitVoucher, IsFitCart, IsFitOrder, IsFitPosition, IsFitWaiting, IsFitList, IsFitCheckin}
 use Rattle.bo_columns.specs.Tables.{Tables}
 use Rattle.bo_stand.specs.Stands.{Stand}
-use Rattle.bo_opens.specs.Lawful.{AreFit, AreTyped}
+use Rattle.bo_typed.specs.Typed.{AreTyped}
+use Rattle.bo_opens.specs.Lawful.{AreFit}
 
 -- ---- lists
 

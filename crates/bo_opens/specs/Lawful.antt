@@ -1,6 +1,5 @@
 -- Tables that a shop has written.
-use Rattle.std.specs.Prelude.{◌≡◌, ◌<◌, ◌^◌, [], ◌∷◌, All, IfSome}
-use Rattle.std.specs.Str.{IsUtf8}
+use Rattle.std.specs.Prelude.{◌≡◌, [], ◌∷◌, All}
 use Rattle.bo_columns.specs.declared.rows.Shop.{Shop}
 use Rattle.bo_columns.specs.Tables.{Tables}
 use Rattle.bo_columns.specs.Fit.{IsFitShop, IsFitItem, IsFitVariation, IsFitQuota, IsFitVoucher, IsFitCart, IsFitOrder, IsFitPosition, IsFitWaiting, IsFitList, IsFitCheckin, IsFitToken, IsFitKept}
@@ -25,22 +24,6 @@ pub record AreFit (t : Tables) : Type 0 where
   pub waiting : All IsFitWaiting t.waiting
   pub checkin_lists : All IsFitList t.checkin_lists
   pub checkins : All IsFitCheckin t.checkins
-  pub tokens : All IsFitToken t.tokens
-  pub kept : All IsFitKept t.kept
-
--- What the types of values promise, and the rules of a box office don't say: texts are UTF-8, the place of a ticket has 32 bits,
--- digests have 32 bytes, kept answers a moment and a status of three digits.
-pub record AreTyped (t : Tables) : Type 0 where
-  pub items : All (λ w. IsUtf8 w.name) t.items
-  pub variations : All (λ w. IsUtf8 w.name) t.variations
-  pub quotas : All (λ w. IsUtf8 w.name) t.quotas
-  pub vouchers : All (λ w. IsUtf8 w.voucher.code × IsUtf8 w.voucher.tag × IsUtf8 w.voucher.comment) t.vouchers
-  pub carts : All (λ w. IsUtf8 w.cart_id) t.carts
-  pub orders : All (λ w. IfSome w.email IsUtf8) t.orders
-  pub positions : All (λ w. (w.positionid < 2 ^ 32) × IsUtf8 w.secret) t.positions
-  pub waiting : All (λ w. IsUtf8 w.email) t.waiting
-  pub checkin_lists : All (λ w. IsUtf8 w.name) t.checkin_lists
-  pub checkins : All (λ w. IfSome w.nonce IsUtf8) t.checkins
   pub tokens : All IsFitToken t.tokens
   pub kept : All IsFitKept t.kept
 

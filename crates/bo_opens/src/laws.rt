@@ -12,10 +12,11 @@ ghost use Rattle.bo_kept.specs.declared.kept.Kept.{Kept};
 ghost use Rattle.bo_columns.specs.declared.rows.Shop.{Shop};
 ghost use Rattle.bo_columns.specs.Tables.{Tables, Holds};
 ghost use Rattle.bo_stand.specs.Stands.{Stand};
+ghost use Rattle.bo_typed.specs.Typed.{AreTyped};
 ghost use Rattle.bo_opens.specs.declared.error.OpenError.{OpenError};
 ghost use Rattle.bo_opens.specs.declared.error.OpenError.TheVariants.{Version};
 ghost use Rattle.bo_opens.specs.Causes.{IsReadable, IsCause};
-ghost use Rattle.bo_opens.specs.Lawful.{AreFit, AreTyped, IsOfMachine};
+ghost use Rattle.bo_opens.specs.Lawful.{AreFit, IsOfMachine};
 
 /// A file whose tables hold one shop of version 1, and values within their limits, is refused for want of memory or because the
 /// store fails, and never with 60, 61 or 62.

@@ -24,7 +24,8 @@ use Rattle.bo_opens.specs.Causes.{IsReadable, IsCause}
 use Rattle.bo_opens.specs.Lawful.{IsOfMachine}
 use Rattle.bo_opens.specs.Read.{tables_of}
 use Rattle.bo_arrange.specs.Arranged.{arranged, rows_in, IsInOrder}
-use Rattle.bo_reopen.specs.Opened.{AreBelowNext, KeepsIn, IsLeastIn, IsDamagedBy, IsWhy, IsBroken, IsReason}
+use Rattle.bo_typed.specs.Typed.{AreBelowNext}
+use Rattle.bo_reopen.specs.Opened.{KeepsIn, IsLeastIn, IsDamagedBy, IsWhy, IsBroken, IsReason}
 
 module _ (shop : Shop) (tokens : List Token) (rows : OfficeRows) (file : File) where
   -- the first two rules speak of nothing beside the office

@@ -21,7 +21,8 @@ use Rattle.bo_opens.specs.declared.read.TableRows.{TableRows}
 use Rattle.bo_opens.specs.Read.{AreTableRows, IsFileOf}
 use Rattle.bo_opens.specs.Rests.{IsAt, StaysOpen}
 use Rattle.bo_arrange.specs.Arranged.{arranged, rows_in, told_by, count_in, item_link, variation_link, list_link, IsInOrder}
-use Rattle.bo_reopen.specs.Opened.{AreBelowNext, IsOpened}
+use Rattle.bo_typed.specs.Typed.{IsTypedShop}
+use Rattle.bo_reopen.specs.Opened.{IsOpened}
 
 -- the rows that were read are those of the tables
 pub same_rows : (t : Tables) (rows : TableRows) → AreTableRows t rows → AreSameRows (rows_of t) (rows_in rows)
@@ -62,8 +63,8 @@ stand_as t read file s is state of order whole counted =
 
 -- of an open connection a crash leaves the last commit
 pub is_opened : (t : Tables) (head : Shop) (next : ℕ) (s : State) (old new : Connected) → ((db : Trees) → IsTrue new.is_open → new.may_leave db → db ≡ new.committed.trees) → IsTrue new.is_open → new.in_transaction ≡ false → StaysOpen old new
-    → (db : Database) → IsAt db old → db.schema ≡ schema → Holds db.trees t → Stand head t s (map (λ r. r.kept) t.kept) → ((u : Tables) → Holds db.trees u → IsFree next u) → AreBelowNext head t.tokens → IsOpened db.trees head next s new
-is_opened t head next s old new law opened outside stays db was has holds stand free numbered =
+    → (db : Database) → IsAt db old → db.schema ≡ schema → Holds db.trees t → Stand head t s (map (λ r. r.kept) t.kept) → ((u : Tables) → Holds db.trees u → IsFree next u) → IsTypedShop head t → IsOpened db.trees head next s new
+is_opened t head next s old new law opened outside stays db was has holds stand free typed =
     let at = stays.stays db was in
     let known : new.now.schema ≡ schema = ap (λ (d : Database). d.schema) at.now ∙ has in
     let held : Holds new.now.trees t = subst (λ (d : Database). Holds d.trees t) (sym at.now) holds in
@@ -72,12 +73,12 @@ is_opened t head next s old new law opened outside stays db was has holds stand 
       tables = t;
       held = holds;
       stand = stand;
-      numbered = numbered;
-      holds = λ is_open. record { known = known; outside = outside; settled = settled; tables = t; held = held; stand = stand; free = free t holds };
+      typed = typed;
+      holds = λ is_open. record { known = known; outside = outside; settled = settled; tables = t; held = held; stand = stand; typed = typed; free = free t holds };
       knows = λ u also is_open. record { told = record { known = known; tables = u; held = subst (λ (d : Database). Holds d.trees u) (sym at.now) also; told = λ digest. refl }; free = free u also };
       leaves = λ left l.
           let same : l.trees ≡ new.now.trees = law l.trees opened l.may ∙ sym (ap (λ (d : Database). d.trees) settled) in
-          l.only head t (record { state = s; kept = map (λ r. r.kept) t.kept }) (subst (λ d. Holds d t) (sym same) held) stand;
+          l.only head t (record { state = s; kept = map (λ r. r.kept) t.kept }) (subst (λ d. Holds d t) (sym same) held) stand typed;
     }
 
 -- what follows of a value from what holds of it

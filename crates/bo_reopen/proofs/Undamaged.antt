@@ -31,7 +31,8 @@ use Rattle.bo_opens.proofs.SameLemmas.{file_of}
 use Rattle.bo_arrange.specs.Arranged.{arranged, rows_in, told_by, count_in, IsInOrder}
 use Rattle.bo_arrange.proofs.Offices.{office_told}
 use Rattle.bo_tables.proofs.Told.{one_shop}
-use Rattle.bo_reopen.specs.Opened.{AreBelowNext, IsDamagedBy}
+use Rattle.bo_typed.specs.Typed.{AreBelowNext}
+use Rattle.bo_reopen.specs.Opened.{IsDamagedBy}
 use Rattle.bo_reopen.proofs.Least.{kept_in}
 use Rattle.bo_reopen.proofs.Opening.{same_rows as read_rows}
 

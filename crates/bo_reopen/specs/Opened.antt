@@ -1,6 +1,5 @@
 -- A shop's file that was opened, and what is wrong with one that isn't.
 use Rattle.std.specs.Prelude.{◌≡◌, ◌⊎◌, ℕ, ◌<◌, List, map}
-use Rattle.std.specs.List.{AllByRecursion}
 use Rattle.sqlite_trees.specs.Tree.{Trees}
 use Rattle.sqlite.specs.Effect.{Database}
 use Rattle.sqlite.specs.State.{State as Connected}
@@ -12,6 +11,7 @@ use Rattle.bo_columns.specs.Tables.{Tables, Holds}
 use Rattle.bo_kept.specs.ShopView.{ShopView, IsSame}
 use Rattle.bo_stand.specs.Rows.{OfficeRows}
 use Rattle.bo_stand.specs.Stands.{AreRowsOf, Stand}
+use Rattle.bo_typed.specs.Typed.{AreBelowNext, IsTypedShop}
 use Rattle.bo_rules.specs.declared.rule.Rule.{Rule}
 use Rattle.bo_rules.specs.declared.rule.Rule.TheVariants as rules
 use Rattle.bo_rules.specs.Numbers.{number}
@@ -26,10 +26,6 @@ use Rattle.bo_tables.specs.Held.{number_of}
 use Rattle.bo_tables.specs.Shops.{HoldsWhileOpen, KnowsWhileOpen, Leaves}
 
 -- ---- what is wrong
-
--- each token's number is below the next one
-abbrev pub AreBelowNext : Shop → List Token → Type 0
-AreBelowNext shop tokens = AllByRecursion (λ w. w.id < shop.next_token) tokens
 
 -- the rows keep the rule; to that of ids it belongs that each token's is below the next one, and to that of names that each member of a
 -- quota or a check-in list is of one that stands
@@ -81,13 +77,14 @@ IsReason db Store = Unit {0}
 
 -- ---- what was opened
 
--- The trees hold tables, whose shop's row is this one; they hold the office with all answers that stand in them. The numbers of their
--- tokens are below the next one, and each token is known, in whatever order they are listed. And a crash leaves nothing else.
+-- The trees hold tables, whose shop's row is this one; they hold the office with all answers that stand in them. All values are what their
+-- types promise, the numbers of tokens are below the next one, and each token is known, in whatever order they are listed. And a crash leaves
+-- nothing else.
 pub record IsOpened (db : Trees) (head : Shop) (next : ℕ) (state : State) (new : Connected) : Type 0 where
   pub tables : Tables
   pub held : Holds db tables
   pub stand : Stand head tables state (map (λ r. r.kept) tables.kept)
   pub holds : HoldsWhileOpen head next new state (map (λ r. r.kept) tables.kept)
-  pub numbered : AreBelowNext head tables.tokens
+  pub typed : IsTypedShop head tables
   pub knows : (same : Tables) → Holds db same → KnowsWhileOpen next new (number_of same.tokens)
   pub leaves : (left : ShopView) → Leaves new left → IsSame left (record { state = state; kept = map (λ r. r.kept) tables.kept })

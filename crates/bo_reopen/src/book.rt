@@ -11,7 +11,8 @@ ghost use Rattle.bo_rules.specs.Rules.{Keeps};
 ghost use Rattle.bo_rules.specs.Told.{state_of, file_of};
 ghost use Rattle.bo_checks.specs.Last.{KeepsFirst};
 ghost use Rattle.bo_opens.specs.Read.{IsFileOf};
-ghost use Rattle.bo_reopen.specs.Opened.{AreBelowNext, IsBroken, IsWhy};
+ghost use Rattle.bo_typed.specs.Typed.{AreBelowNext};
+ghost use Rattle.bo_reopen.specs.Opened.{IsBroken, IsWhy};
 
 use crate::rows::{first_kept, free_number};
 use bo_base::Slug;

@@ -13,7 +13,8 @@ ghost use Rattle.bo_checks.specs.Last.{KeepsFirst};
 ghost use Rattle.bo_opens.specs.declared.file.FileTables.{FileTables};
 ghost use Rattle.bo_opens.specs.Read.{AreTableRows};
 ghost use Rattle.bo_arrange.specs.Arranged.{arranged, rows_in, told_by, IsInOrder};
-ghost use Rattle.bo_reopen.specs.Opened.{AreBelowNext, IsLeastIn, IsWhy};
+ghost use Rattle.bo_typed.specs.Typed.{AreBelowNext};
+ghost use Rattle.bo_reopen.specs.Opened.{IsLeastIn, IsWhy};
 
 use bo_arrange::{ArrangeError, Arranged, arrange};
 use bo_checks::first_broken;

@@ -9,6 +9,7 @@ use Rattle.bo_schema.specs.Tables.{schema}
 use Rattle.bo_lists.specs.Change.{Changed, applied}
 use Rattle.bo_lists.specs.CountRows.{CountRows, counts_after}
 use Rattle.bo_lists.specs.Lists.{State}
+use Rattle.bo_lists.specs.declared.rows.NextIds.{NextIds}
 use Rattle.bo_kept.specs.declared.kept.Kept.{Kept}
 use Rattle.bo_kept.specs.ShopView.{ShopView, IsSame, listed, with_kept, committed}
 use Rattle.bo_columns.specs.declared.rows.Shop.{Shop}
@@ -18,6 +19,8 @@ use Rattle.bo_stand.specs.Lawful.{puts_come_first}
 use Rattle.bo_stand.specs.Made.{done, next_after}
 use Rattle.bo_stand.specs.Stands.{IsRising, Stand}
 use Rattle.bo_stand.proofs.Carried.{carried, free_done, tokens_stay}
+use Rattle.bo_typed.specs.Typed.{IsTypedChange, IsTypedKept, IsTypedShop, IsSameShop}
+use Rattle.bo_typed.proofs.Typed.{committed_typed}
 use Rattle.bo_transaction.specs.Whole.{IsStill, IsWritten, MayBeWritten}
 use Rattle.bo_tables.specs.Held.{KeepsAnswers, KnowsTokens, number_of}
 use Rattle.bo_tables.specs.Committed.{Turns}
@@ -36,6 +39,7 @@ still_holds head next old new s ks still holds is_open =
       tables = it.tables;
       held = subst (λ (d : Database). Holds d.trees it.tables) (sym was.now) it.held;
       stand = it.stand;
+      typed = it.typed;
       free = it.free;
     }
 
@@ -57,7 +61,12 @@ keeps_answers head next c s ks it = record { known = it.known; tables = it.table
 
 -- ---- a commit
 
-module _ (head shop : Shop) (changes : Changed) (counts : CountRows) (from : ℕ) (o : Option (Bor Kept)) (number : shop.next ≡ changes.next) (rising : AllByRecursion IsRising changes.list) (first : puts_come_first false changes.list ≡ true) (old new : Connected) where
+-- the shop's row at another moment, with other next ids
+pub moved_on : (head : Shop) (at : ℕ) (next : NextIds) → IsSameShop head (record head { moment = at; next = next })
+moved_on head at next = record { version = refl; organizer = refl; event = refl; token = refl }
+
+module _ (head shop : Shop) (changes : Changed) (counts : CountRows) (from : ℕ) (o : Option (Bor Kept)) (number : shop.next ≡ changes.next) (rising : AllByRecursion IsRising changes.list) (first : puts_come_first false changes.list ≡ true)
+    (same : IsSameShop head shop) (of_changes : AllByRecursion IsTypedChange changes.list) (of_kept : AllByRecursion IsTypedKept (listed o)) (old new : Connected) where
   abbrev change : Tables → Tables
   change = done shop changes.list counts from (listed o) shop.moment
 
@@ -70,6 +79,9 @@ module _ (head shop : Shop) (changes : Changed) (counts : CountRows) (from : ℕ
   carried_here : (s : State) (ks : List Kept) (it : Keeps head from old s ks) → is_right s → Stand shop (change it.tables) (applied changes shop.moment s) (with_kept shop.moment ks (listed o))
   carried_here s ks it right = carried head shop changes counts from shop.moment o refl number rising first it.tables s ks right it.stand it.free
 
+  typed_here : (s : State) (ks : List Kept) (it : Keeps head from old s ks) → IsTypedShop shop (change it.tables)
+  typed_here s ks it = committed_typed head shop changes.list counts from (listed o) shop.moment it.tables same of_changes of_kept it.free it.typed
+
   pub written_holds : (free : ℕ) → IsWritten (turns free) old new → (s : State) (ks : List Kept) → HoldsWhileOpen head from old s ks → is_right s → HoldsWhileOpen shop free new (applied changes shop.moment s) (with_kept shop.moment ks (listed o))
   written_holds free w s ks holds right is_open =
       let it = holds w.was_open in
@@ -80,6 +92,7 @@ module _ (head shop : Shop) (changes : Changed) (counts : CountRows) (from : ℕ
         tables = change it.tables;
         held = w.turned.1.holds it.tables it.free it.held;
         stand = carried_here s ks it right;
+        typed = typed_here s ks it;
         free = rw w.turned.0 (free_done shop changes.list counts from (listed o) shop.moment it.tables it.free);
       }
 
@@ -97,7 +110,7 @@ module _ (head shop : Shop) (changes : Changed) (counts : CountRows) (from : ℕ
       let it = holds may.was_open in
       let turned = may.turned it.known in
       let here : Holds db (change it.tables) = subst (λ d. Holds d (change it.tables)) (sym may.is) (turned.1.holds it.tables it.free it.held) in
-      only shop (change it.tables) (committed changes shop.moment o s ks) here (carried_here s ks it right)
+      only shop (change it.tables) (committed changes shop.moment o s ks) here (carried_here s ks it right) (typed_here s ks it)
 
   pub leaves_or : Survives old new (MayBeWritten schema turns old) → (left : ShopView) → Leaves new left → Leaves old left ⊎ ((s : State) (ks : List Kept) → HoldsWhileOpen head from old s ks → is_right s → IsSame left (committed changes shop.moment o s ks))
   leaves_or h left l =
@@ -113,4 +126,4 @@ module _ (head shop : Shop) (changes : Changed) (counts : CountRows) (from : ℕ
   leaves_written law free w left l s ks holds right =
       let it = written_holds free w s ks holds right w.is_open in
       let db : l.trees ≡ new.now.trees = law l.trees w.is_open l.may ∙ sym (ap (λ (d : Database). d.trees) w.settled) in
-      l.only shop it.tables (committed changes shop.moment o s ks) (subst (λ d. Holds d it.tables) (sym db) it.held) it.stand
+      l.only shop it.tables (committed changes shop.moment o s ks) (subst (λ d. Holds d it.tables) (sym db) it.held) it.stand it.typed

@@ -12,10 +12,12 @@ use Rattle.bo_columns.specs.declared.rows.Shop.{Shop}
 use Rattle.bo_columns.specs.Tables.{Tables, Holds}
 use Rattle.bo_stand.specs.Free.{IsFree}
 use Rattle.bo_stand.specs.Stands.{Stand}
+use Rattle.bo_typed.specs.Typed.{IsTypedShop}
 use Rattle.bo_tables.specs.Held.{KnowsTokens}
 
 -- the connection shows what was committed, outside a transaction; it has a shop's tables, which hold this office and these
--- answers, and this is the shop's row; and rows without an id of their own may be numbered from here on
+-- answers, and this is the shop's row; all values are what their types promise, and each token's number is below the next one;
+-- and rows without an id of their own may be numbered from here on
 pub record Keeps (head : Shop) (next : ℕ) (c : Connected) (s : State) (answers : List Kept) : Type 0 where
   pub known : c.now.schema ≡ schema
   pub outside : c.in_transaction ≡ false
@@ -23,6 +25,7 @@ pub record Keeps (head : Shop) (next : ℕ) (c : Connected) (s : State) (answers
   pub tables : Tables
   pub held : Holds c.now.trees tables
   pub stand : Stand head tables s answers
+  pub typed : IsTypedShop head tables
   pub free : IsFree next tables
 
 -- so it is while the connection is open
@@ -37,9 +40,9 @@ pub record Knows (next : ℕ) (db : Database) (tokens : List ℕ → Option ℕ)
 abbrev pub KnowsWhileOpen : ℕ → Connected → (List ℕ → Option ℕ) → Type 0
 KnowsWhileOpen next c tokens = IsTrue c.is_open → Knows next c.now tokens
 
--- whatever shop these trees hold is this one
+-- whatever shop these trees hold, with values that are what their types promise, is this one
 abbrev pub HoldNoOther : Trees → ShopView → Type 0
-HoldNoOther trees left = (head : Shop) (tables : Tables) (it : ShopView) → Holds trees tables → Stand head tables it.state it.kept → IsSame left it
+HoldNoOther trees left = (head : Shop) (tables : Tables) (it : ShopView) → Holds trees tables → Stand head tables it.state it.kept → IsTypedShop head tables → IsSame left it
 
 -- The disk has returned what was written, and a crash may leave trees that hold no other shop than this. Of trees that hold none so it is
 -- with each shop: where all that a crash may leave are some shops, it leaves one of them, and nothing else.
@@ -61,5 +64,6 @@ reordered head next c s ks js held more is_open =
       tables = it.tables;
       held = it.held;
       stand = record { shop_is = st.shop_is; moment = st.moment; next = st.next; rows = st.rows; ordered = st.ordered; used = st.used; redeemed = st.redeemed; kept = IsPermutation-trans _ ks js st.kept more };
+      typed = it.typed;
       free = it.free;
     }

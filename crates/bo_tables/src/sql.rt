@@ -1,8 +1,11 @@
 //! The tables of a shop in an SQLite file.
 
 ghost use Rattle.std.specs.Prelude.{◌≡◌};
+ghost use Rattle.std.specs.List.{AllByRecursion};
 ghost use Rattle.sqlite.specs.Held.{state};
 ghost use Rattle.sqlite.specs.State.{HasCleanDisk};
+ghost use Rattle.bo_kept.specs.ShopView.{listed};
+ghost use Rattle.bo_typed.specs.Typed.{IsTypedChange, IsTypedKept};
 ghost use Rattle.bo_tables.specs.Refusals.{refusal_of};
 ghost use Rattle.bo_tables.specs.Shops.{HoldsWhileOpen, KnowsWhileOpen, Leaves, reordered};
 
@@ -15,6 +18,7 @@ use bo_kept::{Kept, Tables, TablesError};
 use bo_lists::{Changes, CountRows};
 use bo_schema::RowError;
 use bo_transaction::write_whole;
+use bo_typed::{answer_known, changes_known};
 use bo_writes::takes;
 use sqlite::{Alter, Connection};
 use std::alloc::Global;
@@ -62,6 +66,15 @@ fn refused(error: RowError) -> TablesError
     }
 }
 
+// What types promise of what is committed.
+fn types_known(changes: &Changes, kept: Option<&Kept>)
+    ensures changes { AllByRecursion IsTypedChange changes.now.list }
+    ensures kept { AllByRecursion IsTypedKept (listed kept.entry) }
+{
+    changes_known(changes.as_slice());
+    answer_known(kept);
+}
+
 impl<S: Alter> Tables for SqlTables<S> {
     ghost sure = { λ t. HasCleanDisk (state S.Store t.connection) };
 
@@ -103,6 +116,7 @@ impl<S: Alter> Tables for SqlTables<S> {
         if !takes(changes.as_slice()) {
             return Err(TablesError::Store);
         }
+        types_known(changes, kept);
         let moment = self.head.moment;
         let next = self.head.next;
         self.head.moment = at;

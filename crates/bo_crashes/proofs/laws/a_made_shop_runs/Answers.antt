@@ -1,5 +1,5 @@
 use Rattle.std.proofs.Common.{refl, inl}
-use Rattle.bo_file.specs.Made.{nothing_yet}
+use Rattle.bo_made.specs.Made.{nothing_yet}
 use Rattle.bo_crashes.proofs.laws.a_made_shop_runs.Goals as goal
 
 pub returns : goal.returns

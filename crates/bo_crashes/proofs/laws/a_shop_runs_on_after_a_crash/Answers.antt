@@ -14,7 +14,7 @@ returns-clause-reopened g c = λ found z o.
     let trees = (state g.S.Store c.args.fresh.now).now.trees in
     let ks = map (λ r. r.kept) o.tables.kept in
     record {
-      may = record { clean = found.clean; trees = trees; may = found.may; only = λ head tables it held stand. one_shop trees o.tables tables o.held held c.args.after.now.head head z it.state ks it.kept o.stand stand };
+      may = record { clean = found.clean; trees = trees; may = found.may; only = λ head tables it held stand _. one_shop trees o.tables tables o.held held c.args.after.now.head head z it.state ks it.kept o.stand stand };
       held = o.holds;
       only = o.leaves;
     }

@@ -6,9 +6,10 @@ use Rattle.bo_opens.specs.Read.{tables_of}
 use Rattle.bo_opens.proofs.FitLemmas.{of_readable}
 use Rattle.bo_opens.proofs.ReadLemmas.{if_ok, if_err, on_ok}
 use Rattle.bo_opens.proofs.SameLemmas.{file_of}
-use Rattle.bo_reopen.specs.Opened.{AreBelowNext}
+use Rattle.bo_typed.specs.Typed.{AreBelowNext, IsTypedShop}
 use Rattle.bo_reopen.proofs.Least.{reason, unread, clear}
 use Rattle.bo_reopen.proofs.Opening.{is_opened, both_on, on_three}
+use Rattle.bo_reopen.proofs.Fitting.{typed_read}
 use Rattle.bo_reopen.proofs.Undamaged.{undamaged}
 use Rattle.bo_reopen.proofs.file.reopen.Goals as goal
 
@@ -22,7 +23,7 @@ returns-in-Ok-clause-opened g c clean opened db at known =
     both_on c.open_rows.result _ _ _ c.open_rows.ensures.head c.open_rows.ensures.held c.open_rows.ensures.numbered
     (λ it is of numbered.
     is_opened t it.head it.next_row (g.B.Book.state it.book) old new (λ left is_open may. g.met.S.Store.settled c.read_outside.new.connection.store left is_open may) opened c.in-Ok.ensures.outside stays db at known held (of t (file_of db.trees t c.in-Ok.file held held)).0
-    (λ u also. (of u (file_of db.trees u c.in-Ok.file also held)).1) (subst (λ (h : Shop). AreBelowNext h t.tokens) (sym is) numbered))
+    (λ u also. (of u (file_of db.trees u c.in-Ok.file also held)).1) (subst (λ (h : Shop). IsTypedShop h t) (sym is) (typed_read c.in-Ok.file c.in-Ok.ensures.version c.in-Ok.ensures.limits numbered)))
 
 pub returns-in-Ok-clause-version : goal.returns-in-Ok-clause-version
 returns-in-Ok-clause-version g c = if_ok c.open_rows.result _ _ c.open_rows.ensures.head (λ it is. subst (λ (h : Shop). h.version ≡ 1) (sym is) c.in-Ok.ensures.version)

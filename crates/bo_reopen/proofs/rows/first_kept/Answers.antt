@@ -2,7 +2,8 @@ use Rattle.std.proofs.Common.{◌↔◌, IsTrue, subst}
 use Rattle.bo_rules.specs.Rules.{File}
 use Rattle.bo_stand.specs.Stands.{AreRowsOf}
 use Rattle.bo_arrange.specs.Arranged.{rows_in}
-use Rattle.bo_reopen.specs.Opened.{AreBelowNext, IsLeastIn}
+use Rattle.bo_typed.specs.Typed.{AreBelowNext}
+use Rattle.bo_reopen.specs.Opened.{IsLeastIn}
 use Rattle.bo_reopen.proofs.rows.first_kept.Goals as goal
 
 pub returns-in-Some-clause-refused : goal.returns-in-Some-clause-refused

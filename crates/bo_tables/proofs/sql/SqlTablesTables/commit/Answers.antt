@@ -8,7 +8,7 @@ use Rattle.bo_columns.specs.declared.rows.Shop.{Shop}
 use Rattle.bo_transaction.specs.Whole.{IsWritten, MayBeWritten}
 use Rattle.bo_stand.specs.Lawful.{puts_come_first}
 use Rattle.bo_stand.specs.Stands.{IsRising}
-use Rattle.bo_tables.proofs.ShopLemmas.{written_holds, written_knows, leaves_or, leaves_written, still_knows}
+use Rattle.bo_tables.proofs.ShopLemmas.{moved_on, written_holds, written_knows, leaves_or, leaves_written, still_knows}
 use Rattle.bo_tables.proofs.sql.SqlTablesTables.commit.Goals as goal
 
 pub returns-in-Ok-clause-all : goal.returns-in-Ok-clause-all
@@ -23,7 +23,7 @@ returns-in-Ok-clause-all g c clean s ks holds right =
     let rising = subst (AllByRecursion IsRising) c.as_slice.ensures rises in
     let first = subst (λ l. puts_come_first false l ≡ true) c.as_slice.ensures comes in
     let is = rw c.as_slice-2.ensures at (c.in-Ok.ensures.all clean (λ o. (holds o).known)) in
-    written_holds head shop c.args.changes.now c.args.counts.now from c.args.kept c.next-self.ensures rising first old new c.in-Ok.free is s ks holds right
+    written_holds head shop c.args.changes.now c.args.counts.now from c.args.kept c.next-self.ensures rising first (moved_on head c.args.at c.next-self.result) c.types_known.ensures.changes c.types_known.ensures.kept old new c.in-Ok.free is s ks holds right
 
 pub returns-in-Ok-clause-tokens : goal.returns-in-Ok-clause-tokens
 returns-in-Ok-clause-tokens g c clean tokens knows =
@@ -37,7 +37,7 @@ returns-in-Ok-clause-tokens g c clean tokens knows =
     let rising = subst (AllByRecursion IsRising) c.as_slice.ensures rises in
     let first = subst (λ l. puts_come_first false l ≡ true) c.as_slice.ensures comes in
     let is = rw c.as_slice-2.ensures at (c.in-Ok.ensures.all clean (λ o. (knows o).told.known)) in
-    written_knows head shop c.args.changes.now c.args.counts.now from c.args.kept c.next-self.ensures rising first old new c.in-Ok.free is tokens knows
+    written_knows head shop c.args.changes.now c.args.counts.now from c.args.kept c.next-self.ensures rising first (moved_on head c.args.at c.next-self.result) c.types_known.ensures.changes c.types_known.ensures.kept old new c.in-Ok.free is tokens knows
 
 pub returns-in-Ok-clause-crash : goal.returns-in-Ok-clause-crash
 returns-in-Ok-clause-crash g c =
@@ -51,7 +51,7 @@ returns-in-Ok-clause-crash g c =
     let rising = subst (AllByRecursion IsRising) c.as_slice.ensures rises in
     let first = subst (λ l. puts_come_first false l ≡ true) c.as_slice.ensures comes in
     let is = rw c.as_slice-2.ensures at c.write_whole.ensures.crash in
-    leaves_or head shop c.args.changes.now c.args.counts.now from c.args.kept c.next-self.ensures rising first old new is
+    leaves_or head shop c.args.changes.now c.args.counts.now from c.args.kept c.next-self.ensures rising first (moved_on head c.args.at c.next-self.result) c.types_known.ensures.changes c.types_known.ensures.kept old new is
 
 pub returns-in-Ok-clause-settled : goal.returns-in-Ok-clause-settled
 returns-in-Ok-clause-settled g c clean left l s ks holds right =
@@ -65,7 +65,7 @@ returns-in-Ok-clause-settled g c clean left l s ks holds right =
     let rising = subst (AllByRecursion IsRising) c.as_slice.ensures rises in
     let first = subst (λ l. puts_come_first false l ≡ true) c.as_slice.ensures comes in
     let is = rw c.as_slice-2.ensures at (c.in-Ok.ensures.all clean (λ o. (holds o).known)) in
-    leaves_written head shop c.args.changes.now c.args.counts.now from c.args.kept c.next-self.ensures rising first old new (λ db is_open may. g.met.S.Store.settled c.write_whole.new.connection.store db is_open may) c.in-Ok.free is left l s ks holds right
+    leaves_written head shop c.args.changes.now c.args.counts.now from c.args.kept c.next-self.ensures rising first (moved_on head c.args.at c.next-self.result) c.types_known.ensures.changes c.types_known.ensures.kept old new (λ db is_open may. g.met.S.Store.settled c.write_whole.new.connection.store db is_open may) c.in-Ok.free is left l s ks holds right
 
 pub returns-in-Err-clause-tokens : goal.returns-in-Err-clause-tokens
 returns-in-Err-clause-tokens g c clean tokens knows =
@@ -83,4 +83,4 @@ returns-in-Err-clause-crash g c =
     let rising = subst (AllByRecursion IsRising) c.as_slice.ensures rises in
     let first = subst (λ l. puts_come_first false l ≡ true) c.as_slice.ensures comes in
     let is = rw c.as_slice-2.ensures at c.write_whole.ensures.crash in
-    leaves_or head shop c.args.changes.now c.args.counts.now from c.args.kept c.next-self.ensures rising first old new is
+    leaves_or head shop c.args.changes.now c.args.counts.now from c.args.kept c.next-self.ensures rising first (moved_on head c.args.at c.next-self.result) c.types_known.ensures.changes c.types_known.ensures.kept old new is

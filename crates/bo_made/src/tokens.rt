@@ -8,12 +8,13 @@ ghost use Rattle.bo_schema.specs.Tables.{schema};
 ghost use Rattle.bo_lists.specs.Lists.{State};
 ghost use Rattle.bo_kept.specs.declared.kept.Kept.{Kept};
 ghost use Rattle.bo_kept.specs.ShopView.{ShopView, IsSame};
+ghost use Rattle.bo_columns.specs.Fit.{IsDigest};
 ghost use Rattle.bo_columns.specs.Tables.{Tables, Holds};
 ghost use Rattle.bo_transaction.specs.Whole.{IsOver, IsStill, IsWritten, MayBeWritten};
 ghost use Rattle.bo_tables.specs.Shops.{HoldsWhileOpen, KnowsWhileOpen, Leaves};
 ghost use Rattle.bo_begins.specs.Begun.{HasToken};
-ghost use Rattle.bo_file.specs.declared.error.TokenError.TheVariants.{Full};
-ghost use Rattle.bo_file.specs.Tokens.{most_tokens, also_known, IsNumbered, HasNoRoom, raised, next_one, head_after, tables_after};
+ghost use Rattle.bo_made.specs.declared.error.TokenError.TheVariants.{Full};
+ghost use Rattle.bo_made.specs.Tokens.{most_tokens, also_known, IsNumbered, HasNoRoom, raised, next_one, head_after, tables_after};
 
 use crate::error::TokenError;
 use bo_begins::put_token;
@@ -27,6 +28,8 @@ const MOST_TOKENS: u64 = 1_000_000;
 fn add_next<S: Alter>(tables: &mut SqlTables<S>, digest: &[u8; 32]) -> Result<u64, TokenError>
     ensures number { IfOk result (λ number. (number ≡ tables.old.head.next_token) × (tables.old.head.next_token ≤ most_tokens)) }
     ensures full { result ≡ Err Full → most_tokens < tables.old.head.next_token }
+    ensures full_crash { most_tokens < tables.old.head.next_token → Survives (state S.Store tables.old.connection) (state S.Store tables.new.connection) (λ _. ⊥) }
+    ensures digest { IsDigest digest.now }
     ensures head { OnOk result (tables.new.head ≡ raised tables.old.head) }
     ensures head_none { OnErr result (tables.new.head ≡ tables.old.head) }
     ensures next_row { tables.new.next_row ≡ tables.old.next_row }
@@ -35,14 +38,12 @@ fn add_next<S: Alter>(tables: &mut SqlTables<S>, digest: &[u8; 32]) -> Result<u6
     ensures none { HasCleanDisk (state S.Store tables.new.connection) → IsOver schema (state S.Store tables.old.connection) → OnErr result (IsStill (state S.Store tables.old.connection) (state S.Store tables.new.connection)) }
     ensures crash { Survives (state S.Store tables.old.connection) (state S.Store tables.new.connection) (MayBeWritten schema (λ (_ : Unit {0}). HasToken (raised tables.old.head) (next_one tables.old.head digest.now)) (state S.Store tables.old.connection)) }
 {
+    let bytes = *digest;
     let id = tables.head.next_token;
     if id > MOST_TOKENS {
         return Err(TokenError::Full);
     }
-    let token = Token {
-        id,
-        digest: *digest,
-    };
+    let token = Token { id, digest: bytes };
     tables.head.next_token = id + 1;
     match put_token(&mut tables.connection, &tables.head, &token) {
         Ok(()) => Ok(id),

@@ -5,7 +5,7 @@ use Rattle.bo_columns.specs.declared.rows.Shop.{Shop}
 use Rattle.bo_make.specs.Blank.{blank_schema}
 use Rattle.bo_transaction.specs.Whole.{IsWritten, MayBeWritten}
 use Rattle.bo_begins.specs.Begun.{IsBegun}
-use Rattle.bo_file.proofs.creating.make.Goals as goal
+use Rattle.bo_made.proofs.creating.make.Goals as goal
 
 pub returns-in_err-begin-clause-blank : goal.returns-in_err-begin-clause-blank
 returns-in_err-begin-clause-blank g c not_blank =

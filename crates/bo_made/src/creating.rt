@@ -8,7 +8,7 @@ ghost use Rattle.bo_lists.specs.Lists.{empty};
 ghost use Rattle.bo_make.specs.Blank.{blank_schema};
 ghost use Rattle.bo_transaction.specs.Whole.{IsStill, IsWritten, MayBeWritten};
 ghost use Rattle.bo_begins.specs.Begun.{IsBegun};
-ghost use Rattle.bo_file.specs.Made.{first_shop, IsMade};
+ghost use Rattle.bo_made.specs.Made.{first_shop, IsMade};
 
 use crate::error::Refused;
 use bo_base::Slug;

@@ -1,5 +1,6 @@
 -- A token that is added, and what it leaves as it was.
-use Rattle.std.proofs.Common.{◌≡◌, ◌⊎◌, ◌<◌, ◌≤◌, ℕ, Bool, true, false, cond, bytes_eq, List, ◌∷◌, find, Option, Some, None, option_map, IsTrue, inl, inr, Result, Ok, Err, IfOk, OnOk, OnErr, refl, sym, ap, subst, ◌∙◌, arith}
+use Rattle.std.proofs.Common.{◌≡◌, ◌⊎◌, ◌<◌, ◌≤◌, nat_lt, ℕ, Bool, true, false, cond, bytes_eq, List, ◌∷◌, find, Option, Some, None, option_map, IsTrue, inl, inr, Result, Ok, Err, IfOk, OnOk, OnErr, refl, sym, ap, subst, ◌∙◌, arith}
+use Rattle.std.proofs.lemmas.Bool.Decides.{nat_tests}
 use Rattle.std.proofs.lemmas.Slice.Eq.{bytes_eq-Decides}
 use Rattle.sqlite_trees.specs.Tree.{Trees}
 use Rattle.sqlite.specs.Effect.{Database}
@@ -10,15 +11,17 @@ use Rattle.bo_kept.specs.declared.kept.Kept.{Kept}
 use Rattle.bo_kept.specs.ShopView.{ShopView, IsSame}
 use Rattle.bo_columns.specs.declared.rows.Shop.{Shop}
 use Rattle.bo_columns.specs.declared.rows.Token.{Token}
+use Rattle.bo_columns.specs.Fit.{IsDigest}
 use Rattle.bo_columns.specs.Tables.{Tables, Holds}
 use Rattle.bo_loads.specs.Lookups.{has_digest}
 use Rattle.bo_transaction.specs.Whole.{IsOver, IsStill, IsWritten, MayBeWritten}
 use Rattle.bo_begins.specs.Begun.{HasToken, token_added}
 use Rattle.bo_begins.proofs.Begins.{token_stands, token_free}
+use Rattle.bo_typed.proofs.Typed.{token_typed}
 use Rattle.bo_tables.specs.Held.{number_of}
 use Rattle.bo_tables.specs.Shops.{HoldsWhileOpen, Knows, KnowsWhileOpen, HoldNoOther, Leaves}
 use Rattle.bo_tables.proofs.ShopLemmas.{still_holds, still_knows, leaves_still}
-use Rattle.bo_file.specs.Tokens.{most_tokens, also_known, IsNumbered, HasNoRoom, raised, next_one, head_after, tables_after}
+use Rattle.bo_made.specs.Tokens.{most_tokens, also_known, IsNumbered, HasNoRoom, raised, next_one, head_after, tables_after}
 
 -- ---- nothing changed
 
@@ -64,8 +67,8 @@ module _ (head : Shop) (digest : List ℕ) (next : ℕ) (old new : Connected) wh
   abbrev adds : Database → Database → Type 0
   adds = HasToken (raised head) token
 
-  pub added_holds : IsWritten adds old new → (s : State) (ks : List Kept) → HoldsWhileOpen head next old s ks → HoldsWhileOpen (raised head) next new s ks
-  added_holds w s ks holds is_open =
+  pub added_holds : head.next_token ≤ most_tokens → IsDigest digest → IsWritten adds old new → (s : State) (ks : List Kept) → HoldsWhileOpen head next old s ks → HoldsWhileOpen (raised head) next new s ks
+  added_holds room is w s ks holds is_open =
       let it = holds w.was_open in
       record {
         known = w.turned.known;
@@ -74,6 +77,7 @@ module _ (head : Shop) (digest : List ℕ) (next : ℕ) (old new : Connected) wh
         tables = token_added (raised head) token it.tables;
         held = w.turned.holds it.tables it.held;
         stand = token_stands head (raised head) token it.tables s ks refl refl it.stand;
+        typed = token_typed head digest it.tables (omega (arith, room)) is it.typed;
         free = token_free (raised head) token it.tables next it.free;
       }
 
@@ -93,18 +97,18 @@ module _ (head : Shop) (digest : List ℕ) (next : ℕ) (old new : Connected) wh
         free = token_free (raised head) token it.told.tables next it.free;
       }
 
-  left_so : (db : Trees) → MayBeWritten schema (λ (_ : Unit {0}). adds) old db → (left : ShopView) → HoldNoOther db left → (s : State) (ks : List Kept) → HoldsWhileOpen head next old s ks → IsSame left (record { state = s; kept = ks })
-  left_so db may left only s ks holds =
+  left_so : head.next_token ≤ most_tokens → IsDigest digest → (db : Trees) → MayBeWritten schema (λ (_ : Unit {0}). adds) old db → (left : ShopView) → HoldNoOther db left → (s : State) (ks : List Kept) → HoldsWhileOpen head next old s ks → IsSame left (record { state = s; kept = ks })
+  left_so room is db may left only s ks holds =
       let it = holds may.was_open in
       let here : Holds db (token_added (raised head) token it.tables) = subst (λ d. Holds d (token_added (raised head) token it.tables)) (sym may.is) ((may.turned it.known).holds it.tables it.held) in
-      only (raised head) (token_added (raised head) token it.tables) (record { state = s; kept = ks }) here (token_stands head (raised head) token it.tables s ks refl refl it.stand)
+      only (raised head) (token_added (raised head) token it.tables) (record { state = s; kept = ks }) here (token_stands head (raised head) token it.tables s ks refl refl it.stand) (token_typed head digest it.tables (omega (arith, room)) is it.typed)
 
-  pub leaves_or : Survives old new (MayBeWritten schema (λ (_ : Unit {0}). adds) old) → (left : ShopView) → Leaves new left → Leaves old left ⊎ ((s : State) (ks : List Kept) → HoldsWhileOpen head next old s ks → IsSame left (record { state = s; kept = ks }))
-  leaves_or h left l =
+  pub leaves_or : head.next_token ≤ most_tokens → IsDigest digest → Survives old new (MayBeWritten schema (λ (_ : Unit {0}). adds) old) → (left : ShopView) → Leaves new left → Leaves old left ⊎ ((s : State) (ks : List Kept) → HoldsWhileOpen head next old s ks → IsSame left (record { state = s; kept = ks }))
+  leaves_or room is h left l =
       let clean : HasCleanDisk old = let more = l.clean in omega (arith, h.clean) in
       elim (h.crash l.clean l.trees l.may) [
         | inl may ↦ inl (record { clean = clean; trees = l.trees; may = may; only = l.only })
-        | inr may ↦ inr (left_so l.trees may left l.only)
+        | inr may ↦ inr (left_so room is l.trees may left l.only)
       ]
 
 -- ---- by the number that the digest has already
@@ -151,11 +155,11 @@ module _ {E : Type 0} (r : Result ℕ E) (head : Shop) (digest : List ℕ) (next
     | Err error ↦ λ is w. tt
   ]
 
-  pub then_holds : (now : Shop) (n : ℕ) → n ≡ next → (s : State) (ks : List Kept) → IsStill old mid → HoldsWhileOpen head next old s ks → OnOk r (now ≡ raised head) → OnErr r (now ≡ head)
+  pub then_holds : (now : Shop) (n : ℕ) → n ≡ next → (s : State) (ks : List Kept) → IsStill old mid → HoldsWhileOpen head next old s ks → IsDigest digest → IfOk r (λ number. (number ≡ head.next_token) × (head.next_token ≤ most_tokens)) → OnOk r (now ≡ raised head) → OnErr r (now ≡ head)
       → OnOk r (IsWritten (HasToken (raised head) (next_one head digest)) mid new) → OnErr r (IsStill mid new) → HoldsWhileOpen now n new s ks
-  then_holds now n row s ks still holds = elim r as (λ x. OnOk x (now ≡ raised head) → OnErr x (now ≡ head) → OnOk x (IsWritten (HasToken (raised head) (next_one head digest)) mid new) → OnErr x (IsStill mid new) → HoldsWhileOpen now n new s ks) [
-    | Ok number ↦ λ is _ w _. rw (is, row) (added_holds head digest next mid new w s ks (still_holds head next old mid s ks still holds))
-    | Err error ↦ λ _ is _ late. rw (is, row) (still_holds head next mid new s ks late (still_holds head next old mid s ks still holds))
+  then_holds now n row s ks still holds digest_is = elim r as (λ x. IfOk x (λ number. (number ≡ head.next_token) × (head.next_token ≤ most_tokens)) → OnOk x (now ≡ raised head) → OnErr x (now ≡ head) → OnOk x (IsWritten (HasToken (raised head) (next_one head digest)) mid new) → OnErr x (IsStill mid new) → HoldsWhileOpen now n new s ks) [
+    | Ok number ↦ λ known is _ w _. rw (is, row) (added_holds head digest next mid new known.1 digest_is w s ks (still_holds head next old mid s ks still holds))
+    | Err error ↦ λ _ _ is _ late. rw (is, row) (still_holds head next mid new s ks late (still_holds head next old mid s ks still holds))
   ]
 
   pub then_settled : ((db : Trees) → IsTrue new.is_open → new.may_leave db → db ≡ new.committed.trees) → OnOk r (IsWritten (HasToken (raised head) (next_one head digest)) mid new)
@@ -165,11 +169,16 @@ module _ {E : Type 0} (r : Result ℕ E) (head : Shop) (digest : List ℕ) (next
     | Err error ↦ λ w. tt
   ]
 
-  pub then_leaves : Survives old mid (λ _. ⊥) → (HasCleanDisk mid → IsStill old mid) → Survives mid new (MayBeWritten schema (λ (_ : Unit {0}). HasToken (raised head) (next_one head digest)) mid) → (left : ShopView) → Leaves new left
+  pub then_leaves : IsDigest digest → (most_tokens < head.next_token → Survives mid new (λ _. ⊥)) → Survives old mid (λ _. ⊥) → (HasCleanDisk mid → IsStill old mid) → Survives mid new (MayBeWritten schema (λ (_ : Unit {0}). HasToken (raised head) (next_one head digest)) mid) → (left : ShopView) → Leaves new left
       → Leaves old left ⊎ ((s : State) (ks : List Kept) → HoldsWhileOpen head next old s ks → IsSame left (record { state = s; kept = ks }))
-  then_leaves one still two left l =
+  then_leaves digest_is full one still two left l =
       let clean : HasCleanDisk mid = let more = l.clean in omega (arith, two.clean) in
-      elim (leaves_or head digest next mid new two left l) [
-        | inl it ↦ inl (leaves_still old mid one left it)
-        | inr so ↦ inr (λ s ks holds. so s ks (still_holds head next old mid s ks (still clean) holds))
-      ]
+      elim (nat_lt most_tokens head.next_token) as (λ b. nat_lt most_tokens head.next_token ≡ b → Leaves old left ⊎ ((s : State) (ks : List Kept) → HoldsWhileOpen head next old s ks → IsSame left (record { state = s; kept = ks }))) [
+        | true ↦ λ e. inl (leaves_still old mid one left (leaves_still mid new (full (grind (arith, nat_tests))) left l))
+        | false ↦ λ e.
+            let room : head.next_token ≤ most_tokens = grind (arith, nat_tests) in
+            elim (leaves_or head digest next mid new room digest_is two left l) [
+              | inl it ↦ inl (leaves_still old mid one left it)
+              | inr so ↦ inr (λ s ks holds. so s ks (still_holds head next old mid s ks (still clean) holds))
+            ]
+      ] refl

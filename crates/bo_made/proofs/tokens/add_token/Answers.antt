@@ -2,8 +2,8 @@ use Rattle.std.proofs.Common.{◌≡◌, ℕ, Option, Some, None, sym, ◌∙◌
 use Rattle.sqlite.specs.Held.{state}
 use Rattle.sqlite.specs.State.{HasCleanDisk}
 use Rattle.bo_tables.proofs.ShopLemmas.{still_knows}
-use Rattle.bo_file.proofs.Added.{still_over, still_shows, found_knows, same_number, same_head, same_tables, next_number, no_room, next_head, then_tables, then_knows, then_holds, then_settled, then_leaves}
-use Rattle.bo_file.proofs.tokens.add_token.Goals as goal
+use Rattle.bo_made.proofs.Added.{still_over, still_shows, found_knows, same_number, same_head, same_tables, next_number, no_room, next_head, then_tables, then_knows, then_holds, then_settled, then_leaves}
+use Rattle.bo_made.proofs.tokens.add_token.Goals as goal
 
 -- ---- a digest that has a number
 
@@ -95,14 +95,14 @@ returns-in-Ok-None-clause-holds g c clean s ks holds =
     let early : HasCleanDisk mid = omega (arith, c.add_next.ensures.crash.clean) in
     let still = c.find_number.ensures.still early in
     let over = still_over old mid still (λ o. (holds o).known) in
-    then_holds c.add_next.result c.args.tables.now.head c.args.digest.now c.args.tables.now.next_row old mid new c.add_next.new.tables.head c.add_next.new.tables.next_row c.add_next.ensures.next_row s ks still holds c.add_next.ensures.head c.add_next.ensures.head_none (c.add_next.ensures.all clean over) (c.add_next.ensures.none clean over)
+    then_holds c.add_next.result c.args.tables.now.head c.args.digest.now c.args.tables.now.next_row old mid new c.add_next.new.tables.head c.add_next.new.tables.next_row c.add_next.ensures.next_row s ks still holds c.add_next.ensures.digest c.add_next.ensures.number c.add_next.ensures.head c.add_next.ensures.head_none (c.add_next.ensures.all clean over) (c.add_next.ensures.none clean over)
 
 pub returns-in-Ok-None-clause-leaves : goal.returns-in-Ok-None-clause-leaves
 returns-in-Ok-None-clause-leaves g c =
     let old = state g.S.Store c.args.tables.now.connection in
     let mid = state g.S.Store c.find_number.new.connection in
     let new = state g.S.Store c.add_next.new.tables.connection in
-    then_leaves c.add_next.result c.args.tables.now.head c.args.digest.now c.args.tables.now.next_row old mid new c.find_number.ensures.crash c.find_number.ensures.still c.add_next.ensures.crash
+    then_leaves c.add_next.result c.args.tables.now.head c.args.digest.now c.args.tables.now.next_row old mid new c.add_next.ensures.digest c.add_next.ensures.full_crash c.find_number.ensures.crash c.find_number.ensures.still c.add_next.ensures.crash
 
 pub returns-in-Ok-None-clause-settled : goal.returns-in-Ok-None-clause-settled
 returns-in-Ok-None-clause-settled g c clean tokens knows none =

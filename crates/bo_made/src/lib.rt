@@ -1,0 +1,10 @@
+//! A shop's file is made, and gets tokens.
+#![tactic(auto)]
+
+pub mod creating;
+pub mod error;
+pub mod tokens;
+
+pub use creating::create;
+pub use error::{Refused, TokenError};
+pub use tokens::add_token;

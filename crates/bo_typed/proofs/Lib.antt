@@ -1,0 +1,2 @@
+pub mod EachTyped
+pub mod Typed

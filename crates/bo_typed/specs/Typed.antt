@@ -1,0 +1,122 @@
+-- What the types of a shop's values promise, and the rules of a box office don't say: texts are UTF-8, the place of a ticket has 32 bits,
+-- digests have 32 bytes, kept answers a moment and a status of three digits.
+use Rattle.std.specs.Prelude.{◌≡◌, ◌<◌, ◌^◌, List, All, IfSome}
+use Rattle.std.specs.List.{AllByRecursion}
+use Rattle.std.specs.Str.{IsUtf8}
+use Rattle.bo_base.specs.Moments.{IsMoment}
+use Rattle.bo_base.specs.Slugs.{IsSlug}
+use Rattle.bo_catalogue.specs.Limits.{last_id}
+use Rattle.bo_catalogue.specs.declared.rows.Item.{Item}
+use Rattle.bo_catalogue.specs.declared.rows.Variation.{Variation}
+use Rattle.bo_lists.specs.declared.changes.Change.{Change}
+use Rattle.bo_lists.specs.declared.changes.Change.TheVariants.{PutItem, PutVariation, PutQuota, PutVoucher, PutCart, PutOrder, PutPosition, PutWaiting, DropVoucher, DropCart, DropWaiting, PutCheckinList, PutCheckin}
+use Rattle.bo_lists.specs.declared.rows.Voucher.{Voucher}
+use Rattle.bo_lists.specs.declared.rows.CartPos.{CartPos}
+use Rattle.bo_lists.specs.declared.rows.Order.{Order}
+use Rattle.bo_lists.specs.declared.rows.OrderPos.{OrderPos}
+use Rattle.bo_lists.specs.declared.rows.Waiting.{Waiting}
+use Rattle.bo_lists.specs.declared.rows.Checkin.{Checkin}
+use Rattle.bo_kept.specs.declared.kept.Kept.{Kept}
+use Rattle.bo_sound.specs.Range.{IsNextId}
+use Rattle.bo_columns.specs.declared.rows.Shop.{Shop}
+use Rattle.bo_columns.specs.declared.rows.Token.{Token}
+use Rattle.bo_columns.specs.Fit.{IsStatus, IsFitToken, IsFitKept}
+use Rattle.bo_columns.specs.Tables.{Tables}
+
+-- ---- a row
+
+abbrev pub IsTypedItem : Item → Type 0
+IsTypedItem w = IsUtf8 w.name
+
+abbrev pub IsTypedVariation : Variation → Type 0
+IsTypedVariation w = IsUtf8 w.name
+
+abbrev pub IsTypedVoucher : Voucher → Type 0
+IsTypedVoucher w = IsUtf8 w.code × IsUtf8 w.tag × IsUtf8 w.comment
+
+abbrev pub IsTypedCart : CartPos → Type 0
+IsTypedCart w = IsUtf8 w.cart_id
+
+abbrev pub IsTypedOrder : Order → Type 0
+IsTypedOrder w = IfSome w.email IsUtf8
+
+abbrev pub IsTypedPosition : OrderPos → Type 0
+IsTypedPosition w = (w.positionid < 2 ^ 32) × IsUtf8 w.secret
+
+abbrev pub IsTypedWaiting : Waiting → Type 0
+IsTypedWaiting w = IsUtf8 w.email
+
+abbrev pub IsTypedCheckin : Checkin → Type 0
+IsTypedCheckin w = IfSome w.nonce IsUtf8
+
+abbrev pub IsTypedKept : Kept → Type 0
+IsTypedKept k = IsMoment k.at × IsStatus k.response.status
+
+-- the row that a change puts
+abbrev pub IsTypedChange : Change → Type 0
+IsTypedChange (PutItem w) = IsTypedItem w
+IsTypedChange (PutVariation w) = IsTypedVariation w
+IsTypedChange (PutQuota w) = IsUtf8 w.name
+IsTypedChange (PutVoucher w) = IsTypedVoucher w
+IsTypedChange (PutCart w) = IsTypedCart w
+IsTypedChange (PutOrder w) = IsTypedOrder w
+IsTypedChange (PutPosition w) = IsTypedPosition w
+IsTypedChange (PutWaiting w) = IsTypedWaiting w
+IsTypedChange (DropVoucher id) = Unit {0}
+IsTypedChange (DropCart id) = Unit {0}
+IsTypedChange (DropWaiting id) = Unit {0}
+IsTypedChange (PutCheckinList w) = IsUtf8 w.name
+IsTypedChange (PutCheckin w) = IsTypedCheckin w
+
+-- ---- the tables
+
+-- one statement for each table of which types promise something
+pub record EachTyped (of_items of_variations of_quotas of_vouchers of_carts of_orders of_positions of_waiting of_checkin_lists of_checkins of_tokens of_kept : Type 0) : Type 0 where
+  pub items : of_items
+  pub variations : of_variations
+  pub quotas : of_quotas
+  pub vouchers : of_vouchers
+  pub carts : of_carts
+  pub orders : of_orders
+  pub positions : of_positions
+  pub waiting : of_waiting
+  pub checkin_lists : of_checkin_lists
+  pub checkins : of_checkins
+  pub tokens : of_tokens
+  pub kept : of_kept
+
+abbrev pub AreTyped : Tables → Type 0
+AreTyped t =
+    EachTyped
+    (All IsTypedItem t.items)
+    (All IsTypedVariation t.variations)
+    (All (λ w. IsUtf8 w.name) t.quotas)
+    (All (λ w. IsTypedVoucher w.voucher) t.vouchers)
+    (All IsTypedCart t.carts)
+    (All IsTypedOrder t.orders)
+    (All IsTypedPosition t.positions)
+    (All IsTypedWaiting t.waiting)
+    (All (λ w. IsUtf8 w.name) t.checkin_lists)
+    (All IsTypedCheckin t.checkins)
+    (All IsFitToken t.tokens)
+    (All IsFitKept t.kept)
+
+-- each token's number is below the next one
+abbrev pub AreBelowNext : Shop → List Token → Type 0
+AreBelowNext shop tokens = AllByRecursion (λ w. w.id < shop.next_token) tokens
+
+-- so it is of a shop's row, which is of version 1, and of the rows of its tables
+pub record IsTypedShop (head : Shop) (tables : Tables) : Type 0 where
+  pub first : head.version ≡ 1
+  pub organizer : IsSlug head.organizer
+  pub event : IsSlug head.event
+  pub token : IsNextId last_id head.next_token
+  pub numbered : AreBelowNext head tables.tokens
+  pub rows : AreTyped tables
+
+-- the shop's row but for its moment and the next ids of its office
+pub record IsSameShop (old new : Shop) : Type 0 where
+  pub version : new.version ≡ old.version
+  pub organizer : new.organizer ≡ old.organizer
+  pub event : new.event ≡ old.event
+  pub token : new.next_token ≡ old.next_token

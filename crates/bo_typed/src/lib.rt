@@ -1,0 +1,6 @@
+//! What the types of a shop's values promise of its tables.
+#![tactic(auto)]
+
+pub mod known;
+
+pub use known::{answer_known, changes_known};
