@@ -1,28 +1,67 @@
--- A desk that `feed` begins with, as a shop and as one that stands for no arrivals; and that of `feed` itself.
-use Rattle.std.proofs.Common.{◌≡◌, ℕ, Bool, true, false, List, [], Option, Some, None, option_map, bytes_eq, if◌then◌else◌, refl}
-use Rattle.std.proofs.lemmas.List.Sorted.{IsPermutation-refl}
+-- A desk that `feed` begins with, as a shop and as one that stands for no arrivals; and what is told of a run from it.
+use Rattle.std.proofs.Common.{◌≡◌, ◌⊎◌, inl, inr, ℕ, List, [], Result, Err, sym, subst₂}
+use Rattle.bo_base.specs.declared.answer.Answer.{Answer}
+use Rattle.bo_base.specs.declared.device.Tick.{Tick}
+use Rattle.bo_http.specs.Messages.{Message}
+use Rattle.bo_sound.specs.Sound.{IsSound}
+use Rattle.bo_sound.proofs.Sound.{sound_empty}
+use Rattle.bo_kept.specs.ShopView.{ShopView}
+use Rattle.bo_deliveries.specs.Deliveries.{Delivery}
 use Rattle.bo_deliveries.specs.Shops.{StandsFor, Views}
-use Rattle.bo_memory.specs.declared.token.Token.{Token}
-use Rattle.bo_memory.specs.Memory.{number_of}
+use Rattle.bo_connection.specs.declared.failure.Failure.{Failure}
+use Rattle.bo_connection.specs.declared.failure.Failure.TheVariants as failures
+use Rattle.bo_connection.specs.Run.{RunLeads}
+use Rattle.bo_connection.proofs.RunLemmas.{unopened}
 use Rattle.bo_desk.specs.DeskView.{DeskView, Meaning, words_of}
-use Rattle.bo_feed.specs.House.{IsFresh, feed_digest, feed_house, feed_tokens, fresh_house, fresh_opening, fresh_shop, fresh_tables, memory}
+use Rattle.bo_desk.specs.Streams.{ServesAndKeeps, ServesList}
+use Rattle.bo_desk.proofs.RowLemmas.{nothing-too-much}
+use Rattle.bo_desk.proofs.StreamLemmas.{told-once}
+use Rattle.bo_fresh.specs.House.{IsFresh, feed_house}
+use Rattle.bo_fresh.specs.Stored.{in_memory}
+use Rattle.bo_fresh.proofs.Sure.{memory_sure}
+use Rattle.bo_feed.specs.Feed.{Feeds, FeedsDesk, Ports, devices}
+use Rattle.bo_feed.specs.FeedTicks.{feed_ticks}
+use Rattle.bo_feed.specs.House.{fresh_opening, fresh_shop}
 
-module _ {T : Type 0} (tables : Meaning T) (d : DeskView T) (fresh : IsFresh tables d) where
-  pub fresh_views : Views tables.holds d.tables d.state fresh_shop
+module _ {T : Type 0} (tables : Meaning T) (first : DeskView T) (from step : ℕ) (old new : Ports) (result : Result (Unit {0}) Failure) (fresh : IsFresh tables first)
+    (fed : FeedsDesk tables first from step old new result) (sure : tables.sure fed.house.tables) where
+  fresh_views : Views tables.holds first.tables first.state fresh_shop
   fresh_views = record { state_is = fresh.state; held = fresh.held; one = tt }
 
-  pub fresh_stands : StandsFor (words_of feed_house) tables.holds d.tables d.state fresh_opening []
+  fresh_stands : StandsFor (words_of feed_house) tables.holds first.tables first.state fresh_opening []
   fresh_stands = fresh_views
 
--- a token that is the only one has its number
-one_token : (t : Token) (found : Bool) → (if found then Some t.number else None) ≡ option_map (λ (k : Token). k.number) (if found then Some t else None)
-one_token t true = refl
-one_token t false = refl
+  pub fed_fairly : (w : ShopView) × RunLeads (ServesAndKeeps feed_house) (devices old [] fresh_shop) (devices new (feed_ticks from step fed.count) w) result
+      × Views tables.holds fed.house.tables fed.house.state w × IsSound w.state
+  fed_fairly =
+      let x = nothing-too-much tables feed_house fresh_shop (devices old [] first) (devices new (feed_ticks from step fed.count) fed.house) result sound_empty fed.leads sure fresh.of fresh_views in
+      (x.0, x.1, x.3, x.4)
 
-told : (digest : List ℕ) → feed_tokens digest ≡ number_of fresh_tables.tokens digest
-unfolding fresh_tables
-told digest = one_token (record { number = 1; digest = feed_digest }) (bytes_eq feed_digest digest)
+  pub fed_once : (es : List Delivery) × RunLeads (ServesList feed_house fresh_opening) (devices old [] []) (devices new (feed_ticks from step fed.count) es) result
+      × StandsFor (words_of feed_house) tables.holds fed.house.tables fed.house.state fresh_opening es
+  fed_once =
+      let x = told-once tables feed_house fresh_opening [] (devices old [] first) (devices new (feed_ticks from step fed.count) fed.house) result fed.leads sure fresh.of fresh_stands in
+      (x.0, x.1, x.3)
 
-pub house_is_fresh : IsFresh memory fresh_house
-unfolding fresh_house fresh_tables
-house_is_fresh = record { of = record { organizer = refl; event = refl; tokens = told }; state = refl; held = IsPermutation-refl [] }
+-- ---- `feed` itself, over SQLite's memory
+
+module _ (from step : ℕ) (old new : Ports) (result : Result (Unit {0}) Failure) where
+  -- where there was no memory for the shop
+  unread : {D : Type 0} (Serves : D → Tick → Message → Answer → D → Type 0) (d : D) → result ≡ Err failures.Memory → new ≡ old
+      → RunLeads Serves (devices old [] d) (devices new [] d) result
+  unread Serves d failed still =
+      subst₂ (λ (p : Ports) (r : Result (Unit {0}) Failure). RunLeads Serves (devices old [] d) (devices p [] d) r) (sym still) (sym failed) (unopened Serves (devices old [] d))
+
+  pub feeds_fairly : Feeds from step old new result
+      → (count : ℕ) × (w : ShopView) × RunLeads (ServesAndKeeps feed_house) (devices old [] fresh_shop) (devices new (feed_ticks from step count) w) result × IsSound w.state
+  feeds_fairly (inl (first, fresh, fed)) =
+      let x = fed_fairly in_memory first from step old new result fresh fed (memory_sure fed.house.tables) in
+      (fed.count, x.0, x.1, x.3)
+  feeds_fairly (inr (failed, still)) = (0, fresh_shop, unread (ServesAndKeeps feed_house) fresh_shop failed still, sound_empty)
+
+  pub feeds_once : Feeds from step old new result
+      → (count : ℕ) × (es : List Delivery) × RunLeads (ServesList feed_house fresh_opening) (devices old [] []) (devices new (feed_ticks from step count) es) result
+  feeds_once (inl (first, fresh, fed)) =
+      let x = fed_once in_memory first from step old new result fresh fed (memory_sure fed.house.tables) in
+      (fed.count, x.0, x.1)
+  feeds_once (inr (failed, still)) = (0, [], unread (ServesList feed_house fresh_opening) [] failed still)

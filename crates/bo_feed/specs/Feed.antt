@@ -1,5 +1,5 @@
 -- What `feed` does.
-use Rattle.std.specs.Prelude.{◌≡◌, ℕ, ◌+◌, ◌≤◌, List, [], Option, Some, None, Result, Ok, Err, if◌then◌else◌, nat_le, ⊤}
+use Rattle.std.specs.Prelude.{◌≡◌, ◌⊎◌, ℕ, ◌+◌, ◌≤◌, List, [], Option, Some, None, Result, Ok, Err, if◌then◌else◌, nat_le, ⊤}
 use Rattle.bo_base.specs.declared.device.Tick.{Tick}
 use Rattle.bo_base.specs.declared.refusal.ValueRefusal.{ValueRefusal}
 use Rattle.bo_base.specs.Digits.{number_of}
@@ -9,10 +9,11 @@ use Rattle.bo_connection.specs.declared.failure.Failure.TheVariants as failures
 use Rattle.bo_connection.specs.Run.{Counts, CountedAll, Devices, RunLeads}
 use Rattle.bo_desk.specs.DeskView.{DeskView, Meaning}
 use Rattle.bo_desk.specs.Served.{Serves}
+use Rattle.bo_fresh.specs.House.{IsFresh}
+use Rattle.bo_fresh.specs.Stored.{MemoryDesk, in_memory}
 use Rattle.bo_feed.specs.declared.fault.Fault.{Fault}
 use Rattle.bo_feed.specs.declared.fault.Fault.TheVariants as faults
 use Rattle.bo_feed.specs.FeedTicks.{feed_ticks}
-use Rattle.bo_feed.specs.House.{fresh_house, memory}
 
 -- where a reader and a writer stand: the bytes that are still to come and what was written, where they are known; the calls of
 -- the reader; and the failures of the reader and of the writer
@@ -47,9 +48,12 @@ pub record FeedsDesk {T : Type 0} (tables : Meaning T) (first : DeskView T) (fro
   pub counted : CountedAll result (counts old 0) (counts new clock)
   pub calls : new.calls ≤ old.calls + 1000000
 
--- the same from the fresh shop, over tables in memory
+-- the same from a fresh shop whose tables are in SQLite's memory; or there was no memory for that shop, and then nothing is read
+-- and nothing written
 abbrev pub Feeds : ℕ → ℕ → Ports → Ports → Result (Unit {0}) Failure → Type 0
-Feeds from step old new result = FeedsDesk memory fresh_house from step old new result
+Feeds from step old new result =
+    ((first : MemoryDesk) × IsFresh in_memory first × FeedsDesk in_memory first from step old new result)
+    ⊎ ((result ≡ Err failures.Memory) × (new ≡ old))
 
 -- 0 to 31536000 seconds
 abbrev pub step_within : Option ℕ → Option ℕ

@@ -2,16 +2,18 @@
 
 ghost use Rattle.std.specs.Prelude.{◌≡◌, ◌<◌};
 ghost use Rattle.bo_desk.specs.DeskView.{meaning};
+ghost use Rattle.bo_fresh.specs.House.{desk_with};
 ghost use Rattle.bo_feed.specs.Feed.{Feeds, FeedsDesk, FeedsTexts, as_fault, feed_values};
 
 use crate::fault::Fault;
-use crate::house::{open_house, serve_desk};
+use crate::house::serve_office;
 use crate::ticks::{FeedTicks, Pace};
 use bo_base::{Device, Drain, Moment, Source, Steps, number_of, read_moment};
 use bo_connection::Failure;
 use bo_counters::Counters;
-use bo_desk::ShopDesk;
+use bo_fresh::open_memory;
 use bo_kept::Tables;
+use bo_office::Office;
 use std::alloc::Global;
 use std::marker::{Brand, PhantomData};
 use std::sync::ledger::{Blank, Ledger};
@@ -33,10 +35,11 @@ pub fn counted<X, L: Ledger, M: Ledger>(inner: X, calls: Blank, failures: Blank)
     }
 }
 
-// The same as `feed_desk`, with a ledger for the failures of its ticks.
+// The same as `feed_office`, with a ledger for the failures of its ticks.
 fn feed_with<P: Pace, E: Ledger, T: Tables + Drop, R: Source, W: Drain>(
     alloc: Global,
-    desk: ShopDesk<T, Counters>,
+    tables: T,
+    office: Office<Counters>,
     from: Moment,
     step: u64,
     reader: &mut R,
@@ -46,7 +49,7 @@ fn feed_with<P: Pace, E: Ledger, T: Tables + Drop, R: Source, W: Drain>(
     requires from { from ≡ P.from }
     requires step { step ≡ P.step }
     requires blank { (blank.name ≡ E.name) × (blank.parts ≡ E.parts) × (0 < E.parts) }
-    ensures { FeedsDesk (meaning T.sure T.holds T.knows T.may_leave) desk P.from P.step
+    ensures { FeedsDesk (meaning T.sure T.holds T.knows T.may_leave) (desk_with tables office.organizer office.event office.state) P.from P.step
         (record { left = R.left reader.old; taken = W.taken writer.old; calls = R.calls reader.old; input = R.failures reader.old; output = W.failures writer.old })
         (record { left = R.left reader.new; taken = W.taken writer.new; calls = R.calls reader.new; input = R.failures reader.new; output = W.failures writer.new }) result }
 {
@@ -57,29 +60,40 @@ fn feed_with<P: Pace, E: Ledger, T: Tables + Drop, R: Source, W: Drain>(
         failures: Steps::<E>::new(blank),
         pace: PhantomData,
     };
-    serve_desk(alloc, reader, &mut ticks, desk, writer)
+    serve_office(alloc, reader, &mut ticks, tables, office, writer)
 }
 
-/// Reads requests to the end of the input, and writes the answers that a shop gives, whatever its tables are. The first request
+/// Reads requests to the end of the input, and writes the answers that the shop of an office gives, whatever its tables are. The first request
 /// comes at that moment, and each other one that many seconds after the one before it, but none after the last moment that there
-/// is. It reads at most 1,000,000 times. Faults: 6 (there was no memory for what is read), 82 (the reader failed, or its limit is
+/// is. It reads at most 1,000,000 times. Faults: 6 (there was no memory for the desk or for what is read), 82 (the reader failed, or its limit is
 /// met), 83 (the writer failed), 85 (2^64 - 1 ticks were told).
-pub fn feed_desk<T: Tables + Drop, R: Source, W: Drain>(
+pub fn feed_office<T: Tables + Drop, R: Source, W: Drain>(
     alloc: Global,
-    desk: ShopDesk<T, Counters>,
+    tables: T,
+    office: Office<Counters>,
     from: Moment,
     step: u64,
     reader: &mut R,
     writer: &mut W,
 ) -> Result<(), Failure>
-    ensures { FeedsDesk (meaning T.sure T.holds T.knows T.may_leave) desk from step
+    ensures { FeedsDesk (meaning T.sure T.holds T.knows T.may_leave) (desk_with tables office.organizer office.event office.state) from step
         (record { left = R.left reader.old; taken = W.taken writer.old; calls = R.calls reader.old; input = R.failures reader.old; output = W.failures writer.old })
         (record { left = R.left reader.new; taken = W.taken writer.new; calls = R.calls reader.new; input = R.failures reader.new; output = W.failures writer.new }) result }
 {
-    feed_with::<Brand, Brand, T, R, W>(alloc, desk, from, step, reader, writer, Blank::new(1))
+    feed_with::<Brand, Brand, T, R, W>(
+        alloc,
+        tables,
+        office,
+        from,
+        step,
+        reader,
+        writer,
+        Blank::new(1),
+    )
 }
 
-/// The same of the shop that is opened for it, over tables in memory. Fault 6 also where there is no memory for that shop.
+/// The same of the fresh shop that is opened for it, whose tables are SQLite's, in its memory. Fault 6 also where there is no
+/// memory for that shop; then nothing is read.
 pub fn feed<R: Source, W: Drain>(
     alloc: Global,
     from: Moment,
@@ -91,10 +105,10 @@ pub fn feed<R: Source, W: Drain>(
         (record { left = R.left reader.old; taken = W.taken writer.old; calls = R.calls reader.old; input = R.failures reader.old; output = W.failures writer.old })
         (record { left = R.left reader.new; taken = W.taken writer.new; calls = R.calls reader.new; input = R.failures reader.new; output = W.failures writer.new }) result }
 {
-    let Ok(house) = open_house(alloc) else {
-        return Err(Failure::Memory);
-    };
-    feed_desk(alloc, house, from, step, reader, writer)
+    match open_memory(alloc) {
+        Ok((tables, office)) => feed_office(alloc, tables, office, from, step, reader, writer),
+        Err(_) => Err(Failure::Memory),
+    }
 }
 
 /// The values of `--from` and `--step`: a moment, and 0 to 31536000 seconds as plain digits.

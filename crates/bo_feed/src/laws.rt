@@ -10,9 +10,10 @@ ghost use Rattle.bo_connection.specs.declared.failure.Failure.{Failure};
 ghost use Rattle.bo_connection.specs.Run.{RunLeads};
 ghost use Rattle.bo_desk.specs.DeskView.{DeskView, meaning, words_of};
 ghost use Rattle.bo_desk.specs.Streams.{ServesAndKeeps, ServesList};
-ghost use Rattle.bo_feed.specs.Feed.{FeedsDesk, Ports, devices};
+ghost use Rattle.bo_fresh.specs.House.{IsFresh, feed_house};
+ghost use Rattle.bo_feed.specs.Feed.{Feeds, FeedsDesk, Ports, devices};
 ghost use Rattle.bo_feed.specs.FeedTicks.{feed_ticks};
-ghost use Rattle.bo_feed.specs.House.{IsFresh, feed_house, fresh_house, fresh_opening, fresh_shop, memory};
+ghost use Rattle.bo_feed.specs.House.{fresh_opening, fresh_shop};
 ghost use Rattle.bo_feed.specs.Words.{asked, none, plain_words, runs};
 
 use bo_kept::Tables;
@@ -50,11 +51,6 @@ pub fn lines_that_lack_something_are_wrong()
         × (asked (program ∷ codes "feed" ∷ (codes "--step=" ++ text) ∷ []) ≡ none (MissingRequiredArgument ∷ [])) }
 {}
 
-/// The shop that `feed` begins with is fresh.
-pub fn the_shop_of_feed_is_fresh()
-    ensures { IsFresh memory fresh_house }
-{}
-
 /// Whatever bytes are fed to a fresh shop, over whatever tables: each request that is executed makes a step that takes too much of
 /// no quota; a repeat, a read and what is refused before it is a command take nothing; and the shop stays sound.
 pub fn what_is_fed_takes_nothing_too_much<T: Tables>()
@@ -73,4 +69,18 @@ pub fn what_is_fed_is_told_once<T: Tables>()
         IsFresh tables first → (fed : FeedsDesk tables first from step old new result) → T.sure fed.house.tables
         → (es : List Delivery) × RunLeads (ServesList feed_house fresh_opening) (devices old [] []) (devices new (feed_ticks from step fed.count) es) result
         × StandsFor (words_of feed_house) T.holds fed.house.tables fed.house.state fresh_opening es }
+{}
+
+/// Whatever bytes are fed to `feed`: each request that is executed makes a step that takes too much of no quota; a repeat, a read
+/// and what is refused before it is a command take nothing; and the shop that all leads to is sound.
+pub fn what_feed_is_fed_takes_nothing_too_much()
+    ensures { (from step : ℕ) (old new : Ports) (result : Result (Unit {0}) Failure) → Feeds from step old new result
+        → (count : ℕ) × (w : ShopView) × RunLeads (ServesAndKeeps feed_house) (devices old [] fresh_shop) (devices new (feed_ticks from step count) w) result × IsSound w.state }
+{}
+
+/// Whatever bytes are fed to `feed`: there is a list of arrivals, those of the messages that were acted on, of which each was told
+/// what is told of the list, or 503.
+pub fn what_feed_is_fed_is_told_once()
+    ensures { (from step : ℕ) (old new : Ports) (result : Result (Unit {0}) Failure) → Feeds from step old new result
+        → (count : ℕ) × (es : List Delivery) × RunLeads (ServesList feed_house fresh_opening) (devices old [] []) (devices new (feed_ticks from step count) es) result }
 {}

@@ -1,4 +1,4 @@
-//! The command `feed`: raw requests from a reader, answered by a box office in memory.
+//! The command `feed`: raw requests from a reader, answered by a box office whose tables are in SQLite's memory.
 #![tactic(auto)]
 
 pub mod ended;
@@ -12,8 +12,8 @@ pub mod words;
 
 pub use ended::Ended;
 pub use fault::Fault;
-pub use feeding::{counted, feed, feed_desk, feed_texts, feed_values};
-pub use house::{open_house, serve_desk, serve_house};
+pub use feeding::{counted, feed, feed_office, feed_texts, feed_values};
+pub use house::{serve_desk, serve_house, serve_office};
 pub use line::{report_words, run};
 pub use ticks::{FeedTicks, Pace};
 pub use words::{FeedLine, plain_words, read_line};

@@ -1,15 +1,6 @@
-use Rattle.std.proofs.Common.{[]}
-use Rattle.bo_sound.proofs.Sound.{sound_empty}
 use Rattle.bo_desk.specs.DeskView.{meaning}
-use Rattle.bo_desk.proofs.RowLemmas.{nothing-too-much}
-use Rattle.bo_feed.specs.Feed.{devices}
-use Rattle.bo_feed.specs.FeedTicks.{feed_ticks}
-use Rattle.bo_feed.specs.House.{feed_house, fresh_shop}
-use Rattle.bo_feed.proofs.FreshLemmas.{fresh_views}
+use Rattle.bo_feed.proofs.FreshLemmas.{fed_fairly}
 use Rattle.bo_feed.proofs.laws.what_is_fed_takes_nothing_too_much.Goals as goal
 
 pub returns : goal.returns
-returns g c = λ first from step old new result fresh fed sure.
-    let tables = meaning g.T.Tables.sure g.T.Tables.holds g.T.Tables.knows g.T.Tables.may_leave in
-    let x = nothing-too-much tables feed_house fresh_shop (devices old [] first) (devices new (feed_ticks from step fed.count) fed.house) result sound_empty fed.leads sure fresh.of (fresh_views tables first fresh) in
-    (x.0, x.1, x.3, x.4)
+returns g c = λ first from step old new result fresh fed sure. fed_fairly (meaning g.T.Tables.sure g.T.Tables.holds g.T.Tables.knows g.T.Tables.may_leave) first from step old new result fresh fed sure

@@ -1,0 +1,111 @@
+//! A shop is opened in a database that has no tables yet.
+
+ghost use Rattle.std.specs.Prelude.{◌≡◌, [], None, IfOk, OnOk, codes};
+ghost use Rattle.sqlite.specs.Held.{state};
+ghost use Rattle.sqlite.specs.State.{HasCleanDisk};
+ghost use Rattle.bo_lists.specs.Lists.{empty};
+ghost use Rattle.bo_tables.specs.Shops.{HoldsWhileOpen, KnowsWhileOpen};
+ghost use Rattle.bo_fresh.specs.House.{IsFresh, desk_with, feed_digest, feed_tokens};
+ghost use Rattle.bo_fresh.specs.Stored.{in_memory, in_store};
+
+use bo_base::Slug;
+use bo_counters::Counters;
+use bo_made::{add_token, create};
+use bo_office::Office;
+use bo_tables::SqlTables;
+use sha2::{Digest, Sha256};
+use sqlite::{Alter, Connection, MemStore};
+use std::alloc::{AllocError, Global};
+
+// The digest of the token `feed`.
+#[tactic(auto, unfolding(crate::specs::House::feed_digest))]
+fn digest_of_feed() -> [u8; 32]
+    ensures { result ≡ feed_digest }
+{
+    Sha256::digest(b"feed")
+}
+
+// The short name of the organizer.
+#[tactic(auto, unfolding(bo_base::specs::Slugs::is_slug))]
+fn house_slug(alloc: Global) -> Result<Slug, AllocError>
+    ensures { IfOk result (λ slug. slug ≡ codes "house") }
+{
+    Slug::copy_of(alloc, "house")
+}
+
+// The short name of the event.
+#[tactic(auto, unfolding(bo_base::specs::Slugs::is_slug))]
+fn hall_slug(alloc: Global) -> Result<Slug, AllocError>
+    ensures { IfOk result (λ slug. slug ≡ codes "hall") }
+{
+    Slug::copy_of(alloc, "hall")
+}
+
+// The tables of the shop in a database that has none yet, with its office. They know no token.
+fn begin<S: Alter + Drop>(
+    alloc: Global,
+    connection: Connection<S>,
+) -> Result<(SqlTables<S>, Office<Counters>), AllocError>
+    ensures office { IfOk result (λ made. (made.1.organizer ≡ codes "house") × (made.1.event ≡ codes "hall") × (made.1.state ≡ empty)) }
+    ensures next { IfOk result (λ made. HasCleanDisk (state S.Store made.0.connection) → made.0.head.next_token ≡ 1) }
+    ensures holds { IfOk result (λ made. HasCleanDisk (state S.Store made.0.connection) → HoldsWhileOpen made.0.head made.0.next_row (state S.Store made.0.connection) empty []) }
+    ensures knows { IfOk result (λ made. HasCleanDisk (state S.Store made.0.connection) → KnowsWhileOpen made.0.next_row (state S.Store made.0.connection) (λ digest. None)) }
+{
+    let organizer = house_slug(alloc)?;
+    let event = hall_slug(alloc)?;
+    match create(alloc, connection, organizer, event) {
+        Ok(made) => Ok(made),
+        Err(_) => Err(AllocError),
+    }
+}
+
+// Adds the token `feed`, as the first one.
+fn add_feed<S: Alter>(tables: &mut SqlTables<S>) -> Result<(), AllocError>
+    ensures clean { HasCleanDisk (state S.Store tables.new.connection) → HasCleanDisk (state S.Store tables.old.connection) }
+    ensures holds { HasCleanDisk (state S.Store tables.new.connection) → HoldsWhileOpen tables.old.head tables.old.next_row (state S.Store tables.old.connection) empty []
+        → HoldsWhileOpen tables.new.head tables.new.next_row (state S.Store tables.new.connection) empty [] }
+    ensures knows { HasCleanDisk (state S.Store tables.new.connection) → tables.old.head.next_token ≡ 1 → KnowsWhileOpen tables.old.next_row (state S.Store tables.old.connection) (λ digest. None)
+        → OnOk result (KnowsWhileOpen tables.new.next_row (state S.Store tables.new.connection) feed_tokens) }
+{
+    match add_token(tables, &digest_of_feed()) {
+        Ok(_) => Ok(()),
+        Err(_) => Err(AllocError),
+    }
+}
+
+// The same tables with the token `feed`.
+fn with_feed<S: Alter + Drop>(tables: SqlTables<S>) -> Result<SqlTables<S>, AllocError>
+    ensures clean { IfOk result (λ made. HasCleanDisk (state S.Store made.connection) → HasCleanDisk (state S.Store tables.connection)) }
+    ensures holds { IfOk result (λ made. HasCleanDisk (state S.Store made.connection) → HoldsWhileOpen tables.head tables.next_row (state S.Store tables.connection) empty []
+        → HoldsWhileOpen made.head made.next_row (state S.Store made.connection) empty []) }
+    ensures knows { IfOk result (λ made. HasCleanDisk (state S.Store made.connection) → tables.head.next_token ≡ 1 → KnowsWhileOpen tables.next_row (state S.Store tables.connection) (λ digest. None)
+        → KnowsWhileOpen made.next_row (state S.Store made.connection) feed_tokens) }
+{
+    let mut tables = tables;
+    add_feed(&mut tables)?;
+    Ok(tables)
+}
+
+/// The tables and the office of the shop that `feed` begins with, in a database that has no table: organizer `house`, event `hall`,
+/// the token `feed`, no rows and no answers. Where there is no memory for it, or the database has a table, or its store fails, it
+/// is `AllocError`.
+pub fn open_store<S: Alter + Drop>(
+    alloc: Global,
+    connection: Connection<S>,
+) -> Result<(SqlTables<S>, Office<Counters>), AllocError>
+    ensures { IfOk result (λ made. HasCleanDisk (state S.Store made.0.connection) → IsFresh (in_store S.Store) (desk_with made.0 made.1.organizer made.1.event made.1.state)) }
+{
+    let (tables, office) = begin(alloc, connection)?;
+    match with_feed(tables) {
+        Ok(tables) => Ok((tables, office)),
+        Err(error) => Err(error),
+    }
+}
+
+/// The same in SQLite's memory, which has no tables at first.
+pub fn open_memory(alloc: Global) -> Result<(SqlTables<MemStore>, Office<Counters>), AllocError>
+    ensures { IfOk result (λ made. IsFresh in_memory (desk_with made.0 made.1.organizer made.1.event made.1.state)) }
+{
+    let connection = Connection::open_in_memory(alloc)?;
+    open_store(alloc, connection)
+}
