@@ -1,0 +1,205 @@
+"""Shops in a file: cases with the answers expected of them, statements that spoil one, and calls of the program `filed`.
+
+Nothing here comes from the program: the answers are written out in crates/worked/cases, and here, from their forms.
+"""
+import os
+import subprocess
+import sys
+
+sys.dont_write_bytecode = True
+TOP = os.path.dirname(os.path.dirname(os.path.dirname(os.path.dirname(os.path.abspath(__file__)))))
+sys.path[:0] = [f"{TOP}/bin", f"{TOP}/crates/worked/cases"]
+import unproved
+from forms import *
+import first_path, catalogue, vouchers, orders, bulk, limits, edges, waiting, doors, keys  # noqa: E401, F401 (they list their cases)
+from doors import admitted, list_row, new_list, scan
+from keys import LAST_SECOND, NEXT_DAY, keyed
+from orders import ONE, new_order, order_row, position_row
+from vouchers import half_past, made, new_voucher
+from waiting import join, joined
+
+MADE, DAY = 1777629600, 86400
+TILL = "Authorization: Token till\r\n"
+# The cases of worked rows 12 and 13 by name, and the rest of those on keys.
+ON_KEYS = [
+    "a_refusal_is_told_again", "a_key_lasts_a_day", "a_repeat_may_ask_for_anything", "a_key_that_was_first_on_an_unknown_path",
+    "keys_are_of_a_token", "a_method_that_is_not_allowed_is_told_again", "a_method_that_reads_has_no_key",
+    "a_repeat_closes_where_it_asks_for_it", "a_fault_is_told_again", "a_read_has_no_key", "no_key_and_the_first_key",
+    "a_repeat_changes_no_moment",
+]
+
+each_has_its_own = ("each_token_has_keys_of_its_own", setup(2) + [
+    (T, keyed("/cartpositions/", '{"item":1}', "k"), cart(1, 3, T, half_past)),
+    (T, keyed("/cartpositions/", '{"item":1}', "k", token=TILL), cart(2, 4, T, half_past)),
+    (T, keyed("/cartpositions/", '{"item":1}', "k"), cart(1, 3, T, half_past)),
+    (T, keyed("/cartpositions/", '{"item":1}', "k", token=TILL), cart(2, 4, T, half_past)),
+    (T, keyed("/cartpositions/", '{"item":1}', "other", token=TILL), sold_out(1)),
+    (T, keyed("/cartpositions/", '{"item":1}', "other", token=TILL), sold_out(1)),
+    (T, ask, left(2, 2)),
+], "ended")
+
+
+def order_body(two_tokens):
+    return keyed("/orders/", ONE, "k", **({"token": TILL} if two_tokens else {}))
+
+
+# The same order under the same key from two tokens.
+two_orders = ("two_tokens_order_under_one_key", setup(2) + [
+    (T, order_body(False), answer(201, order_row([position_row(1, 3)]))),
+    (T, order_body(True), answer(201, order_row([position_row(2, 4, order=2, code="AAAAC")], code="AAAAC"))),
+    (T, order_body(False), answer(201, order_row([position_row(1, 3)]))),
+    (T, order_body(True), answer(201, order_row([position_row(2, 4, order=2, code="AAAAC")], code="AAAAC"))),
+], "ended")
+
+
+def paid(number, tick, code, voucher="null", item=1):
+    """An order of one position that was paid when it was made, as it is shown."""
+    return answer(201, order_row([position_row(number, tick, order=number, code=code, item=item, voucher=voucher)], code=code, status="p"))
+
+
+def pay(item, voucher):
+    return new_order(f'{{"email":"a@x","status":"p","positions":[{{"item":{item},"voucher":"{voucher}"}}]}}')
+
+
+some_rows = ("a_shop_of_some_rows", setup(9) + [
+    (T, post("/items/", '{"name":"Balcony","default_price":"23.00"}'), item(2, "Balcony", "23.00")),
+    (T, post("/quotas/", '{"name":"B","size":9,"items":[2],"variations":[]}'), answer(201, quota_row(2, "B", 9, items="2"))),
+    (T, new_voucher('{"code":"CLUB","max_usages":2,"block_quota":true,"item":1}'), made(1, "CLUB", max_usages=2, block_quota="true", item=1)),
+    (T, new_voucher('{"code":"HIGH","item":2}'), made(2, "HIGH", item=2)),
+    (T, pay(1, "CLUB"), paid(1, 7, "AAAAB", voucher=1)),
+    (T, pay(1, "CLUB"), paid(2, 8, "AAAAC", voucher=1)),
+    (T, keyed("/orders/", ONE, "k"), answer(201, order_row([position_row(3, 9, order=3, code="AAAAD")], code="AAAAD"))),
+    (T, hold, cart(1, 10, T, half_past)),
+    (T, new_list(), answer(201, list_row(1))),
+    (T, scan('{"nonce":"n1"}'), admitted(position_row(1, 7, voucher=1))),
+    (T, post("/items/", '{"name":"Box","default_price":"40.00","variations":[{"value":"Left"}]}'),
+     answer(201, item_row(3, "Box", "40.00", variations=[variation_row(1, "Left", "40.00")]))),
+    (T, post("/quotas/", '{"name":"C","size":0,"items":[3],"variations":[1]}'), answer(201, quota_row(3, "C", 0, items="3", variations="1"))),
+    (T, post("/waitinglistentries/", '{"email":"w@x","item":3,"variation":1}'), joined(1, "w@x", item=3, variation=1)),
+], "ended")
+
+# Statements that spoil the file which the last case leaves, with the fault by which it isn't opened afterwards.
+SPOILT = [
+    ("0", "UPDATE items SET name = 'Stalls'"),
+    ("0", "UPDATE waiting SET priority = -1000000"),
+    ("60", "DROP TABLE kept"),
+    ("60", "DROP TABLE quota_count"),
+    ("60", "DROP TABLE shop"),
+    ("61.9", "UPDATE shop SET version = 9"),
+    ("61.0", "UPDATE shop SET version = 0"),
+    ("61.-1", "UPDATE shop SET version = -1"),
+    ("62.1", "UPDATE shop SET moment = -1"),
+    ("62.1", "UPDATE shop SET organizer = ''"),
+    ("62.1", "UPDATE shop SET event = 'a b'"),
+    ("62.1", "UPDATE shop SET next_item = 0"),
+    ("62.1", "DELETE FROM shop"),
+    ("62.2", "UPDATE items SET name = CAST(x'5374610a6c6c73' AS TEXT) WHERE id = 1"),
+    ("62.2", "UPDATE items SET default_price = -1 WHERE id = 1"),
+    ("62.2", "UPDATE items SET name = CAST(x'ff' AS TEXT) WHERE id = 1"),
+    ("62.2", "UPDATE vouchers SET max_usages = 0 WHERE id = 2"),
+    ("62.2", "UPDATE vouchers SET price_mode = 'all' WHERE id = 2"),
+    ("62.2", "UPDATE waiting SET priority = 1000001"),
+    ("62.2", "UPDATE orders SET status = 'x' WHERE id = 3"),
+    ("62.2", "UPDATE checkins SET kind = 'pass'"),
+    ("62.2", "INSERT INTO items VALUES (0, 'None', 0, 1, 0)"),
+    ("62.2", "UPDATE quotas SET size = 1000001 WHERE id = 1"),
+    ("62.3", "UPDATE shop SET next_order = 3"),
+    ("62.3", "UPDATE shop SET next_item = 3"),
+    ("62.3", "UPDATE shop SET next_checkin = 1"),
+    ("62.3", "UPDATE shop SET next_token = 2"),
+    ("62.4", "UPDATE vouchers SET item_id = NULL WHERE id = 1"),
+    ("62.4", "UPDATE order_positions SET voucher_id = 2 WHERE id = 1"),
+    ("62.4", "UPDATE order_positions SET secret = '00000000000000000000000000000007z2z1' WHERE id = 1"),
+    ("62.4", "UPDATE items SET varied = 0 WHERE id = 3"),
+    ("62.4", "UPDATE waiting SET variation_id = NULL"),
+    ("62.4", "UPDATE cart_positions SET variation_id = 1"),
+    ("62.5", "DELETE FROM order_positions WHERE id = 3"),
+    ("62.5", "UPDATE order_positions SET positionid = 2, secret = '00000000000000000000000000000009z3z2' WHERE id = 3"),
+    ("62.6", "UPDATE vouchers SET max_usages = 1 WHERE id = 1"),
+    ("62.7", "UPDATE quota_count SET paid = paid + 1 WHERE quota_id = 1"),
+    ("62.7", "UPDATE quota_count SET carts = 0 WHERE quota_id = 1"),
+    ("62.7", "UPDATE quota_count SET waiting = 0 WHERE quota_id = 3"),
+    ("62.7", "DELETE FROM quota_count WHERE quota_id = 2"),
+    ("62.7", "UPDATE vouchers SET redeemed = 0 WHERE id = 1"),
+    ("62.7", "UPDATE orders SET status = 'c' WHERE id = 3"),
+    # Where two fail, the first one is told.
+    ("60", "DROP TABLE shop; UPDATE items SET default_price = -1"),
+    ("61.9", "DROP TABLE kept; UPDATE shop SET version = 9"),
+    ("61.9", "UPDATE shop SET version = 9, moment = -1"),
+    ("60", "DROP TABLE kept; UPDATE shop SET moment = -1"),
+    ("62.1", "UPDATE items SET default_price = -1; UPDATE shop SET moment = -1"),
+    ("62.2", "UPDATE shop SET next_order = 3; UPDATE items SET default_price = -1"),
+    ("62.3", "UPDATE order_positions SET voucher_id = 2 WHERE id = 1; UPDATE shop SET next_order = 3"),
+    ("62.4", "DELETE FROM order_positions WHERE id = 3; UPDATE order_positions SET voucher_id = 2 WHERE id = 1"),
+    ("62.5", "UPDATE vouchers SET max_usages = 1 WHERE id = 1; DELETE FROM order_positions WHERE id = 3"),
+    ("62.6", "UPDATE quota_count SET paid = 0 WHERE quota_id = 1; UPDATE vouchers SET max_usages = 1 WHERE id = 1"),
+]
+# The same of statements that the kit's crate doesn't know.
+RENAMED = [
+    ("60", "ALTER TABLE items RENAME TO things"),
+    ("60", "ALTER TABLE waiting RENAME COLUMN priority TO rank"),
+    ("60", "ALTER TABLE shop RENAME TO house"),
+    ("61.9", "UPDATE shop SET version = 9; ALTER TABLE kept RENAME COLUMN body TO text"),
+    ("60", "ALTER TABLE kept RENAME COLUMN body TO text; UPDATE shop SET moment = -1"),
+]
+
+
+def text(exchanges):
+    """A case as the program reads it."""
+    return (" ".join(moment for moment, _, _ in exchanges if moment) + "\n" + "".join(sent for _, sent, _ in exchanges)).encode()
+
+
+def told(exchanges, ending="ended"):
+    """What the program prints of a case."""
+    return (f"{ending}\n" + "".join(it for _, _, it in exchanges)).encode()
+
+
+def named(name):
+    return next(it for it in [*cases, each_has_its_own, two_orders, some_rows] if it[0] == name)
+
+
+def shown(value, other):
+    """A value, or of a long text what stands about where it begins to differ from another."""
+    if not isinstance(value, bytes) or len(value) < 400 or not isinstance(other, bytes):
+        return repr(value)[:2000]
+    same = next((at for at, (one, two) in enumerate(zip(value, other)) if one != two), min(len(value), len(other)))
+    return f".. from byte {same}: {value[max(0, same - 80) : same + 200]!r}"
+
+
+class Tests:
+    """Counts what is as expected. PLANT in the environment names a test that expects something else instead, so that it fails."""
+
+    def __init__(self):
+        self.passed = self.failed = 0
+
+    def hold(self, name, said, want):
+        """Compares what was said with what is expected."""
+        if name == os.environ.get("PLANT"):
+            want = [want, "planted"]
+        if said == want:
+            self.passed += 1
+        else:
+            self.failed += 1
+            print(f"DIFFERS: {name}\n  said {shown(said, want)}\n  want {shown(want, said)}", flush=True)
+
+    def end(self):
+        print(f"{self.passed} passed, {self.failed} failed")
+        return 1 if self.failed or not self.passed else 0
+
+
+class Filed:
+    """The program, in a folder. PROGRAM in the environment names one that is compiled already."""
+
+    def __init__(self, room):
+        self.room, self.program = room, os.environ.get("PROGRAM") or unproved.program("filed")
+
+    def said(self, *words):
+        """What it prints; where it fails, the end of what it says of that."""
+        ran = subprocess.run([self.program, *words], cwd=self.room, stdin=subprocess.DEVNULL, capture_output=True)
+        return ran.stdout if ran.returncode == 0 else ran.stdout + b"FAILED: %d " % ran.returncode + ran.stderr[-300:]
+
+    def answers(self, how, exchanges, *file):
+        """What it answers to a case, over a file of that name or none."""
+        with open(f"{self.room}/it.case", "wb") as it:
+            it.write(text(exchanges))
+        return self.said(how, *file, "it.case")
