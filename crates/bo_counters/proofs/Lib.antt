@@ -1,15 +1,1 @@
-pub mod Walked
-pub mod TouchedLemmas
-pub mod OfProducts
-pub mod ByName
-pub mod Due
-pub mod Later
-pub mod ShiftLemmas
-pub mod Kept
-pub mod TurnLemmas
-pub mod Positions
-pub mod Ending
-pub mod HoldLemmas
-pub mod DropLemmas
 pub mod Resized
-pub mod PlaceLemmas

@@ -1,5 +1,1 @@
-pub mod Held
-pub mod Later
-pub mod Names
-pub mod Shifts
-pub mod Turns
+pub mod Counted

@@ -1,8 +1,7 @@
 //! A book that keeps counters.
 
-ghost use Rattle.std.specs.Prelude.{◌≡◌, ◌≤◌, ◌<◌, ◌+◌, ◌-◌, min, map, reverse, length, vec_len, vec_capacity, Some, None, OnOk, IsTrue, ◌↔◌, true};
+ghost use Rattle.std.specs.Prelude.{◌≡◌, ◌≤◌, ◌<◌, ◌+◌, map, reverse, vec_len, Some, OnOk, IsTrue, ◌↔◌, true};
 ghost use Rattle.std.specs.Bool.{Decides};
-ghost use Rattle.std.specs.Option.{option_copied};
 ghost use Rattle.bo_catalogue.specs.CatalogueLists.{quota_at};
 ghost use Rattle.bo_lists.specs.Lists.{empty};
 ghost use Rattle.bo_lists.specs.Headroom.{held};
@@ -11,23 +10,22 @@ ghost use Rattle.bo_lists.specs.Change.{after_change, after_all, applied};
 ghost use Rattle.bo_lists.specs.Weight.{change_weight, weight};
 ghost use Rattle.bo_catalogue.specs.Members.{quota_weight};
 ghost use Rattle.bo_lists.specs.CameDue.{came_due, naming_due};
-ghost use Rattle.bo_counters.specs.Shifts.{map_beside, waiting_shift};
 
-use crate::blocking::shift_voucher;
-use crate::carts::shift_cart;
-use crate::dropping::gather;
-use crate::holds::{held_by, hold_at, hold_drop, hold_drops, hold_put};
-use crate::passing::{count_at, drop_each};
-use crate::shift::{WaitingShift, forget, keep};
-use crate::touched::shift_product;
-use crate::turns::{count_order, count_position, redeemed_in, vouchers};
-use crate::usage_later::later;
 use bo_base::{Moment, Steps, place_of};
 use bo_catalogue::{Item, Quota, Variation};
 use bo_lists::{
     CartPos, Change, Changes, Checkin, CheckinList, NextIds, Order, OrderPos, Usage, Voucher,
     Waiting,
 };
+use bo_shifts::blocking::shift_voucher;
+use bo_shifts::carts::shift_cart;
+use bo_shifts::dropping::gather;
+use bo_shifts::holds::{held_by, hold_at, hold_drop, hold_drops, hold_put};
+use bo_shifts::passing::{count_at, drop_each};
+use bo_shifts::shift::{forget, keep};
+use bo_shifts::turns::{count_order, count_position, redeemed_in, vouchers};
+use bo_shifts::usage_later::later;
+use bo_shifts::waiting::shift_waiting;
 use bo_store::{Ended, Store};
 use bo_usage::LookUps;
 use std::alloc::{AllocError, Global};
@@ -49,7 +47,7 @@ pub struct Counters {
 impl Model for Counters {
     ghost use Rattle.std.specs.Prelude.{min, ◌-◌, length, vec_capacity};
     ghost use Rattle.bo_usage.specs.BookView.{BookView};
-    ghost use Rattle.bo_counters.specs.Held.{IsAllCounted};
+    ghost use Rattle.bo_counters.specs.Counted.{IsAllCounted};
 
     ghost Value = { BookView };
 
@@ -180,60 +178,6 @@ impl Counters {
         shift_waiting(&self.store, &mut self.usages, None, self.store.entry(id));
         self.store.apply_one(Change::DropWaiting(id));
     }
-}
-
-// The usages where a waiting entry comes.
-fn entry_comes<'s>(store: &'s Store, usages: &mut Vec<Usage>, come: Option<&'s Waiting>)
-    requires { length usages.old.items ≡ length store.now.state.lists.catalogue.quotas }
-    ensures items { usages.new.items ≡ map_beside (waiting_shift (option_copied come.entry) None) store.now.state.lists.catalogue.quotas usages.old.items }
-    ensures room { vec_capacity usages.new ≡ vec_capacity usages.old }
-    ensures same { length usages.new.items ≡ length usages.old.items }
-{
-    match come {
-        None => {}
-        Some(entry) => {
-            let shift = WaitingShift {
-                come: Some(entry),
-                gone: None,
-            };
-            shift_product(store.catalogue(), usages, entry.product, &shift);
-        }
-    }
-}
-
-// The usages where a waiting entry goes.
-fn entry_goes<'s>(store: &'s Store, usages: &mut Vec<Usage>, gone: Option<&'s Waiting>)
-    requires { length usages.old.items ≡ length store.now.state.lists.catalogue.quotas }
-    ensures items { usages.new.items ≡ map_beside (waiting_shift None (option_copied gone.entry)) store.now.state.lists.catalogue.quotas usages.old.items }
-    ensures room { vec_capacity usages.new ≡ vec_capacity usages.old }
-    ensures same { length usages.new.items ≡ length usages.old.items }
-{
-    match gone {
-        None => {}
-        Some(entry) => {
-            let shift = WaitingShift {
-                come: None,
-                gone: Some(entry),
-            };
-            shift_product(store.catalogue(), usages, entry.product, &shift);
-        }
-    }
-}
-
-// The usages where a waiting entry comes and one goes: those of the quotas that have their products.
-fn shift_waiting<'s>(
-    store: &'s Store,
-    usages: &mut Vec<Usage>,
-    come: Option<&'s Waiting>,
-    gone: Option<&'s Waiting>,
-)
-    requires { length usages.old.items ≡ length store.now.state.lists.catalogue.quotas }
-    ensures items { usages.new.items ≡ map_beside (waiting_shift (option_copied come.entry) (option_copied gone.entry)) store.now.state.lists.catalogue.quotas usages.old.items }
-    ensures room { vec_capacity usages.new ≡ vec_capacity usages.old }
-    ensures same { length usages.new.items ≡ length usages.old.items }
-{
-    entry_comes(store, usages, come);
-    entry_goes(store, usages, gone);
 }
 
 impl Counters {

@@ -5,8 +5,8 @@ use Rattle.bo_lists.specs.declared.changes.Change.{Change}
 use Rattle.bo_lists.specs.declared.changes.Change.TheVariants.{DropCart}
 use Rattle.bo_lists.specs.Lists.{State}
 use Rattle.bo_lists.specs.Weight.{weight}
-use Rattle.bo_counters.proofs.HoldLemmas.{held_new}
-use Rattle.bo_counters.proofs.DropLemmas.{counted_drops, drops_then, rest_weighs}
+use Rattle.bo_shifts.proofs.HoldLemmas.{held_new}
+use Rattle.bo_shifts.proofs.DropLemmas.{counted_drops, drops_then, rest_weighs}
 use Rattle.bo_counters.proofs.counters.Counters.drop_run.Goals as goal
 
 pub invariant_of-self : goal.invariant_of-self

@@ -1,7 +1,7 @@
 use Rattle.std.proofs.Common.{refl}
-use Rattle.bo_counters.proofs.HoldLemmas.{held_same}
+use Rattle.bo_shifts.proofs.HoldLemmas.{held_same}
 use Rattle.bo_base.specs.Tables.{with_row}
-use Rattle.bo_counters.proofs.Positions.{counted_door}
+use Rattle.bo_shifts.proofs.Positions.{counted_door}
 use Rattle.bo_counters.proofs.counters.Counters.put_checkin_list.Goals as goal
 
 pub invariant_of-self : goal.invariant_of-self

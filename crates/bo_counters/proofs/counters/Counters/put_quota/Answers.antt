@@ -1,7 +1,7 @@
-use Rattle.bo_counters.proofs.HoldLemmas.{held_same}
+use Rattle.bo_shifts.proofs.HoldLemmas.{held_same}
 use Rattle.std.proofs.Common.{ap, refl, ◌∙◌}
 use Rattle.bo_catalogue.specs.CatalogueLists.{CatalogueLists}
-use Rattle.bo_counters.proofs.ShiftLemmas.{counted_put_quota}
+use Rattle.bo_shifts.proofs.ShiftLemmas.{counted_put_quota}
 use Rattle.bo_counters.proofs.counters.Counters.put_quota.Goals as goal
 
 pub invariant_of-self : goal.invariant_of-self

@@ -3,8 +3,8 @@ use Rattle.bo_base.specs.Tables.{AreInOrder}
 use Rattle.bo_base.proofs.Places.{row_at_gap}
 use Rattle.bo_catalogue.specs.CatalogueLists.{CatalogueLists}
 use Rattle.bo_lists.specs.Usage.{usage_of}
-use Rattle.bo_counters.proofs.Later.{time_is}
-use Rattle.bo_counters.proofs.ShiftLemmas.{kept_usage}
+use Rattle.bo_shifts.proofs.Later.{time_is}
+use Rattle.bo_shifts.proofs.ShiftLemmas.{kept_usage}
 use Rattle.bo_counters.proofs.counters.Counters.usage_later.Goals as goal
 
 pub returns-in-Ok-clause-value : goal.returns-in-Ok-clause-value

@@ -1,0 +1,5 @@
+pub mod Held
+pub mod Later
+pub mod Names
+pub mod Shifts
+pub mod Turns
