@@ -1,6 +1,6 @@
 //! A shop is opened in a database that has no tables yet.
 
-ghost use Rattle.std.specs.Prelude.{◌≡◌, [], None, IfOk, OnOk, codes};
+ghost use Rattle.std.specs.Prelude.{◌≡◌, [], None, Ok, IfOk, OnOk, codes};
 ghost use Rattle.sqlite.specs.Held.{state};
 ghost use Rattle.sqlite.specs.State.{HasCleanDisk};
 ghost use Rattle.bo_lists.specs.Lists.{empty};
@@ -73,17 +73,15 @@ fn add_feed<S: Alter>(tables: &mut SqlTables<S>) -> Result<(), AllocError>
     }
 }
 
-// The same tables with the token `feed`.
-fn with_feed<S: Alter + Drop>(tables: SqlTables<S>) -> Result<SqlTables<S>, AllocError>
-    ensures clean { IfOk result (λ made. HasCleanDisk (state S.Store made.connection) → HasCleanDisk (state S.Store tables.connection)) }
-    ensures holds { IfOk result (λ made. HasCleanDisk (state S.Store made.connection) → HoldsWhileOpen tables.head tables.next_row (state S.Store tables.connection) empty []
-        → HoldsWhileOpen made.head made.next_row (state S.Store made.connection) empty []) }
-    ensures knows { IfOk result (λ made. HasCleanDisk (state S.Store made.connection) → tables.head.next_token ≡ 1 → KnowsWhileOpen tables.next_row (state S.Store tables.connection) (λ digest. None)
-        → KnowsWhileOpen made.next_row (state S.Store made.connection) feed_tokens) }
+// What was made, where what came after it went well.
+fn if_well<T: Drop>(made: T, ended: Result<(), AllocError>) -> Result<T, AllocError>
+    ensures same { IfOk result (λ it. it ≡ made) }
+    ensures well { IfOk result (λ _. ended ≡ Ok tt) }
 {
-    let mut tables = tables;
-    add_feed(&mut tables)?;
-    Ok(tables)
+    match ended {
+        Ok(()) => Ok(made),
+        Err(error) => Err(error),
+    }
 }
 
 /// The tables and the office of the shop that `feed` begins with, in a database that has no table: organizer `house`, event `hall`,
@@ -95,11 +93,9 @@ pub fn open_store<S: Alter + Drop>(
 ) -> Result<(SqlTables<S>, Office<Counters>), AllocError>
     ensures { IfOk result (λ made. HasCleanDisk (state S.Store made.0.connection) → IsFresh (in_store S.Store) (desk_with made.0 made.1.organizer made.1.event made.1.state)) }
 {
-    let (tables, office) = begin(alloc, connection)?;
-    match with_feed(tables) {
-        Ok(tables) => Ok((tables, office)),
-        Err(error) => Err(error),
-    }
+    let mut made = begin(alloc, connection)?;
+    let ended = add_feed(&mut made.0);
+    if_well(made, ended)
 }
 
 /// The same in SQLite's memory, which has no tables at first.

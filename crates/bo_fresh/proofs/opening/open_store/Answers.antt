@@ -1,11 +1,12 @@
+use Rattle.bo_fresh.proofs.Ended.{once_well, well}
 use Rattle.bo_fresh.proofs.opening.open_store.Goals as goal
 
-pub returns-in-Ok : goal.returns-in-Ok
-returns-in-Ok g c clean =
-    let made = c.in_ok-tables.ensures in
-    let early = c.in-Ok.ensures.clean clean in
+pub returns : goal.returns
+returns g c = once_well c.if_well.result _ c.add_feed-ended.result _ c.if_well.ensures.same c.if_well.ensures.well (λ is clean.
+    let made = c.in_ok-made.ensures in
+    let early = c.add_feed-ended.ensures.clean clean in
     record {
-      of = record { organizer = made.office.0; event = made.office.1; tokens = c.in-Ok.ensures.knows clean (made.next early) (made.knows early) };
+      of = record { organizer = made.office.0; event = made.office.1; tokens = well _ _ is (c.add_feed-ended.ensures.knows clean (made.next early) (made.knows early)) };
       state = made.office.2;
-      held = c.in-Ok.ensures.holds clean (made.holds early);
-    }
+      held = c.add_feed-ended.ensures.holds clean (made.holds early);
+    })
