@@ -1,4 +1,3 @@
-pub mod Counted
 pub mod Values
 pub mod RowCounts
 pub mod Reached
@@ -15,3 +14,4 @@ pub mod Overs
 pub mod Still
 pub mod Extensions
 pub mod Standing
+pub mod Reaches

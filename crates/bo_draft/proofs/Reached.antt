@@ -1,7 +1,8 @@
 -- Counting the quotas that a change can touch counts them all.
-use Rattle.std.proofs.Common.{◌≡◌, ◌≢◌, ◌&&◌, not, OnOk, Result, Ok, Err, option_copied, ℕ, zero, suc, ◌+◌, ◌<◌, ◌≤◌, ◌⊎◌, inl, inr, Bool, true, false, eqb, List, [], ◌∷◌, ◌++◌, length, take, get_or, count_by, Option, Some, None, refl, sym, ap, ◌∙◌, subst, arith}
+use Rattle.std.proofs.Common.{◌≡◌, ◌≢◌, ◌&&◌, not, OnOk, OnErr, Result, Ok, Err, option_copied, ℕ, zero, suc, ◌+◌, ◌<◌, ◌≤◌, ◌⊎◌, inl, inr, Bool, true, false, eqb, List, [], ◌∷◌, ◌++◌, length, take, get_or, count_by, Option, Some, None, refl, sym, ap, ◌∙◌, subst, arith}
 use Rattle.std.specs.Prelude.{◌||◌, if◌then◌else◌, map, filter}
 use Rattle.std.specs.List.{AllByRecursion}
+use Rattle.std.specs.Result.{is_err}
 use Rattle.std.proofs.lemmas.Bool.Decides.{nat_tests, eqb_tells}
 use Rattle.std.proofs.lemmas.List.{take_more, take_all}
 use Rattle.bo_base.specs.Tables.{has, row_at, InOrderFrom, AreInOrder, IsPlace, IsGap}
@@ -19,8 +20,10 @@ use Rattle.bo_lists.specs.Conditions.{hits, hits_by, hits_by_product, blocks}
 use Rattle.bo_lists.specs.Usage.{blocks_if}
 use Rattle.bo_draft.specs.declared.shift.Spot.{Spot}
 use Rattle.bo_draft.specs.Shift.{once, spot_share}
-use Rattle.bo_draft.specs.declared.counts.Count.{Count}
-use Rattle.bo_draft.specs.Counts.{came, went, value_at, if_any, IsMore}
+use Rattle.bo_tally.specs.declared.tally.Count.{Count}
+use Rattle.bo_tally.specs.Counts.{came, went, GoesOn}
+use Rattle.bo_tally.proofs.Newest.{on_same, on_both}
+use Rattle.bo_draft.specs.Counts.{value_at, if_any, IsMore}
 use Rattle.bo_draft.specs.Touched.{IsOther, NoOther, NoneElse, Keeps, among, at_id}
 use Rattle.bo_draft.proofs.Values.{count_push}
 
@@ -106,11 +109,11 @@ module _ {T : Type 0} (key : T → ℕ) (f : T → ℕ) (id : ℕ) where
       rw same (value_placed (key r + 1) rs at place d h.1 (record { in_range = omega (arith, p.in_range); has_id = p.has_id }))
 
 -- the quota at the place of an id is counted
-pub more_placed : (f g : Quota → ℕ) (quotas : List Quota) (id at : ℕ) (q : Quota) → AreInOrder (λ (r : Quota). r.id) quotas → IsPlace (λ (r : Quota). r.id) quotas id at → q ≡ get_or quotas at q → (x y : ℕ) → x ≡ f q → y ≡ g q → (old new : List Count) → ((key : ℕ) → came key new ≡ came key old + (if eqb at key then x else 0)) → ((key : ℕ) → went key new ≡ went key old + (if eqb at key then y else 0)) → ((key : ℕ) → row_at (λ c. c.id) key new ≡ None → row_at (λ c. c.id) key old ≡ None) → IsMore (at_id id f) (at_id id g) quotas old new
-more_placed f g quotas id at q order placed is x y come gone old new comes goes kept = record {
+pub more_placed : (f g : Quota → ℕ) (quotas : List Quota) (id at : ℕ) (q : Quota) → AreInOrder (λ (r : Quota). r.id) quotas → IsPlace (λ (r : Quota). r.id) quotas id at → q ≡ get_or quotas at q → (x y : ℕ) → x ≡ f q → y ≡ g q → (old new : List Count) → ((key : ℕ) → came key new ≡ came key old + (if eqb at key then x else 0)) → ((key : ℕ) → went key new ≡ went key old + (if eqb at key then y else 0)) → GoesOn old new → IsMore (at_id id f) (at_id id g) quotas old new
+more_placed f g quotas id at q order placed is x y come gone old new comes goes on = record {
   comes = λ place. comes place ∙ ap (λ n. came place old + n) (ap (λ n. if eqb at place then n else 0) (come ∙ ap f is) ∙ sym (value_placed (λ (r : Quota). r.id) f id 0 quotas at place q order placed));
   goes = λ place. goes place ∙ ap (λ n. went place old + n) (ap (λ n. if eqb at place then n else 0) (gone ∙ ap g is) ∙ sym (value_placed (λ (r : Quota). r.id) g id 0 quotas at place q order placed));
-  kept = kept;
+  on = on;
 }
 
 -- an id of no quota brings nothing
@@ -120,7 +123,7 @@ more_absent f g quotas id at counts gap =
     record {
       comes = λ place. omega (arith, value_absent (λ (r : Quota). r.id) f id quotas place none);
       goes = λ place. omega (arith, value_absent (λ (r : Quota). r.id) g id quotas place none);
-      kept = λ place h. h;
+      on = on_same counts;
     }
 
 -- ---- one id after another
@@ -152,7 +155,7 @@ pub more_id : (f g : Quota → ℕ) (quotas : List Quota) (ids : List ℕ) (i d 
 more_id f g quotas ids i d order lt old mid new before step = record {
   comes = λ place. omega (arith, step.comes place, before.comes place, add f quotas place);
   goes = λ place. omega (arith, step.goes place, before.goes place, add g quotas place);
-  kept = λ place none. before.kept place (step.kept place none);
+  on = on_both old mid new before.on step.on;
 }
   where
     add : (h : Quota → ℕ) (rows : List Quota) (place : ℕ) → value_at (among (take (i + 1) ids) h) rows place ≡ value_at (among (take i ids) h) rows place + value_at (at_id (get_or ids i d) h) rows place
@@ -162,7 +165,7 @@ more_id f g quotas ids i d order lt old mid new before step = record {
 
 -- nothing was reached
 pub more_start : (f g : Quota → ℕ) (quotas : List Quota) (counts : List Count) → IsMore (among [] f) (among [] g) quotas counts counts
-more_start f g quotas counts = record { comes = λ place. omega (arith, nothing f quotas place); goes = λ place. omega (arith, nothing g quotas place); kept = λ place none. none }
+more_start f g quotas counts = record { comes = λ place. omega (arith, nothing f quotas place); goes = λ place. omega (arith, nothing g quotas place); on = on_same counts }
   where
     nothing : (h : Quota → ℕ) (rows : List Quota) (place : ℕ) → value_at (among [] h) rows place ≡ 0
     nothing h [] place = refl
@@ -178,7 +181,7 @@ pub more_all : (f g : Quota → ℕ) (lists : CatalogueLists) (given ids : List 
 more_all f g lists given ids old new order is no_f no_g more = record {
   comes = λ place. more.comes place ∙ ap (λ n. came place old + n) (all f no_f place);
   goes = λ place. more.goes place ∙ ap (λ n. went place old + n) (all g no_g place);
-  kept = more.kept;
+  on = more.on;
 }
   where
     each : (h : Quota → ℕ) → NoneElse given lists h → (q : Quota) → quota_at q.id lists ≡ Some q → among ids h q ≡ h q
@@ -228,3 +231,8 @@ blocks_elsewhere ids lists voucher v is none at q other = ap (blocks_if at q) is
 pub on_ok_three : {A E : Type 0} {P Q R S : Type 0} (r : Result A E) → (P → Q → R → S) → OnOk r P → OnOk r Q → OnOk r R → OnOk r S
 on_ok_three (Ok x) f p q r = f p q r
 on_ok_three (Err e) f p q r = tt
+
+-- a call that was refused left what it promises there
+pub when_err : {E : Type 0} (P : Type 0) (r : Result (Unit {0}) E) → is_err r ≡ true → OnErr r P → P
+when_err P (Ok x) e h = absurd (cc e)
+when_err P (Err x) e h = h

@@ -9,7 +9,7 @@ use Rattle.bo_lists.specs.declared.rows.Waiting.{Waiting}
 use Rattle.bo_lists.specs.declared.changes.Change.{Change}
 use Rattle.bo_lists.specs.declared.changes.Change.TheVariants.{PutItem, PutVariation, PutQuota, PutVoucher, PutCart, PutOrder, PutPosition, PutWaiting, DropVoucher, DropCart, DropWaiting, PutCheckinList, PutCheckin}
 use Rattle.bo_lists.specs.Lists.{Lists}
-use Rattle.bo_draft.specs.declared.counts.Count.{Count}
+use Rattle.bo_tally.specs.declared.tally.Count.{Count}
 use Rattle.bo_draft.specs.Counts.{IsMore}
 use Rattle.bo_draft.specs.Shift.{come_of, gone_of}
 use Rattle.bo_draft.proofs.Values.{none_more}

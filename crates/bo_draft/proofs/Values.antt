@@ -1,12 +1,13 @@
 -- The values of a list by place.
 use Rattle.std.proofs.Common.{◌≡◌, ℕ, zero, suc, ◌+◌, ◌<◌, ◌≤◌, Bool, true, false, eqb, List, [], ◌∷◌, ◌++◌, length, take, get_or, count_by, Some, None, refl, ap, ◌∙◌, arith, add-one}
-use Rattle.std.specs.Prelude.{if◌then◌else◌, find, option_map}
+use Rattle.std.specs.Prelude.{if◌then◌else◌, find, option_map, is_some}
 use Rattle.std.proofs.lemmas.Bool.Decides.{nat_tests}
 use Rattle.std.proofs.lemmas.List.{take_more}
 use Rattle.std.proofs.lemmas.List.Sums.{sum_by-cons}
-use Rattle.bo_base.specs.Tables.{row_at}
-use Rattle.bo_draft.specs.declared.counts.Count.{Count}
-use Rattle.bo_draft.specs.Counts.{came, went, value_at, found_at, IsMore}
+use Rattle.bo_tally.specs.declared.tally.Count.{Count}
+use Rattle.bo_tally.specs.Counts.{came, went, GoesOn}
+use Rattle.bo_tally.proofs.Newest.{on_same, on_both}
+use Rattle.bo_draft.specs.Counts.{value_at, found_at, IsMore}
 
 -- one more row has its value at its own place
 pub value_more : {T : Type 0} (f : T → ℕ) (rows : List T) (i : ℕ) (d : T) (place : ℕ) → i < length rows → value_at f (take (i + 1) rows) place ≡ value_at f (take i rows) place + (if eqb i place then f (get_or rows i d) else 0)
@@ -44,7 +45,7 @@ found_past key passes (r ∷ rs) (suc i) le = found_past key passes rs i (omega 
 
 -- nothing is added
 pub none_more : {T : Type 0} (rows : List T) (counts : List Count) → IsMore (λ (r : T). 0) (λ (r : T). 0) rows counts counts
-none_more {T} rows counts = record { comes = λ place. omega (arith, nothing rows place); goes = λ place. omega (arith, nothing rows place); kept = λ place none. none }
+none_more {T} rows counts = record { comes = λ place. omega (arith, nothing rows place); goes = λ place. omega (arith, nothing rows place); on = on_same counts }
   where
     nothing : (rows : List T) (place : ℕ) → value_at (λ (r : T). 0) rows place ≡ 0
     nothing [] place = refl
@@ -56,7 +57,7 @@ pub more_same : {T : Type 0} (f f' g g' : T → ℕ) (rows : List T) (old new : 
 more_same f f' g g' rows old new same same' is = record {
   comes = λ place. is.comes place ∙ ap (λ n. came place old + n) (values_same f f' rows place same);
   goes = λ place. is.goes place ∙ ap (λ n. went place old + n) (values_same g g' rows place same');
-  kept = is.kept;
+  on = is.on;
 }
   where
     values_same : {T : Type 0} (f f' : T → ℕ) (rows : List T) (place : ℕ) → ((r : T) → f r ≡ f' r) → value_at f rows place ≡ value_at f' rows place
@@ -86,12 +87,27 @@ found_first key passes (r ∷ rs) (suc at) id none some = by_test (passes r) (no
     by_test true here rest = absurd (cc here)
     by_test false here rest = rest
 
+-- what is found is at its place
+pub found_within : {T : Type 0} (key : T → ℕ) (passes : T → Bool) (rows : List T) (i : ℕ) → is_some (found_at key passes rows i) ≡ true → i < length rows
+found_within key passes [] i some = absurd (cc some)
+found_within key passes (r ∷ rs) zero some = omega arith
+found_within key passes (r ∷ rs) (suc i) some = omega (arith, found_within key passes rs i some)
+
+pub found_is : {T : Type 0} (key : T → ℕ) (passes : T → Bool) (rows : List T) (i : ℕ) (d : T) → is_some (found_at key passes rows i) ≡ true → found_at key passes rows i ≡ Some (key (get_or rows i d))
+found_is key passes [] i d some = absurd (cc some)
+found_is key passes (r ∷ rs) zero d some = by_test (passes r) some
+  where
+    by_test : (b : Bool) → is_some (if b then Some (key r) else None) ≡ true → (if b then Some (key r) else None) ≡ Some (key r)
+    by_test true here = refl
+    by_test false here = absurd (cc here)
+found_is key passes (r ∷ rs) (suc i) d some = found_is key passes rs i d some
+
 -- one more row of the list is counted
-pub more_step : {T : Type 0} (f g : T → ℕ) (rows : List T) (i : ℕ) (r : T) → i < length rows → r ≡ get_or rows i r → (x y : ℕ) → x ≡ f r → y ≡ g r → (old mid new : List Count) → IsMore f g (take i rows) old mid → ((key : ℕ) → came key new ≡ came key mid + (if eqb i key then x else 0)) → ((key : ℕ) → went key new ≡ went key mid + (if eqb i key then y else 0)) → ((key : ℕ) → row_at (λ c. c.id) key new ≡ None → row_at (λ c. c.id) key mid ≡ None) → IsMore f g (take (i + 1) rows) old new
-more_step f g rows i r lt is x y come gone old mid new before comes goes kept = record {
+pub more_step : {T : Type 0} (f g : T → ℕ) (rows : List T) (i : ℕ) (r : T) → i < length rows → r ≡ get_or rows i r → (x y : ℕ) → x ≡ f r → y ≡ g r → (old mid new : List Count) → IsMore f g (take i rows) old mid → ((key : ℕ) → came key new ≡ came key mid + (if eqb i key then x else 0)) → ((key : ℕ) → went key new ≡ went key mid + (if eqb i key then y else 0)) → GoesOn mid new → IsMore f g (take (i + 1) rows) old new
+more_step f g rows i r lt is x y come gone old mid new before comes goes on = record {
   comes = λ place. omega (arith, comes place, before.comes place, value_more f rows i r place lt, ap (λ n. if eqb i place then n else 0) (come ∙ ap f is));
   goes = λ place. omega (arith, goes place, before.goes place, value_more g rows i r place lt, ap (λ n. if eqb i place then n else 0) (gone ∙ ap g is));
-  kept = λ place none. before.kept place (kept place none);
+  on = on_both old mid new before.on on;
 }
 
 pub count_push : {T : Type 0} (f : T → Bool) (rows : List T) (r : T) → count_by f (rows ++ r ∷ []) ≡ count_by f rows + (if f r then 1 else 0)

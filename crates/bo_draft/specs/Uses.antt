@@ -1,5 +1,5 @@
 -- The uses of vouchers, and how many of them came and went with the changes of a draft.
-use Rattle.std.specs.Prelude.{◌≡◌, ℕ, ◌+◌, ◌<◌, ◌⊎◌, Bool, true, false, not, List, [], ◌∷◌, Option, Some, None, if◌then◌else◌}
+use Rattle.std.specs.Prelude.{◌≡◌, ℕ, ◌+◌, ◌<◌, ◌⊎◌, Bool, true, false, not, List, [], ◌∷◌, Option, if◌then◌else◌}
 use Rattle.bo_lists.specs.declared.changes.Change.{Change}
 use Rattle.bo_lists.specs.declared.changes.Change.TheVariants.{PutOrder}
 use Rattle.bo_lists.specs.declared.rows.Order.{Order}
@@ -10,8 +10,8 @@ use Rattle.bo_lists.specs.Conditions.{is_in_force, names}
 use Rattle.bo_lists.specs.Usage.{redeemed, stands_as}
 use Rattle.bo_usage.specs.OfOrder.{count_ordered}
 use Rattle.bo_draft.specs.declared.use_shift.UseShift.{UseShift}
-use Rattle.bo_draft.specs.declared.counts.Count.{Count}
-use Rattle.bo_draft.specs.Counts.{came, went}
+use Rattle.bo_tally.specs.declared.tally.Count.{Count}
+use Rattle.bo_tally.specs.Counts.{came, went}
 
 -- the uses of a voucher: by the positions of orders in force, and by live cart positions
 abbrev pub uses_of : ℕ → Lists → ℕ → ℕ
@@ -40,26 +40,15 @@ abbrev pub SomeTurns : List Change → Lists → Type 0
 SomeTurns [] lists = ⊥
 SomeTurns (change ∷ changes) lists = TurnsUses change lists ⊎ SomeTurns changes (after_change change lists)
 
--- counts by voucher, whether they are known, and whether memory for one was refused
-pub record UsesState : Type 0 where
-  pub rows : List Count
-  pub known : Bool
-  pub lost : Bool
-
 -- where they are known, the uses of each voucher are those of the book with what came and without what went
-abbrev pub AreKept : ℕ → Lists → Lists → UsesState → Type 0
-AreKept at base lists uses = uses.known ≡ true → (voucher : ℕ) → uses_of at lists voucher + went voucher uses.rows ≡ uses_of at base voucher + came voucher uses.rows
+abbrev pub AreKept : ℕ → Lists → Lists → List Count → Bool → Type 0
+AreKept at base lists uses known = known ≡ true → (voucher : ℕ) → uses_of at lists voucher + went voucher uses ≡ uses_of at base voucher + came voucher uses
 
--- they are known but where memory was refused, or a change turned the uses of a whole order
-abbrev pub AreKnown : List Change → Lists → UsesState → Type 0
-AreKnown changes base uses = uses.known ≡ false → uses.lost ≡ false → SomeTurns changes base
+-- they are known but where a change turned the uses of a whole order
+abbrev pub AreKnown : List Change → Lists → Bool → Type 0
+AreKnown changes base known = known ≡ false → SomeTurns changes base
 
--- the new rows count one use more of each name
+-- the new counts have one use more of each name
 pub record CountsMore (come gone : Option ℕ) (old new : List Count) : Type 0 where
   pub comes : (voucher : ℕ) → came voucher new ≡ came voucher old + one_use voucher come
   pub goes : (voucher : ℕ) → went voucher new ≡ went voucher old + one_use voucher gone
-
--- the new rows count the shift; one that isn't known is counted by no rows
-abbrev pub CountsShift : Option UseShift → List Count → List Count → Type 0
-CountsShift None old new = ⊥
-CountsShift (Some shift) old new = CountsMore shift.come shift.gone old new

@@ -7,10 +7,10 @@ ghost use Rattle.bo_catalogue.specs.declared.rows.Quota.{Quota};
 ghost use Rattle.bo_draft.specs.Shift.{used, AreBases};
 ghost use Rattle.bo_lists.specs.Usage.{usage_of};
 
-use crate::counts::Count;
 use bo_base::{Moment, Row, Steps, place_of};
 use bo_catalogue::Quota;
 use bo_lists::Usage;
+use bo_tally::Tally;
 use bo_usage::Book;
 use std::alloc::AllocError;
 use std::marker::Brand;
@@ -31,14 +31,15 @@ impl Row for Base {
     }
 }
 
-/// Asks the book, if that is wanted, for the quotas that have counts, each of them once. Where there is no memory for an
-/// answer, it isn't kept, and the book is asked again.
+/// Asks the book, if that is wanted, for the quotas whose counts came after the mark. Where there is no memory for an answer,
+/// it isn't kept, and the book is asked again.
 pub fn ask_bases<B: Book>(
     book: &B,
     at: Moment,
     quotas: &[Quota],
     wanted: bool,
-    counts: &[Count],
+    counts: &Tally,
+    mark: usize,
     bases: &mut Vec<Base>,
 )
     requires sold { quotas.now ≡ (B.state book.now).lists.catalogue.quotas }
@@ -51,48 +52,19 @@ pub fn ask_bases<B: Book>(
     if !wanted {
         return;
     }
-    // Both lists are in order of the place, so that most answers are where the next one is looked for.
-    let mut next = 0;
-    for row in counts {
-        next = ask_next(book, at, quotas, row.id, next, bases).saturating_add(1);
+    for i in mark..counts.len() {
+        let _ = ask_base(book, at, quotas, counts.get(i).id, bases);
     }
 }
 
-// The same for the quota at a place, whose answer may be kept here. Answers where it is kept.
-fn ask_next<B: Book>(
-    book: &B,
-    at: Moment,
-    quotas: &[Quota],
-    place: u64,
-    here: usize,
-    bases: &mut Vec<Base>,
-) -> usize
-    requires sold { quotas.now ≡ (B.state book.now).lists.catalogue.quotas }
-    requires order { AreInOrder (λ r. r.place) bases.old.items }
-    requires known { AreBases (B.state book.now).lists at quotas.now bases.old.items }
-    requires past { (B.state book.now).moment ≤ at }
-    ensures order { AreInOrder (λ r. r.place) bases.new.items }
-    ensures known { AreBases (B.state book.now).lists at quotas.now bases.new.items }
-{
-    if is_at(bases, place, here) {
-        return here;
-    }
-    ask_base(book, at, quotas, place, bases).unwrap_or(here)
-}
-
-// Whether the answer for the quota at a place is kept here.
-fn is_at(bases: &[Base], place: u64, here: usize) -> bool {
-    here < bases.len() && bases[here].place == place
-}
-
-// Asks the book for the quota at a place, unless that is known, and answers where it is kept.
+// Asks the book for the quota at a place, unless that is known.
 fn ask_base<B: Book>(
     book: &B,
     at: Moment,
     quotas: &[Quota],
     place: u64,
     bases: &mut Vec<Base>,
-) -> Result<usize, AllocError>
+) -> Result<(), AllocError>
     requires sold { quotas.now ≡ (B.state book.now).lists.catalogue.quotas }
     requires order { AreInOrder (λ r. r.place) bases.old.items }
     requires known { AreBases (B.state book.now).lists at quotas.now bases.old.items }
@@ -101,16 +73,15 @@ fn ask_base<B: Book>(
     ensures known { AreBases (B.state book.now).lists at quotas.now bases.new.items }
 {
     match place_of(bases, place) {
-        Ok(found) => Ok(found),
+        Ok(_) => Ok(()),
         Err(gap) => {
             let index = place as usize;
             if quotas.len() <= index {
-                return Ok(gap);
+                return Ok(());
             }
             book.catalogue().known();
             let total = used_in_book(book, &quotas[index], at);
-            bases.insert(gap, Base { place, total })?;
-            Ok(gap)
+            Ok(bases.insert(gap, Base { place, total })?)
         }
     }
 }

@@ -16,11 +16,8 @@ ghost use Rattle.bo_lists.specs.Total.{total};
 ghost use Rattle.bo_catalogue.specs.CatalogueLists.{quota_at};
 
 use crate::bases::{Base, ask_bases, usage_in_book};
-use crate::counts::Count;
 use crate::over::{first_over, used_now};
-use crate::shift::{carts_after, counts_after, turned_tickets, vouchers_after};
-use crate::use_shift::use_shift;
-use crate::uses::Uses;
+use crate::tallies::Tallies;
 use bo_base::Moment;
 use bo_base::codes::LAST_ORDER;
 use bo_catalogue::{LAST_ID, MOST_ROWS, Quota, takes_rows};
@@ -33,14 +30,10 @@ use std::alloc::{AllocError, Global};
 use std::marker::Model;
 
 /// A place in a draft, to which it can go back.
-#[derive(Drop)]
+#[derive(Clone, Copy, Debug)]
 pub struct Mark {
     count: usize,
     next: NextIds,
-    counts: Vec<Count>,
-    carts: usize,
-    vouchers: usize,
-    uses: Uses,
 }
 
 impl Model for Mark {
@@ -48,7 +41,9 @@ impl Model for Mark {
 
     ghost Value = { MarkState };
 
-    ghost view = { λ m. record { count = m.count; next = m.next; counts = m.counts.items; carts = m.carts; vouchers = m.vouchers; uses = m.uses } };
+    ghost view = { λ m. record { count = m.count; next = m.next } };
+
+    ghost inverse = { λ m. record { count = m.count; next = m.next } };
 }
 
 /// A book at a moment, with changes that aren't applied yet.
@@ -58,12 +53,9 @@ pub struct Draft<'a, B: Book> {
     overlay: Overlay<'a, B>,
     next: NextIds,
     moment: Moment,
-    counts: Vec<Count>,
+    tallies: Tallies,
     bases: Vec<Base>,
     again: bool,
-    carts: usize,
-    vouchers: usize,
-    uses: Uses,
 }
 
 impl<'a, B: Book> Model for Draft<'a, B> {
@@ -73,9 +65,9 @@ impl<'a, B: Book> Model for Draft<'a, B> {
 
     ghost view = { λ d. record { log = d.overlay; next = d.next; moment = d.moment } };
 
-    // The counts by quota, the numbers of cart positions and of vouchers and the uses of vouchers are what counting afresh gives,
-    // and no voucher is used more often than it may be.
-    ghost invariant = { λ d. IsDraft (B.state d.book.now) d.overlay d.moment d.counts.items d.bases.items d.carts d.vouchers d.uses };
+    // What is counted, now and before each change, is what counting afresh gives, and no voucher is used more often than it may
+    // be.
+    ghost invariant = { λ d. IsDraft (B.state d.book.now) d.overlay d.moment d.tallies d.bases.items };
 }
 
 impl<'a, B: Book> Draft<'a, B> {
@@ -95,12 +87,9 @@ impl<'a, B: Book> Draft<'a, B> {
             overlay: Overlay::new(alloc, book),
             next: book.next_ids(),
             moment,
-            counts: Vec::new(alloc),
+            tallies: Tallies::new(alloc, book.carts().len(), book.vouchers().len()),
             bases: Vec::new(alloc),
             again: false,
-            carts: book.carts().len(),
-            vouchers: book.vouchers().len(),
-            uses: Uses::new(alloc),
         })
     }
 
@@ -143,12 +132,12 @@ impl<'a, B: Book> Draft<'a, B> {
         ensures few { result ≤ 17179869184 }
     {
         self.overlay.known();
-        if !self.uses.are_known() {
+        if !self.tallies.here().known {
             let used = self.overlay.redeemed(voucher) + self.overlay.held(voucher, self.moment);
             return u128::from(used);
         }
         let before = self.overlay.uses_before(voucher, self.moment);
-        let since = self.uses.of(voucher);
+        let since = self.tallies.uses_of(voucher);
         (u128::from(before) + u128::from(since.come)).saturating_sub(u128::from(since.gone))
     }
 
@@ -165,7 +154,7 @@ impl<'a, B: Book> Draft<'a, B> {
             self.moment,
             quota,
             &self.bases,
-            &self.counts,
+            self.tallies.counts(),
         )
     }
 
@@ -205,7 +194,7 @@ impl<'a, B: Book> Draft<'a, B> {
     pub fn takes_cart(&self) -> bool
         ensures { result ≡ takes_cart (now self.now) }
     {
-        self.carts < MOST_ROWS && self.next.cart <= LAST_ID
+        self.tallies.here().carts < MOST_ROWS && self.next.cart <= LAST_ID
     }
 
     /// Counts the id of a cart position as used.
@@ -282,7 +271,7 @@ impl<'a, B: Book> Draft<'a, B> {
     pub fn takes_voucher(&self) -> bool
         ensures { result ≡ takes_voucher (now self.now) }
     {
-        self.vouchers < MOST_ROWS && self.next.voucher <= LAST_ID
+        self.tallies.here().vouchers < MOST_ROWS && self.next.voucher <= LAST_ID
     }
 
     /// Counts the id of a voucher as used.
@@ -508,8 +497,7 @@ impl<'a, B: Book> Draft<'a, B> {
         self.change(alloc, Change::PutPosition(row))
     }
 
-    // Makes one change, with what it brings to the quotas and takes from them, and what it does to the numbers of
-    // cart positions and of vouchers and to the uses of vouchers.
+    // Makes one change, with what it does to all that is counted. It costs what it touches.
     fn change(&mut self, alloc: Global, change: Change) -> Result<(), AllocError>
         requires { CanCome self.old.moment self.old.log change }
         ensures ok { OnOk result (now self.new ≡ changed change (now self.old)) }
@@ -518,55 +506,41 @@ impl<'a, B: Book> Draft<'a, B> {
         ensures log { OnOk result (self.new ≡ with_change change self.old) }
     {
         self.overlay.known();
-        let tickets = turned_tickets(&self.overlay, alloc, &change)?;
+        let count = self.overlay.len();
+        let mark = self.tallies.counts().len();
         let catalogue = self.book.catalogue();
-        let quotas = catalogue.quotas();
-        let counts = counts_after(
-            &self.overlay,
-            alloc,
-            self.moment,
-            catalogue,
-            &self.counts,
-            &change,
-            &tickets,
-        )?;
-        let carts = carts_after(&self.overlay, self.carts, &change);
-        let vouchers = vouchers_after(&self.overlay, self.vouchers, &change);
-        let shift = use_shift(&self.overlay, self.moment, &change, &tickets);
-        self.overlay.push(change)?;
-        self.counts = counts;
-        self.carts = carts;
-        self.vouchers = vouchers;
-        self.uses.shift(shift);
+        self.tallies
+            .count(&self.overlay, alloc, self.moment, catalogue, &change)?;
+        if self.overlay.push(change).is_err() {
+            self.tallies.truncate(count);
+            return Err(AllocError);
+        }
         // What a draft's only change touches is asked for once, or not at all.
         ask_bases(
             self.book,
             self.moment,
-            quotas,
+            catalogue.quotas(),
             self.again,
-            &self.counts,
+            self.tallies.counts(),
+            mark,
             &mut self.bases,
         );
         self.again = true;
         Ok(())
     }
 
-    /// The place where the draft is now. `Err` where there is no memory for it.
-    pub fn mark(&self, alloc: Global) -> Result<Mark, AllocError>
-        ensures place { IfOk result (IsMarkOf self.now) }
-        ensures here { IfOk result (λ m. back m self.now ≡ self.now) }
+    /// The place where the draft is now.
+    pub fn mark(&self) -> Mark
+        ensures place { IsMarkOf self.now result }
+        ensures here { back result self.now ≡ self.now }
     {
-        Ok(Mark {
+        Mark {
             count: self.overlay.len(),
             next: self.next,
-            counts: self.counts.to_vec(alloc)?,
-            carts: self.carts,
-            vouchers: self.vouchers,
-            uses: self.uses.copy(alloc)?,
-        })
+        }
     }
 
-    /// The least quota of which the changes since the mark take too much.
+    /// The least quota of which the changes since the mark take too much. It costs what they touched.
     /// The own rows are those that the request adds or revives: they don't weigh where their vouchers ignore quotas.
     pub fn first_over(&self, mark: &Mark, own: &[Own]) -> Option<u64>
         requires { IsMarkOf self.now mark.now }
@@ -579,8 +553,8 @@ impl<'a, B: Book> Draft<'a, B> {
             own,
             &self.bases,
             mark.count,
-            &mark.counts,
-            &self.counts,
+            self.tallies.counts(),
+            self.tallies.reach_at(mark.count).counts,
         )
     }
 
@@ -602,20 +576,9 @@ impl<'a, B: Book> Draft<'a, B> {
         requires { IsMarkOf self.old mark }
         ensures { self.new ≡ back mark self.old }
     {
-        let Mark {
-            count,
-            next,
-            counts,
-            carts,
-            vouchers,
-            uses,
-        } = mark;
-        self.overlay.truncate(count);
-        self.next = next;
-        self.counts = counts;
-        self.carts = carts;
-        self.vouchers = vouchers;
-        self.uses = uses;
+        self.overlay.truncate(mark.count);
+        self.tallies.truncate(mark.count);
+        self.next = mark.next;
     }
 
     /// The changes, with the next ids that stand afterwards.
@@ -628,12 +591,9 @@ impl<'a, B: Book> Draft<'a, B> {
             overlay,
             next,
             moment: _,
-            counts: _,
+            tallies: _,
             bases: _,
             again: _,
-            carts: _,
-            vouchers: _,
-            uses: _,
         } = self;
         Changes::new(overlay.into_log(), next)
     }

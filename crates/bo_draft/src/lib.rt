@@ -2,11 +2,11 @@
 #![tactic(auto)]
 
 mod bases;
-mod counts;
 pub mod draft;
 mod over;
 mod share;
 mod shift;
+mod tallies;
 mod touched;
 mod use_shift;
 mod uses;

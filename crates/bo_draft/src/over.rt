@@ -1,26 +1,28 @@
 //! The first quota of which the changes since a mark take too much.
 
-ghost use Rattle.std.specs.Prelude.{◌≡◌, ◌≤◌, ◌<◌, ◌+◌, ◌-◌, length, take, slice_index_or, Some};
+ghost use Rattle.std.specs.Prelude.{◌≡◌, ◌≤◌, ◌<◌, ◌+◌, ◌-◌, true, false, length, take, slice_index_or, Some};
+ghost use Rattle.std.specs.Option.{IfSome};
 ghost use Rattle.bo_catalogue.specs.CatalogueLists.{quota_at};
 ghost use Rattle.bo_base.specs.Tables.{AreInOrder};
 ghost use Rattle.bo_lists.specs.Over.{first_over, is_over};
 ghost use Rattle.bo_overlay.specs.Logs.{rows_of, rows_at};
-ghost use Rattle.bo_draft.specs.Counts.{value_at, found_at};
-ghost use Rattle.bo_draft.specs.DraftState.{IsCounted};
+ghost use Rattle.bo_draft.specs.Counts.{value_at, found_at, IsLeast};
+ghost use Rattle.bo_draft.specs.DraftState.{log_at, IsCounted};
 ghost use Rattle.bo_catalogue.specs.declared.rows.Quota.{Quota};
 ghost use Rattle.bo_draft.specs.Shift.{used, AreBases};
+ghost use Rattle.bo_tally.specs.Counts.{newest};
 
 use crate::bases::{Base, base_of};
-use crate::counts::{Count, counted};
 use crate::weighed::is_too_much;
 use bo_base::{Moment, place_of};
 use bo_catalogue::Quota;
 use bo_lists::Own;
 use bo_overlay::Overlay;
+use bo_tally::{Count, Tally};
 use bo_usage::Book;
 
 /// The least quota of which the changes after the first `count` take too much, by the counts of what came and went of
-/// each quota before them and after them.
+/// each quota, of which the first `mark` stood before them.
 pub fn first_over<B: Book>(
     book: &B,
     overlay: &Overlay<'_, B>,
@@ -28,29 +30,124 @@ pub fn first_over<B: Book>(
     own: &[Own],
     bases: &[Base],
     count: usize,
-    before: &[Count],
-    after: &[Count],
+    counts: &Tally,
+    mark: usize,
 ) -> Option<u64>
     requires order_bases { AreInOrder (λ r. r.place) bases.now }
     requires bases { AreBases (B.state book.now).lists at (B.state book.now).lists.catalogue.quotas bases.now }
     requires base { overlay.now.base ≡ (B.state book.now).lists }
     requires past { (B.state book.now).moment ≤ at }
-    requires order { AreInOrder (λ r. r.id) after.now }
-    requires order_before { AreInOrder (λ r. r.id) before.now }
-    requires counted { IsCounted at overlay.now after.now }
-    requires counted_before { IsCounted at (record overlay.now { changes = take count overlay.now.changes }) before.now }
+    requires within { mark ≤ length counts.now }
+    requires counted { IsCounted at overlay.now counts.now }
+    requires counted_before { IsCounted at (log_at count overlay.now) (take mark counts.now) }
     ensures { result ≡ first_over (rows_at count overlay.now) (rows_of overlay.now) at own.now }
 {
     overlay.known();
     let quotas = book.catalogue().quotas();
-    for row in after {
-        let was = counted(before, row.id);
-        let over = over_at(book, overlay, at, own, bases, count, quotas, was, *row);
-        if over.is_some() {
-            return over;
-        }
+    match least_over(book, overlay, at, own, bases, count, quotas, counts, mark) {
+        None => None,
+        Some(place) => Some(quotas[place as usize].id),
     }
-    None
+}
+
+// The least place of a quota of which too much is taken, of those whose counts came after the mark.
+fn least_over<B: Book>(
+    book: &B,
+    overlay: &Overlay<'_, B>,
+    at: Moment,
+    own: &[Own],
+    bases: &[Base],
+    count: usize,
+    quotas: &[Quota],
+    counts: &Tally,
+    mark: usize,
+) -> Option<u64>
+    requires sold { quotas.now ≡ (B.state book.now).lists.catalogue.quotas }
+    requires order_bases { AreInOrder (λ r. r.place) bases.now }
+    requires bases { AreBases (B.state book.now).lists at quotas.now bases.now }
+    requires base { overlay.now.base ≡ (B.state book.now).lists }
+    requires past { (B.state book.now).moment ≤ at }
+    requires within { mark ≤ length counts.now }
+    requires counted { IsCounted at overlay.now counts.now }
+    requires counted_before { IsCounted at (log_at count overlay.now) (take mark counts.now) }
+    ensures least { IsLeast (found_at (λ q. q.id) (is_over (rows_at count overlay.now) (rows_of overlay.now) at own.now) quotas.now) counts.now (length counts.now) result }
+    ensures within { IfSome result (λ place. place < length quotas.now) }
+{
+    let mut least = None;
+    for i in mark..counts.len() {
+        least = lesser_over(
+            book, overlay, at, own, bases, count, quotas, counts, mark, i, least,
+        );
+    }
+    least
+}
+
+// The least of it and of what was found before: the quota of the addition at a place is looked at where that is the newest one
+// to its counts, so that each is looked at once.
+fn lesser_over<B: Book>(
+    book: &B,
+    overlay: &Overlay<'_, B>,
+    at: Moment,
+    own: &[Own],
+    bases: &[Base],
+    count: usize,
+    quotas: &[Quota],
+    counts: &Tally,
+    mark: usize,
+    place: usize,
+    least: Option<u64>,
+) -> Option<u64>
+    requires sold { quotas.now ≡ (B.state book.now).lists.catalogue.quotas }
+    requires order_bases { AreInOrder (λ r. r.place) bases.now }
+    requires bases { AreBases (B.state book.now).lists at quotas.now bases.now }
+    requires base { overlay.now.base ≡ (B.state book.now).lists }
+    requires past { (B.state book.now).moment ≤ at }
+    requires within { mark ≤ length counts.now }
+    requires place { place < length counts.now }
+    requires counted { IsCounted at overlay.now counts.now }
+    requires counted_before { IsCounted at (log_at count overlay.now) (take mark counts.now) }
+    requires least { IsLeast (found_at (λ q. q.id) (is_over (rows_at count overlay.now) (rows_of overlay.now) at own.now) quotas.now) counts.now place least }
+    ensures { IsLeast (found_at (λ q. q.id) (is_over (rows_at count overlay.now) (rows_of overlay.now) at own.now) quotas.now) counts.now (place + 1) result }
+{
+    let key = counts.get(place).id;
+    if !is_next(counts, key, place, least) {
+        return least;
+    }
+    let was = counts.at_mark(mark, key);
+    let now = counts.of(key);
+    match over_at(book, overlay, at, own, bases, count, quotas, was, now) {
+        None => least,
+        Some(_) => Some(key),
+    }
+}
+
+// Whether the addition at a place is to be looked at: it is the newest one to its key, which is less than what was found.
+fn is_next(counts: &Tally, key: u64, place: usize, least: Option<u64>) -> bool
+    ensures yes { result ≡ true → IfSome least (λ l. key < l) }
+    ensures no { result ≡ false → newest key counts.now ≡ Some place → IfSome least (λ l. key < l) → ⊥ }
+{
+    is_newest(counts, key, place) && is_less(key, least)
+}
+
+// Whether the newest addition to a key is at this place.
+fn is_newest(counts: &Tally, key: u64, place: usize) -> bool
+    ensures { result ≡ false → newest key counts.now ≡ Some place → ⊥ }
+{
+    match counts.newest(key) {
+        None => false,
+        Some(newest) => newest == place,
+    }
+}
+
+// Whether it is less than what was found, if anything was.
+fn is_less(key: u64, least: Option<u64>) -> bool
+    ensures yes { result ≡ true → IfSome least (λ l. key < l) }
+    ensures no { result ≡ false → IfSome least (λ l. key < l) → ⊥ }
+{
+    match least {
+        None => true,
+        Some(least) => key < least,
+    }
 }
 
 /// All that is used of a quota that stands, with the changes.
@@ -60,13 +157,12 @@ pub fn used_now<B: Book>(
     at: Moment,
     quota: &Quota,
     bases: &[Base],
-    counts: &[Count],
+    counts: &Tally,
 ) -> u128
     requires order_bases { AreInOrder (λ r. r.place) bases.now }
     requires bases { AreBases (B.state book.now).lists at (B.state book.now).lists.catalogue.quotas bases.now }
     requires base { overlay.now.base ≡ (B.state book.now).lists }
     requires past { (B.state book.now).moment ≤ at }
-    requires order { AreInOrder (λ r. r.id) counts.now }
     requires counted { IsCounted at overlay.now counts.now }
     requires stands { quota_at quota.now.id (B.state book.now).lists.catalogue ≡ Some quota.now }
     ensures { result ≡ used (rows_of overlay.now) at quota.now }
@@ -77,7 +173,7 @@ pub fn used_now<B: Book>(
     let quotas = catalogue.quotas();
     match place_of(quotas, quota.id) {
         Ok(place) => {
-            let count = counted(counts, place as u64);
+            let count = counts.of(place as u64);
             moved(base_of(book, at, quotas, place, bases), count)
         }
         // It stands, so it has a place.

@@ -1,8 +1,8 @@
 //! What a change of one row does to all that is used of the quotas.
 
-ghost use Rattle.std.specs.Prelude.{◌≡◌, ◌-◌, ℕ, IfOk, OnOk, length, count_by, false, true, if◌then◌else◌};
+ghost use Rattle.std.specs.Prelude.{◌≡◌, ◌-◌, ℕ, IfOk, OnOk, OnErr, length, count_by, false, true, if◌then◌else◌};
 ghost use Rattle.std.specs.Option.{option_copied};
-ghost use Rattle.bo_base.specs.Tables.{AreInOrder, sum_at};
+ghost use Rattle.bo_base.specs.Tables.{sum_at};
 ghost use Rattle.bo_catalogue.specs.declared.rows.Quota.{Quota};
 ghost use Rattle.bo_catalogue.specs.Member.{is_in};
 ghost use Rattle.bo_lists.specs.declared.changes.Change.TheVariants.{PutOrder};
@@ -16,52 +16,32 @@ ghost use Rattle.bo_draft.specs.Counts.{IsMore, if_any};
 ghost use Rattle.bo_draft.specs.Touched.{NoOther, NoneElse, Keeps};
 ghost use Rattle.bo_draft.specs.Shift.{come_of, gone_of, once, spot_share, sale_come, sale_gone, left_of, turned_by, turned_voucher, turned_order, order_come, order_gone, AreTurned};
 
-use crate::counts::Count;
 use crate::share::{Share, Shares, count_each};
 use crate::touched::{touch_product, touch_voucher};
 use bo_base::Moment;
 use bo_catalogue::{Catalogue, Product, Quota};
 use bo_lists::{CartPos, Change, Order, OrderPos, Voucher, Waiting};
 use bo_overlay::{Overlay, Ticket, count_if};
+use bo_tally::Tally;
 use bo_usage::rules::{self, blocks, is_in_force};
 use bo_usage::{Book, LookUps};
 use std::alloc::{AllocError, Global};
 
-/// The counts by quota after one more change, by those before it.
-pub fn counts_after<B: Book>(
-    overlay: &Overlay<'_, B>,
-    alloc: Global,
-    at: Moment,
-    catalogue: &Catalogue,
-    counts: &[Count],
-    change: &Change,
-    tickets: &[Ticket],
-) -> Result<Vec<Count>, AllocError>
-    requires order { AreInOrder (λ r. r.id) counts.now }
-    requires turned { AreTurned change.now (rows_of overlay.now) tickets.now }
-    ensures order { IfOk result (λ new. AreInOrder (λ r. r.id) new.items) }
-    ensures more { IfOk result (λ new. IsMore (come_of (rows_of overlay.now) at change.now) (gone_of (rows_of overlay.now) at change.now) catalogue.now.lists.quotas counts.now new.items) }
-{
-    let mut new = counts.to_vec(alloc)?;
-    count_change(overlay, alloc, at, catalogue, &mut new, change, tickets)?;
-    Ok(new)
-}
-
-// Adds what a change brings to the quotas and takes from them.
+/// Adds what a change brings to the quotas and takes from them to the counts. Where there is no memory for it, they are as
+/// they were.
 #[tactic(auto, unfolding(bo_usage::specs::Shares::cart_share, bo_usage::specs::Shares::waiting_share))]
-fn count_change<B: Book>(
+pub fn count_change<B: Book>(
     overlay: &Overlay<'_, B>,
     alloc: Global,
     at: Moment,
     catalogue: &Catalogue,
-    counts: &mut Vec<Count>,
+    counts: &mut Tally,
     change: &Change,
     tickets: &[Ticket],
 ) -> Result<(), AllocError>
-    requires order { AreInOrder (λ r. r.id) counts.old.items }
     requires turned { AreTurned change.now (rows_of overlay.now) tickets.now }
-    ensures order { AreInOrder (λ r. r.id) counts.new.items }
-    ensures more { OnOk result (IsMore (come_of (rows_of overlay.now) at change.now) (gone_of (rows_of overlay.now) at change.now) catalogue.now.lists.quotas counts.old.items counts.new.items) }
+    ensures more { OnOk result (IsMore (come_of (rows_of overlay.now) at change.now) (gone_of (rows_of overlay.now) at change.now) catalogue.now.lists.quotas counts.old counts.new) }
+    ensures err { OnErr result (counts.new ≡ counts.old) }
 {
     match change {
         Change::PutVoucher(row) => with_voucher(
@@ -206,13 +186,12 @@ fn with_cart<B: Book>(
     alloc: Global,
     at: Moment,
     catalogue: &Catalogue,
-    counts: &mut Vec<Count>,
+    counts: &mut Tally,
     id: u64,
     come: Option<&CartPos>,
 ) -> Result<(), AllocError>
-    requires { AreInOrder (λ r. r.id) counts.old.items }
-    ensures order { AreInOrder (λ r. r.id) counts.new.items }
-    ensures more { OnOk result (IsMore (λ q. cart_share (rows_of overlay.now) at q (option_copied come.entry)) (λ q. cart_share (rows_of overlay.now) at q (cart_at id (rows_of overlay.now))) catalogue.now.lists.quotas counts.old.items counts.new.items) }
+    ensures more { OnOk result (IsMore (λ q. cart_share (rows_of overlay.now) at q (option_copied come.entry)) (λ q. cart_share (rows_of overlay.now) at q (cart_at id (rows_of overlay.now))) catalogue.now.lists.quotas counts.old counts.new) }
+    ensures err { OnErr result (counts.new ≡ counts.old) }
 {
     let come = cart_spot(overlay, at, come);
     let gone = cart_spot(overlay, at, overlay.cart(id));
@@ -242,13 +221,12 @@ fn with_waiting<B: Book>(
     alloc: Global,
     at: Moment,
     catalogue: &Catalogue,
-    counts: &mut Vec<Count>,
+    counts: &mut Tally,
     id: u64,
     come: Option<&Waiting>,
 ) -> Result<(), AllocError>
-    requires { AreInOrder (λ r. r.id) counts.old.items }
-    ensures order { AreInOrder (λ r. r.id) counts.new.items }
-    ensures more { OnOk result (IsMore (λ q. waiting_share q (option_copied come.entry)) (λ q. waiting_share q (waiting_at id (rows_of overlay.now))) catalogue.now.lists.quotas counts.old.items counts.new.items) }
+    ensures more { OnOk result (IsMore (λ q. waiting_share q (option_copied come.entry)) (λ q. waiting_share q (waiting_at id (rows_of overlay.now))) catalogue.now.lists.quotas counts.old counts.new) }
+    ensures err { OnErr result (counts.new ≡ counts.old) }
 {
     let come = waiting_spot(at, come);
     let gone = waiting_spot(at, overlay.entry(id));
@@ -293,12 +271,11 @@ fn with_position<B: Book>(
     alloc: Global,
     at: Moment,
     catalogue: &Catalogue,
-    counts: &mut Vec<Count>,
+    counts: &mut Tally,
     row: &OrderPos,
 ) -> Result<(), AllocError>
-    requires { AreInOrder (λ r. r.id) counts.old.items }
-    ensures order { AreInOrder (λ r. r.id) counts.new.items }
-    ensures more { OnOk result (IsMore (sale_come (rows_of overlay.now) row.now) (sale_gone (rows_of overlay.now) at row.now) catalogue.now.lists.quotas counts.old.items counts.new.items) }
+    ensures more { OnOk result (IsMore (sale_come (rows_of overlay.now) row.now) (sale_gone (rows_of overlay.now) at row.now) catalogue.now.lists.quotas counts.old counts.new) }
+    ensures err { OnErr result (counts.new ≡ counts.old) }
 {
     if !is_in_force(overlay.order(row.order)) {
         return Ok(());
@@ -392,13 +369,12 @@ fn with_voucher<B: Book>(
     alloc: Global,
     at: Moment,
     catalogue: &Catalogue,
-    counts: &mut Vec<Count>,
+    counts: &mut Tally,
     id: u64,
     come: Option<&Voucher>,
 ) -> Result<(), AllocError>
-    requires { AreInOrder (λ r. r.id) counts.old.items }
-    ensures order { AreInOrder (λ r. r.id) counts.new.items }
-    ensures more { OnOk result (IsMore (λ q. turned_voucher (rows_of overlay.now) at q id (option_copied come.entry) (voucher_at id (rows_of overlay.now))) (λ q. turned_voucher (rows_of overlay.now) at q id (voucher_at id (rows_of overlay.now)) (option_copied come.entry)) catalogue.now.lists.quotas counts.old.items counts.new.items) }
+    ensures more { OnOk result (IsMore (λ q. turned_voucher (rows_of overlay.now) at q id (option_copied come.entry) (voucher_at id (rows_of overlay.now))) (λ q. turned_voucher (rows_of overlay.now) at q id (voucher_at id (rows_of overlay.now)) (option_copied come.entry)) catalogue.now.lists.quotas counts.old counts.new) }
+    ensures err { OnErr result (counts.new ≡ counts.old) }
 {
     let gone = overlay.voucher(id);
     if !may_block(at, come) && !may_block(at, gone) {
@@ -542,14 +518,13 @@ fn with_order<B: Book>(
     alloc: Global,
     at: Moment,
     catalogue: &Catalogue,
-    counts: &mut Vec<Count>,
+    counts: &mut Tally,
     row: &Order,
     tickets: &[Ticket],
 ) -> Result<(), AllocError>
-    requires order { AreInOrder (λ r. r.id) counts.old.items }
     requires turned { AreTurned (PutOrder row.now) (rows_of overlay.now) tickets.now }
-    ensures order { AreInOrder (λ r. r.id) counts.new.items }
-    ensures more { OnOk result (IsMore (order_come (rows_of overlay.now) at row.now) (order_gone (rows_of overlay.now) at row.now) catalogue.now.lists.quotas counts.old.items counts.new.items) }
+    ensures more { OnOk result (IsMore (order_come (rows_of overlay.now) at row.now) (order_gone (rows_of overlay.now) at row.now) catalogue.now.lists.quotas counts.old counts.new) }
+    ensures err { OnErr result (counts.new ≡ counts.old) }
 {
     let comes = row.status.is_in_force();
     if comes == is_in_force(overlay.order(row.id)) {

@@ -35,7 +35,7 @@ pub fn add_many<B: Book>(
     if MOST_ENTRIES < entries.len() {
         return Err(OrderRefusal::TooMany);
     }
-    let mark = draft.mark(alloc)?;
+    let mark = draft.mark();
     let added = add_all(draft, alloc, draw, entries);
     let outcomes = draft.end_attempt(mark, added)?;
     Ok(List::new(outcomes))

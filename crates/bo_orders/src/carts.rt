@@ -89,7 +89,7 @@ fn place<B: Book>(
     let takes_cart = draft.takes_cart();
     let id = row.id;
     let copy = row.copy(alloc)?;
-    let mark = draft.mark(alloc)?;
+    let mark = draft.mark();
     draft.put_cart(alloc, row)?;
     let tested = test_places(draft, &mark, &[Own::Cart(id)], takes_cart);
     draft.end_attempt(mark, tested)?;

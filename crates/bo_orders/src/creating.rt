@@ -299,7 +299,7 @@ fn place<B: Book>(
     ensures same { OnErr result (draft.new ≡ draft.old) }
 {
     let own = own_of(alloc, &rows)?;
-    let mark = draft.mark(alloc)?;
+    let mark = draft.mark();
     let put = put_tested(draft, alloc, &mark, &own, carts, &order, &rows);
     draft.end_attempt(mark, put)?;
     draft.use_order_id();

@@ -205,7 +205,7 @@ fn revive<B: Book>(
     }
     let own = own_rows(alloc, positions.as_slice())?;
     let order = row.copy(alloc)?;
-    let mark = draft.mark(alloc)?;
+    let mark = draft.mark();
     draft.put_order(alloc, row)?;
     let tested = test_places(draft, &mark, &own, true);
     draft.end_attempt(mark, tested)?;

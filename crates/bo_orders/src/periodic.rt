@@ -25,7 +25,7 @@ pub fn expire_orders<B: Book>(draft: &mut Draft<'_, B>, alloc: Global) -> Result
     ensures changes { OnOk result (draft.new.log.changes ≡ draft.old.log.changes ++ expired_changes (now draft.old)) }
 {
     let ids = draft.book().due_orders(alloc, draft.moment())?;
-    let mark = draft.mark(alloc)?;
+    let mark = draft.mark();
     let expired = expire_each(draft, alloc, &ids);
     draft.end_attempt(mark, expired)?;
     Ok(ids.len() as u64)
@@ -84,7 +84,7 @@ pub fn drop_dead_carts<B: Book>(draft: &mut Draft<'_, B>, alloc: Global) -> Resu
 {
     draft.known();
     let ids = draft.book().dead_carts(alloc, draft.moment())?;
-    let mark = draft.mark(alloc)?;
+    let mark = draft.mark();
     let dropped = drop_carts(draft, alloc, &ids);
     draft.end_attempt(mark, dropped)?;
     Ok(ids.len() as u64)

@@ -45,7 +45,7 @@ pub fn send<B: Book>(
         Some(entry) => entry.copy(alloc)?,
     };
     let closed = first_closed(draft, entry.product);
-    let mark = draft.mark(alloc)?;
+    let mark = draft.mark();
     let sent = send_to(draft, alloc, draw, entry, closed);
     draft.end_attempt(mark, sent)
 }

@@ -36,7 +36,7 @@ pub fn serve_all<B: Book>(
         return Ok(queue);
     }
     let mut left = places_left(draft, alloc)?;
-    let mark = draft.mark(alloc)?;
+    let mark = draft.mark();
     let served = serve_each(draft, alloc, draw, &queue, &mut left);
     draft.end_attempt(mark, served)
 }

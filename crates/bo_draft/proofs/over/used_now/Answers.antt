@@ -28,7 +28,7 @@ returns-in-Ok g c =
     ap (λ (qs : List Quota). value_at (used l at) qs place) (ap (λ (k : Lists). k.catalogue.quotas) c.requires.base ∙ sym sold)
     ∙ value_here (used l at) quotas place quota c.in-Ok.ensures.found.in_range
     ∙ ap (used l at) here in
-    omega (arith, c.requires.counted.now place, value (rows_of log), value log.base, base, c.moved.ensures, c.counted-count.ensures.come, c.counted-count.ensures.gone)
+    omega (arith, c.requires.counted place, value (rows_of log), value log.base, base, c.moved.ensures, c.of-count.ensures.come, c.of-count.ensures.gone)
 
 pub returns-in-Err : goal.returns-in-Err
 returns-in-Err g c =

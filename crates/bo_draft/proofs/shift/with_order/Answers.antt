@@ -23,10 +23,10 @@ returns-then-comes-is_in_force-clause-more g c =
     let new = is_in_force c.args.row.now.status in
     let is : c.is_in_force.result ≡ old = c.is_in_force.ensures ∙ ap (stands_as is_in_force) c.order.ensures in
     let same : beq new old ≡ true = sym (ap (λ (b : Bool). beq b old) c.is_in_force-comes.ensures) ∙ sym (ap (beq c.is_in_force-comes.result) is) ∙ c.if-comes-is_in_force.true in
-    more_same _ _ _ _ c.args.catalogue.now.lists.quotas c.args.counts.now.items c.args.counts.now.items
+    more_same _ _ _ _ c.args.catalogue.now.lists.quotas c.args.counts.now c.args.counts.now
     (λ q. sym (ap (λ (b : Bool). if b then 0 else turned_order new (ordered_in lists q c.args.row.now.id) (ordered_covered lists c.args.at q c.args.row.now.id)) same))
     (λ q. sym (ap (λ (b : Bool). if b then 0 else turned_order new (ordered_covered lists c.args.at q c.args.row.now.id) (ordered_in lists q c.args.row.now.id)) same))
-    (none_more c.args.catalogue.now.lists.quotas c.args.counts.now.items)
+    (none_more c.args.catalogue.now.lists.quotas c.args.counts.now)
 
 pub returns-then-is_empty-clause-more : goal.returns-then-is_empty-clause-more
 returns-then-is_empty-clause-more g c =
@@ -41,10 +41,10 @@ returns-then-is_empty-clause-more g c =
     let none : c.args.tickets.now ≡ [] = nil_from_length c.args.tickets.now few in
     let here : (q : Quota) → ordered_in lists q id ≡ 0 = λ q. sym (c.requires.turned same (λ t. is_in q t.product)) ∙ ap (count_by (λ (t : Ticket). is_in q t.product)) none in
     let covered : (q : Quota) → ordered_covered lists at q id ≡ 0 = λ q. sym (c.requires.turned same (λ t. is_covered_by lists at q t.voucher)) ∙ ap (count_by (λ (t : Ticket). is_covered_by lists at q t.voucher)) none in
-    more_same _ _ _ _ c.args.catalogue.now.lists.quotas c.args.counts.now.items c.args.counts.now.items
+    more_same _ _ _ _ c.args.catalogue.now.lists.quotas c.args.counts.now c.args.counts.now
     (λ q. sym (ap (λ (b : Bool). if b then 0 else turned_order new (ordered_in lists q id) (ordered_covered lists at q id)) same ∙ ap₂ (turned_order new) (here q) (covered q) ∙ turned_none new))
     (λ q. sym (ap (λ (b : Bool). if b then 0 else turned_order new (ordered_covered lists at q id) (ordered_in lists q id)) same ∙ ap₂ (turned_order new) (covered q) (here q) ∙ turned_none new))
-    (none_more c.args.catalogue.now.lists.quotas c.args.counts.now.items)
+    (none_more c.args.catalogue.now.lists.quotas c.args.counts.now)
 
 pub returns-clause-more : goal.returns-clause-more
 returns-clause-more g c =
@@ -56,7 +56,7 @@ returns-clause-more g c =
     let is : c.is_in_force.result ≡ old = c.is_in_force.ensures ∙ ap (stands_as is_in_force) c.order.ensures in
     let same : beq new old ≡ false = sym (ap (λ (b : Bool). beq b old) c.is_in_force-comes.ensures) ∙ sym (ap (beq c.is_in_force-comes.result) is) ∙ c.if-comes-is_in_force.false in
     on_ok_weaker c.count_each.result
-    (more_same _ _ _ _ c.args.catalogue.now.lists.quotas c.args.counts.now.items c.count_each.new.counts.items
+    (more_same _ _ _ _ c.args.catalogue.now.lists.quotas c.args.counts.now c.count_each.new.counts
     (λ q. ap₂ (turned_order c.is_in_force-comes.result) (c.in_ok-spots.ensures.here q ∙ c.requires.turned same (λ t. is_in q t.product)) (c.in_ok-spots.ensures.covered q at ∙ c.requires.turned same (λ t. is_covered_by lists at q t.voucher))
     ∙ ap (λ (b : Bool). turned_order b (ordered_in lists q id) (ordered_covered lists at q id)) c.is_in_force-comes.ensures
     ∙ sym (ap (λ (b : Bool). if b then 0 else turned_order new (ordered_in lists q id) (ordered_covered lists at q id)) same))

@@ -16,10 +16,10 @@ returns-then-not-is_in_force-clause-more g c =
     let stands = stands_as is_in_force (order_at row.order lists) in
     let is : c.is_in_force.result ≡ stands = c.is_in_force.ensures ∙ ap (stands_as is_in_force) c.order.ensures in
     let ended : stands ≡ false = sym is ∙ c.if-not-is_in_force.true in
-    more_same _ _ _ _ c.args.catalogue.now.lists.quotas c.args.counts.now.items c.args.counts.now.items
+    more_same _ _ _ _ c.args.catalogue.now.lists.quotas c.args.counts.now c.args.counts.now
     (λ q. sym (ap (λ (b : Bool). once (b && is_in q row.product)) ended))
     (λ q. sym (ap (λ (b : Bool). once (b && is_covered_by lists c.args.at q row.voucher)) ended))
-    (none_more c.args.catalogue.now.lists.quotas c.args.counts.now.items)
+    (none_more c.args.catalogue.now.lists.quotas c.args.counts.now)
 
 pub returns-clause-more : goal.returns-clause-more
 returns-clause-more g c =
@@ -29,7 +29,7 @@ returns-clause-more g c =
     let is : c.is_in_force.result ≡ stands = c.is_in_force.ensures ∙ ap (stands_as is_in_force) c.order.ensures in
     let force : stands ≡ true = sym is ∙ c.if-not-is_in_force.false in
     on_ok_weaker c.count_each.result
-    (more_same _ _ _ _ c.args.catalogue.now.lists.quotas c.args.counts.now.items c.count_each.new.counts.items
+    (more_same _ _ _ _ c.args.catalogue.now.lists.quotas c.args.counts.now c.count_each.new.counts
     (λ q. sym (ap (λ (b : Bool). once (b && is_in q row.product)) force))
     (λ q. ap once (c.voucher_of-voucher.ensures q c.args.at) ∙ sym (ap (λ (b : Bool). once (b && is_covered_by lists c.args.at q row.voucher)) force)))
     c.count_each.ensures.more

@@ -19,10 +19,10 @@ returns-then-not-may_block-2-clause-more g c =
     let gone = voucher_at c.args.id lists in
     let no_come : (q : Quota) → blocks_if at q come ≡ false = c.may_block.ensures c.if-not-may_block.true in
     let no_gone : (q : Quota) → blocks_if at q gone ≡ false = λ q. ap (blocks_if at q) (sym c.voucher-gone.ensures) ∙ c.may_block-then-not-may_block.ensures c.if-not-may_block-2.true q in
-    more_same _ _ _ _ c.args.catalogue.now.lists.quotas c.args.counts.now.items c.args.counts.now.items
+    more_same _ _ _ _ c.args.catalogue.now.lists.quotas c.args.counts.now c.args.counts.now
     (λ q. sym (turned_voucher_none lists at q c.args.id come gone (no_come q) (no_gone q)))
     (λ q. sym (turned_voucher_none lists at q c.args.id gone come (no_gone q) (no_come q)))
-    (none_more c.args.catalogue.now.lists.quotas c.args.counts.now.items)
+    (none_more c.args.catalogue.now.lists.quotas c.args.counts.now)
 
 pub returns-clause-more : goal.returns-clause-more
 returns-clause-more g c =
@@ -31,7 +31,7 @@ returns-clause-more g c =
     let id = c.args.id in
     let come = option_copied c.args.come in
     on_ok_weaker c.count_each.result
-    (more_same _ _ _ _ c.args.catalogue.now.lists.quotas c.args.counts.now.items c.count_each.new.counts.items
+    (more_same _ _ _ _ c.args.catalogue.now.lists.quotas c.args.counts.now c.count_each.new.counts
     (λ q. ap (λ (o : Option Voucher). turned_by (blocks_if at q come) (blocks_if at q o) (left_of c.redeemed-redeemed.result come) (held_in at q id lists)) c.voucher-gone.ensures
     ∙ ap (λ (n : ℕ). turned_by (blocks_if at q come) (blocks_if at q (voucher_at id lists)) (left_of n come) (held_in at q id lists)) c.redeemed-redeemed.ensures.value)
     (λ q. ap (λ (o : Option Voucher). turned_by (blocks_if at q o) (blocks_if at q come) (left_of c.redeemed-redeemed.result o) (held_in at q id lists)) c.voucher-gone.ensures

@@ -6,4 +6,4 @@ use Rattle.bo_draft.proofs.shift.with_waiting.Goals as goal
 
 pub returns-clause-more : goal.returns-clause-more
 returns-clause-more g c =
-    on_ok_weaker c.count_each.result (more_same _ _ _ _ c.args.catalogue.now.lists.quotas c.args.counts.now.items c.count_each.new.counts.items (λ q. c.waiting_spot-come.ensures q) (λ q. c.waiting_spot-gone.ensures q ∙ ap (waiting_share q) c.entry.ensures)) c.count_each.ensures.more
+    on_ok_weaker c.count_each.result (more_same _ _ _ _ c.args.catalogue.now.lists.quotas c.args.counts.now c.count_each.new.counts (λ q. c.waiting_spot-come.ensures q) (λ q. c.waiting_spot-gone.ensures q ∙ ap (waiting_share q) c.entry.ensures)) c.count_each.ensures.more

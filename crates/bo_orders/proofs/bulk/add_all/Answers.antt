@@ -1,6 +1,7 @@
-use Rattle.std.proofs.Common.{◌≡◌, ◌∷◌, ◌+◌, rules, sym, ap, ◌∙◌, drop}
+use Rattle.std.proofs.Common.{◌≡◌, ◌∷◌, ◌+◌, sym, ap, ◌∙◌, drop}
 use Rattle.std.proofs.lemmas.List.{drop_more}
 use Rattle.bo_draft.specs.DraftState.{now}
+use Rattle.bo_draft.proofs.Extensions.{extends_both}
 use Rattle.bo_commands.specs.declared.carts.Entry.{Entry}
 use Rattle.bo_orders.proofs.Entries.{entry_joined}
 use Rattle.bo_orders.proofs.Logs.{bulk_more}
@@ -19,5 +20,5 @@ loop-entry-preserved g c =
     record {
       rest = entry_joined c.loop-entry.outcomes.items c.push.new.self.items c.in_ok-add_entry.field-0 entry (drop i all) (drop (i + 1) all) c.args.draw before after left made c.in_ok-push.ensures.items ∙ inv.rest;
       changes = bulk_more c.args.draft.now.log.changes c.loop-entry.draft.log.changes c.add_entry.new.draft.log.changes c.loop-entry.outcomes.items c.push.new.self.items c.in_ok-add_entry.field-0 inv.changes c.in_ok-add_entry.ensures.changes c.in_ok-push.ensures.items;
-      extends = search rules;
+      extends = extends_both inv.extends c.in_ok-add_entry.ensures.extends;
     }

@@ -1,8 +1,9 @@
-use Rattle.std.proofs.Common.{◌≡◌, ◌∷◌, ◌+◌, rules, sym, subst, ap, ◌∙◌, ℕ, Ok, drop, arith}
+use Rattle.std.proofs.Common.{◌≡◌, ◌∷◌, ◌+◌, sym, subst, ap, ◌∙◌, ℕ, Ok, drop, arith}
 use Rattle.std.proofs.lemmas.List.{drop_more}
 use Rattle.bo_lists.specs.declared.changes.Change.TheVariants.{PutPosition}
 use Rattle.bo_lists.specs.declared.rows.OrderPos.{OrderPos}
 use Rattle.bo_draft.specs.DraftState.{now}
+use Rattle.bo_draft.proofs.Extensions.{extends_both}
 use Rattle.bo_orders.specs.Created.{IsReady, AreCounted, with_positions, position_put}
 use Rattle.bo_orders.proofs.Logs.{one_more}
 use Rattle.bo_orders.proofs.Rows.{ready_next, counted_more}
@@ -25,5 +26,5 @@ loop-row-preserved g c =
       ready = subst (λ (n : ℕ). IsReady n (now c.put_position.new.draft)) on (ready_next row (now c.loop-row.draft) (now c.put_position.new.draft) step here);
       counted = subst (λ (n : ℕ). AreCounted n (drop (i + 1) rows)) next more.1;
       changes = one_more (λ (r : OrderPos). PutPosition r) c.args.draft.now.log.changes c.loop-row.draft.log.changes c.put_position.new.draft.log.changes row (drop i rows) (drop (i + 1) rows) rows left c.in_ok-put_position.ensures.changes inv.changes;
-      extends = search rules;
+      extends = extends_both inv.extends c.in_ok-put_position.ensures.extends;
     }

@@ -1,7 +1,8 @@
-use Rattle.std.proofs.Common.{ℕ, List, ◌+◌, ◌++◌, get_or, drop, rules, sym, ap, ◌∙◌, append_assoc}
+use Rattle.std.proofs.Common.{ℕ, List, ◌+◌, ◌++◌, get_or, drop, sym, ap, ◌∙◌, append_assoc}
 use Rattle.std.proofs.lemmas.List.{drop_more}
 use Rattle.bo_draft.specs.DraftState.{now}
-use Rattle.bo_lists.specs.Lists.{State, order_at}
+use Rattle.bo_draft.proofs.Extensions.{extends_both}
+use Rattle.bo_lists.specs.Lists.{order_at}
 use Rattle.bo_orders.specs.Expired.{expired_in, each_expired, expiry_of, each_expiry}
 use Rattle.bo_orders.proofs.periodic.expire_each.Goals as goal
 
@@ -24,5 +25,5 @@ loop-id-preserved g c =
           ∙ append_assoc before (expiry_of (order_at id state.lists)) (each_expiry (drop (i + 1) all) (expired_in id state.lists.orders))
           ∙ ap (λ (l : List ℕ). before ++ each_expiry l state.lists.orders) (sym step)
           ∙ c.loop-id.invariant.changes;
-      extends = search rules;
+      extends = extends_both c.loop-id.invariant.extends c.in_ok-expire.ensures.extends;
     }

@@ -1,6 +1,7 @@
-use Rattle.std.proofs.Common.{ℕ, List, ◌+◌, get_or, drop, rules, sym, ap, ◌∙◌, subst}
+use Rattle.std.proofs.Common.{ℕ, List, ◌+◌, get_or, drop, sym, ap, ◌∙◌, subst}
 use Rattle.std.proofs.lemmas.List.{drop_more}
 use Rattle.bo_draft.specs.DraftState.{now}
+use Rattle.bo_draft.proofs.Extensions.{extends_both}
 use Rattle.bo_waiting.specs.Sending.{CanSend}
 use Rattle.bo_waiting.specs.Serving.{each_sent, run_after}
 use Rattle.bo_waiting.proofs.OneTurn.{turn_joined, turn_ends, turn_can_send}
@@ -35,5 +36,5 @@ loop-id-preserved g c =
           ∙ c.loop-id.invariant.rest;
       can = subst CanSend (sym done) (turn_can_send c.args.draw (get_or all i 0) state c.loop-id.invariant.can);
       left = c.in_ok-serve_one.ensures.left;
-      extends = search rules;
+      extends = extends_both c.loop-id.invariant.extends c.in_ok-serve_one.ensures.extends;
     }

@@ -1,15 +1,16 @@
-use Rattle.std.proofs.Common.{sym, subst}
+use Rattle.std.proofs.Common.{◌≤◌, length, take, sym, ap, subst, arith}
 use Rattle.bo_overlay.specs.Logs.{Log}
-use Rattle.bo_draft.specs.DraftState.{DraftState, MarkState, IsMarkOf, IsDraft}
+use Rattle.bo_draft.specs.DraftState.{DraftState, MarkState, IsDraft}
+use Rattle.bo_draft.specs.Tallied.{Tallied}
+use Rattle.bo_draft.proofs.Reaches.{draft_back}
 use Rattle.bo_draft.proofs.draft.Draft.back_to.Goals as goal
 
 pub invariant_of-self : goal.invariant_of-self
 invariant_of-self g c =
     let inside = c.self.inside in
-    let kept = c.mark.inside in
-    let before = c.self.invariant in
-    let draft : DraftState = record { log = inside.overlay; next = inside.next; moment = inside.moment } in
-    let mark : MarkState = record { count = kept.count; next = kept.next; counts = kept.counts.items; carts = kept.carts; vouchers = kept.vouchers; uses = kept.uses } in
-    let is : IsMarkOf draft mark = subst (λ (d : DraftState). IsMarkOf d mark) (sym c.self.view_is) (subst (λ (m : MarkState). IsMarkOf c.args.self.now m) (sym c.mark.view_is) c.requires) in
-    subst (λ (log : Log). IsDraft (g.B.Book.state inside.book.now) log inside.moment kept.counts.items inside.bases.items kept.carts kept.vouchers kept.uses) (sym c.truncate.ensures)
-    (record { base = before.base; past = before.past; asked_order = before.asked_order; asked = before.asked; order = is.order; counted = is.counted; number = is.carts; vouchers_number = is.vouchers; headroom = is.headroom; kept = is.uses; uses_known = is.uses_known })
+    let book = g.B.Book.state inside.book.now in
+    let n = c.mark.inside.count in
+    let within : n ≤ length inside.overlay.changes = omega (arith, c.requires.within, ap (λ (m : MarkState). m.count) c.mark.view_is, ap (λ (d : DraftState). length d.log.changes) c.self.view_is) in
+    subst (λ (log : Log). IsDraft book log inside.moment c.truncate-2.new.self inside.bases.items) (sym c.truncate.ensures)
+    (subst (λ (t : Tallied). IsDraft book (record inside.overlay { changes = take n inside.overlay.changes }) inside.moment t inside.bases.items) (sym c.truncate-2.ensures)
+    (draft_back book inside.overlay inside.moment inside.tallies inside.bases.items c.self.invariant n within))

@@ -1,0 +1,207 @@
+-- How far what a draft counts reaches: with one more change, and gone back to an earlier one.
+use Rattle.std.proofs.Common.{◌≡◌, ℕ, zero, suc, ◌+◌, ◌<◌, ◌≤◌, List, [], ◌∷◌, ◌++◌, length, take, get_or, ◌⊎◌, inl, inr, refl, sym, ap, ◌∙◌, subst, arith, length-append}
+use Rattle.std.proofs.Math.Seq.{take-length}
+use Rattle.std.proofs.lemmas.Bool.{cases_lt}
+use Rattle.std.proofs.lemmas.List.{take-append-le, take-take, take_all, length-take-le, get_or_past}
+use Rattle.bo_base.specs.Tables.{AreInOrder}
+use Rattle.bo_lists.specs.declared.changes.Change.{Change}
+use Rattle.bo_lists.specs.Change.{after_change}
+use Rattle.bo_lists.specs.Headroom.{AllHaveHeadroom}
+use Rattle.bo_lists.specs.Kept.{IsKept}
+use Rattle.bo_lists.specs.Lists.{Lists, State}
+use Rattle.bo_overlay.specs.Logs.{Log, rows_of}
+use Rattle.bo_overlay.proofs.Steps.{after_all-push}
+use Rattle.bo_tally.specs.declared.tally.Count.{Count}
+use Rattle.bo_tally.specs.Counts.{GoesOn}
+use Rattle.bo_tally.proofs.Newest.{on_longer, on_front}
+use Rattle.bo_draft.specs.declared.bases.Base.{Base}
+use Rattle.bo_draft.specs.declared.tallies.Reach.{Reach}
+use Rattle.bo_draft.specs.Shift.{CanCome, AreBases}
+use Rattle.bo_draft.specs.Tallied.{Tallied, reach_at, tallied_at, IsBelow, IsNext}
+use Rattle.bo_draft.specs.Uses.{AreKept}
+use Rattle.bo_draft.proofs.CanCome.{headroom_after}
+use Rattle.bo_draft.proofs.Still.{counted_more}
+use Rattle.bo_draft.proofs.UseCounts.{known_more}
+use Rattle.bo_draft.specs.DraftState.{log_at, IsTallied, IsDraft}
+
+-- ---- lists
+before_last : {T : Type 0} (xs : List T) (x d : T) (n : ℕ) → n ≤ length xs → get_or (xs ++ x ∷ []) n d ≡ get_or xs n x
+before_last [] x d zero le = refl
+before_last [] x d (suc n) le = absurd (omega (arith, le))
+before_last (y ∷ ys) x d zero le = refl
+before_last (y ∷ ys) x d (suc n) le = before_last ys x d n (omega (arith, le))
+
+of_front : {T : Type 0} (xs : List T) (n count : ℕ) (d : T) → count ≤ n → n ≤ length xs → get_or (take n xs) count (get_or xs n d) ≡ get_or xs count d
+of_front xs zero zero d le within = refl
+of_front xs zero (suc count) d le within = absurd (omega (arith, le))
+of_front [] (suc n) count d le within = absurd (omega (arith, within))
+of_front (x ∷ xs) (suc n) zero d le within = refl
+of_front (x ∷ xs) (suc n) (suc count) d le within = of_front xs n count d (omega (arith, le)) (omega (arith, within))
+
+shorter : {T : Type 0} (n : ℕ) (xs : List T) → length (take n xs) ≤ length xs
+shorter zero xs = omega arith
+shorter (suc n) [] = omega arith
+shorter (suc n) (x ∷ xs) = omega (arith, shorter n xs)
+
+-- ---- what is counted, by its parts
+abbrev parts : List Count → List Count → Reach → List Reach → Tallied
+parts counts uses here reached = record { counts = counts; uses = uses; here = here; reached = reached }
+
+same_parts : (counts counts' uses uses' : List Count) (here here' : Reach) (reached reached' : List Reach) → counts ≡ counts' → uses ≡ uses' → here ≡ here' → reached ≡ reached' → parts counts uses here reached ≡ parts counts' uses' here' reached'
+same_parts counts counts' uses uses' here here' reached reached' a b c d =
+    ap (λ (l : List Count). parts l uses here reached) a ∙ ap (λ (l : List Count). parts counts' l here reached) b ∙ ap (λ (r : Reach). parts counts' uses' r reached) c ∙ ap (λ (l : List Reach). parts counts' uses' here' l) d
+
+pub log_whole : (log : Log) → log_at (length log.changes) log ≡ log
+log_whole log = ap (λ (l : List Change). record log { changes = l }) (take-length log.changes)
+
+-- after all changes it is what is counted now
+pub tallied_whole : (n : ℕ) (t : Tallied) → n ≡ length t.reached → t.here.counts ≡ length t.counts → t.here.uses ≡ length t.uses → tallied_at n t ≡ t
+tallied_whole n t each counts uses =
+    let here : reach_at n t ≡ t.here = get_or_past t.reached n t.here (omega (arith, each)) in
+    same_parts (take (reach_at n t).counts t.counts) t.counts (take (reach_at n t).uses t.uses) t.uses (reach_at n t) t.here (take n t.reached) t.reached
+    (ap (λ (r : Reach). take r.counts t.counts) here ∙ take_all t.here.counts t.counts (omega (arith, counts)))
+    (ap (λ (r : Reach). take r.uses t.uses) here ∙ take_all t.here.uses t.uses (omega (arith, uses)))
+    here
+    (take_all n t.reached (omega (arith, each)))
+
+-- with one more change the earlier ones are counted as before
+module _ (old new : Tallied) (counts : GoesOn old.counts new.counts) (uses : GoesOn old.uses new.uses) (reached : new.reached ≡ old.reached ++ old.here ∷ []) where
+  pub reach_before : (count : ℕ) → count ≤ length old.reached → reach_at count new ≡ reach_at count old
+  reach_before count le = ap (λ (l : List Reach). get_or l count new.here) reached ∙ before_last old.reached old.here new.here count le
+
+  pub tallied_before : (count : ℕ) → count ≤ length old.reached → (reach_at count old).counts ≤ length old.counts → (reach_at count old).uses ≤ length old.uses → tallied_at count new ≡ tallied_at count old
+  tallied_before count le within within_uses =
+      let here = reach_before count le in
+      let r = reach_at count old in
+      same_parts (take (reach_at count new).counts new.counts) (take r.counts old.counts) (take (reach_at count new).uses new.uses) (take r.uses old.uses) (reach_at count new) r (take count new.reached) (take count old.reached)
+      (ap (λ (q : Reach). take q.counts new.counts) here ∙ on_front old.counts new.counts r.counts within counts)
+      (ap (λ (q : Reach). take q.uses new.uses) here ∙ on_front old.uses new.uses r.uses within_uses uses)
+      here
+      (ap (λ (l : List Reach). take count l) reached ∙ take-append-le count old.reached (old.here ∷ []) le)
+
+  -- and gone back it is the old one
+  pub tallied_undone : old.here.counts ≡ length old.counts → old.here.uses ≡ length old.uses → tallied_at (length old.reached) new ≡ old
+  tallied_undone ends ends_uses =
+      let n = length old.reached in
+      let here : reach_at n old ≡ old.here = get_or_past old.reached n old.here (omega arith) in
+      tallied_before n (omega arith) (omega (arith, ap (λ (r : Reach). r.counts) here, ends)) (omega (arith, ap (λ (r : Reach). r.uses) here, ends_uses))
+      ∙ tallied_whole n old refl ends ends_uses
+
+-- what is counted stays right with one more change
+pub tallied_more : (at : ℕ) (log : Log) (change : Change) (old new : Tallied) → {limit : ℕ} → IsKept limit (rows_of log) → CanCome at log change → IsTallied at log old → IsNext at change (rows_of log) log.base.catalogue.quotas old new → IsTallied at (record log { changes = log.changes ++ change ∷ [] }) new
+tallied_more at log change old new {limit} kept can is next =
+    let pushed : Log = record log { changes = log.changes ++ change ∷ [] } in
+    let rows : rows_of pushed ≡ after_change change (rows_of log) = after_all-push log.changes change log.base in
+    record {
+      counted = counted_more at log change old.counts new.counts limit kept can is.counted next.counts;
+      carts = next.carts ∙ sym (ap (λ (lists : Lists). length lists.carts) rows);
+      vouchers = next.vouchers ∙ sym (ap (λ (lists : Lists). length lists.vouchers) rows);
+      headroom = subst (λ (lists : Lists). AllHaveHeadroom at lists) (sym rows) (headroom_after at log change can);
+      kept = subst (λ (lists : Lists). AreKept at log.base lists new.uses new.here.known) (sym rows) (next.kept log.base is.kept);
+      known = known_more log.changes log.base change old.here.known new.here.known is.known next.forgets;
+      counts_end = next.counts_end;
+      uses_end = next.uses_end;
+      each = omega (arith, ap (λ (l : List Reach). length l) next.reached, length-append old.reached (old.here ∷ []), length-append log.changes (change ∷ []), is.each);
+    }
+
+-- ---- a draft
+module _ (book : State) (log : Log) (at : ℕ) (t : Tallied) (bases : List Base) (is : IsDraft book log at t bases) where
+  -- after so many changes, or after all of them
+  pub tallied_upto : (count : ℕ) → count ≤ length log.changes → IsTallied at (log_at count log) (tallied_at count t)
+  tallied_upto count le = elim (cases_lt count (length log.changes)) [
+    | inl below ↦ is.before count below
+    | inr above ↦
+        let same : length log.changes ≡ count = omega (arith, above, le) in
+        let whole = tallied_whole (length log.changes) t (sym is.now.each) is.now.counts_end is.now.uses_end in
+        subst (λ (n : ℕ). IsTallied at (log_at n log) (tallied_at n t)) same (subst (λ (l : Log). IsTallied at l (tallied_at (length log.changes) t)) (sym (log_whole log)) (subst (λ (u : Tallied). IsTallied at log u) (sym whole) is.now))
+  ]
+
+  pub reach_within : (count : ℕ) → count ≤ length log.changes → (reach_at count t).counts ≤ length t.counts
+  reach_within count le = omega (arith, (tallied_upto count le).counts_end, shorter (reach_at count t).counts t.counts)
+
+  pub uses_within : (count : ℕ) → count ≤ length log.changes → (reach_at count t).uses ≤ length t.uses
+  uses_within count le = omega (arith, (tallied_upto count le).uses_end, shorter (reach_at count t).uses t.uses)
+
+  -- with one more change
+  pub draft_more : (change : Change) (new : Tallied) (asked : List Base) → IsTallied at (record log { changes = log.changes ++ change ∷ [] }) new → GoesOn t.counts new.counts → GoesOn t.uses new.uses → new.reached ≡ t.reached ++ t.here ∷ [] → AreInOrder (λ (b : Base). b.place) asked → AreBases book.lists at book.lists.catalogue.quotas asked → IsDraft book (record log { changes = log.changes ++ change ∷ [] }) at new asked
+  draft_more change new asked now counts uses reached order known = record {
+    base = is.base;
+    past = is.past;
+    asked_order = order;
+    asked = known;
+    now = now;
+    before = λ count lt. earlier count (omega (arith, lt, one_more));
+    rising = λ count more le within. by_more count more le within (cases_lt (length log.changes) more);
+  }
+    where
+      one_more : length (log.changes ++ change ∷ []) ≡ length log.changes + 1
+      one_more = omega (arith, length-append log.changes (change ∷ []))
+
+      earlier : (count : ℕ) → count ≤ length log.changes → IsTallied at (log_at count (record log { changes = log.changes ++ change ∷ [] })) (tallied_at count new)
+      earlier count le =
+          let same = tallied_before t new counts uses reached count (omega (arith, le, is.now.each)) (reach_within count le) (uses_within count le) in
+          subst (λ (u : Tallied). IsTallied at (log_at count (record log { changes = log.changes ++ change ∷ [] })) u) (sym same)
+          (subst (λ (l : List Change). IsTallied at (record log { changes = l }) (tallied_at count t)) (sym (take-append-le count log.changes (change ∷ []) le)) (tallied_upto count le))
+
+      same_reach : (count : ℕ) → count ≤ length log.changes → reach_at count new ≡ reach_at count t
+      same_reach count le = reach_before t new counts uses reached count (omega (arith, le, is.now.each))
+
+      by_more : (count more : ℕ) → count ≤ more → more ≤ length (log.changes ++ change ∷ []) → (length log.changes < more) ⊎ (more ≤ length log.changes) → IsBelow (reach_at count new) (reach_at more new)
+      by_more count more le within (inr few) =
+          subst (λ (r : Reach). IsBelow r (reach_at more new)) (sym (same_reach count (omega (arith, le, few))))
+          (subst (λ (r : Reach). IsBelow (reach_at count t) r) (sym (same_reach more few)) (is.rising count more le few))
+      by_more count more le within (inl all) =
+          let last : reach_at more new ≡ new.here = get_or_past new.reached more new.here (omega (arith, all, now.each, one_more)) in
+          by_count (cases_lt (length log.changes) count) last
+        where
+          by_count : (length log.changes < count) ⊎ (count ≤ length log.changes) → reach_at more new ≡ new.here → IsBelow (reach_at count new) (reach_at more new)
+          by_count (inl late) last =
+              let same : more ≡ count = omega (arith, le, late, within, one_more) in
+              subst (λ (n : ℕ). IsBelow (reach_at n new) (reach_at more new)) same (record { counts = omega arith; uses = omega arith })
+          by_count (inr few) last =
+              subst (λ (r : Reach). IsBelow r (reach_at more new)) (sym (same_reach count few))
+              (subst (λ (r : Reach). IsBelow (reach_at count t) r) (sym last)
+              (record {
+                counts = omega (arith, reach_within count few, on_longer t.counts new.counts counts, now.counts_end);
+                uses = omega (arith, uses_within count few, on_longer t.uses new.uses uses, now.uses_end);
+              }))
+
+  -- gone back
+  pub draft_back : (n : ℕ) → n ≤ length log.changes → IsDraft book (log_at n log) at (tallied_at n t) bases
+  draft_back n within = record {
+    base = is.base;
+    past = is.past;
+    asked_order = is.asked_order;
+    asked = is.asked;
+    now = tallied_upto n within;
+    before = λ count lt. earlier count (omega (arith, lt, taken));
+    rising = λ count more le few. below count more le (omega (arith, few, taken));
+  }
+    where
+      taken : length (take n log.changes) ≡ n
+      taken = length-take-le n log.changes within
+
+      same_reach : (count : ℕ) → count ≤ n → reach_at count (tallied_at n t) ≡ reach_at count t
+      same_reach count le = of_front t.reached n count t.here le (omega (arith, within, is.now.each))
+
+      same : (count : ℕ) → count ≤ n → tallied_at count (tallied_at n t) ≡ tallied_at count t
+      same count le =
+          let here = same_reach count le in
+          let r = reach_at count t in
+          let last = reach_at n t in
+          let front = tallied_at n t in
+          same_parts (take (reach_at count front).counts (take last.counts t.counts)) (take r.counts t.counts) (take (reach_at count front).uses (take last.uses t.uses)) (take r.uses t.uses) (reach_at count front) r (take count (take n t.reached)) (take count t.reached)
+          (ap (λ (q : Reach). take q.counts (take last.counts t.counts)) here ∙ take-take r.counts last.counts t.counts (is.rising count n le within).counts)
+          (ap (λ (q : Reach). take q.uses (take last.uses t.uses)) here ∙ take-take r.uses last.uses t.uses (is.rising count n le within).uses)
+          here
+          (take-take count n t.reached le)
+
+      earlier : (count : ℕ) → count ≤ n → IsTallied at (log_at count (log_at n log)) (tallied_at count (tallied_at n t))
+      earlier count le =
+          subst (λ (u : Tallied). IsTallied at (log_at count (log_at n log)) u) (sym (same count le))
+          (subst (λ (l : List Change). IsTallied at (record log { changes = l }) (tallied_at count t)) (sym (take-take count n log.changes le)) (tallied_upto count (omega (arith, le, within))))
+
+      below : (count more : ℕ) → count ≤ more → more ≤ n → IsBelow (reach_at count (tallied_at n t)) (reach_at more (tallied_at n t))
+      below count more le few =
+          subst (λ (r : Reach). IsBelow r (reach_at more (tallied_at n t))) (sym (same_reach count (omega (arith, le, few))))
+          (subst (λ (r : Reach). IsBelow (reach_at count t) r) (sym (same_reach more few)) (is.rising count more le (omega (arith, few, within))))

@@ -1,0 +1,34 @@
+use Rattle.std.proofs.Common.{◌≡◌, List, sym, ap, ◌∙◌, subst, arith}
+use Rattle.bo_catalogue.specs.declared.rows.Quota.{Quota}
+use Rattle.bo_lists.specs.Lists.{Lists}
+use Rattle.bo_lists.specs.Over.{is_over}
+use Rattle.bo_overlay.specs.Logs.{rows_of, rows_at}
+use Rattle.bo_tally.proofs.Earlier.{same_at_mark}
+use Rattle.bo_draft.specs.Counts.{value_at, found_at}
+use Rattle.bo_draft.specs.Shift.{used}
+use Rattle.bo_draft.proofs.Overs.{untouched, least_start, least_end, within_over}
+use Rattle.bo_draft.proofs.over.least_over.Goals as goal
+
+pub loop-i-init : goal.loop-i-init
+loop-i-init g c =
+    let log = c.args.overlay.now in
+    let at = c.args.at in
+    let counts = c.args.counts.now in
+    let before = rows_at c.args.count log in
+    let quotas : log.base.catalogue.quotas ≡ c.args.quotas.now = ap (λ (l : Lists). l.catalogue.quotas) c.requires.base ∙ sym c.requires.sold in
+    least_start (found_at (λ q. q.id) (is_over before (rows_of log) at c.args.own.now) c.args.quotas.now) counts c.args.mark
+    (λ place lt.
+    let come = same_at_mark (λ r. r.come) counts c.args.mark place c.requires.within lt in
+    let gone = same_at_mark (λ r. r.gone) counts c.args.mark place c.requires.within lt in
+    let same : value_at (used before at) log.base.catalogue.quotas place ≡ value_at (used (rows_of log) at) log.base.catalogue.quotas place = omega (arith, c.requires.counted place, c.requires.counted_before place, come, gone) in
+    untouched before (rows_of log) at c.args.own.now c.args.quotas.now place (subst (λ (qs : List Quota). value_at (used before at) qs place ≡ value_at (used (rows_of log) at) qs place) quotas same))
+
+pub returns-clause-within : goal.returns-clause-within
+returns-clause-within g c =
+    let log = c.args.overlay.now in
+    within_over (is_over (rows_at c.args.count log) (rows_of log) c.args.at c.args.own.now) c.args.quotas.now c.args.counts.now c.loop-i.least c.loop-i.i c.loop-i.invariant
+
+pub returns-clause-least : goal.returns-clause-least
+returns-clause-least g c =
+    let log = c.args.overlay.now in
+    least_end (found_at (λ q. q.id) (is_over (rows_at c.args.count log) (rows_of log) c.args.at c.args.own.now) c.args.quotas.now) c.args.counts.now c.loop-i.i c.loop-i.least (omega arith) c.loop-i.invariant

@@ -1,0 +1,11 @@
+use Rattle.std.proofs.Common.{◌≡◌, ℕ, List, take, ap, sym, ◌∙◌}
+use Rattle.bo_tally.specs.declared.tally.Count.{Count}
+use Rattle.bo_tally.proofs.Newest.{keys_of, keys-take}
+use Rattle.bo_tally.proofs.tally.Tally.truncate.Goals as goal
+
+pub invariant_of-self : goal.invariant_of-self
+invariant_of-self c =
+    c.truncate.ensures
+    ∙ ap (λ (keys : List ℕ). take c.args.mark keys) c.self.invariant
+    ∙ keys-take c.args.mark c.self.inside.counts.items
+    ∙ ap (λ (journal : List Count). keys_of journal) (sym c.truncate-2.ensures.items)
