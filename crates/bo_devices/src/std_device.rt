@@ -2,7 +2,7 @@
 ghost use Rattle.std.specs.Prelude.{◌≡◌};
 
 use crate::device::{Drain, Refused, Source};
-use crate::steps::Steps;
+use bo_base::Steps;
 use std::io::{Read, Write};
 use std::sync::ledger::Ledger;
 

@@ -2,11 +2,10 @@
 
 ghost use Rattle.std.specs.Prelude.{◌≡◌, ℕ, ◌+◌, ◌<◌, ◌≤◌, List, [], ◌∷◌, Option, length, take, IfOk, OnOk, OnErr};
 ghost use Rattle.std.specs.Io.KnownBytes.{IsAtEnd};
-ghost use Rattle.bo_base.specs.Told.{Adds, Gives};
-ghost use Rattle.bo_base.specs.declared.device.Tick.{Tick};
+ghost use Rattle.bo_devices.specs.Told.{Adds, Gives};
+ghost use Rattle.bo_devices.specs.declared.device.Tick.{Tick};
 
-use crate::draw::Draw;
-use crate::moment::Moment;
+use bo_base::{Draw, Moment};
 
 /// A device refused a call, and counted it.
 #[derive(Clone, Copy, Debug, Drop, PartialEq, Eq)]
