@@ -1,6 +1,6 @@
 //! A shop is opened in a database that has no tables yet.
 
-ghost use Rattle.std.specs.Prelude.{◌≡◌, [], None, Ok, IfOk, OnOk, codes};
+ghost use Rattle.std.specs.Prelude.{◌≡◌, [], None, Ok, Err, IfOk, IfErr, OnOk, codes};
 ghost use Rattle.sqlite.specs.Held.{state};
 ghost use Rattle.sqlite.specs.State.{HasCleanDisk};
 ghost use Rattle.bo_lists.specs.Lists.{empty};
@@ -77,6 +77,7 @@ fn add_feed<S: Alter>(tables: &mut SqlTables<S>) -> Result<(), AllocError>
 fn if_well<T: Drop>(made: T, ended: Result<(), AllocError>) -> Result<T, AllocError>
     ensures same { IfOk result (λ it. it ≡ made) }
     ensures well { IfOk result (λ _. ended ≡ Ok tt) }
+    ensures ill { IfErr result (λ e. ended ≡ Err e) }
 {
     match ended {
         Ok(()) => Ok(made),
