@@ -10,7 +10,7 @@ use std::collections::VecDeque;
 use std::marker::Model;
 
 /// How many entries a block has places for.
-pub const SIZE: usize = 512;
+pub const SIZE: usize = 2048;
 
 /// Some entries, at most as many as there are places. Contracts see the list.
 #[derive(Drop)]
@@ -26,7 +26,7 @@ impl Model for Block {
 
     ghost view = { λ b. b.ring.items };
 
-    ghost invariant = { λ b. (length b.ring.items ≤ 512) × (512 ≤ deque_capacity b.ring) };
+    ghost invariant = { λ b. (length b.ring.items ≤ 2048) × (2048 ≤ deque_capacity b.ring) };
 }
 
 impl Block {
@@ -57,9 +57,9 @@ impl Block {
     /// Inserts an entry. Where there is one too many then, the last one goes, and is returned.
     pub fn insert(&mut self, place: usize, entry: u128) -> Option<u128>
         requires within { place ≤ length self.old }
-        requires fits { place < 512 }
-        ensures kept { self.new ≡ take 512 (insert self.old place entry) }
-        ensures over { result ≡ slice_get (insert self.old place entry) 512 }
+        requires fits { place < 2048 }
+        ensures kept { self.new ≡ take 2048 (insert self.old place entry) }
+        ensures over { result ≡ slice_get (insert self.old place entry) 2048 }
     {
         let last = self.over();
         insert_reserved(&mut self.ring, place, entry);
@@ -68,8 +68,8 @@ impl Block {
 
     // Takes the last entry away, where no place is left.
     fn over(&mut self) -> Option<u128>
-        ensures kept { self.new ≡ take 511 self.old }
-        ensures over { result ≡ slice_get self.old 511 }
+        ensures kept { self.new ≡ take 2047 self.old }
+        ensures over { result ≡ slice_get self.old 2047 }
     {
         if self.ring.len() < SIZE {
             return None;
@@ -87,7 +87,7 @@ impl Block {
 
     /// Takes the first entry of the next block to the end of this one, where a place is left.
     pub fn push(&mut self, entry: Option<u128>)
-        ensures { self.new ≡ take 512 (self.old ++ option_to_list entry) }
+        ensures { self.new ≡ take 2048 (self.old ++ option_to_list entry) }
     {
         if let Some(entry) = entry {
             if self.ring.len() < SIZE {

@@ -26,9 +26,9 @@ impl Model for Blocks {
 
     ghost Value = { Table ℕ };
 
-    ghost view = { λ b. record { rows = concat b.blocks.items; room = 512 * length b.blocks.items - b.len } };
+    ghost view = { λ b. record { rows = concat b.blocks.items; room = 2048 * length b.blocks.items - b.len } };
 
-    ghost invariant = { λ b. AreBlocks 512 b.blocks.items b.len };
+    ghost invariant = { λ b. AreBlocks 2048 b.blocks.items b.len };
 }
 
 impl Blocks {
@@ -140,7 +140,7 @@ fn empty_blocks(alloc: Global, count: usize) -> Result<Vec<Block>, AllocError>
 // Puts an entry before the blocks from this one on, and what is too many for each before the next.
 fn pass_on(blocks: &mut Vec<Block>, from: usize, first: Option<u128>)
     requires { from ≤ length blocks.old.items }
-    ensures { blocks.new.items ≡ take from blocks.old.items ++ passed_on 512 first (drop from blocks.old.items) }
+    ensures { blocks.new.items ≡ take from blocks.old.items ++ passed_on 2048 first (drop from blocks.old.items) }
 {
     let mut over = first;
     for at in from..blocks.len() {
@@ -155,7 +155,7 @@ fn pass_on(blocks: &mut Vec<Block>, from: usize, first: Option<u128>)
 // Takes the first entry of each block behind this one to the end of the one before it.
 fn close_up(blocks: &mut Vec<Block>, from: usize)
     requires { from < length blocks.old.items }
-    ensures { blocks.new.items ≡ take from blocks.old.items ++ closed_up 512 (slice_index_or blocks.old.items from []) (drop (from + 1) blocks.old.items) }
+    ensures { blocks.new.items ≡ take from blocks.old.items ++ closed_up 2048 (slice_index_or blocks.old.items from []) (drop (from + 1) blocks.old.items) }
 {
     for at in from..blocks.len() - 1 {
         let next = &mut blocks[at + 1];

@@ -11,7 +11,7 @@ loop-at-preserved c =
     let block = c.index_mut-block.result.now in
     let lt : at < length bs = omega (arith, c.loop-at.invariant.1) in
     let old = rw c.in-Some.is at c.loop-at.invariant.0 in
-    let step = pass_step 512 bs at c.in-Some.entry block lt c.index_mut-block.ensures.value in
+    let step = pass_step 2048 bs at c.in-Some.entry block lt c.index_mut-block.ensures.value in
     (rw (c.insert-over.ensures.kept, c.insert-over.ensures.over) (step ∙ old), length-set bs at c.insert-over.new.self ∙ c.loop-at.invariant.1)
 
 pub returns-in_default : goal.returns-in_default
@@ -24,5 +24,5 @@ returns c =
     let bs = c.loop-at.blocks.items in
     let at = c.loop-at.at in
     let past : length bs ≤ at = omega (arith, c.requires, c.loop-at.invariant.1, c.args.blocks.now.ok.0) in
-    let none : take at bs ++ passed_on 512 c.loop-at.over (drop at bs) ≡ bs = ap (λ (l : List (List ℕ)). take at bs ++ passed_on 512 c.loop-at.over l) (drop_all at bs past) ∙ ap (λ l. take at bs ++ l) (passed_none 512 c.loop-at.over) ∙ append-nil (take at bs) ∙ take_all at bs past in
+    let none : take at bs ++ passed_on 2048 c.loop-at.over (drop at bs) ≡ bs = ap (λ (l : List (List ℕ)). take at bs ++ passed_on 2048 c.loop-at.over l) (drop_all at bs past) ∙ ap (λ l. take at bs ++ l) (passed_none 2048 c.loop-at.over) ∙ append-nil (take at bs) ∙ take_all at bs past in
     sym none ∙ c.loop-at.invariant.0

@@ -7,18 +7,18 @@ use Rattle.bo_index.proofs.block.Block.insert.Goals as goal
 
 pub insert_reserved-requires : goal.insert_reserved-requires
 insert_reserved-requires c =
-    let count : length c.self.inside.ring.items ≡ min 511 (length c.args.self.now) = ap length (c.self.view_is ∙ c.over-last.ensures.kept) ∙ length-take 511 c.args.self.now in
+    let count : length c.self.inside.ring.items ≡ min 2047 (length c.args.self.now) = ap length (c.self.view_is ∙ c.over-last.ensures.kept) ∙ length-take 2047 c.args.self.now in
     record { within = omega arith; room = omega (arith, c.self.invariant.1) }
 
 pub invariant_of-self : goal.invariant_of-self
 invariant_of-self c =
-    let count : length c.self.inside.ring.items ≡ min 511 (length c.args.self.now) = ap length (c.self.view_is ∙ c.over-last.ensures.kept) ∙ length-take 511 c.args.self.now in
+    let count : length c.self.inside.ring.items ≡ min 2047 (length c.args.self.now) = ap length (c.self.view_is ∙ c.over-last.ensures.kept) ∙ length-take 2047 c.args.self.now in
     let more = ap length c.insert_reserved.ensures.items ∙ length-insert c.self.inside.ring.items c.args.place c.args.entry (omega arith) in
     (omega arith, omega (arith, c.self.invariant.1, c.insert_reserved.ensures.capacity))
 
 pub returns-clause-kept : goal.returns-clause-kept
 returns-clause-kept c =
-    c.insert_reserved.ensures.items ∙ ap (λ l. insert l c.args.place c.args.entry) (c.self.view_is ∙ c.over-last.ensures.kept) ∙ insert_taken 511 c.args.self.now c.args.place c.args.entry (omega arith) (omega arith)
+    c.insert_reserved.ensures.items ∙ ap (λ l. insert l c.args.place c.args.entry) (c.self.view_is ∙ c.over-last.ensures.kept) ∙ insert_taken 2047 c.args.self.now c.args.place c.args.entry (omega arith) (omega arith)
 
 pub returns-clause-over : goal.returns-clause-over
-returns-clause-over c = c.over-last.ensures.over ∙ sym (get_inserted 511 c.args.self.now c.args.place c.args.entry (omega arith) (omega arith))
+returns-clause-over c = c.over-last.ensures.over ∙ sym (get_inserted 2047 c.args.self.now c.args.place c.args.entry (omega arith) (omega arith))

@@ -8,9 +8,9 @@ remove-requires c =
     let a = c.self.inside in
     let len : length c.args.self.now.rows ≡ a.len = rw (← c.self.view_is) (sym c.self.invariant.counted) in
     let block = c.index_mut-block.result.now in
-    let lt : c.args.place / 512 < length a.blocks.items = omega (arith, c.self.invariant.fits) in
-    let whole : c.args.place ≡ 512 * (c.args.place / 512) + c.args.place % 512 = omega arith in
-    let item = item_is 512 a.blocks.items a.len c.args.place (c.args.place / 512) (c.args.place % 512) block c.self.invariant lt (omega arith) whole c.index_mut-block.ensures.value in
+    let lt : c.args.place / 2048 < length a.blocks.items = omega (arith, c.self.invariant.fits) in
+    let whole : c.args.place ≡ 2048 * (c.args.place / 2048) + c.args.place % 2048 = omega arith in
+    let item = item_is 2048 a.blocks.items a.len c.args.place (c.args.place / 2048) (c.args.place % 2048) block c.self.invariant lt (omega arith) whole c.index_mut-block.ensures.value in
     item.1 (omega arith)
 
 pub close_up-requires : goal.close_up-requires
@@ -18,20 +18,20 @@ close_up-requires c =
     let a = c.self.inside in
     let len : length c.args.self.now.rows ≡ a.len = rw (← c.self.view_is) (sym c.self.invariant.counted) in
     let block = c.index_mut-block.result.now in
-    let lt : c.args.place / 512 < length a.blocks.items = omega (arith, c.self.invariant.fits) in
-    let whole : c.args.place ≡ 512 * (c.args.place / 512) + c.args.place % 512 = omega arith in
-    let item = item_is 512 a.blocks.items a.len c.args.place (c.args.place / 512) (c.args.place % 512) block c.self.invariant lt (omega arith) whole c.index_mut-block.ensures.value in
-    omega (arith, length-set a.blocks.items (c.args.place / 512) c.remove.new.self)
+    let lt : c.args.place / 2048 < length a.blocks.items = omega (arith, c.self.invariant.fits) in
+    let whole : c.args.place ≡ 2048 * (c.args.place / 2048) + c.args.place % 2048 = omega arith in
+    let item = item_is 2048 a.blocks.items a.len c.args.place (c.args.place / 2048) (c.args.place % 2048) block c.self.invariant lt (omega arith) whole c.index_mut-block.ensures.value in
+    omega (arith, length-set a.blocks.items (c.args.place / 2048) c.remove.new.self)
 
 pub invariant_of-self : goal.invariant_of-self
 invariant_of-self c =
     let a = c.self.inside in
     let len : length c.args.self.now.rows ≡ a.len = rw (← c.self.view_is) (sym c.self.invariant.counted) in
     let block = c.index_mut-block.result.now in
-    let lt : c.args.place / 512 < length a.blocks.items = omega (arith, c.self.invariant.fits) in
-    let whole : c.args.place ≡ 512 * (c.args.place / 512) + c.args.place % 512 = omega arith in
-    let item = item_is 512 a.blocks.items a.len c.args.place (c.args.place / 512) (c.args.place % 512) block c.self.invariant lt (omega arith) whole c.index_mut-block.ensures.value in
-    let done = remove_done 512 a.blocks.items a.len (a.len - 1) c.args.place (c.args.place / 512) (c.args.place % 512) block c.remove.new.self c.close_up.new.blocks.items c.self.invariant (omega arith) (omega arith) lt (omega arith) whole c.index_mut-block.ensures.value c.remove.ensures c.close_up.ensures in
+    let lt : c.args.place / 2048 < length a.blocks.items = omega (arith, c.self.invariant.fits) in
+    let whole : c.args.place ≡ 2048 * (c.args.place / 2048) + c.args.place % 2048 = omega arith in
+    let item = item_is 2048 a.blocks.items a.len c.args.place (c.args.place / 2048) (c.args.place % 2048) block c.self.invariant lt (omega arith) whole c.index_mut-block.ensures.value in
+    let done = remove_done 2048 a.blocks.items a.len (a.len - 1) c.args.place (c.args.place / 2048) (c.args.place % 2048) block c.remove.new.self c.close_up.new.blocks.items c.self.invariant (omega arith) (omega arith) lt (omega arith) whole c.index_mut-block.ensures.value c.remove.ensures c.close_up.ensures in
     done.0
 
 pub returns-clause-rows : goal.returns-clause-rows
@@ -39,10 +39,10 @@ returns-clause-rows c =
     let a = c.self.inside in
     let len : length c.args.self.now.rows ≡ a.len = rw (← c.self.view_is) (sym c.self.invariant.counted) in
     let block = c.index_mut-block.result.now in
-    let lt : c.args.place / 512 < length a.blocks.items = omega (arith, c.self.invariant.fits) in
-    let whole : c.args.place ≡ 512 * (c.args.place / 512) + c.args.place % 512 = omega arith in
-    let item = item_is 512 a.blocks.items a.len c.args.place (c.args.place / 512) (c.args.place % 512) block c.self.invariant lt (omega arith) whole c.index_mut-block.ensures.value in
-    let done = remove_done 512 a.blocks.items a.len (a.len - 1) c.args.place (c.args.place / 512) (c.args.place % 512) block c.remove.new.self c.close_up.new.blocks.items c.self.invariant (omega arith) (omega arith) lt (omega arith) whole c.index_mut-block.ensures.value c.remove.ensures c.close_up.ensures in
+    let lt : c.args.place / 2048 < length a.blocks.items = omega (arith, c.self.invariant.fits) in
+    let whole : c.args.place ≡ 2048 * (c.args.place / 2048) + c.args.place % 2048 = omega arith in
+    let item = item_is 2048 a.blocks.items a.len c.args.place (c.args.place / 2048) (c.args.place % 2048) block c.self.invariant lt (omega arith) whole c.index_mut-block.ensures.value in
+    let done = remove_done 2048 a.blocks.items a.len (a.len - 1) c.args.place (c.args.place / 2048) (c.args.place % 2048) block c.remove.new.self c.close_up.new.blocks.items c.self.invariant (omega arith) (omega arith) lt (omega arith) whole c.index_mut-block.ensures.value c.remove.ensures c.close_up.ensures in
     rw (← c.self.view_is) done.1
 
 pub returns-clause-room : goal.returns-clause-room
@@ -50,8 +50,8 @@ returns-clause-room c =
     let a = c.self.inside in
     let len : length c.args.self.now.rows ≡ a.len = rw (← c.self.view_is) (sym c.self.invariant.counted) in
     let block = c.index_mut-block.result.now in
-    let lt : c.args.place / 512 < length a.blocks.items = omega (arith, c.self.invariant.fits) in
-    let whole : c.args.place ≡ 512 * (c.args.place / 512) + c.args.place % 512 = omega arith in
-    let item = item_is 512 a.blocks.items a.len c.args.place (c.args.place / 512) (c.args.place % 512) block c.self.invariant lt (omega arith) whole c.index_mut-block.ensures.value in
-    let done = remove_done 512 a.blocks.items a.len (a.len - 1) c.args.place (c.args.place / 512) (c.args.place % 512) block c.remove.new.self c.close_up.new.blocks.items c.self.invariant (omega arith) (omega arith) lt (omega arith) whole c.index_mut-block.ensures.value c.remove.ensures c.close_up.ensures in
+    let lt : c.args.place / 2048 < length a.blocks.items = omega (arith, c.self.invariant.fits) in
+    let whole : c.args.place ≡ 2048 * (c.args.place / 2048) + c.args.place % 2048 = omega arith in
+    let item = item_is 2048 a.blocks.items a.len c.args.place (c.args.place / 2048) (c.args.place % 2048) block c.self.invariant lt (omega arith) whole c.index_mut-block.ensures.value in
+    let done = remove_done 2048 a.blocks.items a.len (a.len - 1) c.args.place (c.args.place / 2048) (c.args.place % 2048) block c.remove.new.self c.close_up.new.blocks.items c.self.invariant (omega arith) (omega arith) lt (omega arith) whole c.index_mut-block.ensures.value c.remove.ensures c.close_up.ensures in
     rw (← c.self.view_is) (omega (arith, done.2, c.self.invariant.fits))
