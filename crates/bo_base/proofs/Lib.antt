@@ -3,7 +3,6 @@ pub mod Places
 pub mod RisingLemmas
 pub mod Edits
 pub mod Drops
-pub mod ToldLemmas
 mod CivilLemmas
 mod TextLemmas
 mod DigitLemmas

@@ -5,7 +5,6 @@ pub mod Texts
 pub mod Slugs
 pub mod Counts
 pub mod Draws
-pub mod Told
 pub mod Refusals
 pub mod Digits
 pub mod Money

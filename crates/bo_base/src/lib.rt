@@ -1,11 +1,10 @@
-//! What every layer speaks of: money, moments, draws, texts, tables of rows, devices and answers.
+//! What every layer speaks of: money, moments, draws, texts, tables of rows and answers.
 #![tactic(auto)]
 
 pub mod answer;
 pub mod cents;
 pub mod codes;
 pub mod counts;
-pub mod device;
 pub mod digits;
 pub mod draw;
 pub mod ids;
@@ -19,7 +18,6 @@ pub mod refusal;
 pub mod rows;
 pub mod secrets;
 pub mod slug;
-pub mod std_device;
 pub mod steps;
 #[cfg(test)]
 mod tests;
@@ -29,7 +27,6 @@ pub use answer::{Answer, Body, Methods, Response};
 pub use cents::{Cents, cents_text, read_cents, total_text};
 pub use codes::{order_code, read_code};
 pub use counts::{Priority, Size, Uses};
-pub use device::{Drain, Refused, Source, Tick, Ticks};
 pub use digits::number_of;
 pub use draw::Draw;
 pub use ids::{Ids, id_at};
@@ -42,6 +39,5 @@ pub use refusal::ValueRefusal;
 pub use rows::{Row, Rows, place_of};
 pub use secrets::secret;
 pub use slug::{Slug, is_slug};
-pub use std_device::Device;
 pub use steps::Steps;
 pub use text::{Text, is_text};

@@ -3,9 +3,9 @@ use Rattle.std.proofs.Common.{◌≡◌, ℕ, Bool, true, false, List, [], ◌�
 use Rattle.std.proofs.lemmas.List.{map-append}
 use Rattle.std.specs.Io.KnownBytes.{IsAtEnd}
 use Rattle.bo_base.specs.declared.answer.Answer.{Answer}
-use Rattle.bo_base.specs.declared.device.Tick.{Tick}
-use Rattle.bo_base.specs.Told.{Adds, Gives}
-use Rattle.bo_base.proofs.ToldLemmas.{Adds-nil, Adds-append, Gives-nil, Gives-append}
+use Rattle.bo_devices.specs.declared.device.Tick.{Tick}
+use Rattle.bo_devices.specs.Told.{Adds, Gives}
+use Rattle.bo_devices.proofs.ToldLemmas.{Adds-nil, Adds-append, Gives-nil, Gives-append}
 use Rattle.bo_http.specs.declared.fault.Fault.{Fault}
 use Rattle.bo_http.specs.Text.{text, fault_text}
 use Rattle.bo_http.specs.Messages.{Message, Takes, Faults, HasNone, closes, Messages, whole}

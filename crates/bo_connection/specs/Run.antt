@@ -2,8 +2,8 @@
 use Rattle.std.specs.Prelude.{◌≡◌, ℕ, ◌+◌, ◌-◌, ◌*◌, ◌<◌, ◌≤◌, ◌⊎◌, Bool, List, [], ◌∷◌, ◌++◌, length, map, Option, Result, Ok, Err, true, false}
 use Rattle.std.specs.Io.KnownBytes.{IsAtEnd}
 use Rattle.bo_base.specs.declared.answer.Answer.{Answer}
-use Rattle.bo_base.specs.declared.device.Tick.{Tick}
-use Rattle.bo_base.specs.Told.{Adds, Gives}
+use Rattle.bo_devices.specs.declared.device.Tick.{Tick}
+use Rattle.bo_devices.specs.Told.{Adds, Gives}
 use Rattle.bo_http.specs.declared.fault.Fault.{Fault}
 use Rattle.bo_http.specs.Text.{text, fault_text}
 use Rattle.bo_http.specs.Messages.{Message, Takes, Faults, HasNone, closes, Messages, whole}

@@ -1,11 +1,11 @@
 //! Who answers the messages of a connection.
 
-ghost use Rattle.bo_base.specs.declared.device.Tick.{Tick};
+ghost use Rattle.bo_devices.specs.declared.device.Tick.{Tick};
 ghost use Rattle.bo_base.specs.declared.answer.Answer.{Answer};
 ghost use Rattle.bo_http.specs.Messages.{Message};
 
 use bo_base::answer::Answer;
-use bo_base::device::Tick;
+use bo_devices::device::Tick;
 use bo_http::frame::Frame;
 use std::alloc::Global;
 

@@ -7,7 +7,7 @@ use crate::desk::Desk;
 use crate::failure::Failure;
 use crate::room::Room;
 use crate::step::serve_ready;
-use bo_base::device::{Drain, Source, Ticks};
+use bo_devices::device::{Drain, Source, Ticks};
 use bo_http::frames::Frames;
 use std::alloc::Global;
 

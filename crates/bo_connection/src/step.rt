@@ -4,7 +4,7 @@ ghost use Rattle.bo_connection.specs.Run.{Steps, ServesReady, Counted, cursor};
 
 use crate::desk::Desk;
 use crate::failure::{Failure, Step};
-use bo_base::device::{Drain, Ticks};
+use bo_devices::device::{Drain, Ticks};
 use bo_http::frames::Frames;
 use bo_http::write::{write_answer, write_fault};
 use std::alloc::Global;

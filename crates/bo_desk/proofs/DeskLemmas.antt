@@ -3,7 +3,7 @@ use Rattle.std.proofs.Common.{◌≡◌, inl, inr, ℕ, true, false, cond, List,
 use Rattle.bo_base.specs.declared.answer.Answer.{Answer}
 use Rattle.bo_base.specs.declared.answer.Answer.TheVariants.{Unavailable}
 use Rattle.bo_base.specs.declared.answer.Response.{Response}
-use Rattle.bo_base.specs.declared.device.Tick.{Tick}
+use Rattle.bo_devices.specs.declared.device.Tick.{Tick}
 use Rattle.bo_http.specs.Messages.{Message}
 use Rattle.bo_lists.specs.Lists.{State}
 use Rattle.bo_commands.specs.declared.replies.Reply.{Reply}

@@ -3,7 +3,7 @@ use Rattle.std.proofs.Common.{◌≡◌, ℕ, List, [], ◌∷◌, ◌++◌, Res
 use Rattle.bo_base.specs.declared.answer.Answer.{Answer}
 use Rattle.bo_base.specs.declared.answer.Answer.TheVariants.{Decided, Unavailable}
 use Rattle.bo_base.specs.declared.answer.Response.{Response}
-use Rattle.bo_base.specs.declared.device.Tick.{Tick}
+use Rattle.bo_devices.specs.declared.device.Tick.{Tick}
 use Rattle.bo_http.specs.Messages.{Message, closes}
 use Rattle.bo_http.specs.Text.{text}
 use Rattle.bo_commands.specs.declared.replies.Reply.{Reply}

@@ -5,7 +5,8 @@ ghost use Rattle.bo_desk.specs.DeskView.{DeskView, meaning};
 ghost use Rattle.bo_desk.specs.Served.{Serves};
 
 use crate::words::HouseWords;
-use bo_base::{Answer, Tick};
+use bo_base::Answer;
+use bo_devices::Tick;
 use bo_connection::Desk;
 use bo_http::Frame;
 use bo_kept::Tables;

@@ -1,7 +1,7 @@
 //! Laws of every run of a shop over a stream.
 
 ghost use Rattle.std.specs.Prelude.{◌≡◌, ◌≤◌, ℕ, List, Result};
-ghost use Rattle.bo_base.specs.declared.device.Tick.{Tick};
+ghost use Rattle.bo_devices.specs.declared.device.Tick.{Tick};
 ghost use Rattle.bo_sound.specs.Sound.{IsSound};
 ghost use Rattle.bo_kept.specs.ShopView.{ShopView};
 ghost use Rattle.bo_deliveries.specs.Deliveries.{Opening, Delivery};

@@ -11,7 +11,8 @@ ghost use Rattle.bo_desk.specs.Served.{ServesOnce};
 
 use crate::desk::ShopDesk;
 use bo_api::{Call, key_of};
-use bo_base::{Answer, Known, Response, Tick};
+use bo_base::{Answer, Known, Response};
+use bo_devices::Tick;
 use bo_deliveries::{Arrival, Request};
 use bo_http::Frame;
 use bo_kept::{Key, Tables, TablesError};

@@ -1,7 +1,7 @@
 -- A desk that `feed` begins with, as a shop and as one that stands for no arrivals; and what is told of a run from it.
 use Rattle.std.proofs.Common.{◌≡◌, ◌⊎◌, inl, inr, ℕ, List, [], Result, Err, sym, subst₂}
 use Rattle.bo_base.specs.declared.answer.Answer.{Answer}
-use Rattle.bo_base.specs.declared.device.Tick.{Tick}
+use Rattle.bo_devices.specs.declared.device.Tick.{Tick}
 use Rattle.bo_http.specs.Messages.{Message}
 use Rattle.bo_sound.specs.Sound.{IsSound}
 use Rattle.bo_sound.proofs.Sound.{sound_empty}

@@ -2,7 +2,7 @@
 use Rattle.std.proofs.Common.{◌≡◌, ℕ, ◌+◌, ◌*◌, ◌-◌, ◌^◌, min, List, [], ◌∷◌, ◌++◌, Option, Some, sym, ap, ap₂, ◌∙◌, add-one, arith}
 use Rattle.std.specs.Int.{bytes_high_first}
 use Rattle.bo_base.specs.Moments.{last_moment}
-use Rattle.bo_base.specs.declared.device.Tick.{Tick}
+use Rattle.bo_devices.specs.declared.device.Tick.{Tick}
 use Rattle.bo_feed.specs.FeedTicks.{feed_tick, feed_ticks}
 
 abbrev pub some_ticks : List Tick → Option (List Tick)

@@ -1,6 +1,6 @@
 -- What `feed` does.
 use Rattle.std.specs.Prelude.{◌≡◌, ◌⊎◌, ℕ, ◌+◌, ◌≤◌, List, [], Option, Some, None, Result, Ok, Err, if◌then◌else◌, nat_le, ⊤}
-use Rattle.bo_base.specs.declared.device.Tick.{Tick}
+use Rattle.bo_devices.specs.declared.device.Tick.{Tick}
 use Rattle.bo_base.specs.declared.refusal.ValueRefusal.{ValueRefusal}
 use Rattle.bo_base.specs.Digits.{number_of}
 use Rattle.bo_base.specs.Moments.{moment_of}

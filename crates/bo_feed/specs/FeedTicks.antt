@@ -2,7 +2,7 @@
 use Rattle.std.specs.Prelude.{ℕ, zero, suc, ◌+◌, ◌*◌, min, List, [], ◌∷◌, ◌++◌}
 use Rattle.std.specs.Int.{bytes_high_first}
 use Rattle.bo_base.specs.Moments.{last_moment}
-use Rattle.bo_base.specs.declared.device.Tick.{Tick}
+use Rattle.bo_devices.specs.declared.device.Tick.{Tick}
 
 -- The tick after so many earlier ones: its moment is as many steps after the first one, and the last moment where that is
 -- beyond it; its draw is its number, from 1, in sixteen bytes, the greatest first.

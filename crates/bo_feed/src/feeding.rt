@@ -8,7 +8,8 @@ ghost use Rattle.bo_feed.specs.Feed.{Feeds, FeedsDesk, FeedsTexts, as_fault, fee
 use crate::fault::Fault;
 use crate::house::serve_office;
 use crate::ticks::{FeedTicks, Pace};
-use bo_base::{Device, Drain, Moment, Source, Steps, number_of, read_moment};
+use bo_base::{Moment, Steps, number_of, read_moment};
+use bo_devices::{Device, Drain, Source};
 use bo_connection::Failure;
 use bo_counters::Counters;
 use bo_fresh::open_memory;

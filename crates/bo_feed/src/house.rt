@@ -7,7 +7,7 @@ ghost use Rattle.bo_desk.specs.Served.{Serves};
 ghost use Rattle.bo_fresh.specs.House.{desk_with};
 ghost use Rattle.bo_feed.specs.House.{ServesFresh, no_desk};
 
-use bo_base::{Drain, Source, Ticks};
+use bo_devices::{Drain, Source, Ticks};
 use bo_connection::{Desk, Failure, Room, run_stream};
 use bo_counters::Counters;
 use bo_desk::ShopDesk;

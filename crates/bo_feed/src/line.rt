@@ -9,7 +9,7 @@ use crate::ended::Ended;
 use crate::fault::Fault;
 use crate::feeding::feed_texts;
 use crate::words::{plain_words, read_line};
-use bo_base::{Drain, Source};
+use bo_devices::{Drain, Source};
 use clap::Error;
 use clap::error::ErrorKind;
 use std::alloc::Global;

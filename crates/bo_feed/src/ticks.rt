@@ -3,7 +3,7 @@
 ghost use Rattle.std.specs.Prelude.{◌≡◌, ◌<◌, ℕ, Some};
 ghost use Rattle.bo_feed.specs.FeedTicks.{feed_ticks};
 
-use bo_base::device::{Refused, Tick, Ticks};
+use bo_devices::device::{Refused, Tick, Ticks};
 use bo_base::draw::Draw;
 use bo_base::moment::Moment;
 use bo_base::steps::Steps;

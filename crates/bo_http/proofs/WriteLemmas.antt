@@ -1,7 +1,7 @@
 -- What was written, one text after another.
 use Rattle.std.proofs.Common.{◌≡◌, ℕ, List, ◌++◌, Result, Ok, Err, ap, ◌∙◌, append_assoc, subst, sym, ◌+◌}
-use Rattle.bo_base.specs.declared.device.Refused.{Refused}
-use Rattle.bo_base.proofs.ToldLemmas.{Adds-append}
+use Rattle.bo_devices.specs.declared.device.Refused.{Refused}
+use Rattle.bo_devices.proofs.ToldLemmas.{Adds-append}
 use Rattle.bo_http.specs.Written.{Page, Writes}
 
 -- the first of two texts stopped

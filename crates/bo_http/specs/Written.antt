@@ -1,7 +1,7 @@
 -- What a call that writes a text leads to.
 use Rattle.std.specs.Prelude.{◌≡◌, ℕ, ◌+◌, List, ◌++◌, Option, Result, Ok, Err}
-use Rattle.bo_base.specs.Told.{Adds}
-use Rattle.bo_base.specs.declared.device.Refused.{Refused}
+use Rattle.bo_devices.specs.Told.{Adds}
+use Rattle.bo_devices.specs.declared.device.Refused.{Refused}
 
 -- a part of the text was added, perhaps none of it
 abbrev pub AddsPart : Option (List ℕ) → List ℕ → Option (List ℕ) → Type 0

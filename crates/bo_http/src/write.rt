@@ -6,7 +6,8 @@ ghost use Rattle.bo_http.specs.Written.{Writes};
 
 use crate::answer_head::{head_of, when};
 use crate::fault::Fault;
-use bo_base::{Answer, Drain, Methods, Refused};
+use bo_base::{Answer, Methods};
+use bo_devices::{Drain, Refused};
 use http::StatusCode;
 
 /// Writes the bytes, as many at a time as the writer takes.

@@ -4,7 +4,8 @@ ghost use Rattle.std.specs.Prelude.{◌≡◌, ◌<◌};
 
 use crate::cut::Cut;
 use crate::listed::Listed;
-use bo_base::{Device, Moment, Steps, read_moment};
+use bo_base::{Moment, Steps, read_moment};
+use bo_devices::Device;
 use bo_connection::Failure;
 use bo_feed::serve_house;
 use std::alloc::{AllocError, Global};

@@ -1,6 +1,6 @@
 use Rattle.std.proofs.Common.{◌++◌, [], ℕ, List, refl, sym, ap, ◌∙◌, subst, arith, length-append}
 use Rattle.bo_connection.specs.Run.{Progress, cursor}
-use Rattle.bo_base.proofs.ToldLemmas.{Gives-nil, Gives-append}
+use Rattle.bo_devices.proofs.ToldLemmas.{Gives-nil, Gives-append}
 use Rattle.bo_connection.proofs.RunLemmas.{progress_none, progress_more, progress_feed, finished_more, finished_none, finished_all, finished_at, broken_more, broken_at, limit_broken, read_broken, run_leads, run_ends}
 use Rattle.bo_connection.proofs.run.serve_all.Goals as goal
 

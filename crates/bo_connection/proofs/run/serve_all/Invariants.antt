@@ -1,5 +1,5 @@
 use Rattle.std.proofs.Common.{◌≡◌, ◌+◌, ℕ, List}
-use Rattle.bo_base.specs.Told.{Gives}
+use Rattle.bo_devices.specs.Told.{Gives}
 use Rattle.bo_connection.specs.Run.{Progress, InPieces, cursor}
 use Rattle.bo_connection.proofs.run.serve_all.Given as goal
 

@@ -1,7 +1,7 @@
 use Rattle.std.proofs.Common.{ℕ, List, take, drop, sym, subst, rules, append-nil, arith, ap, length, length-drop, take-append-drop}
 use Rattle.std.proofs.lemmas.List.{take_rest}
-use Rattle.bo_base.specs.Told.{Adds}
-use Rattle.bo_base.proofs.ToldLemmas.{Adds-append, take_on}
+use Rattle.bo_devices.specs.Told.{Adds}
+use Rattle.bo_devices.proofs.ToldLemmas.{Adds-append, take_on}
 use Rattle.bo_http.proofs.write.write_all.Goals as goal
 
 pub returns-in-Err : goal.returns-in-Err

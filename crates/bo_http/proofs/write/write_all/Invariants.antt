@@ -1,5 +1,5 @@
 use Rattle.std.proofs.Common.{◌≡◌, ◌≤◌, ◌-◌, length, take}
-use Rattle.bo_base.specs.Told.{Adds}
+use Rattle.bo_devices.specs.Told.{Adds}
 use Rattle.bo_http.proofs.write.write_all.Given as goal
 
 abbrev pub invariant-loop-at : goal.invariant-loop-at
