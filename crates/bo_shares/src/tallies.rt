@@ -1,7 +1,7 @@
 //! What is counted beside a log of changes: what came and went of each quota, the uses of vouchers, and the numbers of cart
 //! positions and of vouchers.
 
-ghost use Rattle.std.specs.Prelude.{◌≡◌, ◌&&◌, true, [], is_some, length, OnOk, OnErr};
+ghost use Rattle.std.specs.Prelude.{◌≡◌, ◌&&◌, true, [], is_some, length, None, OnOk, OnErr};
 ghost use Rattle.std.specs.Option.{IfSome};
 ghost use Rattle.bo_lists.specs.Change.{after_change};
 ghost use Rattle.bo_overlay.specs.Logs.{rows_of, IsSale};
@@ -181,6 +181,7 @@ fn count_both<B: Book>(
     requires turned { AreTurned change.now (rows_of overlay.now) tickets.now }
     ensures more { OnOk result (IsMore (come_of (rows_of overlay.now) at change.now) (gone_of (rows_of overlay.now) at change.now) catalogue.now.lists.quotas counts.old counts.new) }
     ensures shifted { OnOk result (IfSome shift (λ s. CountsMore s.come s.gone uses.old uses.new)) }
+    ensures unknown { shift ≡ None → uses.new ≡ uses.old }
     ensures on { OnOk result (GoesOn uses.old uses.new) }
     ensures err { OnErr result (counts.new ≡ counts.old) }
     ensures err_uses { OnErr result (uses.new ≡ uses.old) }

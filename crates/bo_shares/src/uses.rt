@@ -1,6 +1,6 @@
 //! The uses of vouchers that come and go with a change.
 
-ghost use Rattle.std.specs.Prelude.{◌≡◌, ℕ, ◌+◌, OnOk, OnErr, if◌then◌else◌};
+ghost use Rattle.std.specs.Prelude.{◌≡◌, ℕ, ◌+◌, None, OnOk, OnErr, if◌then◌else◌};
 ghost use Rattle.std.specs.Option.{IfSome};
 ghost use Rattle.bo_lists.specs.Conditions.{names};
 ghost use Rattle.bo_shares.specs.Uses.{CountsMore};
@@ -13,6 +13,7 @@ use std::alloc::AllocError;
 /// Counts what a change shifts, if it is known. Where there is no memory for it, the counts are as they were.
 pub fn count_uses(uses: &mut Tally, shift: Option<UseShift>) -> Result<(), AllocError>
     ensures counts { OnOk result (IfSome shift (λ s. CountsMore s.come s.gone uses.old uses.new)) }
+    ensures unknown { shift ≡ None → uses.new ≡ uses.old }
     ensures on { OnOk result (GoesOn uses.old uses.new) }
     ensures err { OnErr result (uses.new ≡ uses.old) }
 {
