@@ -16,7 +16,9 @@ use Rattle.bo_lists.specs.Kept.{IsKept}
 use Rattle.bo_lists.specs.Usage.{usage_of, stands_as, blocked_by, is_covered_by}
 use Rattle.bo_lists.proofs.Time.{one}
 use Rattle.bo_lists.proofs.Orders.{counts, of_order, order_step, position_step, blocked_linear}
-use Rattle.bo_draft.specs.Shift.{KeepsHeadroom, used, sale_come, sale_gone, order_come, order_gone}
+use Rattle.bo_shares.specs.Shift.{sale_come, sale_gone, order_come, order_gone}
+use Rattle.bo_draft.specs.CanCome.{KeepsHeadroom}
+use Rattle.bo_draft.specs.Used.{used}
 use Rattle.bo_draft.proofs.Parts.{by_usage, order_total, position_total}
 use Rattle.bo_usage.proofs.OrderSums.{of_one, order_put_is}
 use Rattle.bo_usage.specs.OfOrder.{count_ordered, if_stands}

@@ -14,15 +14,16 @@ use Rattle.bo_overlay.proofs.Steps.{after_all-push}
 use Rattle.bo_tally.specs.declared.tally.Count.{Count}
 use Rattle.bo_tally.specs.Counts.{GoesOn}
 use Rattle.bo_tally.proofs.Newest.{on_longer, on_front}
+use Rattle.bo_shares.specs.declared.tallies.Reach.{Reach}
+use Rattle.bo_shares.specs.Tallied.{Tallied, reach_at, tallied_at, IsNext}
+use Rattle.bo_shares.specs.Uses.{AreKept}
 use Rattle.bo_draft.specs.declared.bases.Base.{Base}
-use Rattle.bo_draft.specs.declared.tallies.Reach.{Reach}
-use Rattle.bo_draft.specs.Shift.{CanCome, AreBases}
-use Rattle.bo_draft.specs.Tallied.{Tallied, reach_at, tallied_at, IsBelow, IsNext}
-use Rattle.bo_draft.specs.Uses.{AreKept}
+use Rattle.bo_draft.specs.Used.{AreBases}
+use Rattle.bo_draft.specs.CanCome.{CanCome}
+use Rattle.bo_draft.specs.DraftState.{log_at, IsTallied, IsBelow, IsDraft}
 use Rattle.bo_draft.proofs.CanCome.{headroom_after}
 use Rattle.bo_draft.proofs.Still.{counted_more}
-use Rattle.bo_draft.proofs.UseCounts.{known_more}
-use Rattle.bo_draft.specs.DraftState.{log_at, IsTallied, IsDraft}
+use Rattle.bo_draft.proofs.Known.{known_more}
 
 -- ---- lists
 before_last : {T : Type 0} (xs : List T) (x d : T) (n : ℕ) → n ≤ length xs → get_or (xs ++ x ∷ []) n d ≡ get_or xs n x

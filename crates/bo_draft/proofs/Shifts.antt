@@ -17,7 +17,9 @@ use Rattle.bo_lists.specs.Usage.{usage_of, cart_counts, blocked_by, waits_for}
 use Rattle.bo_lists.proofs.Lowers.{checkin_list_apart, checkin_apart}
 use Rattle.bo_usage.specs.Shares.{cart_share, waiting_share}
 use Rattle.bo_overlay.specs.Logs.{Log, rows_of}
-use Rattle.bo_draft.specs.Shift.{CanCome, used, come_of, gone_of}
+use Rattle.bo_shares.specs.Shift.{come_of, gone_of}
+use Rattle.bo_draft.specs.CanCome.{CanCome}
+use Rattle.bo_draft.specs.Used.{used}
 use Rattle.bo_draft.proofs.Parts.{by_usage, carts_total, waiting_total}
 use Rattle.bo_draft.proofs.VoucherShifts.{voucher_put, voucher_drop}
 use Rattle.bo_draft.proofs.OrderShifts.{order_put, position_put}

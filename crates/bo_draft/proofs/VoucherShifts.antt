@@ -13,7 +13,8 @@ use Rattle.bo_lists.specs.Usage.{usage_of, redeemed, cart_counts, blocked_by, bl
 use Rattle.bo_lists.specs.Headroom.{held_in}
 use Rattle.bo_lists.proofs.EachRow.{key-row_at}
 use Rattle.bo_usage.proofs.VoucherCounts.{carts_with}
-use Rattle.bo_draft.specs.Shift.{used, left_of, turned_voucher}
+use Rattle.bo_shares.specs.Shift.{left_of, turned_voucher}
+use Rattle.bo_draft.specs.Used.{used}
 use Rattle.bo_draft.proofs.Parts.{by_usage, voucher_total}
 
 module _ (lists : Lists) (at : ℕ) (quota : Quota) where

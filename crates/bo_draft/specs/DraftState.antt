@@ -1,18 +1,20 @@
 -- A draft: a box office as it stands in the book, and changes that aren't applied yet.
-use Rattle.std.specs.Prelude.{◌≡◌, ℕ, ◌≤◌, ◌<◌, ◌+◌, List, [], ◌∷◌, ◌++◌, length, take}
+use Rattle.std.specs.Prelude.{◌≡◌, ℕ, ◌≤◌, ◌<◌, ◌+◌, ◌⊎◌, Bool, false, List, [], ◌∷◌, ◌++◌, length, take}
 use Rattle.bo_base.specs.Tables.{AreInOrder}
 use Rattle.bo_lists.specs.declared.rows.NextIds.{NextIds}
 use Rattle.bo_lists.specs.declared.changes.Change.{Change}
-use Rattle.bo_lists.specs.Lists.{State}
+use Rattle.bo_lists.specs.Change.{after_change}
+use Rattle.bo_lists.specs.Lists.{Lists, State}
 use Rattle.bo_lists.specs.Headroom.{AllHaveHeadroom}
 use Rattle.bo_overlay.specs.Logs.{Log, rows_of}
 use Rattle.bo_tally.specs.declared.tally.Count.{Count}
 use Rattle.bo_tally.specs.Counts.{came, went}
-use Rattle.bo_draft.specs.Counts.{value_at}
+use Rattle.bo_shares.specs.declared.tallies.Reach.{Reach}
+use Rattle.bo_shares.specs.Counts.{value_at}
+use Rattle.bo_shares.specs.Tallied.{Tallied, reach_at, tallied_at}
+use Rattle.bo_shares.specs.Uses.{AreKept, TurnsUses}
 use Rattle.bo_draft.specs.declared.bases.Base.{Base}
-use Rattle.bo_draft.specs.Shift.{used, AreBases}
-use Rattle.bo_draft.specs.Tallied.{Tallied, reach_at, tallied_at, IsBelow}
-use Rattle.bo_draft.specs.Uses.{AreKept, AreKnown}
+use Rattle.bo_draft.specs.Used.{used, AreBases}
 
 -- a draft, which contracts see as its log, the next ids and its moment
 pub record DraftState : Type 0 where
@@ -45,6 +47,15 @@ back mark draft = record draft { log = log_at mark.count draft.log; next = mark.
 abbrev pub IsCounted : ℕ → Log → List Count → Type 0
 IsCounted at log counts = (place : ℕ) → value_at (used (rows_of log) at) log.base.catalogue.quotas place + went place counts ≡ value_at (used log.base at) log.base.catalogue.quotas place + came place counts
 
+-- one of these changes, each after those before it, turns the uses of a whole order
+abbrev pub SomeTurns : List Change → Lists → Type 0
+SomeTurns [] lists = ⊥
+SomeTurns (change ∷ changes) lists = TurnsUses change lists ⊎ SomeTurns changes (after_change change lists)
+
+-- the uses of vouchers are known but where a change turned those of a whole order
+abbrev pub AreKnown : List Change → Lists → Bool → Type 0
+AreKnown changes base known = known ≡ false → SomeTurns changes base
+
 -- the counts by quota, the numbers of cart positions and of vouchers and the uses of vouchers are what counting afresh gives, and
 -- no voucher is used too often; uses are forgotten only where an order turned
 pub record IsTallied (at : ℕ) (log : Log) (tallied : Tallied) : Type 0 where
@@ -57,6 +68,11 @@ pub record IsTallied (at : ℕ) (log : Log) (tallied : Tallied) : Type 0 where
   pub counts_end : tallied.here.counts ≡ length tallied.counts
   pub uses_end : tallied.here.uses ≡ length tallied.uses
   pub each : length tallied.reached ≡ length log.changes
+
+-- one reaches no further than the other
+pub record IsBelow (reach other : Reach) : Type 0 where
+  pub counts : reach.counts ≤ other.counts
+  pub uses : reach.uses ≤ other.uses
 
 -- what a draft keeps beside its log: it stands on a book, at a moment that isn't before the book's; what it knows of the book's
 -- usage is that usage; and what it counts now, and counted before each of its changes, is right

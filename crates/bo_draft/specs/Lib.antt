@@ -1,6 +1,4 @@
-pub mod Counts
-pub mod Uses
-pub mod Shift
-pub mod Touched
-pub mod Tallied
+pub mod Used
+pub mod CanCome
+pub mod Least
 pub mod DraftState

@@ -4,7 +4,7 @@ ghost use Rattle.std.specs.Prelude.{◌≡◌, ◌≤◌, ◌<◌, length, slice
 ghost use Rattle.bo_base.specs.Tables.{AreInOrder};
 ghost use Rattle.bo_catalogue.specs.CatalogueLists.{quota_at};
 ghost use Rattle.bo_catalogue.specs.declared.rows.Quota.{Quota};
-ghost use Rattle.bo_draft.specs.Shift.{used, AreBases};
+ghost use Rattle.bo_draft.specs.Used.{used, AreBases};
 ghost use Rattle.bo_lists.specs.Usage.{usage_of};
 
 use bo_base::{Moment, Row, Steps, place_of};
@@ -110,7 +110,7 @@ pub fn base_of<B: Book>(
 }
 
 // All that is used of a quota that stands in the book.
-#[tactic(auto, unfolding(crate::specs::Shift::used))]
+#[tactic(auto, unfolding(crate::specs::Used::used))]
 fn used_in_book<B: Book>(book: &B, quota: &Quota, at: Moment) -> u128
     requires moment { (B.state book.now).moment ≤ at }
     requires stands { quota_at quota.now.id (B.state book.now).lists.catalogue ≡ Some quota.now }

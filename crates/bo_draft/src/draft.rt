@@ -10,14 +10,13 @@ ghost use Rattle.bo_lists.specs.Over.{first_over};
 ghost use Rattle.bo_lists.specs.Change.{changed};
 ghost use Rattle.bo_draft.specs.DraftState.{DraftState, MarkState, IsMarkOf, Extends, now, back, with_change};
 ghost use Rattle.bo_overlay.specs.Logs.{rows_of};
-ghost use Rattle.bo_draft.specs.Shift.{CanCome};
+ghost use Rattle.bo_draft.specs.CanCome.{CanCome};
 ghost use Rattle.bo_lists.specs.Usage.{redeemed, usage_of, waits_for};
 ghost use Rattle.bo_lists.specs.Total.{total};
 ghost use Rattle.bo_catalogue.specs.CatalogueLists.{quota_at};
 
 use crate::bases::{Base, ask_bases, usage_in_book};
 use crate::over::{first_over, used_now};
-use crate::tallies::Tallies;
 use bo_base::Moment;
 use bo_base::codes::LAST_ORDER;
 use bo_catalogue::{LAST_ID, MOST_ROWS, Quota, takes_rows};
@@ -25,6 +24,7 @@ use bo_lists::{
     CartPos, Change, Changes, Checkin, CheckinList, NextIds, Order, OrderPos, Own, Voucher, Waiting,
 };
 use bo_overlay::Overlay;
+use bo_shares::Tallies;
 use bo_usage::{Book, LookUps};
 use std::alloc::{AllocError, Global};
 use std::marker::Model;
@@ -142,7 +142,7 @@ impl<'a, B: Book> Draft<'a, B> {
     }
 
     /// All that is used of a quota that stands: its five counts together.
-    #[tactic(auto, unfolding(crate::specs::Shift::used))]
+    #[tactic(auto, unfolding(crate::specs::Used::used))]
     pub fn used(&self, quota: &Quota) -> u128
         requires { quota_at quota.now.id (now self.now).lists.catalogue ≡ Some quota.now }
         ensures { result ≡ total (usage_of (now self.now).lists (now self.now).moment quota.now) }

@@ -4,12 +4,6 @@
 mod bases;
 pub mod draft;
 mod over;
-mod share;
-mod shift;
-mod tallies;
-mod touched;
-mod use_shift;
-mod uses;
 mod weighed;
 
 pub use draft::{Draft, Mark};

@@ -6,10 +6,11 @@ ghost use Rattle.bo_catalogue.specs.CatalogueLists.{quota_at};
 ghost use Rattle.bo_base.specs.Tables.{AreInOrder};
 ghost use Rattle.bo_lists.specs.Over.{first_over, is_over};
 ghost use Rattle.bo_overlay.specs.Logs.{rows_of, rows_at};
-ghost use Rattle.bo_draft.specs.Counts.{value_at, found_at, IsLeast};
+ghost use Rattle.bo_shares.specs.Counts.{value_at};
+ghost use Rattle.bo_draft.specs.Least.{found_at, IsLeast};
 ghost use Rattle.bo_draft.specs.DraftState.{log_at, IsCounted};
 ghost use Rattle.bo_catalogue.specs.declared.rows.Quota.{Quota};
-ghost use Rattle.bo_draft.specs.Shift.{used, AreBases};
+ghost use Rattle.bo_draft.specs.Used.{used, AreBases};
 ghost use Rattle.bo_tally.specs.Counts.{newest};
 
 use crate::bases::{Base, base_of};

@@ -2,10 +2,10 @@ use Rattle.std.proofs.Common.{◌≡◌, List, sym, ap, ◌∙◌, subst, arith}
 use Rattle.bo_base.specs.Tables.{AreInOrder}
 use Rattle.bo_base.proofs.Places.{insert_is_with_row, with_row_in_order}
 use Rattle.bo_draft.specs.declared.bases.Base.{Base}
-use Rattle.bo_draft.specs.Counts.{value_at}
-use Rattle.bo_draft.specs.Shift.{used, IsBase, AreBases}
+use Rattle.bo_shares.specs.Counts.{value_at}
+use Rattle.bo_draft.specs.Used.{used, IsBase, AreBases}
 use Rattle.bo_draft.proofs.Asked.{known_more}
-use Rattle.bo_draft.proofs.Values.{value_here}
+use Rattle.bo_shares.proofs.Values.{value_here}
 use Rattle.bo_draft.proofs.Standing.{quota_stands}
 use Rattle.bo_draft.proofs.bases.ask_base.Goals as goal
 

@@ -1,8 +1,8 @@
 use Rattle.std.proofs.Common.{get_or, ◌∙◌}
 use Rattle.bo_base.proofs.Places.{row_at_place}
 use Rattle.bo_draft.specs.declared.bases.Base.{Base}
-use Rattle.bo_draft.specs.Shift.{used, IsBase}
-use Rattle.bo_draft.proofs.Values.{value_here}
+use Rattle.bo_draft.specs.Used.{used, IsBase}
+use Rattle.bo_shares.proofs.Values.{value_here}
 use Rattle.bo_draft.proofs.Standing.{quota_stands}
 use Rattle.bo_draft.proofs.bases.base_of.Goals as goal
 

@@ -4,8 +4,9 @@ use Rattle.bo_lists.specs.Lists.{Lists}
 use Rattle.bo_lists.specs.Over.{is_over}
 use Rattle.bo_overlay.specs.Logs.{rows_of, rows_at}
 use Rattle.bo_tally.proofs.Earlier.{same_at_mark}
-use Rattle.bo_draft.specs.Counts.{value_at, found_at}
-use Rattle.bo_draft.specs.Shift.{used}
+use Rattle.bo_shares.specs.Counts.{value_at}
+use Rattle.bo_draft.specs.Least.{found_at}
+use Rattle.bo_draft.specs.Used.{used}
 use Rattle.bo_draft.proofs.Overs.{untouched, least_start, least_end, within_over}
 use Rattle.bo_draft.proofs.over.least_over.Goals as goal
 

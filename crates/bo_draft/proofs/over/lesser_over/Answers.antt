@@ -4,7 +4,7 @@ use Rattle.bo_lists.specs.Over.{is_over}
 use Rattle.bo_overlay.specs.Logs.{rows_of, rows_at}
 use Rattle.bo_tally.specs.declared.tally.Count.{Count}
 use Rattle.bo_tally.proofs.Newest.{nothing}
-use Rattle.bo_draft.specs.Counts.{found_at}
+use Rattle.bo_draft.specs.Least.{found_at}
 use Rattle.bo_draft.proofs.Overs.{least_stays, least_lowers}
 use Rattle.bo_draft.proofs.over.lesser_over.Goals as goal
 

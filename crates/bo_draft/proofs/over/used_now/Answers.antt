@@ -5,9 +5,9 @@ use Rattle.bo_catalogue.specs.declared.rows.Quota.{Quota}
 use Rattle.bo_catalogue.specs.CatalogueLists.{CatalogueLists}
 use Rattle.bo_lists.specs.Lists.{Lists}
 use Rattle.bo_overlay.specs.Logs.{rows_of}
-use Rattle.bo_draft.specs.Counts.{value_at}
-use Rattle.bo_draft.specs.Shift.{used}
-use Rattle.bo_draft.proofs.Values.{value_here}
+use Rattle.bo_shares.specs.Counts.{value_at}
+use Rattle.bo_draft.specs.Used.{used}
+use Rattle.bo_shares.proofs.Values.{value_here}
 use Rattle.bo_draft.proofs.over.used_now.Goals as goal
 
 pub returns-in-Ok : goal.returns-in-Ok

@@ -1,7 +1,7 @@
 use Rattle.std.proofs.Common.{◌≤◌, length, take, sym, ap, subst, arith}
 use Rattle.bo_overlay.specs.Logs.{Log}
+use Rattle.bo_shares.specs.Tallied.{Tallied}
 use Rattle.bo_draft.specs.DraftState.{DraftState, MarkState, IsDraft}
-use Rattle.bo_draft.specs.Tallied.{Tallied}
 use Rattle.bo_draft.proofs.Reaches.{draft_back}
 use Rattle.bo_draft.proofs.draft.Draft.back_to.Goals as goal
 

@@ -5,9 +5,10 @@ use Rattle.bo_lists.specs.Lists.{Lists}
 use Rattle.bo_lists.specs.Change.{changed}
 use Rattle.bo_overlay.specs.Logs.{Log, rows_of}
 use Rattle.bo_overlay.proofs.CodeKeys.{when_ok}
+use Rattle.bo_shares.specs.Tallied.{IsNext}
+use Rattle.bo_draft.specs.Used.{AreBases}
+use Rattle.bo_draft.specs.CanCome.{CanCome}
 use Rattle.bo_draft.specs.DraftState.{DraftState, IsDraft, now}
-use Rattle.bo_draft.specs.Shift.{CanCome, AreBases}
-use Rattle.bo_draft.specs.Tallied.{IsNext}
 use Rattle.bo_draft.proofs.Extensions.{now-with_change}
 use Rattle.bo_draft.proofs.Reaches.{draft_more, tallied_more}
 use Rattle.bo_draft.proofs.draft.Draft.change.Goals as goal

@@ -3,7 +3,7 @@ use Rattle.bo_catalogue.specs.CatalogueLists.{CatalogueLists, quota_at}
 use Rattle.bo_lists.specs.Lists.{Lists}
 use Rattle.bo_overlay.proofs.Sales.{sales_catalogue}
 use Rattle.bo_draft.specs.DraftState.{DraftState, now}
-use Rattle.bo_draft.specs.Shift.{used}
+use Rattle.bo_draft.specs.Used.{used}
 use Rattle.bo_draft.proofs.draft.Draft.used.Goals as goal
 
 pub used_now-requires-clause-stands : goal.used_now-requires-clause-stands

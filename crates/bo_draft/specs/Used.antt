@@ -1,0 +1,22 @@
+-- All that is used of a quota, and what a draft keeps of that.
+use Rattle.std.specs.Prelude.{◌≡◌, ℕ, ◌≤◌, List, Some}
+use Rattle.bo_base.specs.Tables.{row_at}
+use Rattle.bo_catalogue.specs.declared.rows.Quota.{Quota}
+use Rattle.bo_lists.specs.Lists.{Lists}
+use Rattle.bo_lists.specs.Total.{total}
+use Rattle.bo_lists.specs.Usage.{usage_of}
+use Rattle.bo_shares.specs.Counts.{value_at}
+use Rattle.bo_draft.specs.declared.bases.Base.{Base}
+
+-- all that is used of a quota
+unfoldable pub used : Lists → ℕ → Quota → ℕ
+used lists at quota = total (usage_of lists at quota)
+
+-- what is kept of a quota: how much the lists use of it
+pub record IsBase (lists : Lists) (at : ℕ) (quotas : List Quota) (place : ℕ) (base : Base) : Type 0 where
+  pub value : base.total ≡ value_at (used lists at) quotas place
+  pub few : base.total ≤ 92233720368547758080
+
+-- all that is kept of quotas
+abbrev pub AreBases : Lists → ℕ → List Quota → List Base → Type 0
+AreBases lists at quotas bases = (place : ℕ) (base : Base) → row_at (λ b. b.place) place bases ≡ Some base → IsBase lists at quotas place base

@@ -1,0 +1,7 @@
+pub mod Values
+mod RowCounts
+mod Reached
+mod UseShifts
+mod UseCounts
+mod Turned
+mod Unsold

@@ -1,0 +1,238 @@
+-- Counting the quotas that a change can touch counts them all.
+use Rattle.std.proofs.Common.{◌≡◌, ◌≢◌, ◌&&◌, not, OnOk, OnErr, Result, Ok, Err, option_copied, ℕ, zero, suc, ◌+◌, ◌<◌, ◌≤◌, ◌⊎◌, inl, inr, Bool, true, false, eqb, List, [], ◌∷◌, ◌++◌, length, take, get_or, count_by, Option, Some, None, refl, sym, ap, ◌∙◌, subst, arith}
+use Rattle.std.specs.Prelude.{◌||◌, if◌then◌else◌, map, filter}
+use Rattle.std.specs.List.{AllByRecursion}
+use Rattle.std.specs.Result.{is_err}
+use Rattle.std.proofs.lemmas.Bool.Decides.{nat_tests, eqb_tells}
+use Rattle.std.proofs.lemmas.List.{take_more, take_all}
+use Rattle.bo_base.specs.Tables.{has, row_at, InOrderFrom, AreInOrder, IsPlace, IsGap}
+use Rattle.bo_base.specs.Rising.{rising}
+use Rattle.bo_base.proofs.Edits.{row_at_above}
+use Rattle.bo_base.proofs.Places.{at_least, row_at_gap}
+use Rattle.bo_base.proofs.RisingLemmas.{has-rising}
+use Rattle.bo_catalogue.specs.declared.rows.Quota.{Quota}
+use Rattle.bo_catalogue.specs.declared.rows.Product.{Product}
+use Rattle.bo_catalogue.specs.CatalogueLists.{CatalogueLists, quota_at, quotas_of}
+use Rattle.bo_catalogue.specs.Member.{is_in}
+use Rattle.bo_lists.proofs.Found.{each_found}
+use Rattle.bo_lists.specs.declared.rows.Voucher.{Voucher}
+use Rattle.bo_lists.specs.Conditions.{hits, hits_by, hits_by_product, blocks}
+use Rattle.bo_lists.specs.Usage.{blocks_if}
+use Rattle.bo_shares.specs.declared.shift.Spot.{Spot}
+use Rattle.bo_shares.specs.Shift.{once, spot_share}
+use Rattle.bo_tally.specs.declared.tally.Count.{Count}
+use Rattle.bo_tally.specs.Counts.{came, went, GoesOn}
+use Rattle.bo_tally.proofs.Newest.{on_same, on_both}
+use Rattle.bo_shares.specs.Counts.{value_at, if_any, IsMore}
+use Rattle.bo_shares.specs.Touched.{IsOther, NoOther, NoneElse, Keeps, among, at_id}
+use Rattle.bo_shares.proofs.Values.{count_push}
+
+-- ---- ids behind others
+pub has-append : (k : ℕ) (xs ys : List ℕ) → has k (xs ++ ys) ≡ (has k xs || has k ys)
+has-append k [] ys = refl
+has-append k (x ∷ xs) ys = by_id (eqb x k) (has-append k xs ys)
+  where
+    by_id : (b : Bool) → has k (xs ++ ys) ≡ (has k xs || has k ys) → (b || has k (xs ++ ys)) ≡ ((b || has k xs) || has k ys)
+    by_id true more = refl
+    by_id false more = more
+
+neither : (a b : Bool) → (a || b) ≡ false → (a ≡ false) × (b ≡ false)
+neither true b h = absurd (cc h)
+neither false b h = (refl, h)
+
+pub keeps_all : (ids : List ℕ) → Keeps ids ids
+keeps_all ids id h = h
+
+pub keeps_more : (old more new : List ℕ) → new ≡ old ++ more → Keeps old new
+keeps_more old more new is id h = (neither (has id old) (has id more) (sym (ap (has id) is ∙ has-append id old more) ∙ h)).0
+
+pub absent_more : (old more new : List ℕ) → new ≡ old ++ more → (id : ℕ) → has id new ≡ false → has id more ≡ false
+absent_more old more new is id h = (neither (has id old) (has id more) (sym (ap (has id) is ∙ has-append id old more) ∙ h)).1
+
+pub keeps_both : (a b c : List ℕ) → Keeps a b → Keeps b c → Keeps a c
+keeps_both a b c x y id h = x id (y id h)
+
+other_before : (old new : List ℕ) (lists : CatalogueLists) (quota : Quota) → Keeps old new → IsOther new lists quota → IsOther old lists quota
+other_before old new lists quota keeps other = record { stands = other.stands; absent = keeps quota.id other.absent }
+
+pub no_other_more : (old new : List ℕ) (lists : CatalogueLists) (test : Quota → Bool) → Keeps old new → NoOther old lists test → NoOther new lists test
+no_other_more old new lists test keeps none quota other = none quota (other_before old new lists quota keeps other)
+
+pub none_else_more : (old new : List ℕ) (lists : CatalogueLists) (count : Quota → ℕ) → Keeps old new → NoneElse old lists count → NoneElse new lists count
+none_else_more old new lists count keeps none quota other = none quota (other_before old new lists quota keeps other)
+
+-- ---- the quotas of a product
+listed_at : (test : Quota → Bool) (id : ℕ) (q : Quota) (quotas : List Quota) → row_at (λ r. r.id) id quotas ≡ Some q → has id (map (λ (r : Quota). r.id) (filter test quotas)) ≡ false → q.id ≡ id → test q ≡ false
+listed_at test id q [] found absent own = absurd (cc found)
+listed_at test id q (r ∷ rs) found absent own = by_tests (test r) refl (eqb_tells r.id id) found absent (listed_at test id q rs)
+  where
+    some : (a b : Quota) → Some a ≡ Some b → a ≡ b
+    some a b e = cc e
+
+    by_tests : (b : Bool) → test r ≡ b → ((eqb r.id id ≡ true) × (r.id ≡ id)) ⊎ ((eqb r.id id ≡ false) × (r.id ≢ id)) → (let o : Option Quota = if eqb r.id id then Some r else row_at (λ r. r.id) id rs in o ≡ Some q) → has id (map (λ (r : Quota). r.id) (if b then r ∷ filter test rs else filter test rs)) ≡ false → (row_at (λ r. r.id) id rs ≡ Some q → has id (map (λ (r : Quota). r.id) (filter test rs)) ≡ false → q.id ≡ id → test q ≡ false) → test q ≡ false
+    by_tests true is (inl e) found absent more = absurd (cc (sym (ap (λ x. x || has id (map (λ (r : Quota). r.id) (filter test rs))) e.0) ∙ absent))
+    by_tests true is (inr e) found absent more = more (rw e.0 at found) (rw e.0 at absent) own
+    by_tests false is (inl e) found absent more = ap test (sym (some r q (rw e.0 at found))) ∙ is
+    by_tests false is (inr e) found absent more = more (rw e.0 at found) absent own
+
+-- no other quota has the product
+pub no_other_of : (ids : List ℕ) (lists : CatalogueLists) (product : Product) → ((id : ℕ) → has id ids ≡ false → has id (quotas_of product lists) ≡ false) → NoOther ids lists (λ q. is_in q product)
+no_other_of ids lists product all quota other = listed_at (λ q. is_in q product) quota.id quota lists.quotas other.stands (all quota.id other.absent) refl
+
+-- ---- places
+module _ {T : Type 0} (key : T → ℕ) (f : T → ℕ) (id : ℕ) where
+  -- a row of another id has none
+  at_key : T → ℕ
+  at_key r = if eqb (key r) id then f r else 0
+
+  pub value_absent : (rows : List T) (place : ℕ) → row_at key id rows ≡ None → value_at (λ r. if eqb (key r) id then f r else 0) rows place ≡ 0
+  value_absent [] place none = refl
+  value_absent (r ∷ rs) place none = by_id (eqb (key r) id) refl none place (value_absent rs)
+    where
+      by_id : (b : Bool) → eqb (key r) id ≡ b → (let o : Option T = if b then Some r else row_at key id rs in o ≡ None) → (place : ℕ) → ((place : ℕ) → row_at key id rs ≡ None → value_at (λ r. if eqb (key r) id then f r else 0) rs place ≡ 0) → value_at (λ r. if eqb (key r) id then f r else 0) (r ∷ rs) place ≡ 0
+      by_id true is none place more = absurd (cc none)
+      by_id false is none zero more = rw is refl
+      by_id false is none (suc place) more = more place none
+
+  pub value_placed : (n : ℕ) (rows : List T) (at place : ℕ) (d : T) → InOrderFrom key n rows → IsPlace key rows id at → value_at (λ r. if eqb (key r) id then f r else 0) rows place ≡ (if eqb at place then f (get_or rows at d) else 0)
+  value_placed n [] at place d h p = absurd (omega (arith, p.in_range))
+  value_placed n (r ∷ rs) zero zero d h p = let own : eqb (key r) id ≡ true = grind (arith, nat_tests, p.has_id r) in rw own refl
+  value_placed n (r ∷ rs) zero (suc place) d h p =
+      let other : eqb 0 (suc place) ≡ false = grind (arith, nat_tests) in
+      rw other (value_absent rs place (row_at_above key (key r + 1) id rs (omega (arith, p.has_id r)) h.1))
+  value_placed n (r ∷ rs) (suc at) zero d h p =
+      let other : eqb (suc at) 0 ≡ false = grind (arith, nat_tests) in
+      let below : eqb (key r) id ≡ false = grind (arith, nat_tests, p.has_id d, at_least key (key r + 1) rs h.1 at d (omega (arith, p.in_range))) in
+      rw (other, below) refl
+  value_placed n (r ∷ rs) (suc at) (suc place) d h p =
+      let same : eqb (suc at) (suc place) ≡ eqb at place = grind (arith, nat_tests) in
+      rw same (value_placed (key r + 1) rs at place d h.1 (record { in_range = omega (arith, p.in_range); has_id = p.has_id }))
+
+-- the quota at the place of an id is counted
+pub more_placed : (f g : Quota → ℕ) (quotas : List Quota) (id at : ℕ) (q : Quota) → AreInOrder (λ (r : Quota). r.id) quotas → IsPlace (λ (r : Quota). r.id) quotas id at → q ≡ get_or quotas at q → (x y : ℕ) → x ≡ f q → y ≡ g q → (old new : List Count) → ((key : ℕ) → came key new ≡ came key old + (if eqb at key then x else 0)) → ((key : ℕ) → went key new ≡ went key old + (if eqb at key then y else 0)) → GoesOn old new → IsMore (at_id id f) (at_id id g) quotas old new
+more_placed f g quotas id at q order placed is x y come gone old new comes goes on = record {
+  comes = λ place. comes place ∙ ap (λ n. came place old + n) (ap (λ n. if eqb at place then n else 0) (come ∙ ap f is) ∙ sym (value_placed (λ (r : Quota). r.id) f id 0 quotas at place q order placed));
+  goes = λ place. goes place ∙ ap (λ n. went place old + n) (ap (λ n. if eqb at place then n else 0) (gone ∙ ap g is) ∙ sym (value_placed (λ (r : Quota). r.id) g id 0 quotas at place q order placed));
+  on = on;
+}
+
+-- an id of no quota brings nothing
+pub more_absent : (f g : Quota → ℕ) (quotas : List Quota) (id at : ℕ) (counts : List Count) → IsGap (λ (r : Quota). r.id) quotas id at → IsMore (at_id id f) (at_id id g) quotas counts counts
+more_absent f g quotas id at counts gap =
+    let none = row_at_gap (λ (r : Quota). r.id) quotas id at gap in
+    record {
+      comes = λ place. omega (arith, value_absent (λ (r : Quota). r.id) f id quotas place none);
+      goes = λ place. omega (arith, value_absent (λ (r : Quota). r.id) g id quotas place none);
+      on = on_same counts;
+    }
+
+-- ---- one id after another
+
+values_same_each : {T : Type 0} (P : T → Type 0) (f g : T → ℕ) (rows : List T) (place : ℕ) → ((r : T) → P r → f r ≡ g r) → AllByRecursion P rows → value_at f rows place ≡ value_at g rows place
+values_same_each P f g [] place each all = refl
+values_same_each P f g (r ∷ rs) zero each all = each r all.0
+values_same_each P f g (r ∷ rs) (suc place) each all = values_same_each P f g rs place each all.1
+
+-- an id isn't among those before it
+absent_before : (n : ℕ) (ids : List ℕ) (i d : ℕ) → InOrderFrom (λ n. n) n ids → i < length ids → has (get_or ids i d) (take i ids) ≡ false
+absent_before n [] i d h lt = absurd (omega arith)
+absent_before n (x ∷ xs) zero d h lt = refl
+absent_before n (x ∷ xs) (suc i) d h lt = grind (arith, nat_tests, at_least (λ n. n) (x + 1) xs h.1 i d (omega arith), absent_before (x + 1) xs i d h.1 (omega arith))
+
+-- one more id is among those that were reached
+among_more : (ids : List ℕ) (i d : ℕ) (f : Quota → ℕ) → AreInOrder (λ n. n) ids → i < length ids → (q : Quota) → among (take (i + 1) ids) f q ≡ among (take i ids) f q + at_id (get_or ids i d) f q
+among_more ids i d f order lt q =
+    ap (λ b. if b then f q else 0) (ap (has q.id) (take_more ids i d lt) ∙ has-append q.id (take i ids) (get_or ids i d ∷ []))
+    ∙ by_ids (get_or ids i d) (absent_before 0 ids i d order lt) (eqb_tells q.id (get_or ids i d)) (has q.id (take i ids)) refl
+  where
+    by_ids : (id : ℕ) → has id (take i ids) ≡ false → ((eqb q.id id ≡ true) × (q.id ≡ id)) ⊎ ((eqb q.id id ≡ false) × (q.id ≢ id)) → (b : Bool) → has q.id (take i ids) ≡ b → (if b || (eqb id q.id || false) then f q else 0) ≡ (if b then f q else 0) + (if eqb q.id id then f q else 0)
+    by_ids id before (inl e) true has_it = absurd (cc (sym has_it ∙ ap (λ x. has x (take i ids)) e.1 ∙ before))
+    by_ids id before (inl e) false has_it = let own : eqb id q.id ≡ true = grind (arith, nat_tests, e.1) in rw (own, e.0) (omega arith)
+    by_ids id before (inr e) true has_it = rw e.0 (omega arith)
+    by_ids id before (inr e) false has_it = let other : eqb id q.id ≡ false = grind (arith, nat_tests, e.1) in rw (other, e.0) refl
+
+pub more_id : (f g : Quota → ℕ) (quotas : List Quota) (ids : List ℕ) (i d : ℕ) → AreInOrder (λ n. n) ids → i < length ids → (old mid new : List Count) → IsMore (among (take i ids) f) (among (take i ids) g) quotas old mid → IsMore (at_id (get_or ids i d) f) (at_id (get_or ids i d) g) quotas mid new → IsMore (among (take (i + 1) ids) f) (among (take (i + 1) ids) g) quotas old new
+more_id f g quotas ids i d order lt old mid new before step = record {
+  comes = λ place. omega (arith, step.comes place, before.comes place, add f quotas place);
+  goes = λ place. omega (arith, step.goes place, before.goes place, add g quotas place);
+  on = on_both old mid new before.on step.on;
+}
+  where
+    add : (h : Quota → ℕ) (rows : List Quota) (place : ℕ) → value_at (among (take (i + 1) ids) h) rows place ≡ value_at (among (take i ids) h) rows place + value_at (at_id (get_or ids i d) h) rows place
+    add h [] place = refl
+    add h (r ∷ rs) zero = among_more ids i d h order lt r
+    add h (r ∷ rs) (suc place) = add h rs place
+
+-- nothing was reached
+pub more_start : (f g : Quota → ℕ) (quotas : List Quota) (counts : List Count) → IsMore (among [] f) (among [] g) quotas counts counts
+more_start f g quotas counts = record { comes = λ place. omega (arith, nothing f quotas place); goes = λ place. omega (arith, nothing g quotas place); on = on_same counts }
+  where
+    nothing : (h : Quota → ℕ) (rows : List Quota) (place : ℕ) → value_at (among [] h) rows place ≡ 0
+    nothing h [] place = refl
+    nothing h (r ∷ rs) zero = refl
+    nothing h (r ∷ rs) (suc place) = nothing h rs place
+
+-- all were reached
+pub more_whole : (f g : Quota → ℕ) (quotas : List Quota) (ids : List ℕ) (i : ℕ) (old new : List Count) → length ids ≤ i → IsMore (among (take i ids) f) (among (take i ids) g) quotas old new → IsMore (among ids f) (among ids g) quotas old new
+more_whole f g quotas ids i old new le is = subst (λ l. IsMore (among l f) (among l g) quotas old new) (take_all i ids le) is
+
+-- no other quota has any of it
+pub more_all : (f g : Quota → ℕ) (lists : CatalogueLists) (given ids : List ℕ) (old new : List Count) → AreInOrder (λ (r : Quota). r.id) lists.quotas → ids ≡ rising given → NoneElse given lists f → NoneElse given lists g → IsMore (among ids f) (among ids g) lists.quotas old new → IsMore f g lists.quotas old new
+more_all f g lists given ids old new order is no_f no_g more = record {
+  comes = λ place. more.comes place ∙ ap (λ n. came place old + n) (all f no_f place);
+  goes = λ place. more.goes place ∙ ap (λ n. went place old + n) (all g no_g place);
+  on = more.on;
+}
+  where
+    each : (h : Quota → ℕ) → NoneElse given lists h → (q : Quota) → quota_at q.id lists ≡ Some q → among ids h q ≡ h q
+    each h none q stands = ap (λ b. if b then h q else 0) (ap (has q.id) is ∙ has-rising q.id given) ∙ by_id (has q.id given) refl
+      where
+        by_id : (b : Bool) → has q.id given ≡ b → (if b then h q else 0) ≡ h q
+        by_id true is = refl
+        by_id false is = sym (none q (record { stands = stands; absent = is }))
+
+    all : (h : Quota → ℕ) → NoneElse given lists h → (place : ℕ) → value_at (among ids h) lists.quotas place ≡ value_at h lists.quotas place
+    all h none place = values_same_each (λ (q : Quota). quota_at q.id lists ≡ Some q) (among ids h) h lists.quotas place (each h none) (each_found (λ (r : Quota). r.id) 0 lists.quotas order)
+
+-- ---- places of many
+pub no_more_pass : {S : Type 0} (test : Quota → S → Bool) (spots : List S) (i : ℕ) (d : S) (old new : List ℕ) (lists : CatalogueLists) → i < length spots → d ≡ get_or spots i d → Keeps old new → NoneElse old lists (λ q. count_by (test q) (take i spots)) → NoOther new lists (λ q. test q d) → NoneElse new lists (λ q. count_by (test q) (take (i + 1) spots))
+no_more_pass test spots i d old new lists lt is keeps before here q other =
+    ap (count_by (test q)) (take_more spots i d lt) ∙ count_push (test q) (take i spots) (get_or spots i d)
+    ∙ omega (arith, before q (other_before old new lists q keeps other), ap {B = ℕ} (λ b. if b then 1 else 0) (ap (test q) (sym is) ∙ here q other))
+
+-- ---- one place, and one voucher
+pub no_spot : (ids : List ℕ) (lists : CatalogueLists) (spot : Option Spot) → spot ≡ None → (at : ℕ) → NoneElse ids lists (λ q. if_any spot (λ p. spot_share at q p.product (option_copied p.voucher)))
+no_spot ids lists spot is at q other = ap (λ (o : Option Spot). if_any o (λ p. spot_share at q p.product (option_copied p.voucher))) is
+
+pub spot_elsewhere : (ids : List ℕ) (lists : CatalogueLists) (spot : Option Spot) (s : Spot) → spot ≡ Some s → NoOther ids lists (λ q. is_in q s.product) → (at : ℕ) → NoneElse ids lists (λ q. if_any spot (λ p. spot_share at q p.product (option_copied p.voucher)))
+spot_elsewhere ids lists spot s is none at q other =
+    ap (λ (o : Option Spot). if_any o (λ p. spot_share at q p.product (option_copied p.voucher))) is ∙ ap (λ (b : Bool). once (b && not (blocks_if at q (option_copied s.voucher)))) (none q other)
+
+pub named_elsewhere : (old new : List ℕ) (lists : CatalogueLists) (voucher : Voucher) (id : ℕ) → voucher.quota ≡ Some id → new ≡ old ++ id ∷ [] → NoOther new lists (λ q. hits q voucher)
+named_elsewhere old new lists voucher id is more q other =
+    ap (λ (o : Option ℕ). hits_by q o voucher) is ∙ (neither (eqb id q.id) false (absent_more old (id ∷ []) new more q.id other.absent)).0
+
+pub hits_nothing : (ids : List ℕ) (lists : CatalogueLists) (voucher : Voucher) → voucher.quota ≡ None → voucher.item ≡ None → NoOther ids lists (λ q. hits q voucher)
+hits_nothing ids lists voucher is item q other = ap (λ (o : Option ℕ). hits_by q o voucher) is ∙ ap (λ (o : Option ℕ). hits_by_product q o voucher.variation) item
+
+pub product_elsewhere : (ids : List ℕ) (lists : CatalogueLists) (voucher : Voucher) (item : ℕ) → voucher.quota ≡ None → voucher.item ≡ Some item → NoOther ids lists (λ q. is_in q (record { item = item; variation = voucher.variation })) → NoOther ids lists (λ q. hits q voucher)
+product_elsewhere ids lists voucher item is named none q other =
+    ap (λ (o : Option ℕ). hits_by q o voucher) is ∙ ap (λ (o : Option ℕ). hits_by_product q o voucher.variation) named ∙ none q other
+
+pub no_voucher : (ids : List ℕ) (lists : CatalogueLists) (voucher : Option Voucher) → voucher ≡ None → (at : ℕ) → NoOther ids lists (λ q. blocks_if at q voucher)
+no_voucher ids lists voucher is at q other = ap (blocks_if at q) is
+
+pub blocks_elsewhere : (ids : List ℕ) (lists : CatalogueLists) (voucher : Option Voucher) (v : Voucher) → voucher ≡ Some v → NoOther ids lists (λ q. hits q v) → (at : ℕ) → NoOther ids lists (λ q. blocks_if at q voucher)
+blocks_elsewhere ids lists voucher v is none at q other = ap (blocks_if at q) is ∙ unhit v at q (none q other)
+  where
+    unhit : (v : Voucher) (at : ℕ) (q : Quota) → hits q v ≡ false → blocks at q v ≡ false
+    unhit v at q none = grind (arith, nat_tests, none)
+
+pub on_ok_three : {A E : Type 0} {P Q R S : Type 0} (r : Result A E) → (P → Q → R → S) → OnOk r P → OnOk r Q → OnOk r R → OnOk r S
+on_ok_three (Ok x) f p q r = f p q r
+on_ok_three (Err e) f p q r = tt
+
+-- a call that was refused left what it promises there
+pub when_err : {E : Type 0} (P : Type 0) (r : Result (Unit {0}) E) → is_err r ≡ true → OnErr r P → P
+when_err P (Ok x) e h = absurd (cc e)
+when_err P (Err x) e h = h

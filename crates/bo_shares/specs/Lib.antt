@@ -1,0 +1,5 @@
+pub mod Counts
+pub mod Uses
+pub mod Shift
+pub mod Touched
+pub mod Tallied

@@ -1,0 +1,44 @@
+-- What is counted beside a log, now and before each of its changes.
+use Rattle.std.specs.Prelude.{◌≡◌, ℕ, true, false, List, [], ◌∷◌, ◌++◌, length, take, slice_index_or}
+use Rattle.bo_catalogue.specs.declared.rows.Quota.{Quota}
+use Rattle.bo_lists.specs.declared.changes.Change.{Change}
+use Rattle.bo_lists.specs.Lists.{Lists}
+use Rattle.bo_lists.specs.Change.{after_change}
+use Rattle.bo_shares.specs.declared.tallies.Reach.{Reach}
+use Rattle.bo_shares.specs.Counts.{IsMore}
+use Rattle.bo_shares.specs.Shift.{come_of, gone_of}
+use Rattle.bo_shares.specs.Uses.{AreKept, TurnsUses}
+use Rattle.bo_tally.specs.declared.tally.Count.{Count}
+use Rattle.bo_tally.specs.Counts.{GoesOn}
+
+-- the counts by quota, the uses of vouchers, how far they reach now, and how far they reached before each of the changes
+pub record Tallied : Type 0 where
+  pub counts : List Count
+  pub uses : List Count
+  pub here : Reach
+  pub reached : List Reach
+
+-- how far they reached after so many changes
+abbrev pub reach_at : ℕ → Tallied → Reach
+reach_at count tallied = slice_index_or tallied.reached count tallied.here
+
+-- what was counted after so many changes
+abbrev pub tallied_at : ℕ → Tallied → Tallied
+tallied_at count tallied = record {
+  counts = take (reach_at count tallied).counts tallied.counts;
+  uses = take (reach_at count tallied).uses tallied.uses;
+  here = reach_at count tallied;
+  reached = take count tallied.reached;
+}
+
+-- one more change is counted
+pub record IsNext (at : ℕ) (change : Change) (lists : Lists) (quotas : List Quota) (old new : Tallied) : Type 0 where
+  pub counts : IsMore (come_of lists at change) (gone_of lists at change) quotas old.counts new.counts
+  pub uses : GoesOn old.uses new.uses
+  pub kept : (base : Lists) → AreKept at base lists old.uses old.here.known → AreKept at base (after_change change lists) new.uses new.here.known
+  pub forgets : new.here.known ≡ false → old.here.known ≡ true → TurnsUses change lists
+  pub carts : new.here.carts ≡ length (after_change change lists).carts
+  pub vouchers : new.here.vouchers ≡ length (after_change change lists).vouchers
+  pub counts_end : new.here.counts ≡ length new.counts
+  pub uses_end : new.here.uses ≡ length new.uses
+  pub reached : new.reached ≡ old.reached ++ old.here ∷ []
