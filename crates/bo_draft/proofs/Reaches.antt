@@ -15,7 +15,8 @@ use Rattle.bo_tally.specs.declared.tally.Count.{Count}
 use Rattle.bo_tally.specs.Counts.{GoesOn}
 use Rattle.bo_tally.proofs.Newest.{on_longer, on_front}
 use Rattle.bo_shares.specs.declared.tallies.Reach.{Reach}
-use Rattle.bo_shares.specs.Tallied.{Tallied, reach_at, tallied_at, IsNext}
+use Rattle.bo_shares.specs.declared.tallies.Standing.{Standing}
+use Rattle.bo_shares.specs.Tallied.{Tallied, reach_now, reach_at, tallied_at, IsNext}
 use Rattle.bo_shares.specs.Uses.{AreKept}
 use Rattle.bo_draft.specs.declared.bases.Base.{Base}
 use Rattle.bo_draft.specs.Used.{AreBases}
@@ -39,54 +40,49 @@ of_front [] (suc n) count d le within = absurd (omega (arith, within))
 of_front (x ∷ xs) (suc n) zero d le within = refl
 of_front (x ∷ xs) (suc n) (suc count) d le within = of_front xs n count d (omega (arith, le)) (omega (arith, within))
 
-shorter : {T : Type 0} (n : ℕ) (xs : List T) → length (take n xs) ≤ length xs
-shorter zero xs = omega arith
-shorter (suc n) [] = omega arith
-shorter (suc n) (x ∷ xs) = omega (arith, shorter n xs)
-
 -- ---- what is counted, by its parts
-abbrev parts : List Count → List Count → Reach → List Reach → Tallied
+abbrev parts : List Count → List Count → Standing → List Reach → Tallied
 parts counts uses here reached = record { counts = counts; uses = uses; here = here; reached = reached }
 
-same_parts : (counts counts' uses uses' : List Count) (here here' : Reach) (reached reached' : List Reach) → counts ≡ counts' → uses ≡ uses' → here ≡ here' → reached ≡ reached' → parts counts uses here reached ≡ parts counts' uses' here' reached'
+same_parts : (counts counts' uses uses' : List Count) (here here' : Standing) (reached reached' : List Reach) → counts ≡ counts' → uses ≡ uses' → here ≡ here' → reached ≡ reached' → parts counts uses here reached ≡ parts counts' uses' here' reached'
 same_parts counts counts' uses uses' here here' reached reached' a b c d =
-    ap (λ (l : List Count). parts l uses here reached) a ∙ ap (λ (l : List Count). parts counts' l here reached) b ∙ ap (λ (r : Reach). parts counts' uses' r reached) c ∙ ap (λ (l : List Reach). parts counts' uses' here' l) d
+    ap (λ (l : List Count). parts l uses here reached) a ∙ ap (λ (l : List Count). parts counts' l here reached) b ∙ ap (λ (s : Standing). parts counts' uses' s reached) c ∙ ap (λ (l : List Reach). parts counts' uses' here' l) d
 
 pub log_whole : (log : Log) → log_at (length log.changes) log ≡ log
 log_whole log = ap (λ (l : List Change). record log { changes = l }) (take-length log.changes)
 
 -- after all changes it is what is counted now
-pub tallied_whole : (n : ℕ) (t : Tallied) → n ≡ length t.reached → t.here.counts ≡ length t.counts → t.here.uses ≡ length t.uses → tallied_at n t ≡ t
-tallied_whole n t each counts uses =
-    let here : reach_at n t ≡ t.here = get_or_past t.reached n t.here (omega (arith, each)) in
-    same_parts (take (reach_at n t).counts t.counts) t.counts (take (reach_at n t).uses t.uses) t.uses (reach_at n t) t.here (take n t.reached) t.reached
-    (ap (λ (r : Reach). take r.counts t.counts) here ∙ take_all t.here.counts t.counts (omega (arith, counts)))
-    (ap (λ (r : Reach). take r.uses t.uses) here ∙ take_all t.here.uses t.uses (omega (arith, uses)))
-    here
+pub tallied_whole : (n : ℕ) (t : Tallied) → n ≡ length t.reached → tallied_at n t ≡ t
+tallied_whole n t each =
+    let here : reach_at n t ≡ reach_now t = get_or_past t.reached n (reach_now t) (omega (arith, each)) in
+    same_parts (take (reach_at n t).counts t.counts) t.counts (take (reach_at n t).uses t.uses) t.uses (reach_at n t).here t.here (take n t.reached) t.reached
+    (ap (λ (r : Reach). take r.counts t.counts) here ∙ take-length t.counts)
+    (ap (λ (r : Reach). take r.uses t.uses) here ∙ take-length t.uses)
+    (ap (λ (r : Reach). r.here) here)
     (take_all n t.reached (omega (arith, each)))
 
 -- with one more change the earlier ones are counted as before
-module _ (old new : Tallied) (counts : GoesOn old.counts new.counts) (uses : GoesOn old.uses new.uses) (reached : new.reached ≡ old.reached ++ old.here ∷ []) where
+module _ (old new : Tallied) (counts : GoesOn old.counts new.counts) (uses : GoesOn old.uses new.uses) (reached : new.reached ≡ old.reached ++ reach_now old ∷ []) where
   pub reach_before : (count : ℕ) → count ≤ length old.reached → reach_at count new ≡ reach_at count old
-  reach_before count le = ap (λ (l : List Reach). get_or l count new.here) reached ∙ before_last old.reached old.here new.here count le
+  reach_before count le = ap (λ (l : List Reach). get_or l count (reach_now new)) reached ∙ before_last old.reached (reach_now old) (reach_now new) count le
 
   pub tallied_before : (count : ℕ) → count ≤ length old.reached → (reach_at count old).counts ≤ length old.counts → (reach_at count old).uses ≤ length old.uses → tallied_at count new ≡ tallied_at count old
   tallied_before count le within within_uses =
       let here = reach_before count le in
       let r = reach_at count old in
-      same_parts (take (reach_at count new).counts new.counts) (take r.counts old.counts) (take (reach_at count new).uses new.uses) (take r.uses old.uses) (reach_at count new) r (take count new.reached) (take count old.reached)
+      same_parts (take (reach_at count new).counts new.counts) (take r.counts old.counts) (take (reach_at count new).uses new.uses) (take r.uses old.uses) (reach_at count new).here r.here (take count new.reached) (take count old.reached)
       (ap (λ (q : Reach). take q.counts new.counts) here ∙ on_front old.counts new.counts r.counts within counts)
       (ap (λ (q : Reach). take q.uses new.uses) here ∙ on_front old.uses new.uses r.uses within_uses uses)
-      here
-      (ap (λ (l : List Reach). take count l) reached ∙ take-append-le count old.reached (old.here ∷ []) le)
+      (ap (λ (q : Reach). q.here) here)
+      (ap (λ (l : List Reach). take count l) reached ∙ take-append-le count old.reached (reach_now old ∷ []) le)
 
   -- and gone back it is the old one
-  pub tallied_undone : old.here.counts ≡ length old.counts → old.here.uses ≡ length old.uses → tallied_at (length old.reached) new ≡ old
-  tallied_undone ends ends_uses =
+  pub tallied_undone : tallied_at (length old.reached) new ≡ old
+  tallied_undone =
       let n = length old.reached in
-      let here : reach_at n old ≡ old.here = get_or_past old.reached n old.here (omega arith) in
-      tallied_before n (omega arith) (omega (arith, ap (λ (r : Reach). r.counts) here, ends)) (omega (arith, ap (λ (r : Reach). r.uses) here, ends_uses))
-      ∙ tallied_whole n old refl ends ends_uses
+      let here : reach_at n old ≡ reach_now old = get_or_past old.reached n (reach_now old) (omega arith) in
+      tallied_before n (omega arith) (omega (arith, ap (λ (r : Reach). r.counts) here)) (omega (arith, ap (λ (r : Reach). r.uses) here))
+      ∙ tallied_whole n old refl
 
 -- what is counted stays right with one more change
 pub tallied_more : (at : ℕ) (log : Log) (change : Change) (old new : Tallied) → {limit : ℕ} → IsKept limit (rows_of log) → CanCome at log change → IsTallied at log old → IsNext at change (rows_of log) log.base.catalogue.quotas old new → IsTallied at (record log { changes = log.changes ++ change ∷ [] }) new
@@ -100,9 +96,7 @@ tallied_more at log change old new {limit} kept can is next =
       headroom = subst (λ (lists : Lists). AllHaveHeadroom at lists) (sym rows) (headroom_after at log change can);
       kept = subst (λ (lists : Lists). AreKept at log.base lists new.uses new.here.known) (sym rows) (next.kept log.base is.kept);
       known = known_more log.changes log.base change old.here.known new.here.known is.known next.forgets;
-      counts_end = next.counts_end;
-      uses_end = next.uses_end;
-      each = omega (arith, ap (λ (l : List Reach). length l) next.reached, length-append old.reached (old.here ∷ []), length-append log.changes (change ∷ []), is.each);
+      each = omega (arith, ap (λ (l : List Reach). length l) next.reached, length-append old.reached (reach_now old ∷ []), length-append log.changes (change ∷ []), is.each);
     }
 
 -- ---- a draft
@@ -113,18 +107,21 @@ module _ (book : State) (log : Log) (at : ℕ) (t : Tallied) (bases : List Base)
     | inl below ↦ is.before count below
     | inr above ↦
         let same : length log.changes ≡ count = omega (arith, above, le) in
-        let whole = tallied_whole (length log.changes) t (sym is.now.each) is.now.counts_end is.now.uses_end in
+        let whole = tallied_whole (length log.changes) t (sym is.now.each) in
         subst (λ (n : ℕ). IsTallied at (log_at n log) (tallied_at n t)) same (subst (λ (l : Log). IsTallied at l (tallied_at (length log.changes) t)) (sym (log_whole log)) (subst (λ (u : Tallied). IsTallied at log u) (sym whole) is.now))
   ]
 
+  reach_last : reach_at (length log.changes) t ≡ reach_now t
+  reach_last = get_or_past t.reached (length log.changes) (reach_now t) (omega (arith, is.now.each))
+
   pub reach_within : (count : ℕ) → count ≤ length log.changes → (reach_at count t).counts ≤ length t.counts
-  reach_within count le = omega (arith, (tallied_upto count le).counts_end, shorter (reach_at count t).counts t.counts)
+  reach_within count le = omega (arith, (is.rising count (length log.changes) le (omega arith)).counts, ap (λ (r : Reach). r.counts) reach_last)
 
   pub uses_within : (count : ℕ) → count ≤ length log.changes → (reach_at count t).uses ≤ length t.uses
-  uses_within count le = omega (arith, (tallied_upto count le).uses_end, shorter (reach_at count t).uses t.uses)
+  uses_within count le = omega (arith, (is.rising count (length log.changes) le (omega arith)).uses, ap (λ (r : Reach). r.uses) reach_last)
 
   -- with one more change
-  pub draft_more : (change : Change) (new : Tallied) (asked : List Base) → IsTallied at (record log { changes = log.changes ++ change ∷ [] }) new → GoesOn t.counts new.counts → GoesOn t.uses new.uses → new.reached ≡ t.reached ++ t.here ∷ [] → AreInOrder (λ (b : Base). b.place) asked → AreBases book.lists at book.lists.catalogue.quotas asked → IsDraft book (record log { changes = log.changes ++ change ∷ [] }) at new asked
+  pub draft_more : (change : Change) (new : Tallied) (asked : List Base) → IsTallied at (record log { changes = log.changes ++ change ∷ [] }) new → GoesOn t.counts new.counts → GoesOn t.uses new.uses → new.reached ≡ t.reached ++ reach_now t ∷ [] → AreInOrder (λ (b : Base). b.place) asked → AreBases book.lists at book.lists.catalogue.quotas asked → IsDraft book (record log { changes = log.changes ++ change ∷ [] }) at new asked
   draft_more change new asked now counts uses reached order known = record {
     base = is.base;
     past = is.past;
@@ -152,10 +149,10 @@ module _ (book : State) (log : Log) (at : ℕ) (t : Tallied) (bases : List Base)
           subst (λ (r : Reach). IsBelow r (reach_at more new)) (sym (same_reach count (omega (arith, le, few))))
           (subst (λ (r : Reach). IsBelow (reach_at count t) r) (sym (same_reach more few)) (is.rising count more le few))
       by_more count more le within (inl all) =
-          let last : reach_at more new ≡ new.here = get_or_past new.reached more new.here (omega (arith, all, now.each, one_more)) in
+          let last : reach_at more new ≡ reach_now new = get_or_past new.reached more (reach_now new) (omega (arith, all, now.each, one_more)) in
           by_count (cases_lt (length log.changes) count) last
         where
-          by_count : (length log.changes < count) ⊎ (count ≤ length log.changes) → reach_at more new ≡ new.here → IsBelow (reach_at count new) (reach_at more new)
+          by_count : (length log.changes < count) ⊎ (count ≤ length log.changes) → reach_at more new ≡ reach_now new → IsBelow (reach_at count new) (reach_at more new)
           by_count (inl late) last =
               let same : more ≡ count = omega (arith, le, late, within, one_more) in
               subst (λ (n : ℕ). IsBelow (reach_at n new) (reach_at more new)) same (record { counts = omega arith; uses = omega arith })
@@ -163,8 +160,8 @@ module _ (book : State) (log : Log) (at : ℕ) (t : Tallied) (bases : List Base)
               subst (λ (r : Reach). IsBelow r (reach_at more new)) (sym (same_reach count few))
               (subst (λ (r : Reach). IsBelow (reach_at count t) r) (sym last)
               (record {
-                counts = omega (arith, reach_within count few, on_longer t.counts new.counts counts, now.counts_end);
-                uses = omega (arith, uses_within count few, on_longer t.uses new.uses uses, now.uses_end);
+                counts = omega (arith, reach_within count few, on_longer t.counts new.counts counts);
+                uses = omega (arith, uses_within count few, on_longer t.uses new.uses uses);
               }))
 
   -- gone back
@@ -182,8 +179,14 @@ module _ (book : State) (log : Log) (at : ℕ) (t : Tallied) (bases : List Base)
       taken : length (take n log.changes) ≡ n
       taken = length-take-le n log.changes within
 
+      now_is : reach_now (tallied_at n t) ≡ reach_at n t
+      now_is =
+          let r = reach_at n t in
+          ap {B = Reach} (λ (m : ℕ). record { counts = m; uses = length (take r.uses t.uses); here = r.here }) (length-take-le r.counts t.counts (reach_within n within))
+          ∙ ap {B = Reach} (λ (m : ℕ). record { counts = r.counts; uses = m; here = r.here }) (length-take-le r.uses t.uses (uses_within n within))
+
       same_reach : (count : ℕ) → count ≤ n → reach_at count (tallied_at n t) ≡ reach_at count t
-      same_reach count le = of_front t.reached n count t.here le (omega (arith, within, is.now.each))
+      same_reach count le = ap (λ (d : Reach). get_or (take n t.reached) count d) now_is ∙ of_front t.reached n count (reach_now t) le (omega (arith, within, is.now.each))
 
       same : (count : ℕ) → count ≤ n → tallied_at count (tallied_at n t) ≡ tallied_at count t
       same count le =
@@ -191,10 +194,10 @@ module _ (book : State) (log : Log) (at : ℕ) (t : Tallied) (bases : List Base)
           let r = reach_at count t in
           let last = reach_at n t in
           let front = tallied_at n t in
-          same_parts (take (reach_at count front).counts (take last.counts t.counts)) (take r.counts t.counts) (take (reach_at count front).uses (take last.uses t.uses)) (take r.uses t.uses) (reach_at count front) r (take count (take n t.reached)) (take count t.reached)
+          same_parts (take (reach_at count front).counts (take last.counts t.counts)) (take r.counts t.counts) (take (reach_at count front).uses (take last.uses t.uses)) (take r.uses t.uses) (reach_at count front).here r.here (take count (take n t.reached)) (take count t.reached)
           (ap (λ (q : Reach). take q.counts (take last.counts t.counts)) here ∙ take-take r.counts last.counts t.counts (is.rising count n le within).counts)
           (ap (λ (q : Reach). take q.uses (take last.uses t.uses)) here ∙ take-take r.uses last.uses t.uses (is.rising count n le within).uses)
-          here
+          (ap (λ (q : Reach). q.here) here)
           (take-take count n t.reached le)
 
       earlier : (count : ℕ) → count ≤ n → IsTallied at (log_at count (log_at n log)) (tallied_at count (tallied_at n t))

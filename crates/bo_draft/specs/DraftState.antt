@@ -65,8 +65,6 @@ pub record IsTallied (at : ℕ) (log : Log) (tallied : Tallied) : Type 0 where
   pub headroom : AllHaveHeadroom at (rows_of log)
   pub kept : AreKept at log.base (rows_of log) tallied.uses tallied.here.known
   pub known : AreKnown log.changes log.base tallied.here.known
-  pub counts_end : tallied.here.counts ≡ length tallied.counts
-  pub uses_end : tallied.here.uses ≡ length tallied.uses
   pub each : length tallied.reached ≡ length log.changes
 
 -- one reaches no further than the other

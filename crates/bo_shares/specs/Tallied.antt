@@ -5,29 +5,34 @@ use Rattle.bo_lists.specs.declared.changes.Change.{Change}
 use Rattle.bo_lists.specs.Lists.{Lists}
 use Rattle.bo_lists.specs.Change.{after_change}
 use Rattle.bo_shares.specs.declared.tallies.Reach.{Reach}
+use Rattle.bo_shares.specs.declared.tallies.Standing.{Standing}
 use Rattle.bo_shares.specs.Counts.{IsMore}
 use Rattle.bo_shares.specs.Shift.{come_of, gone_of}
 use Rattle.bo_shares.specs.Uses.{AreKept, TurnsUses}
 use Rattle.bo_tally.specs.declared.tally.Count.{Count}
 use Rattle.bo_tally.specs.Counts.{GoesOn}
 
--- the counts by quota, the uses of vouchers, how far they reach now, and how far they reached before each of the changes
+-- the counts by quota, the uses of vouchers, what stands now, and how far both reached before each of the changes
 pub record Tallied : Type 0 where
   pub counts : List Count
   pub uses : List Count
-  pub here : Reach
+  pub here : Standing
   pub reached : List Reach
+
+-- how far they reach now
+abbrev pub reach_now : Tallied → Reach
+reach_now tallied = record { counts = length tallied.counts; uses = length tallied.uses; here = tallied.here }
 
 -- how far they reached after so many changes
 abbrev pub reach_at : ℕ → Tallied → Reach
-reach_at count tallied = slice_index_or tallied.reached count tallied.here
+reach_at count tallied = slice_index_or tallied.reached count (reach_now tallied)
 
 -- what was counted after so many changes
 abbrev pub tallied_at : ℕ → Tallied → Tallied
 tallied_at count tallied = record {
   counts = take (reach_at count tallied).counts tallied.counts;
   uses = take (reach_at count tallied).uses tallied.uses;
-  here = reach_at count tallied;
+  here = (reach_at count tallied).here;
   reached = take count tallied.reached;
 }
 
@@ -39,6 +44,4 @@ pub record IsNext (at : ℕ) (change : Change) (lists : Lists) (quotas : List Qu
   pub forgets : new.here.known ≡ false → old.here.known ≡ true → TurnsUses change lists
   pub carts : new.here.carts ≡ length (after_change change lists).carts
   pub vouchers : new.here.vouchers ≡ length (after_change change lists).vouchers
-  pub counts_end : new.here.counts ≡ length new.counts
-  pub uses_end : new.here.uses ≡ length new.uses
-  pub reached : new.reached ≡ old.reached ++ old.here ∷ []
+  pub reached : new.reached ≡ old.reached ++ reach_now old ∷ []

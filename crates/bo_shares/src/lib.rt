@@ -8,4 +8,4 @@ mod touched;
 mod use_shift;
 mod uses;
 
-pub use tallies::{Reach, Tallies};
+pub use tallies::{Reach, Standing, Tallies};

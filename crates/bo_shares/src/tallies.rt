@@ -7,7 +7,7 @@ ghost use Rattle.bo_lists.specs.Change.{after_change};
 ghost use Rattle.bo_overlay.specs.Logs.{rows_of, IsSale};
 ghost use Rattle.bo_shares.specs.Counts.{IsMore};
 ghost use Rattle.bo_shares.specs.Shift.{come_of, gone_of, AreTurned};
-ghost use Rattle.bo_shares.specs.Tallied.{IsNext, reach_at, tallied_at};
+ghost use Rattle.bo_shares.specs.Tallied.{IsNext, reach_now, reach_at, tallied_at};
 ghost use Rattle.bo_shares.specs.Uses.{CountsMore};
 ghost use Rattle.bo_tally.specs.Counts.{came, went, GoesOn};
 
@@ -23,15 +23,20 @@ use bo_usage::Book;
 use std::alloc::{AllocError, Global};
 use std::marker::Model;
 
-/// How far the counts reach at one place of a log: the lengths of both journals, whether the uses of vouchers are known, and
-/// how many cart positions and vouchers there are.
+/// Whether the uses of vouchers are known at one place of a log, and how many cart positions and vouchers there are.
+#[derive(Clone, Copy, Debug)]
+pub struct Standing {
+    pub known: bool,
+    pub carts: usize,
+    pub vouchers: usize,
+}
+
+/// How far the counts reach at one place of a log: the lengths of both journals, and what stands there.
 #[derive(Clone, Copy, Debug)]
 pub struct Reach {
     pub counts: usize,
     pub uses: usize,
-    pub known: bool,
-    pub carts: usize,
-    pub vouchers: usize,
+    pub here: Standing,
 }
 
 /// The counts by quota and the uses of vouchers, now and before each change. Where a change turns the uses of a whole order,
@@ -40,7 +45,7 @@ pub struct Reach {
 pub struct Tallies {
     counts: Tally,
     uses: Tally,
-    here: Reach,
+    here: Standing,
     reached: Vec<Reach>,
 }
 
@@ -55,14 +60,12 @@ impl Model for Tallies {
 impl Tallies {
     /// Nothing has changed, where so many cart positions and vouchers stand.
     pub fn new(alloc: Global, carts: usize, vouchers: usize) -> Self
-        ensures { result ≡ record { counts = []; uses = []; here = record { counts = 0; uses = 0; known = true; carts = carts; vouchers = vouchers }; reached = [] } }
+        ensures { result ≡ record { counts = []; uses = []; here = record { known = true; carts = carts; vouchers = vouchers }; reached = [] } }
     {
         Tallies {
             counts: Tally::new(alloc),
             uses: Tally::new(alloc),
-            here: Reach {
-                counts: 0,
-                uses: 0,
+            here: Standing {
                 known: true,
                 carts,
                 vouchers,
@@ -78,8 +81,8 @@ impl Tallies {
         &self.counts
     }
 
-    /// How far the counts reach now.
-    pub fn here(&self) -> Reach
+    /// What stands now.
+    pub fn here(&self) -> Standing
         ensures { result ≡ self.now.here }
     {
         self.here
@@ -93,12 +96,23 @@ impl Tallies {
         self.uses.of(voucher)
     }
 
+    // How far the counts reach now.
+    fn reach_now(&self) -> Reach
+        ensures { result ≡ reach_now self.now }
+    {
+        Reach {
+            counts: self.counts.len(),
+            uses: self.uses.len(),
+            here: self.here,
+        }
+    }
+
     /// How far the counts reached after so many changes.
     pub fn reach_at(&self, count: usize) -> Reach
         ensures { result ≡ reach_at count self.now }
     {
         match self.reached.get(count) {
-            None => self.here,
+            None => self.reach_now(),
             Some(reach) => *reach,
         }
     }
@@ -119,6 +133,7 @@ impl Tallies {
         ensures err { OnErr result (self.new ≡ self.old) }
     {
         let here = self.here;
+        let reach = self.reach_now();
         let tickets = turned_tickets(overlay, alloc, change)?;
         let shift = use_shift(overlay, at, change, &tickets);
         let known = stay_known(here.known, &shift);
@@ -136,10 +151,8 @@ impl Tallies {
             &tickets,
             shift,
         )?;
-        self.reached.push(here)?;
-        self.here = Reach {
-            counts: self.counts.len(),
-            uses: self.uses.len(),
+        self.reached.push(reach)?;
+        self.here = Standing {
             known,
             carts,
             vouchers,
@@ -151,11 +164,11 @@ impl Tallies {
     pub fn truncate(&mut self, count: usize)
         ensures { self.new ≡ tallied_at count self.old }
     {
-        let here = self.reach_at(count);
-        self.counts.truncate(here.counts);
-        self.uses.truncate(here.uses);
+        let reach = self.reach_at(count);
+        self.counts.truncate(reach.counts);
+        self.uses.truncate(reach.uses);
         self.reached.truncate(count);
-        self.here = here;
+        self.here = reach.here;
     }
 }
 

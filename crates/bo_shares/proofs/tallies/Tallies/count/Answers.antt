@@ -2,7 +2,8 @@ use Rattle.std.proofs.Common.{List, [], ◌∷◌, ◌++◌, Bool, sym, ap, ◌�
 use Rattle.bo_lists.specs.Change.{after_change}
 use Rattle.bo_overlay.specs.Logs.{rows_of}
 use Rattle.bo_shares.specs.declared.tallies.Reach.{Reach}
-use Rattle.bo_shares.specs.Tallied.{Tallied, IsNext}
+use Rattle.bo_shares.specs.declared.tallies.Standing.{Standing}
+use Rattle.bo_shares.specs.Tallied.{Tallied, IsNext, reach_now}
 use Rattle.bo_shares.specs.Uses.{AreKept}
 use Rattle.bo_shares.proofs.UseCounts.{kept_more, forgotten}
 use Rattle.bo_shares.proofs.tallies.Tallies.count.Goals as goal
@@ -13,7 +14,7 @@ returns-clause-ok g c =
     let lists = rows_of c.args.overlay.now in
     let change = c.args.change.now in
     let shift = c.use_shift-shift.result in
-    let here : Reach = record { counts = c.len.result; uses = c.len-2.result; known = c.stay_known-known.result; carts = c.carts_after-carts.result; vouchers = c.vouchers_after-vouchers.result } in
+    let here : Standing = record { known = c.stay_known-known.result; carts = c.carts_after-carts.result; vouchers = c.vouchers_after-vouchers.result } in
     let new : Tallied = record { counts = c.count_both.new.counts; uses = c.count_both.new.uses; here = here; reached = c.push.new.self.items } in
     subst (λ (old : Tallied). IsNext c.args.at change lists c.args.catalogue.now.lists.quotas old new) c.self.view_is
     (record {
@@ -23,7 +24,5 @@ returns-clause-ok g c =
       forgets = λ now before. c.use_shift-shift.ensures.none (forgotten shift inside.here.known (sym c.stay_known-known.ensures ∙ now) before);
       carts = c.carts_after-carts.ensures;
       vouchers = c.vouchers_after-vouchers.ensures;
-      counts_end = c.len.ensures;
-      uses_end = c.len-2.ensures;
-      reached = c.in_ok-push.ensures.items ∙ ap (λ (l : List Reach). l ++ inside.here ∷ []) c.reserve.ensures.items;
+      reached = c.in_ok-push.ensures.items ∙ ap (λ (l : List Reach). l ++ c.reach_now-reach.result ∷ []) c.reserve.ensures.items ∙ ap (λ (r : Reach). inside.reached.items ++ r ∷ []) (c.reach_now-reach.ensures ∙ ap reach_now (sym c.self.view_is));
     })
