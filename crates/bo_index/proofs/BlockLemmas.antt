@@ -1,325 +1,235 @@
--- A list in blocks of one size, and what an edit in one of them makes of all.
-use Rattle.std.proofs.Common.{◌≡◌, ◌≢◌, ℕ, zero, suc, ◌+◌, ◌-◌, ◌*◌, ◌<◌, ◌≤◌, ◌⊎◌, inl, inr, List, [], ◌∷◌, ◌++◌, length, get_or, set, take, drop, min, replicate, Option, Some, None, refl, sym, ap, ◌∙◌, subst, arith, length-append}
-use Rattle.std.specs.List.{insert, remove, concat, slice_get}
-use Rattle.std.proofs.lemmas.List.{append-nil, append_assoc, length-take, length-drop, take-append-drop, take-append-le, take_at, drop_at, drop-append-le, drop-drop, take_all, drop_all, take-take, nil_from_length, get_or-take, get_or-drop, take-set-le, take-set, drop-set-lt, drop-set-add, take_more_set, drop_more, length-set, get_or-set_same, get_or-set_other, get_or_default}
-use Rattle.std.proofs.lemmas.List.Edits.{insert-append_left, insert-append_right, remove-append_left, remove-append_right, length-insert, length-remove}
-use Rattle.std.proofs.lemmas.Bool.{cases_lt, cases_order}
-use Rattle.bo_index.specs.Blocks.{cut, AreBlocks, passed_on, closed_up}
+-- A list in blocks that stand in order, and what an edit of one of them makes of all.
+use Rattle.std.proofs.Common.{◌≡◌, ℕ, zero, suc, ◌+◌, ◌-◌, ◌*◌, ◌<◌, ◌≤◌, List, [], ◌∷◌, ◌++◌, length, get_or, set, take, drop, map, replicate, refl, sym, ap, ◌∙◌, arith, length-append}
+use Rattle.std.specs.List.{insert, remove, concat}
+use Rattle.std.proofs.lemmas.List.{append-nil, append_assoc, take_more, set-append_left, set-append_right, get_or_append_left, get_or-append-add}
+use Rattle.std.proofs.lemmas.List.Edits.{insert-append_left, insert-append_right, remove-append_left, remove-append_right}
+use Rattle.std.proofs.lemmas.List.Folds.{concat-append}
+use Rattle.bo_index.specs.Blocks.{starts_from, start_of, excess}
 
-pub length_cut : (s n : ℕ) (xs : List ℕ) → length (cut s n xs) ≡ n
-length_cut s zero xs = refl
-length_cut s (suc n) xs = ap suc (length_cut s n (drop s xs))
+pub length_starts : (n : ℕ) (bs : List (List ℕ)) → length (starts_from n bs) ≡ length bs
+length_starts n [] = refl
+length_starts n (b ∷ bs) = ap suc (length_starts (n + length b) bs)
 
--- the blocks hold the list
-pub concat_cut : (s n : ℕ) (xs : List ℕ) → length xs ≤ s * n → concat (cut s n xs) ≡ xs
-concat_cut s zero xs le = sym (nil_from_length xs (omega arith))
-concat_cut s (suc n) xs le =
-    let rest = concat_cut s n (drop s xs) (omega (arith, length-drop s xs)) in
-    ap (λ (l : List ℕ). take s xs ++ l) rest ∙ take-append-drop s xs
+start_from : (n : ℕ) (bs : List (List ℕ)) (b d : ℕ) → b < length bs → get_or (starts_from n bs) b d ≡ n + start_of b bs
+start_from n [] b d lt = absurd (omega arith)
+start_from n (x ∷ xs) zero d lt = omega arith
+start_from n (x ∷ xs) (suc b) d lt = start_from (n + length x) xs b d (omega arith) ∙ omega (arith, length-append x (concat (take b xs)))
 
--- the block at a place
-pub cut_at : (s n : ℕ) (xs : List ℕ) (b : ℕ) (d : List ℕ) → b < n → get_or (cut s n xs) b d ≡ take s (drop (s * b) xs)
-cut_at s zero xs b d lt = absurd (omega arith)
-cut_at s (suc n) xs zero d lt = let none : s * zero ≡ zero = omega arith in rw none refl
-cut_at s (suc n) xs (suc b) d lt =
-    let more : s * suc b ≡ s + s * b = omega arith in
-    cut_at s n (drop s xs) b d (omega arith) ∙ ap (take s) (drop-drop (s * b) s xs ∙ ap (λ k. drop k xs) (sym more))
+-- the start of a block is how many numbers stand before it
+pub start_is : (bs : List (List ℕ)) (b d : ℕ) → b < length bs → get_or (starts_from 0 bs) b d ≡ start_of b bs
+start_is bs b d lt = start_from 0 bs b d lt ∙ omega arith
 
--- what stands in it
-pub cut_item : (s n : ℕ) (xs : List ℕ) (b r : ℕ) (d : List ℕ) (e : ℕ) → b < n → r < s → get_or (get_or (cut s n xs) b d) r e ≡ get_or xs (s * b + r) e
-cut_item s n xs b r d e lt within = rw (cut_at s n xs b d lt) (get_or-take s (drop (s * b) xs) r e within ∙ get_or-drop (s * b) xs r e)
+-- all numbers are those before a block, in it and behind it
+pub whole : (bs : List (List ℕ)) (b : ℕ) → b < length bs → concat bs ≡ concat (take b bs) ++ (get_or bs b [] ++ concat (drop (suc b) bs))
+whole [] b lt = absurd (omega arith)
+whole (x ∷ xs) zero lt = refl
+whole (x ∷ xs) (suc b) lt = ap (λ (l : List ℕ). x ++ l) (whole xs b (omega arith)) ∙ sym (append_assoc x (concat (take b xs)) (get_or xs b [] ++ concat (drop (suc b) xs)))
 
--- how many do
-pub cut_long : (s n : ℕ) (xs : List ℕ) (b : ℕ) (d : List ℕ) → b < n → (length (get_or (cut s n xs) b d) ≤ s) × ((r : ℕ) → r < s → s * b + r ≤ length xs → r ≤ length (get_or (cut s n xs) b d)) × ((r : ℕ) → r < s → s * b + r < length xs → r < length (get_or (cut s n xs) b d))
-cut_long s n xs b d lt = rw (cut_at s n xs b d lt) (omega (arith, count), λ r within le. omega (arith, count), λ r within le. omega (arith, count))
-  where
-    count : length (take s (drop (s * b) xs)) ≡ min s (length xs - s * b)
-    count = length-take s (drop (s * b) xs) ∙ ap (λ k. min s k) (length-drop (s * b) xs)
+pub whole_set : (bs : List (List ℕ)) (b : ℕ) (new : List ℕ) → b < length bs → concat (set bs b new) ≡ concat (take b bs) ++ (new ++ concat (drop (suc b) bs))
+whole_set [] b new lt = absurd (omega arith)
+whole_set (x ∷ xs) zero new lt = refl
+whole_set (x ∷ xs) (suc b) new lt = ap (λ (l : List ℕ). x ++ l) (whole_set xs b new (omega arith)) ∙ sym (append_assoc x (concat (take b xs)) (new ++ concat (drop (suc b) xs)))
 
--- empty blocks behind them
-pub cut_more : (s n m : ℕ) (xs : List ℕ) → length xs ≤ s * n → cut s (n + m) xs ≡ cut s n xs ++ replicate m []
-cut_more s zero m xs le =
-    let same : zero + m ≡ m = omega arith in
-    ap (λ k. cut s k xs) same ∙ ap (cut s m) (nil_from_length xs (omega arith)) ∙ none m
-  where
-    none : (m : ℕ) → cut s m [] ≡ replicate m []
-    none zero = refl
-    none (suc m) = ap (λ (l : List ℕ). l ∷ cut s m (drop s [])) (take_all s [] (omega arith)) ∙ ap (λ (l : List ℕ). [] ∷ cut s m l) (drop_all s [] (omega arith)) ∙ ap (λ l. [] ∷ l) (none m)
-cut_more s (suc n) m xs le =
-    let same : suc n + m ≡ suc (n + m) = omega arith in
-    rw same (ap (λ l. take s xs ∷ l) (cut_more s n m (drop s xs) (omega (arith, length-drop s xs))))
+-- the next block begins where this one ends
+pub start_next : (bs : List (List ℕ)) (b : ℕ) → b < length bs → start_of (b + 1) bs ≡ start_of b bs + length (get_or bs b [])
+start_next bs b lt =
+    let block = get_or bs b [] in
+    ap (λ (l : List (List ℕ)). length (concat l)) (take_more bs b [] lt) ∙ ap length (concat-append (take b bs) (block ∷ [])) ∙ length-append (concat (take b bs)) (block ++ []) ∙ ap (λ (l : List ℕ). length (concat (take b bs)) + length l) (append-nil block)
 
-pub passed_none : (s : ℕ) (o : Option ℕ) → passed_on s o [] ≡ []
-passed_none s None = refl
-passed_none s (Some x) = refl
+none : (bs : List (List ℕ)) → ((b : ℕ) → get_or bs b [] ≡ []) → concat bs ≡ []
+none [] h = refl
+none (x ∷ xs) h = ap (λ (l : List ℕ). l ++ concat xs) (h 0) ∙ none xs (λ b. h (suc b))
 
-get_past : (ys : List ℕ) (s : ℕ) → length ys ≤ s → slice_get ys s ≡ None
-get_past [] s le = refl
-get_past (y ∷ ys) zero le = absurd (omega arith)
-get_past (y ∷ ys) (suc s) le = get_past ys s (omega arith)
+-- empty blocks at the end
+pub all_before : (bs : List (List ℕ)) (k : ℕ) → ((b : ℕ) → k ≤ b → get_or bs b [] ≡ []) → concat (take k bs) ≡ concat bs
+all_before [] zero h = refl
+all_before [] (suc k) h = refl
+all_before (x ∷ xs) zero h = sym (none (x ∷ xs) (λ b. h b (omega arith)))
+all_before (x ∷ xs) (suc k) h = ap (λ (l : List ℕ). x ++ l) (all_before xs k (λ b le. h (suc b) (omega arith)))
 
-get_last : (ys : List ℕ) (s : ℕ) → length ys ≡ s + 1 → (y : ℕ) × (slice_get ys s ≡ Some y) × (drop s ys ≡ y ∷ [])
-get_last [] s is = absurd (omega arith)
-get_last (y ∷ []) zero is = (y, refl, refl)
-get_last (y ∷ z ∷ ys) zero is = absurd (omega arith)
-get_last (y ∷ ys) (suc s) is = get_last ys s (omega arith)
+pub none_behind : (bs : List (List ℕ)) (k : ℕ) → ((b : ℕ) → k ≤ b → get_or bs b [] ≡ []) → concat (drop k bs) ≡ []
+none_behind [] zero h = refl
+none_behind [] (suc k) h = refl
+none_behind (x ∷ xs) zero h = none (x ∷ xs) (λ b. h b (omega arith))
+none_behind (x ∷ xs) (suc k) h = none_behind xs k (λ b le. h (suc b) (omega arith))
 
--- the last of a block that is too long goes before the rest
-same_rest : (s : ℕ) (ys rest : List ℕ) → length ys ≤ s → (length ys < s → rest ≡ []) → drop s (ys ++ rest) ≡ rest
-same_rest s ys rest le short = by_length (cases_order (length ys) s)
-  where
-    by_length : (length ys ≡ s) ⊎ ((length ys < s) ⊎ (s < length ys)) → drop s (ys ++ rest) ≡ rest
-    by_length (inl is) = drop_at ys rest s is
-    by_length (inr (inl lt)) = rw (short lt) (drop_all s (ys ++ []) (omega (arith, length-append ys [])))
-    by_length (inr (inr gt)) = absurd (omega arith)
+-- the number at a place of a block
+pub item_at : (bs : List (List ℕ)) (b r d : ℕ) → b < length bs → r < length (get_or bs b []) → get_or (concat bs) (start_of b bs + r) d ≡ get_or (get_or bs b []) r d
+item_at bs b r d lt within = ap (λ (l : List ℕ). get_or l (start_of b bs + r) d) (whole bs b lt) ∙ get_or-append-add (concat (take b bs)) (get_or bs b [] ++ concat (drop (suc b) bs)) r d ∙ get_or_append_left (get_or bs b []) (concat (drop (suc b) bs)) d r within
 
-same_front : (s y : ℕ) (rest : List ℕ) → 0 < s → take s (y ∷ take s rest) ≡ take s (y ∷ rest)
-same_front zero y rest pos = absurd (omega arith)
-same_front (suc s) y rest pos = ap (λ l. y ∷ l) (take-take s (suc s) rest (omega arith))
+-- an edit at a place of a block is one of the whole list
+pub set_in : (bs : List (List ℕ)) (b r k x : ℕ) → b < length bs → start_of b bs + r ≡ k → r < length (get_or bs b []) → concat (set bs b (set (get_or bs b []) r x)) ≡ set (concat bs) k x
+set_in bs b r k x lt at within =
+    let front = concat (take b bs) in
+    let block = get_or bs b [] in
+    let back = concat (drop (suc b) bs) in
+    let here : k - length front ≡ r = omega arith in
+    whole_set bs b (set block r x) lt ∙ sym (ap (λ (l : List ℕ). set l k x) (whole bs b lt) ∙ set-append_right front (block ++ back) (length front) k x refl (omega arith) ∙ ap (λ (i : ℕ). front ++ set (block ++ back) i x) here ∙ ap (λ (l : List ℕ). front ++ l) (set-append_left block back r x within))
 
-passed : (s n : ℕ) (ys rest : List ℕ) → 0 < s → length ys ≤ s + 1 → (length ys < s → rest ≡ []) → passed_on s (slice_get ys s) (cut s n rest) ≡ cut s n (drop s (ys ++ rest))
-passed s zero ys rest pos le short = passed_none s (slice_get ys s)
-passed s (suc n) ys rest pos le short =
-    by_length (cases_lt s (length ys)) (λ y. passed s n (y ∷ take s rest) (drop s rest) pos (omega (arith, length-take s rest)) (λ lt. drop_all s rest (omega (arith, lt, length-take s rest))))
-  where
-    by_length : (s < length ys) ⊎ (length ys ≤ s) → ((y : ℕ) → passed_on s (slice_get (y ∷ take s rest) s) (cut s n (drop s rest)) ≡ cut s n (drop s ((y ∷ take s rest) ++ drop s rest))) → passed_on s (slice_get ys s) (cut s (suc n) rest) ≡ cut s (suc n) (drop s (ys ++ rest))
-    by_length (inr few) more = rw (get_past ys s few, same_rest s ys rest few short) refl
-    by_length (inl many) more =
-        let last = get_last ys s (omega arith) in
-        let left : drop s (ys ++ rest) ≡ last.0 ∷ rest = drop-append-le s ys rest (omega arith) ∙ ap (λ (l : List ℕ). l ++ rest) last.2 in
-        let behind : passed_on s (slice_get (last.0 ∷ take s rest) s) (cut s n (drop s rest)) ≡ cut s n (drop s (last.0 ∷ rest)) = more last.0 ∙ ap (λ (l : List ℕ). cut s n (drop s (last.0 ∷ l))) (take-append-drop s rest) in
-        rw (last.1, left) (ap (λ l. l ∷ passed_on s (slice_get (last.0 ∷ take s rest) s) (cut s n (drop s rest))) (same_front s last.0 rest pos) ∙ ap (λ l. take s (last.0 ∷ rest) ∷ l) behind)
+pub insert_in : (bs : List (List ℕ)) (b r k x : ℕ) → b < length bs → start_of b bs + r ≡ k → r ≤ length (get_or bs b []) → concat (set bs b (insert (get_or bs b []) r x)) ≡ insert (concat bs) k x
+insert_in bs b r k x lt at within =
+    let front = concat (take b bs) in
+    let block = get_or bs b [] in
+    let back = concat (drop (suc b) bs) in
+    let here : k - length front ≡ r = omega arith in
+    whole_set bs b (insert block r x) lt ∙ sym (ap (λ (l : List ℕ). insert l k x) (whole bs b lt) ∙ insert-append_right front (block ++ back) (length front) k x refl (omega arith) ∙ ap (λ (i : ℕ). front ++ insert (block ++ back) i x) here ∙ ap (λ (l : List ℕ). front ++ l) (insert-append_left block back r x within))
 
-parted : (s n : ℕ) (ys rest : List ℕ) → 0 < s → length ys ≤ s + 1 → (length ys < s → rest ≡ []) → take s ys ∷ passed_on s (slice_get ys s) (cut s n rest) ≡ cut s (suc n) (ys ++ rest)
-parted s n ys rest pos le short =
-    ap (λ l. take s ys ∷ l) (passed s n ys rest pos le short) ∙ ap (λ l. l ∷ cut s n (drop s (ys ++ rest))) (front (cases_lt (length ys) s))
-  where
-    front : (length ys < s) ⊎ (s ≤ length ys) → take s ys ≡ take s (ys ++ rest)
-    front (inl lt) = rw (short lt) (ap (take s) (sym (append-nil ys)))
-    front (inr le) = sym (take-append-le s ys rest le)
+pub remove_in : (bs : List (List ℕ)) (b r k : ℕ) → b < length bs → start_of b bs + r ≡ k → r < length (get_or bs b []) → concat (set bs b (remove (get_or bs b []) r)) ≡ remove (concat bs) k
+remove_in bs b r k lt at within =
+    let front = concat (take b bs) in
+    let block = get_or bs b [] in
+    let back = concat (drop (suc b) bs) in
+    let here : k - length front ≡ r = omega arith in
+    whole_set bs b (remove block r) lt ∙ sym (ap (λ (l : List ℕ). remove l k) (whole bs b lt) ∙ remove-append_right front (block ++ back) (length front) k refl (omega arith) ∙ ap (λ (i : ℕ). front ++ remove (block ++ back) i) here ∙ ap (λ (l : List ℕ). front ++ l) (remove-append_left block back r within))
 
--- a list behind a full block
-behind_full : (s n : ℕ) (xs ys : List ℕ) → s ≤ length xs → cut s (suc n) (take s xs ++ ys) ≡ take s xs ∷ cut s n ys
-behind_full s n xs ys le =
-    let full : length (take s xs) ≡ s = length-take s xs ∙ omega arith in
-    ap (λ l. l ∷ cut s n (drop s (take s xs ++ ys))) (take_at (take s xs) ys s full) ∙ ap (λ (l : List ℕ). take s xs ∷ cut s n l) (drop_at (take s xs) ys s full)
+-- how many there are in all
+pub count_set : (bs : List (List ℕ)) (b : ℕ) (new : List ℕ) → b < length bs → length (concat (set bs b new)) + length (get_or bs b []) ≡ length (concat bs) + length new
+count_set [] b new lt = absurd (omega arith)
+count_set (x ∷ xs) zero new lt = omega (arith, length-append new (concat xs), length-append x (concat xs))
+count_set (x ∷ xs) (suc b) new lt = omega (arith, count_set xs b new (omega arith), length-append x (concat xs), length-append x (concat (set xs b new)))
 
--- what an insertion into one block makes of all
-pub cut_insert : (s n : ℕ) (xs : List ℕ) (b r x : ℕ) (block : List ℕ) (k : ℕ) → b < n → r < s → k ≡ s * b + r → k ≤ length xs → block ≡ take s (drop (s * b) xs) → take b (cut s n xs) ++ take s (insert block r x) ∷ passed_on s (slice_get (insert block r x) s) (drop (suc b) (cut s n xs)) ≡ cut s n (insert xs k x)
-cut_insert s zero xs b r x block k lt within at le is = absurd (omega arith)
-cut_insert s (suc n) xs zero r x block k lt within at le is =
-    let none : s * zero ≡ zero = omega arith in
-    let here : block ≡ take s xs = is ∙ ap (λ i. take s (drop i xs)) none in
-    let same : k ≡ r = omega arith in
-    let count = length-take s xs in
-    let fits : r ≤ length (take s xs) = omega arith in
-    let long : length (insert (take s xs) r x) ≡ length (take s xs) + 1 = length-insert (take s xs) r x fits in
-    let all : insert xs k x ≡ insert (take s xs) r x ++ drop s xs = ap (λ (i : ℕ). insert xs i x) same ∙ ap (λ (l : List ℕ). insert l r x) (sym (take-append-drop s xs)) ∙ insert-append_left (take s xs) (drop s xs) r x fits in
-    rw (here, all) (parted s n (insert (take s xs) r x) (drop s xs) (omega arith) (omega arith) (λ few. drop_all s xs (omega arith)))
-cut_insert s (suc n) xs (suc b) r x block k lt within at le is =
-    let more : s * suc b ≡ s + s * b = omega arith in
-    let here : block ≡ take s (drop (s * b) (drop s xs)) = is ∙ ap (λ i. take s (drop i xs)) more ∙ ap (take s) (sym (drop-drop (s * b) s xs)) in
-    let rest = cut_insert s n (drop s xs) b r x block (k - s) (omega arith) within (omega arith) (omega (arith, length-drop s xs)) here in
-    let all : insert xs k x ≡ take s xs ++ insert (drop s xs) (k - s) x = ap (λ (l : List ℕ). insert l k x) (sym (take-append-drop s xs)) ∙ insert-append_right (take s xs) (drop s xs) s k x (length-take s xs ∙ omega arith) (omega arith) in
-    ap (λ l. take s xs ∷ l) rest ∙ sym (ap (cut s (suc n)) all ∙ behind_full s n xs (insert (drop s xs) (k - s) x) (omega arith))
+pub start_within : (bs : List (List ℕ)) (b : ℕ) → start_of b bs ≤ length (concat bs)
+start_within [] zero = omega arith
+start_within [] (suc b) = omega arith
+start_within (x ∷ xs) zero = omega arith
+start_within (x ∷ xs) (suc b) = omega (arith, start_within xs b, length-append x (concat xs), length-append x (concat (take b xs)))
 
--- the first of the rest comes to the end of a block that has one place left
-first_taken : (s : ℕ) (ys rest : List ℕ) → length ys < s → (length ys + 1 < s → rest ≡ []) → take s (ys ++ take 1 (take s rest)) ≡ take s (ys ++ rest)
-first_taken zero ys rest lt short = absurd (omega arith)
-first_taken (suc s) ys [] lt short = refl
-first_taken (suc s) ys (z ∷ zs) lt short =
-    let full : suc s ≤ length (ys ++ z ∷ []) = by_length (cases_lt (length ys + 1) (suc s)) in
-    sym (ap (take (suc s)) (sym (append_assoc ys (z ∷ []) zs)) ∙ take-append-le (suc s) (ys ++ z ∷ []) zs full)
-  where
-    by_length : (length ys + 1 < suc s) ⊎ (suc s ≤ length ys + 1) → suc s ≤ length (ys ++ z ∷ [])
-    by_length (inl few) = absurd (omega (arith, ap length (short few)))
-    by_length (inr le) = omega (arith, le, length-append ys (z ∷ []))
+-- by how much blocks are more than half full
+pub excess_set : (bs : List (List ℕ)) (b : ℕ) (new : List ℕ) → b < length bs → excess (set bs b new) + (length (get_or bs b []) - 256) ≡ excess bs + (length new - 256)
+excess_set [] b new lt = absurd (omega arith)
+excess_set (x ∷ xs) zero new lt = omega arith
+excess_set (x ∷ xs) (suc b) new lt = omega (arith, excess_set xs b new (omega arith))
 
-first_dropped : (s : ℕ) (ys rest : List ℕ) → length ys < s → (length ys + 1 < s → rest ≡ []) → drop 1 (take s rest) ++ drop s rest ≡ drop s (ys ++ rest)
-first_dropped zero ys rest lt short = absurd (omega arith)
-first_dropped (suc s) ys [] lt short = sym (drop_all (suc s) (ys ++ []) (omega (arith, length-append ys [])))
-first_dropped (suc s) ys (z ∷ zs) lt short =
-    let full : length (ys ++ z ∷ []) ≡ suc s = by_length (cases_lt (length ys + 1) (suc s)) in
-    take-append-drop s zs ∙ sym (ap (drop (suc s)) (sym (append_assoc ys (z ∷ []) zs)) ∙ drop_at (ys ++ z ∷ []) zs (suc s) full)
-  where
-    by_length : (length ys + 1 < suc s) ⊎ (suc s ≤ length ys + 1) → length (ys ++ z ∷ []) ≡ suc s
-    by_length (inl few) = absurd (omega (arith, ap length (short few)))
-    by_length (inr le) = omega (arith, le, length-append ys (z ∷ []))
+pub excess_at : (bs : List (List ℕ)) (b : ℕ) → b < length bs → length (get_or bs b []) - 256 ≤ excess bs
+excess_at [] b lt = absurd (omega arith)
+excess_at (x ∷ xs) zero lt = omega arith
+excess_at (x ∷ xs) (suc b) lt = omega (arith, excess_at xs b (omega arith))
 
-closed : (s n : ℕ) (ys rest : List ℕ) → length rest ≤ s * n → length ys < s → (length ys + 1 < s → rest ≡ []) → closed_up s ys (cut s n rest) ≡ cut s (suc n) (ys ++ rest)
-closed s zero ys rest le lt short =
-    let none : ys ++ rest ≡ ys = ap (λ (l : List ℕ). ys ++ l) (nil_from_length rest (omega arith)) ∙ append-nil ys in
-    ap (λ l. l ∷ []) (sym (ap (take s) none ∙ take_all s ys (omega arith)))
-closed s (suc n) ys rest le lt short =
-    let count = length-take s rest in
-    let behind = closed s n (drop 1 (take s rest)) (drop s rest) (omega (arith, length-drop s rest)) (omega (arith, length-drop 1 (take s rest))) (λ few. drop_all s rest (omega (arith, few, length-drop 1 (take s rest)))) in
-    ap (λ l. l ∷ closed_up s (drop 1 (take s rest)) (cut s n (drop s rest))) (first_taken s ys rest lt short) ∙ ap (λ l. take s (ys ++ rest) ∷ l) (behind ∙ ap (cut s (suc n)) (first_dropped s ys rest lt short))
+pub few_in : (bs : List (List ℕ)) → length (concat bs) ≤ 256 * length bs + excess bs
+few_in [] = omega arith
+few_in (x ∷ xs) = omega (arith, few_in xs, length-append x (concat xs))
 
--- what a removal from one block makes of all
-pub cut_remove : (s n : ℕ) (xs : List ℕ) (b r : ℕ) (block : List ℕ) (k : ℕ) → b < n → r < s → k ≡ s * b + r → k < length xs → length xs ≤ s * n → block ≡ take s (drop (s * b) xs) → take b (cut s n xs) ++ closed_up s (remove block r) (drop (suc b) (cut s n xs)) ≡ cut s n (remove xs k)
-cut_remove s zero xs b r block k lt within at le fits is = absurd (omega arith)
-cut_remove s (suc n) xs zero r block k lt within at le fits is =
-    let none : s * zero ≡ zero = omega arith in
-    let here : block ≡ take s xs = is ∙ ap (λ i. take s (drop i xs)) none in
-    let same : k ≡ r = omega arith in
-    let count = length-take s xs in
-    let inside : r < length (take s xs) = omega arith in
-    let long : length (remove (take s xs) r) + 1 ≡ length (take s xs) = length-remove (take s xs) r inside in
-    let all : remove xs k ≡ remove (take s xs) r ++ drop s xs = ap (λ (i : ℕ). remove xs i) same ∙ ap (λ (l : List ℕ). remove l r) (sym (take-append-drop s xs)) ∙ remove-append_left (take s xs) (drop s xs) r inside in
-    rw (here, all) (closed s n (remove (take s xs) r) (drop s xs) (omega (arith, length-drop s xs)) (omega arith) (λ few. drop_all s xs (omega arith)))
-cut_remove s (suc n) xs (suc b) r block k lt within at le fits is =
-    let more : s * suc b ≡ s + s * b = omega arith in
-    let here : block ≡ take s (drop (s * b) (drop s xs)) = is ∙ ap (λ i. take s (drop i xs)) more ∙ ap (take s) (sym (drop-drop (s * b) s xs)) in
-    let rest = cut_remove s n (drop s xs) b r block (k - s) (omega arith) within (omega arith) (omega (arith, length-drop s xs)) (omega (arith, length-drop s xs)) here in
-    let all : remove xs k ≡ take s xs ++ remove (drop s xs) (k - s) = ap (λ (l : List ℕ). remove l k) (sym (take-append-drop s xs)) ∙ remove-append_right (take s xs) (drop s xs) s k (length-take s xs ∙ omega arith) (omega arith) in
-    ap (λ l. take s xs ∷ l) rest ∙ sym (ap (cut s (suc n)) all ∙ behind_full s n xs (remove (drop s xs) (k - s)) (omega arith))
+-- one more before all, and one fewer
+raised : (n : ℕ) (bs : List (List ℕ)) → starts_from (n + 1) bs ≡ map (λ s. s + 1) (starts_from n bs)
+raised n [] = refl
+raised n (b ∷ bs) =
+    let same : n + 1 + length b ≡ n + length b + 1 = omega arith in
+    rw same (ap (λ l. (n + 1) ∷ l) (raised (n + length b) bs))
 
-take_set : (n : ℕ) (xs : List ℕ) (i x : ℕ) → take n (set xs i x) ≡ set (take n xs) i x
-take_set zero xs i x = refl
-take_set (suc n) [] i x = refl
-take_set (suc n) (y ∷ ys) zero x = refl
-take_set (suc n) (y ∷ ys) (suc i) x = ap (λ l. y ∷ l) (take_set n ys i x)
+lowered : (n : ℕ) (bs : List (List ℕ)) → map (λ s. s - 1) (starts_from (n + 1) bs) ≡ starts_from n bs
+lowered n [] = refl
+lowered n (b ∷ bs) =
+    let same : n + 1 + length b ≡ n + length b + 1 = omega arith in
+    let less : n + 1 - 1 ≡ n = omega arith in
+    ap (λ k. k ∷ map (λ s. s - 1) (starts_from (n + 1 + length b) bs)) less ∙ ap (λ k. n ∷ map (λ s. s - 1) (starts_from k bs)) same ∙ ap (λ l. n ∷ l) (lowered (n + length b) bs)
 
--- what a number in the place of one of a block makes of all
-pub cut_set : (s n : ℕ) (xs : List ℕ) (b r x : ℕ) (block : List ℕ) (k : ℕ) → b < n → r < s → k ≡ s * b + r → block ≡ take s (drop (s * b) xs) → set (cut s n xs) b (set block r x) ≡ cut s n (set xs k x)
-cut_set s zero xs b r x block k lt within at is = absurd (omega arith)
-cut_set s (suc n) xs zero r x block k lt within at is =
-    let none : s * zero ≡ zero = omega arith in
-    let here : block ≡ take s xs = is ∙ ap (λ i. take s (drop i xs)) none in
-    let same : k ≡ r = omega arith in
-    rw (here, same) (ap (λ l. l ∷ cut s n (drop s xs)) (sym (take_set s xs r x)) ∙ ap (λ (l : List ℕ). take s (set xs r x) ∷ cut s n l) (sym (drop-set-lt s xs r x within)))
-cut_set s (suc n) xs (suc b) r x block k lt within at is =
-    let more : s * suc b ≡ s + s * b = omega arith in
-    let here : block ≡ take s (drop (s * b) (drop s xs)) = is ∙ ap (λ i. take s (drop i xs)) more ∙ ap (take s) (sym (drop-drop (s * b) s xs)) in
-    let rest = cut_set s n (drop s xs) b r x block (s * b + r) (omega arith) within refl here in
-    let same : k ≡ s + (s * b + r) = omega arith in
-    rw same (ap (λ l. take s xs ∷ l) rest ∙ ap (λ l. l ∷ cut s n (set (drop s xs) (s * b + r) x)) (sym (take-set-le s xs (s + (s * b + r)) x (omega arith))) ∙ ap (λ (l : List ℕ). take s (set xs (s + (s * b + r)) x) ∷ cut s n l) (sym (drop-set-add s xs (s * b + r) x)))
+pub starts_more : (n : ℕ) (bs : List (List ℕ)) (b : ℕ) (new : List ℕ) → b < length bs → length new ≡ length (get_or bs b []) + 1 → starts_from n (set bs b new) ≡ take (suc b) (starts_from n bs) ++ map (λ s. s + 1) (drop (suc b) (starts_from n bs))
+starts_more n [] b new lt count = absurd (omega arith)
+starts_more n (x ∷ xs) zero new lt count =
+    let same : n + length new ≡ n + length x + 1 = omega arith in
+    ap (λ k. n ∷ starts_from k xs) same ∙ ap (λ l. n ∷ l) (raised (n + length x) xs)
+starts_more n (x ∷ xs) (suc b) new lt count = ap (λ l. n ∷ l) (starts_more (n + length x) xs b new (omega arith) count)
 
--- an insertion into a block, whose last goes where it gets too long
-pub insert_taken : (s : ℕ) (xs : List ℕ) (i x : ℕ) → i ≤ length xs → i ≤ s → insert (take s xs) i x ≡ take (suc s) (insert xs i x)
-insert_taken s xs zero x le fits = refl
-insert_taken zero xs (suc i) x le fits = absurd (omega arith)
-insert_taken (suc s) [] (suc i) x le fits = absurd (omega arith)
-insert_taken (suc s) (y ∷ ys) (suc i) x le fits = ap (λ l. y ∷ l) (insert_taken s ys i x (omega arith) (omega arith))
+pub starts_less : (n : ℕ) (bs : List (List ℕ)) (b : ℕ) (new : List ℕ) → b < length bs → length new + 1 ≡ length (get_or bs b []) → starts_from n (set bs b new) ≡ take (suc b) (starts_from n bs) ++ map (λ s. s - 1) (drop (suc b) (starts_from n bs))
+starts_less n [] b new lt count = absurd (omega arith)
+starts_less n (x ∷ xs) zero new lt count =
+    let same : n + length new + 1 ≡ n + length x = omega arith in
+    ap (λ l. n ∷ l) (sym (lowered (n + length new) xs)) ∙ ap (λ k. n ∷ map (λ s. s - 1) (starts_from k xs)) same
+starts_less n (x ∷ xs) (suc b) new lt count = ap (λ l. n ∷ l) (starts_less (n + length x) xs b new (omega arith) count)
 
-pub get_inserted : (s : ℕ) (xs : List ℕ) (i x : ℕ) → i ≤ length xs → i ≤ s → slice_get (insert xs i x) (suc s) ≡ slice_get xs s
-get_inserted s xs zero x le fits = refl
-get_inserted zero xs (suc i) x le fits = absurd (omega arith)
-get_inserted (suc s) [] (suc i) x le fits = absurd (omega arith)
-get_inserted (suc s) (y ∷ ys) (suc i) x le fits = get_inserted s ys i x (omega arith) (omega arith)
+pub starts_same : (n : ℕ) (bs : List (List ℕ)) (b : ℕ) (new : List ℕ) → b < length bs → length new ≡ length (get_or bs b []) → starts_from n (set bs b new) ≡ starts_from n bs
+starts_same n [] b new lt count = absurd (omega arith)
+starts_same n (x ∷ xs) zero new lt count = ap (λ k. n ∷ starts_from (n + k) xs) count
+starts_same n (x ∷ xs) (suc b) new lt count = ap (λ l. n ∷ l) (starts_same (n + length x) xs b new (omega arith) count)
 
--- blocks that are a list cut
-module _ (s n : ℕ) (xs : List ℕ) (bs : List (List ℕ)) (is : bs ≡ cut s n xs) where
-  pub count_is : length bs ≡ n
-  count_is = ap length is ∙ length_cut s n xs
+pub take_starts : (k n : ℕ) (bs : List (List ℕ)) → take k (starts_from n bs) ≡ starts_from n (take k bs)
+take_starts zero n bs = refl
+take_starts (suc k) n [] = refl
+take_starts (suc k) n (b ∷ bs) = ap (λ l. n ∷ l) (take_starts k (n + length b) bs)
 
-  pub holds : length xs ≤ s * n → concat bs ≡ xs
-  holds le = ap concat is ∙ concat_cut s n xs le
+-- blocks without the last, which is empty
+pub without_last : (bs : List (List ℕ)) (k : ℕ) → length bs ≡ suc k → get_or bs k [] ≡ [] → (concat (take k bs) ≡ concat bs) × (excess (take k bs) ≡ excess bs)
+without_last [] k count is = absurd (omega arith)
+without_last (x ∷ []) zero count is = (sym (ap (λ (l : List ℕ). l ++ []) is), omega (arith, ap length is))
+without_last (x ∷ y ∷ ys) zero count is = absurd (omega arith)
+without_last (x ∷ xs) (suc k) count is =
+    let rest = without_last xs k (omega arith) is in
+    (ap (λ (l : List ℕ). x ++ l) rest.0, ap (λ n. (length x - 256) + n) rest.1)
 
-  pub are_blocks : (count : ℕ) → count ≡ length xs → length xs ≤ s * n → s * n ≤ 4294967296 → AreBlocks s bs count
-  are_blocks count counted le few = record {
-    is_cut = is ∙ ap (λ k. cut s k xs) (sym count_is) ∙ ap (cut s (length bs)) (sym (holds le));
-    counted = counted ∙ ap length (sym (holds le));
-    fits = rw count_is (omega arith);
-    few = rw count_is few;
-  }
+-- two blocks in the place of one
+pub split_concat : (cs : List (List ℕ)) (b : ℕ) (lower upper : List ℕ) → b < length cs → lower ++ upper ≡ get_or cs b [] → concat (insert (set cs b lower) (suc b) upper) ≡ concat cs
+split_concat [] b lower upper lt is = absurd (omega arith)
+split_concat (x ∷ xs) zero lower upper lt is = sym (append_assoc lower upper (concat xs)) ∙ ap (λ (l : List ℕ). l ++ concat xs) is
+split_concat (x ∷ xs) (suc b) lower upper lt is = ap (λ (l : List ℕ). x ++ l) (split_concat xs b lower upper (omega arith) is)
 
-  pub block_is : (b : ℕ) (block : List ℕ) → b < n → block ≡ get_or bs b block → block ≡ take s (drop (s * b) xs)
-  block_is b block lt read = read ∙ ap (λ l. get_or l b block) is ∙ cut_at s n xs b block lt
+pub split_starts : (n : ℕ) (cs : List (List ℕ)) (b : ℕ) (lower upper : List ℕ) → b < length cs → length lower + length upper ≡ length (get_or cs b []) → starts_from n (insert (set cs b lower) (suc b) upper) ≡ insert (starts_from n cs) (suc b) (get_or (starts_from n cs) b 0 + length lower)
+split_starts n [] b lower upper lt count = absurd (omega arith)
+split_starts n (x ∷ xs) zero lower upper lt count =
+    let same : n + length lower + length upper ≡ n + length x = omega arith in
+    ap (λ k. n ∷ (n + length lower) ∷ starts_from k xs) same
+split_starts n (x ∷ xs) (suc b) lower upper lt count = ap (λ l. n ∷ l) (split_starts (n + length x) xs b lower upper (omega arith) count)
 
-  pub set_all : (b r x : ℕ) (block : List ℕ) (k : ℕ) → b < n → r < s → k ≡ s * b + r → block ≡ get_or bs b block → set bs b (set block r x) ≡ cut s n (set xs k x)
-  set_all b r x block k lt within at read = ap (λ l. set l b (set block r x)) is ∙ cut_set s n xs b r x block k lt within at (block_is b block lt read)
+pub split_excess : (cs : List (List ℕ)) (b : ℕ) (lower upper : List ℕ) → b < length cs → excess (insert (set cs b lower) (suc b) upper) + (length (get_or cs b []) - 256) ≡ excess cs + ((length lower - 256) + (length upper - 256))
+split_excess [] b lower upper lt = absurd (omega arith)
+split_excess (x ∷ xs) zero lower upper lt = omega arith
+split_excess (x ∷ xs) (suc b) lower upper lt = omega (arith, split_excess xs b lower upper (omega arith))
 
-  pub insert_all : (b r x : ℕ) (block : List ℕ) (k : ℕ) → b < n → r < s → k ≡ s * b + r → k ≤ length xs → block ≡ get_or bs b block → take (b + 1) (set bs b (take s (insert block r x))) ++ passed_on s (slice_get (insert block r x) s) (drop (b + 1) (set bs b (take s (insert block r x)))) ≡ cut s n (insert xs k x)
-  insert_all b r x block k lt within at le read =
-      let long = count_is in
-      let front : take (b + 1) (set bs b (take s (insert block r x))) ≡ take b bs ++ take s (insert block r x) ∷ [] = take_more_set bs b (take s (insert block r x)) (omega arith) in
-      let behind : drop (b + 1) (set bs b (take s (insert block r x))) ≡ drop (b + 1) bs = drop-set-lt (b + 1) bs b (take s (insert block r x)) (omega arith) in
-      let next : b + 1 ≡ suc b = omega arith in
-      rw (front, behind, append_assoc) (ap (λ l. take b l ++ take s (insert block r x) ∷ passed_on s (slice_get (insert block r x) s) (drop (b + 1) l)) is ∙ ap (λ i. take b (cut s n xs) ++ take s (insert block r x) ∷ passed_on s (slice_get (insert block r x) s) (drop i (cut s n xs))) next ∙ cut_insert s n xs b r x block k lt within at le (block_is b block lt read))
+-- a block that goes to the end
+ends : (n : ℕ) (bs : List (List ℕ)) → starts_from n (bs ++ [] ∷ []) ≡ starts_from n bs ++ (n + length (concat bs)) ∷ []
+ends n [] = let same : n ≡ n + 0 = omega arith in ap (λ k. k ∷ []) same
+ends n (b ∷ bs) =
+    let same : n + length b + length (concat bs) ≡ n + length (b ++ concat bs) = omega (arith, length-append b (concat bs)) in
+    ap (λ l. n ∷ l) (ends (n + length b) bs ∙ ap (λ k. starts_from (n + length b) bs ++ k ∷ []) same)
 
-  pub removed_all : (b r : ℕ) (block : List ℕ) (k : ℕ) → b < n → r < s → k ≡ s * b + r → k < length xs → length xs ≤ s * n → block ≡ get_or bs b block → take b (set bs b (remove block r)) ++ closed_up s (get_or (set bs b (remove block r)) b []) (drop (b + 1) (set bs b (remove block r))) ≡ cut s n (remove xs k)
-  removed_all b r block k lt within at le fits read =
-      let long = count_is in
-      let front : take b (set bs b (remove block r)) ≡ take b bs = take-set bs b (remove block r) in
-      let here : get_or (set bs b (remove block r)) b [] ≡ remove block r = get_or-set_same bs b (remove block r) [] (omega arith) in
-      let behind : drop (b + 1) (set bs b (remove block r)) ≡ drop (b + 1) bs = drop-set-lt (b + 1) bs b (remove block r) (omega arith) in
-      let next : b + 1 ≡ suc b = omega arith in
-      rw (front, here, behind, next) (ap (λ l. take b l ++ closed_up s (remove block r) (drop (suc b) l)) is ∙ cut_remove s n xs b r block k lt within at le fits (block_is b block lt read))
+pub dropped_starts : (n : ℕ) (bs : List (List ℕ)) (b : ℕ) → b < length bs → starts_from n (remove bs b ++ [] ∷ []) ≡ remove (starts_from n (set bs b [])) b ++ (n + length (concat (set bs b []))) ∷ []
+dropped_starts n [] b lt = absurd (omega arith)
+dropped_starts n (x ∷ xs) zero lt =
+    let same : n ≡ n + 0 = omega arith in
+    ends n xs ∙ ap (λ k. starts_from k xs ++ (n + length (concat xs)) ∷ []) same
+dropped_starts n (x ∷ xs) (suc b) lt =
+    let rest = concat (set xs b []) in
+    let same : n + length x + length rest ≡ n + length (x ++ rest) = omega (arith, length-append x rest) in
+    ap (λ l. n ∷ l) (dropped_starts (n + length x) xs b (omega arith) ∙ ap (λ k. remove (starts_from (n + length x) (set xs b [])) b ++ k ∷ []) same)
 
-  pub more_all : (m : ℕ) → length xs ≤ s * n → bs ++ replicate m [] ≡ cut s (n + m) xs
-  more_all m le = ap (λ (l : List (List ℕ)). l ++ replicate m []) is ∙ sym (cut_more s n m xs le)
+removed_concat : (bs : List (List ℕ)) (b : ℕ) → b < length bs → concat (remove bs b) ≡ concat (set bs b [])
+removed_concat [] b lt = absurd (omega arith)
+removed_concat (x ∷ xs) zero lt = refl
+removed_concat (x ∷ xs) (suc b) lt = ap (λ (l : List ℕ). x ++ l) (removed_concat xs b (omega arith))
 
--- one block on
-pub pass_step : (s : ℕ) (bs : List (List ℕ)) (i x : ℕ) (b : List ℕ) → i < length bs → b ≡ get_or bs i b → take (i + 1) (set bs i (take s (x ∷ b))) ++ passed_on s (slice_get (x ∷ b) s) (drop (i + 1) (set bs i (take s (x ∷ b)))) ≡ take i bs ++ passed_on s (Some x) (drop i bs)
-pass_step s bs i x b lt read =
-    let front : take (i + 1) (set bs i (take s (x ∷ b))) ≡ take i bs ++ take s (x ∷ b) ∷ [] = take_more_set bs i (take s (x ∷ b)) lt in
-    let behind : drop (i + 1) (set bs i (take s (x ∷ b))) ≡ drop (i + 1) bs = drop-set-lt (i + 1) bs i (take s (x ∷ b)) (omega arith) in
-    let there : drop i bs ≡ b ∷ drop (i + 1) bs = drop_more bs i b lt ∙ ap (λ (l : List ℕ). l ∷ drop (i + 1) bs) (sym read) in
-    rw (front, behind, there, append_assoc) refl
+pub dropped_concat : (bs : List (List ℕ)) (b : ℕ) → b < length bs → concat (remove bs b ++ [] ∷ []) ≡ concat (set bs b [])
+dropped_concat bs b lt = concat-append (remove bs b) ([] ∷ []) ∙ append-nil (concat (remove bs b)) ∙ removed_concat bs b lt
 
-pub close_step : (s : ℕ) (bs : List (List ℕ)) (i : ℕ) (b c : List ℕ) → i + 1 < length bs → get_or bs i [] ≡ b → get_or bs (i + 1) [] ≡ c → take (i + 1) (set (set bs (i + 1) (drop 1 c)) i (take s (b ++ take 1 c))) ++ closed_up s (get_or (set (set bs (i + 1) (drop 1 c)) i (take s (b ++ take 1 c))) (i + 1) []) (drop (i + 1 + 1) (set (set bs (i + 1) (drop 1 c)) i (take s (b ++ take 1 c)))) ≡ take i bs ++ closed_up s (get_or bs i []) (drop (i + 1) bs)
-close_step s bs i b c lt first second =
-    let one = set bs (i + 1) (drop 1 c) in
-    let new = take s (b ++ take 1 c) in
-    let count : length one ≡ length bs = length-set bs (i + 1) (drop 1 c) in
-    let front : take (i + 1) (set one i new) ≡ take i bs ++ new ∷ [] = take_more_set one i new (omega arith) ∙ ap (λ (l : List (List ℕ)). l ++ new ∷ []) (take-set-le i bs (i + 1) (drop 1 c) (omega arith)) in
-    let apart : i + 1 ≢ i = omega arith in
-    let here : get_or (set one i new) (i + 1) [] ≡ drop 1 c = get_or-set_other one i (i + 1) new [] apart ∙ get_or-set_same bs (i + 1) (drop 1 c) [] lt in
-    let behind : drop (i + 1 + 1) (set one i new) ≡ drop (i + 1 + 1) bs = drop-set-lt (i + 1 + 1) one i new (omega arith) ∙ drop-set-lt (i + 1 + 1) bs (i + 1) (drop 1 c) (omega arith) in
-    let there : drop (i + 1) bs ≡ c ∷ drop (i + 1 + 1) bs = drop_more bs (i + 1) [] lt ∙ ap (λ (l : List ℕ). l ∷ drop (i + 1 + 1) bs) second in
-    rw (front, here, behind, first, there, append_assoc) refl
+excess_end : (bs : List (List ℕ)) → excess (bs ++ [] ∷ []) ≡ excess bs
+excess_end [] = refl
+excess_end (b ∷ bs) = ap (λ n. (length b - 256) + n) (excess_end bs)
 
-pub close_next : (s : ℕ) (bs : List (List ℕ)) (i : ℕ) (b c kept new given : List ℕ) → i + 1 < length bs → c ≡ get_or bs (i + 1) c → kept ≡ drop 1 c → given ≡ take 1 c → b ≡ get_or (set bs (i + 1) kept) i b → new ≡ take s (b ++ given) → take (i + 1) (set (set bs (i + 1) kept) i new) ++ closed_up s (get_or (set (set bs (i + 1) kept) i new) (i + 1) []) (drop (i + 1 + 1) (set (set bs (i + 1) kept) i new)) ≡ take i bs ++ closed_up s (get_or bs i []) (drop (i + 1) bs)
-close_next s bs i b c kept new given lt read rest gave here made =
-    let apart : i ≢ i + 1 = omega arith in
-    let first : get_or bs i [] ≡ b = get_or_default bs i [] b (omega arith) ∙ sym (here ∙ get_or-set_other bs (i + 1) i kept b apart) in
-    let second : get_or bs (i + 1) [] ≡ c = get_or_default bs (i + 1) [] c lt ∙ sym read in
-    let whole : new ≡ take s (b ++ take 1 c) = made ∙ ap (λ (l : List ℕ). take s (b ++ l)) gave in
-    rw (rest, whole) (close_step s bs i b c lt first second)
+pub dropped_excess : (bs : List (List ℕ)) (b : ℕ) → b < length bs → excess (remove bs b ++ [] ∷ []) ≡ excess (set bs b [])
+dropped_excess [] b lt = absurd (omega arith)
+dropped_excess (x ∷ xs) zero lt = omega (arith, excess_end xs)
+dropped_excess (x ∷ xs) (suc b) lt = ap (λ n. (length x - 256) + n) (dropped_excess xs b (omega arith))
 
--- what each call leaves
-pub item_is : (s : ℕ) (bs : List (List ℕ)) (len place b r : ℕ) (block : List ℕ) → AreBlocks s bs len → b < length bs → r < s → place ≡ s * b + r → block ≡ get_or bs b block → (place ≤ len → r ≤ length block) × (place < len → r < length block) × ((d : ℕ) → get_or block r d ≡ get_or (concat bs) place d)
-item_is s bs len place b r block are lt within at read =
-    let xs = concat bs in
-    let same : block ≡ get_or (cut s (length bs) xs) b block = read ∙ ap (λ l. get_or l b block) are.is_cut in
-    let long = cut_long s (length bs) xs b block lt in
-    let counted : len ≡ length xs = are.counted in
-    (λ le. rw same (long.1 r within (omega arith)), λ le. rw same (long.2 r within (omega arith)), λ d. ap (λ l. get_or l r d) same ∙ cut_item s (length bs) xs b r block d lt within ∙ ap (λ k. get_or xs k d) (sym at))
+-- empty blocks behind the others
+empty_starts : (n m : ℕ) → starts_from n (replicate m []) ≡ replicate m n
+empty_starts n zero = refl
+empty_starts n (suc m) = let same : n + 0 ≡ n = omega arith in ap (λ k. n ∷ starts_from k (replicate m [])) same ∙ ap (λ l. n ∷ l) (empty_starts n m)
 
-pub set_done : (s : ℕ) (bs : List (List ℕ)) (len place x b r : ℕ) (block new : List ℕ) → AreBlocks s bs len → b < length bs → r < s → place ≡ s * b + r → block ≡ get_or bs b block → new ≡ set block r x → AreBlocks s (set bs b new) len × (concat (set bs b new) ≡ set (concat bs) place x) × (length (set bs b new) ≡ length bs)
-set_done s bs len place x b r block new are lt within at read made =
-    let xs = concat bs in
-    let count : length (set xs place x) ≡ length xs = length-set xs place x in
-    let fits : length xs ≤ s * length bs = subst (λ k. k ≤ s * length bs) are.counted are.fits in
-    let fits_too : length (set xs place x) ≤ s * length bs = rw count fits in
-    let is : set bs b new ≡ cut s (length bs) (set xs place x) = ap (set bs b) made ∙ set_all s (length bs) xs bs are.is_cut b r x block place lt within at read in
-    (are_blocks s (length bs) (set xs place x) (set bs b new) is len (are.counted ∙ sym count) fits_too are.few, holds s (length bs) (set xs place x) (set bs b new) is fits_too, count_is s (length bs) (set xs place x) (set bs b new) is)
+pub grown_starts : (n m : ℕ) (bs : List (List ℕ)) → starts_from n (bs ++ replicate m []) ≡ starts_from n bs ++ replicate m (n + length (concat bs))
+grown_starts n m [] = let same : n ≡ n + 0 = omega arith in empty_starts n m ∙ ap (replicate m) same
+grown_starts n m (b ∷ bs) =
+    let same : n + length b + length (concat bs) ≡ n + length (b ++ concat bs) = omega (arith, length-append b (concat bs)) in
+    ap (λ l. n ∷ l) (grown_starts (n + length b) m bs ∙ ap (λ k. starts_from (n + length b) bs ++ replicate m k) same)
 
-pub insert_done : (s : ℕ) (bs : List (List ℕ)) (len place x b r : ℕ) (block one : List ℕ) (over : Option ℕ) (new : List (List ℕ)) → AreBlocks s bs len → place ≤ len → len + 1 ≤ s * length bs → b < length bs → r < s → place ≡ s * b + r → block ≡ get_or bs b block → one ≡ take s (insert block r x) → over ≡ slice_get (insert block r x) s → new ≡ take (b + 1) (set bs b one) ++ passed_on s over (drop (b + 1) (set bs b one)) → AreBlocks s new (len + 1) × (concat new ≡ insert (concat bs) place x) × (length new ≡ length bs)
-insert_done s bs len place x b r block one over new are le room lt within at read kept gone made =
-    let xs = concat bs in
-    let inside : place ≤ length xs = subst (λ k. place ≤ k) are.counted le in
-    let count : len + 1 ≡ length (insert xs place x) = ap (λ k. k + 1) are.counted ∙ sym (length-insert xs place x inside) in
-    let fits : length (insert xs place x) ≤ s * length bs = subst (λ k. k ≤ s * length bs) count room in
-    let is : new ≡ cut s (length bs) (insert xs place x) = made ∙ ap (λ (l : List ℕ). take (b + 1) (set bs b l) ++ passed_on s over (drop (b + 1) (set bs b l))) kept ∙ ap (λ (o : Option ℕ). take (b + 1) (set bs b (take s (insert block r x))) ++ passed_on s o (drop (b + 1) (set bs b (take s (insert block r x))))) gone ∙ insert_all s (length bs) xs bs are.is_cut b r x block place lt within at inside read in
-    (are_blocks s (length bs) (insert xs place x) new is (len + 1) count fits are.few, holds s (length bs) (insert xs place x) new is fits, count_is s (length bs) (insert xs place x) new is)
+empty_concat : (m : ℕ) → concat (replicate m []) ≡ []
+empty_concat zero = refl
+empty_concat (suc m) = empty_concat m
 
-pub remove_done : (s : ℕ) (bs : List (List ℕ)) (len left place b r : ℕ) (block one : List ℕ) (new : List (List ℕ)) → AreBlocks s bs len → left + 1 ≡ len → place < len → b < length bs → r < s → place ≡ s * b + r → block ≡ get_or bs b block → one ≡ remove block r → new ≡ take b (set bs b one) ++ closed_up s (get_or (set bs b one) b []) (drop (b + 1) (set bs b one)) → AreBlocks s new left × (concat new ≡ remove (concat bs) place) × (length new ≡ length bs)
-remove_done s bs len left place b r block one new are less lt_len lt within at read kept made =
-    let xs = concat bs in
-    let inside : place < length xs = subst (λ k. place < k) are.counted lt_len in
-    let fits : length xs ≤ s * length bs = subst (λ k. k ≤ s * length bs) are.counted are.fits in
-    let counted : len ≡ length xs = are.counted in
-    let count : left ≡ length (remove xs place) = omega (arith, length-remove xs place inside) in
-    let fits_too : length (remove xs place) ≤ s * length bs = omega (arith, length-remove xs place inside) in
-    let is : new ≡ cut s (length bs) (remove xs place) = made ∙ ap (λ (l : List ℕ). take b (set bs b l) ++ closed_up s (get_or (set bs b l) b []) (drop (b + 1) (set bs b l))) kept ∙ removed_all s (length bs) xs bs are.is_cut b r block place lt within at inside fits read in
-    (are_blocks s (length bs) (remove xs place) new is left count fits_too are.few, holds s (length bs) (remove xs place) new is fits_too, count_is s (length bs) (remove xs place) new is)
+pub grown_concat : (m : ℕ) (bs : List (List ℕ)) → concat (bs ++ replicate m []) ≡ concat bs
+grown_concat m bs = concat-append bs (replicate m []) ∙ ap (λ (l : List ℕ). concat bs ++ l) (empty_concat m) ∙ append-nil (concat bs)
 
-pub reserve_done : (s : ℕ) (bs : List (List ℕ)) (len m : ℕ) (new : List (List ℕ)) → AreBlocks s bs len → s * (length bs + m) ≤ 4294967296 → new ≡ bs ++ replicate m [] → AreBlocks s new len × (concat new ≡ concat bs) × (length new ≡ length bs + m)
-reserve_done s bs len m new are few made =
-    let xs = concat bs in
-    let fits : length xs ≤ s * length bs = subst (λ k. k ≤ s * length bs) are.counted are.fits in
-    let fits_too : length xs ≤ s * (length bs + m) = grind (arith) in
-    let is : new ≡ cut s (length bs + m) xs = made ∙ more_all s (length bs) xs bs are.is_cut m fits in
-    (are_blocks s (length bs + m) xs new is len are.counted fits_too few, holds s (length bs + m) xs new is fits_too, count_is s (length bs + m) xs new is)
+empty_excess : (m : ℕ) → excess (replicate m []) ≡ 0
+empty_excess zero = refl
+empty_excess (suc m) = omega (arith, empty_excess m)
+
+pub grown_excess : (m : ℕ) (bs : List (List ℕ)) → excess (bs ++ replicate m []) ≡ excess bs
+grown_excess m [] = empty_excess m
+grown_excess m (b ∷ bs) = ap (λ n. (length b - 256) + n) (grown_excess m bs)

@@ -13,7 +13,7 @@ rises n (e ∷ es) h (suc i) zero d lt in_range = absurd (omega arith)
 rises n (e ∷ es) h zero (suc j) d lt in_range = omega (arith, at_least (λ n. n) (e + 1) es h.1 j d (omega arith))
 rises n (e ∷ es) h (suc i) (suc j) d lt in_range = rises (e + 1) es h.1 i j d (omega arith) (omega arith)
 
-less : (n : ℕ) (es : List ℕ) → InOrderFrom (λ n. n) n es → (i j : ℕ) (d : ℕ) → i < j → j < length es → get_or es i d < get_or es j d
+pub less : (n : ℕ) (es : List ℕ) → InOrderFrom (λ n. n) n es → (i j : ℕ) (d : ℕ) → i < j → j < length es → get_or es i d < get_or es j d
 less n [] h i j d lt in_range = absurd (omega arith)
 less n (e ∷ es) h i zero d lt in_range = absurd (omega arith)
 less n (e ∷ es) h zero (suc j) d lt in_range = omega (arith, at_least (λ n. n) (e + 1) es h.1 j d (omega arith))
@@ -48,10 +48,7 @@ start_behind_gap es e i p = record {
   not_after = λ j d le lt. omega (arith, p.greater_after j d le lt);
 }
 
--- what is at a place tells of those before it and behind it
-pub below_too : (es : List ℕ) (e i j d : ℕ) → AreInOrder (λ n. n) es → get_or es i d < e → j ≤ i → i < length es → get_or es j d < e
-below_too es e i j d h lt le within = omega (arith, rises 0 es h j i d le within)
-
+-- what is at a place tells of those behind it
 pub above_too : (es : List ℕ) (e i j d : ℕ) → AreInOrder (λ n. n) es → e < get_or es i d → i ≤ j → j < length es → e < get_or es j d
 above_too es e i j d h lt le within = omega (arith, rises 0 es h i j d le within)
 

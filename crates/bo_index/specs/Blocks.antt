@@ -1,26 +1,43 @@
--- A list in blocks of one size.
-use Rattle.std.specs.Prelude.{◌≡◌, ℕ, zero, suc, ◌*◌, ◌≤◌, List, [], ◌∷◌, ◌++◌, length, take, drop, Option, Some, None}
-use Rattle.std.specs.List.{concat, slice_get}
+-- A list in blocks that stand in order.
+use Rattle.std.specs.Prelude.{◌≡◌, ℕ, ◌+◌, ◌-◌, ◌*◌, ◌<◌, ◌≤◌, List, [], ◌∷◌, length, take, drop, slice_index_or, slice_set}
+use Rattle.std.specs.List.{concat, insert}
 
--- the list in so many blocks: each is full before the next begins
-abbrev pub cut : ℕ → ℕ → List ℕ → List (List ℕ)
-cut size zero xs = []
-cut size (suc n) xs = take size xs ∷ cut size n (drop size xs)
+-- how many numbers stand before each block, where so many stand before the first
+abbrev pub starts_from : ℕ → List (List ℕ) → List ℕ
+starts_from n [] = []
+starts_from n (b ∷ bs) = n ∷ starts_from (n + length b) bs
 
--- blocks that hold one list, whose length this is, and have places for 2^32 numbers at most
-pub record AreBlocks (size : ℕ) (blocks : List (List ℕ)) (count : ℕ) : Type 0 where
-  pub is_cut : blocks ≡ cut size (length blocks) (concat blocks)
-  pub counted : count ≡ length (concat blocks)
-  pub fits : count ≤ size * length blocks
-  pub few : size * length blocks ≤ 4294967296
+-- how many stand before the block at a place
+abbrev pub start_of : ℕ → List (List ℕ) → ℕ
+start_of block blocks = length (concat (take block blocks))
 
--- the blocks with a number before the first, where each block that is too long gives its last number to the next
-abbrev pub passed_on : ℕ → Option ℕ → List (List ℕ) → List (List ℕ)
-passed_on size None blocks = blocks
-passed_on size (Some x) [] = []
-passed_on size (Some x) (b ∷ bs) = take size (x ∷ b) ∷ passed_on size (slice_get (x ∷ b) size) bs
+-- by how many numbers the blocks are more than half full, each by itself
+abbrev pub excess : List (List ℕ) → ℕ
+excess [] = 0
+excess (b ∷ bs) = (length b - 256) + excess bs
 
--- a block that has a place left and those behind it, where each gives its first number to the one before
-abbrev pub closed_up : ℕ → List ℕ → List (List ℕ) → List (List ℕ)
-closed_up size b [] = b ∷ []
-closed_up size b (c ∷ bs) = take size (b ++ take 1 c) ∷ closed_up size (drop 1 c) bs
+-- the blocks, where the one at a place has its first 256 numbers and one behind it has the others
+abbrev pub split_at : ℕ → List (List ℕ) → List (List ℕ)
+split_at place blocks = insert (slice_set blocks place (take 256 (slice_index_or blocks place []))) (place + 1) (drop 256 (slice_index_or blocks place []))
+
+-- what is kept beside the blocks is right
+pub record IsChain (blocks : List (List ℕ)) (starts : List ℕ) (len : ℕ) : Type 0 where
+  -- how many numbers stand before each block
+  pub starts_are : starts ≡ starts_from 0 blocks
+  -- how many there are in all
+  pub counted : len ≡ length (concat blocks)
+  -- there are no more than 2^32
+  pub most : len ≤ 4294967296
+
+-- blocks of which all up to the last are in use, and the others are spare, with so many numbers that can come
+pub record AreBlocks (blocks : List (List ℕ)) (last room : ℕ) : Type 0 where
+  -- the last block in use is one of them, where there are some
+  pub within : last ≤ length blocks - 1
+  -- each block in use has numbers, but the first may have none
+  pub filled : (b : ℕ) → 0 < b → b ≤ last → 0 < length (slice_index_or blocks b [])
+  -- the spare blocks have none
+  pub spare : (b : ℕ) → last < b → slice_index_or blocks b [] ≡ []
+  -- a spare block is room for half of its places, and what is more than half of a block took as much of that
+  pub room_is : room + excess blocks ≡ 256 * (length blocks - 1 - last)
+  -- there are no places for more than 2^32
+  pub few : 512 * length blocks ≤ 4294967296

@@ -1,32 +1,34 @@
 //! One block of a sorted list.
 
-ghost use Rattle.std.specs.Prelude.{◌≡◌, ◌≤◌, ◌<◌, ℕ, [], ◌∷◌, ◌++◌, length, take, drop, slice_index_or, slice_set, IfOk};
-ghost use Rattle.std.specs.List.{insert, remove, slice_get};
-ghost use Rattle.std.specs.Option.{option_to_list};
-ghost use Rattle.std.specs.VecDeque.{deque_capacity};
+ghost use Rattle.std.specs.Prelude.{◌≡◌, ◌≤◌, ◌<◌, ◌+◌, ℕ, [], ◌++◌, length, take, drop, slice_index_or, slice_set, IfOk, IfErr};
+ghost use Rattle.std.specs.List.{insert, remove};
+ghost use Rattle.std.specs.Vec.{vec_capacity};
+ghost use Rattle.bo_base.specs.Tables.{AreInOrder, IsPlace, IsGap};
 
 use std::alloc::{AllocError, Global};
-use std::collections::VecDeque;
 use std::marker::Model;
 
 /// How many entries a block has places for.
-pub const SIZE: usize = 2048;
+pub const SIZE: usize = 512;
+
+/// Half of them: as many are left in a block that was full and is split.
+pub const HALF: usize = SIZE / 2;
 
 /// Some entries, at most as many as there are places. Contracts see the list.
 #[derive(Drop)]
 pub struct Block {
-    ring: VecDeque<u128>,
+    entries: Vec<u128>,
 }
 
 impl Model for Block {
     ghost use Rattle.std.specs.Prelude.{List, ℕ, ◌≤◌, length};
-    ghost use Rattle.std.specs.VecDeque.{deque_capacity};
+    ghost use Rattle.std.specs.Vec.{vec_capacity};
 
     ghost Value = { List ℕ };
 
-    ghost view = { λ b. b.ring.items };
+    ghost view = { λ b. b.entries.items };
 
-    ghost invariant = { λ b. (length b.ring.items ≤ 2048) × (2048 ≤ deque_capacity b.ring) };
+    ghost invariant = { λ b. (length b.entries.items ≤ 512) × (512 ≤ vec_capacity b.entries) };
 }
 
 impl Block {
@@ -34,8 +36,16 @@ impl Block {
     pub fn new(alloc: Global) -> Result<Self, AllocError>
         ensures { IfOk result (λ b. b ≡ []) }
     {
-        let ring = VecDeque::with_capacity(alloc, SIZE)?;
-        Ok(Block { ring })
+        let entries = Vec::with_capacity(alloc, SIZE)?;
+        Ok(Block { entries })
+    }
+
+    /// How many there are.
+    pub fn len(&self) -> usize
+        ensures count { result ≡ length self.now }
+        ensures few { result ≤ 512 }
+    {
+        self.entries.len()
     }
 
     /// The entry at a place.
@@ -43,7 +53,16 @@ impl Block {
         requires { place < length self.now }
         ensures { (d : ℕ) → slice_index_or self.now place d ≡ result }
     {
-        self.ring[place]
+        self.entries[place]
+    }
+
+    /// Where an entry is, or where it would go.
+    pub fn place_of(&self, entry: u128) -> Result<usize, usize>
+        requires { AreInOrder (λ n. n) self.now }
+        ensures found { IfOk result (IsPlace (λ n. n) self.now entry) }
+        ensures absent { IfErr result (IsGap (λ n. n) self.now entry) }
+    {
+        self.entries.binary_search(&entry)
     }
 
     /// Puts an entry instead of the one at a place.
@@ -51,30 +70,16 @@ impl Block {
         requires { place < length self.old }
         ensures { self.new ≡ slice_set self.old place entry }
     {
-        self.ring[place] = entry;
+        self.entries[place] = entry;
     }
 
-    /// Inserts an entry. Where there is one too many then, the last one goes, and is returned.
-    pub fn insert(&mut self, place: usize, entry: u128) -> Option<u128>
+    /// Inserts an entry.
+    pub fn insert(&mut self, place: usize, entry: u128)
         requires within { place ≤ length self.old }
-        requires fits { place < 2048 }
-        ensures kept { self.new ≡ take 2048 (insert self.old place entry) }
-        ensures over { result ≡ slice_get (insert self.old place entry) 2048 }
+        requires fits { length self.old < 512 }
+        ensures { self.new ≡ insert self.old place entry }
     {
-        let last = self.over();
-        insert_reserved(&mut self.ring, place, entry);
-        last
-    }
-
-    // Takes the last entry away, where no place is left.
-    fn over(&mut self) -> Option<u128>
-        ensures kept { self.new ≡ take 2047 self.old }
-        ensures over { result ≡ slice_get self.old 2047 }
-    {
-        if self.ring.len() < SIZE {
-            return None;
-        }
-        self.ring.pop_back()
+        insert_reserved(&mut self.entries, place, entry);
     }
 
     /// Removes the entry at a place.
@@ -82,35 +87,51 @@ impl Block {
         requires { place < length self.old }
         ensures { self.new ≡ remove self.old place }
     {
-        let _ = self.ring.remove(place);
+        let _ = self.entries.remove(place);
     }
 
-    /// Takes the first entry of the next block to the end of this one, where a place is left.
-    pub fn push(&mut self, entry: Option<u128>)
-        ensures { self.new ≡ take 2048 (self.old ++ option_to_list entry) }
+    /// Removes all entries.
+    pub fn clear(&mut self)
+        ensures { self.new ≡ [] }
     {
-        if let Some(entry) = entry {
-            if self.ring.len() < SIZE {
-                self.ring.push_back_reserved(entry);
-            }
-        }
+        self.entries.clear();
     }
 
-    /// Takes the first entry away.
-    pub fn pop_front(&mut self) -> Option<u128>
-        ensures rest { self.new ≡ drop 1 self.old }
-        ensures first { option_to_list result ≡ take 1 self.old }
+    /// Moves the upper half of a full block into another, in the place of what is there.
+    pub fn split_into(&mut self, upper: &mut Block)
+        requires { length self.old ≡ 512 }
+        ensures kept { self.new ≡ take 256 self.old }
+        ensures moved { upper.new ≡ drop 256 self.old }
     {
-        self.ring.pop_front()
+        upper.fill(&self.entries[HALF..]);
+        self.entries.truncate(HALF);
+    }
+
+    // Puts these entries in the place of those that are there.
+    fn fill(&mut self, entries: &[u128])
+        requires { length entries.now ≤ 512 }
+        ensures { self.new ≡ entries.now }
+    {
+        self.entries.clear();
+        extend_reserved(&mut self.entries, entries);
     }
 }
 
 // Inserts into room that is there.
-fn insert_reserved(ring: &mut VecDeque<u128>, place: usize, entry: u128)
-    requires within { place ≤ length ring.old.items }
-    requires room { length ring.old.items < deque_capacity ring.old }
-    ensures items { ring.new.items ≡ insert ring.old.items place entry }
-    ensures capacity { deque_capacity ring.old ≤ deque_capacity ring.new }
+fn insert_reserved(entries: &mut Vec<u128>, place: usize, entry: u128)
+    requires within { place ≤ length entries.old.items }
+    requires room { length entries.old.items < vec_capacity entries.old }
+    ensures items { entries.new.items ≡ insert entries.old.items place entry }
+    ensures capacity { vec_capacity entries.old ≤ vec_capacity entries.new }
 {
-    let _ = ring.insert(place, entry);
+    let _ = entries.insert(place, entry);
+}
+
+// Adds entries at the end, into room that is there.
+fn extend_reserved(entries: &mut Vec<u128>, more: &[u128])
+    requires { length entries.old.items + length more.now ≤ vec_capacity entries.old }
+    ensures items { entries.new.items ≡ entries.old.items ++ more.now }
+    ensures capacity { vec_capacity entries.old ≤ vec_capacity entries.new }
+{
+    let _ = entries.extend_from_slice(more);
 }

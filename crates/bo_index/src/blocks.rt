@@ -1,34 +1,40 @@
 //! Entries in blocks, so that one which comes or goes in the middle moves few others.
 
-ghost use Rattle.std.specs.Prelude.{◌≡◌, ◌≤◌, ◌<◌, ◌+◌, ◌*◌, ℕ, [], ◌∷◌, ◌++◌, length, take, drop, replicate, slice_index_or, slice_set, Option, OnOk, OnErr, IfOk};
+ghost use Rattle.std.specs.Prelude.{◌≡◌, ◌≤◌, ◌<◌, ◌+◌, ◌-◌, ◌*◌, ◌↔◌, ℕ, [], length, slice_index_or, slice_set, IsTrue, OnOk, OnErr, IfOk, IfErr};
 ghost use Rattle.std.specs.List.{insert, remove};
-ghost use Rattle.bo_index.specs.Blocks.{passed_on, closed_up};
+ghost use Rattle.bo_base.specs.Tables.{AreInOrder, IsPlace, IsGap};
 
-use crate::block::{Block, SIZE};
+use crate::block::{HALF, SIZE};
+use crate::chain::{Chain, Spot};
 use std::alloc::{AllocError, Global};
 use std::marker::Model;
 
+/// How many blocks there can be: they have places for 2^32 entries.
+const MOST: usize = 4_294_967_296 / SIZE;
+
 /// Entries by place. Contracts see them as a list, and how many more can be added without taking memory.
 ///
-/// They stand in blocks of one size, and each is full before the next begins. So the block of a place is found by a
-/// division, and an entry that comes or goes moves a part of its block, and one entry of each block behind it.
+/// They stand in blocks in order, and none but the first is empty. One that is full is split into two halves when an
+/// entry comes, for which a spare block is ready: so an entry that comes or goes moves a part of one block. A block
+/// that becomes empty is spare again.
 #[derive(Drop)]
 pub struct Blocks {
-    blocks: Vec<Block>,
-    len: usize,
+    chain: Chain,
+    last: usize,
+    room: usize,
 }
 
 impl Model for Blocks {
-    ghost use Rattle.std.specs.Prelude.{ℕ, ◌-◌, ◌*◌, length};
+    ghost use Rattle.std.specs.Prelude.{ℕ};
     ghost use Rattle.std.specs.List.{concat};
     ghost use Rattle.bo_base.specs.Tables.{Table};
     ghost use Rattle.bo_index.specs.Blocks.{AreBlocks};
 
     ghost Value = { Table ℕ };
 
-    ghost view = { λ b. record { rows = concat b.blocks.items; room = 2048 * length b.blocks.items - b.len } };
+    ghost view = { λ b. record { rows = concat b.chain; room = b.room } };
 
-    ghost invariant = { λ b. AreBlocks 2048 b.blocks.items b.len };
+    ghost invariant = { λ b. AreBlocks b.chain b.last b.room };
 }
 
 impl Blocks {
@@ -37,8 +43,9 @@ impl Blocks {
         ensures { result.rows ≡ [] }
     {
         Blocks {
-            blocks: Vec::new(alloc),
-            len: 0,
+            chain: Chain::new(alloc),
+            last: 0,
+            room: 0,
         }
     }
 
@@ -46,7 +53,7 @@ impl Blocks {
     pub fn known(&self)
         ensures { length self.now.rows + self.now.room ≤ 4294967296 }
     {
-        let _ = &self.len;
+        let _ = &self.room;
     }
 
     /// How many there are.
@@ -54,30 +61,43 @@ impl Blocks {
         ensures count { result ≡ length self.now.rows }
         ensures few { result + self.now.room ≤ 4294967296 }
     {
-        self.len
+        self.chain.len()
     }
 
     /// How many can be added without taking memory.
     pub fn room(&self) -> usize
         ensures { result ≡ self.now.room }
     {
-        self.blocks.len() * SIZE - self.len
+        self.room
     }
 
-    /// Takes memory, so that this many can be added. It is refused where there would be more than 2^32 with them, or
-    /// where there is no memory.
+    /// Takes memory, so that this many can be added. It is refused where there would be places for more than 2^32,
+    /// or where there is no memory.
     pub fn reserve(&mut self, count: usize) -> Result<(), AllocError>
         ensures ok { OnOk result (count ≤ self.new.room) }
         ensures rows { self.new.rows ≡ self.old.rows }
         ensures err { OnErr result (self.new.room ≡ self.old.room) }
     {
-        if count > 4294967296 - self.len {
+        if count <= self.room {
+            return Ok(());
+        }
+        self.add_blocks((count - self.room - 1) / HALF + 1)
+    }
+
+    // Takes memory for so many spare blocks, and for the first block where there is none.
+    fn add_blocks(&mut self, spare: usize) -> Result<(), AllocError>
+        requires { spare ≤ 72057594037927936 }
+        ensures ok { OnOk result (self.new.room ≡ self.old.room + 256 * spare) }
+        ensures rows { self.new.rows ≡ self.old.rows }
+        ensures err { OnErr result (self.new.room ≡ self.old.room) }
+    {
+        let blocks = self.chain.count();
+        let count = spare + 1_usize.saturating_sub(blocks);
+        if count > MOST - blocks {
             return Err(AllocError);
         }
-        let needed = (self.len + count + (SIZE - 1)) / SIZE;
-        let missing = needed.saturating_sub(self.blocks.len());
-        let mut more = empty_blocks(*self.blocks.allocator(), missing)?;
-        self.blocks.append(&mut more)?;
+        self.chain.grow(count)?;
+        self.room += spare * HALF;
         Ok(())
     }
 
@@ -86,8 +106,22 @@ impl Blocks {
         requires { place < length self.now.rows }
         ensures { (d : ℕ) → slice_index_or self.now.rows place d ≡ result }
     {
-        let block = &self.blocks[place / SIZE];
-        block.at(place % SIZE)
+        let spot = self.chain.spot_of(self.last, place);
+        self.chain.at(spot)
+    }
+
+    /// Where an entry is, or where it would go.
+    pub fn place_of(&self, entry: u128) -> Result<usize, usize>
+        requires { AreInOrder (λ n. n) self.now.rows }
+        ensures found { IfOk result (IsPlace (λ n. n) self.now.rows entry) }
+        ensures absent { IfErr result (IsGap (λ n. n) self.now.rows entry) }
+        ensures few { IfOk result (λ at. at < 4294967296) }
+    {
+        if self.chain.count() == 0 {
+            return Err(0);
+        }
+        let block = self.chain.block_for(self.last, entry);
+        self.chain.place_in(block, entry)
     }
 
     /// Puts an entry instead of the one at a place.
@@ -96,8 +130,8 @@ impl Blocks {
         ensures rows { self.new.rows ≡ slice_set self.old.rows place entry }
         ensures room { self.new.room ≡ self.old.room }
     {
-        let block = &mut self.blocks[place / SIZE];
-        block.set(place % SIZE, entry);
+        let spot = self.chain.spot_of(self.last, place);
+        self.chain.set(spot, entry);
     }
 
     /// Inserts an entry at a place, into room that is there.
@@ -105,62 +139,65 @@ impl Blocks {
         requires within { place ≤ length self.old.rows }
         requires room { 1 ≤ self.old.room }
         ensures rows { self.new.rows ≡ insert self.old.rows place entry }
-        ensures room { self.old.room ≡ self.new.room + 1 }
+        ensures room { self.old.room ≤ self.new.room + 1 }
     {
-        let block = &mut self.blocks[place / SIZE];
-        let over = block.insert(place % SIZE, entry);
-        pass_on(&mut self.blocks, place / SIZE + 1, over);
-        self.len += 1;
+        let spot = self.chain.spot_of(self.last, place);
+        let filled = self.chain.filled(spot.block);
+        if filled == SIZE {
+            self.chain.split(spot.block);
+            self.last += 1;
+            self.chain.insert(half_of(spot), entry);
+            self.room -= 1;
+            return;
+        }
+        self.chain.insert(spot, entry);
+        self.room -= over(filled + 1) - over(filled);
     }
 
     /// Removes the entry at a place.
     pub fn remove(&mut self, place: usize)
         requires { place < length self.old.rows }
         ensures rows { self.new.rows ≡ remove self.old.rows place }
-        ensures room { self.new.room ≡ self.old.room + 1 }
+        ensures room { self.old.room ≤ self.new.room }
     {
-        let block = &mut self.blocks[place / SIZE];
-        block.remove(place % SIZE);
-        close_up(&mut self.blocks, place / SIZE);
-        self.len -= 1;
-    }
-}
-
-// So many blocks with no entries.
-fn empty_blocks(alloc: Global, count: usize) -> Result<Vec<Block>, AllocError>
-    ensures { IfOk result (λ v. v.items ≡ replicate count []) }
-{
-    let mut blocks = Vec::new(alloc);
-    for _ in 0..count {
-        blocks.push(Block::new(alloc)?)?;
-    }
-    Ok(blocks)
-}
-
-// Puts an entry before the blocks from this one on, and what is too many for each before the next.
-fn pass_on(blocks: &mut Vec<Block>, from: usize, first: Option<u128>)
-    requires { from ≤ length blocks.old.items }
-    ensures { blocks.new.items ≡ take from blocks.old.items ++ passed_on 2048 first (drop from blocks.old.items) }
-{
-    let mut over = first;
-    for at in from..blocks.len() {
-        let Some(entry) = over else {
+        let spot = self.chain.spot_of(self.last, place);
+        let filled = self.chain.filled(spot.block);
+        if is_emptied(spot, filled) {
+            self.chain.drop_block(spot.block);
+            self.last -= 1;
+            self.room += HALF;
             return;
-        };
-        let block = &mut blocks[at];
-        over = block.insert(0, entry);
+        }
+        self.chain.remove(spot);
+        self.room += over(filled) - over(filled - 1);
     }
 }
 
-// Takes the first entry of each block behind this one to the end of the one before it.
-fn close_up(blocks: &mut Vec<Block>, from: usize)
-    requires { from < length blocks.old.items }
-    ensures { blocks.new.items ≡ take from blocks.old.items ++ closed_up 2048 (slice_index_or blocks.old.items from []) (drop (from + 1) blocks.old.items) }
+// By how many entries a block is more than half full.
+fn over(filled: usize) -> usize
+    ensures { result ≡ filled - 256 }
 {
-    for at in from..blocks.len() - 1 {
-        let next = &mut blocks[at + 1];
-        let first = next.pop_front();
-        let block = &mut blocks[at];
-        block.push(first);
+    filled.saturating_sub(HALF)
+}
+
+// Whether a block behind the first is empty once the entry at a spot is gone.
+fn is_emptied(spot: Spot, filled: usize) -> bool
+    ensures { IsTrue result ↔ ((0 < spot.block) × (filled ≡ 1)) }
+{
+    spot.block > 0 && filled == 1
+}
+
+// Where a spot is, once its block is split into two halves.
+fn half_of(spot: Spot) -> Spot
+    requires { spot.block < 4294967296 }
+    ensures lower { spot.offset ≤ 256 → (result.block ≡ spot.block) × (result.offset ≡ spot.offset) }
+    ensures upper { 256 < spot.offset → (result.block ≡ spot.block + 1) × (result.offset + 256 ≡ spot.offset) }
+{
+    if spot.offset <= HALF {
+        return spot;
+    }
+    Spot {
+        block: spot.block + 1,
+        offset: spot.offset - HALF,
     }
 }

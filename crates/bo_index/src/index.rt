@@ -1,7 +1,7 @@
 //! Indexes: which ids have a key.
 
-ghost use Rattle.std.specs.Prelude.{◌≡◌, ◌≤◌, ◌<◌, ◌+◌, ◌++◌, ℕ, [], length, take, drop, OnOk, OnErr, IfOk, IfErr};
-ghost use Rattle.bo_base.specs.Tables.{with_row, without_row, AreInOrder, IsPlace, IsGap};
+ghost use Rattle.std.specs.Prelude.{◌≡◌, ◌≤◌, ◌<◌, ◌+◌, ◌++◌, ℕ, [], length, take, drop, OnOk, OnErr};
+ghost use Rattle.bo_base.specs.Tables.{with_row, without_row, AreInOrder};
 ghost use Rattle.bo_index.specs.Entries.{IsStart, entry, ids_of, ids_between, with_entries, without_id};
 
 use crate::blocks::Blocks;
@@ -45,8 +45,8 @@ impl Index {
         let _ = &self.entries;
     }
 
-    /// Takes memory, so that this many entries can be added. It is refused where there would be more than 2^32 with
-    /// them, or where there is no memory.
+    /// Takes memory, so that this many entries can be added. It is refused where there would be places for more than
+    /// 2^32, or where there is no memory.
     pub fn reserve(&mut self, count: usize) -> Result<(), AllocError>
         ensures ok { OnOk result (count ≤ self.new.room) }
         ensures rows { self.new.rows ≡ self.old.rows }
@@ -100,7 +100,7 @@ impl Index {
         ensures rows { self.new.rows ≡ with_row (λ n. n) entry self.old.rows }
         ensures room { self.old.room ≤ self.new.room + 1 }
     {
-        match place_of(&self.entries, entry) {
+        match self.entries.place_of(entry) {
             Ok(at) => self.entries.set(at, entry),
             Err(at) => self.entries.insert(at, entry),
         }
@@ -119,7 +119,7 @@ impl Index {
         ensures rows { self.new.rows ≡ without_row (λ n. n) entry self.old.rows }
         ensures room { self.old.room ≤ self.new.room }
     {
-        if let Ok(at) = place_of(&self.entries, entry) {
+        if let Ok(at) = self.entries.place_of(entry) {
             self.entries.remove(at);
         }
     }
@@ -145,36 +145,12 @@ impl Index {
     }
 }
 
-// Where an entry is, or where it would go.
-fn place_of(entries: &Blocks, entry: u128) -> Result<usize, usize>
-    requires { AreInOrder (λ n. n) entries.now.rows }
-    ensures found { IfOk result (IsPlace (λ n. n) entries.now.rows entry) }
-    ensures absent { IfErr result (IsGap (λ n. n) entries.now.rows entry) }
-    ensures few { IfOk result (λ at. at < 4294967296) }
-{
-    let mut low = 0;
-    let mut high = entries.len();
-    'halve: while low < high {
-        let middle = low + (high - low) / 2;
-        let there = entries.at(middle);
-        if there == entry {
-            return Ok(middle);
-        }
-        if there < entry {
-            low = middle + 1;
-        } else {
-            high = middle;
-        }
-    }
-    Err(low)
-}
-
 // Where the entries from this one on begin.
 fn start_of(entries: &Blocks, entry: u128) -> usize
     requires { AreInOrder (λ n. n) entries.now.rows }
     ensures { IsStart entries.now.rows entry result }
 {
-    match place_of(entries, entry) {
+    match entries.place_of(entry) {
         Ok(at) => at,
         Err(at) => at,
     }
@@ -185,7 +161,7 @@ fn start_after(entries: &Blocks, key: u64) -> usize
     requires { AreInOrder (λ n. n) entries.now.rows }
     ensures { IsStart entries.now.rows (entry (key + 1) 0) result }
 {
-    match place_of(entries, entry(key, u64::MAX)) {
+    match entries.place_of(entry(key, u64::MAX)) {
         Ok(at) => at + 1,
         Err(at) => at,
     }

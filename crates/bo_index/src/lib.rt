@@ -3,6 +3,7 @@
 
 pub mod block;
 pub mod blocks;
+pub mod chain;
 pub mod entries;
 pub mod found;
 pub mod index;

@@ -1,24 +1,32 @@
-use Rattle.std.proofs.Common.{◌≡◌, ℕ, ◌+◌, ◌-◌, ◌*◌, ◌/◌, ◌%◌, ◌<◌, ◌≤◌, length, sym, ap, ◌∙◌, arith}
-use Rattle.std.proofs.lemmas.List.{length-set}
-use Rattle.bo_index.proofs.BlockLemmas.{item_is}
+use Rattle.std.proofs.Common.{◌≡◌, ℕ, ◌<◌, [], length, get_or, refl, sym, ap, ◌∙◌, arith}
+use Rattle.std.specs.List.{concat}
+use Rattle.bo_index.proofs.BlockLemmas.{item_at}
+use Rattle.bo_index.proofs.RoomLemmas.{some_block, ends_there}
 use Rattle.bo_index.proofs.blocks.Blocks.at.Goals as goal
 
-pub at-requires : goal.at-requires
-at-requires c =
+pub spot_of-spot-requires-clause-place : goal.spot_of-spot-requires-clause-place
+spot_of-spot-requires-clause-place c =
     let a = c.self.inside in
-    let len : length c.args.self.now.rows ≡ a.len = rw (← c.self.view_is) (sym c.self.invariant.counted) in
-    let block = c.index-block.result.now in
-    let lt : c.args.place / 2048 < length a.blocks.items = omega (arith, c.self.invariant.fits) in
-    let whole : c.args.place ≡ 2048 * (c.args.place / 2048) + c.args.place % 2048 = omega arith in
-    let item = item_is 2048 a.blocks.items a.len c.args.place (c.args.place / 2048) (c.args.place % 2048) block c.self.invariant lt (omega arith) whole c.index-block.ensures in
-    item.1 (omega arith)
+    let rows : length c.args.self.now.rows ≡ length (concat a.chain) = rw (← c.self.view_is) refl in
+    omega (arith, rows, c.requires, ends_there a.chain a.last a.room c.self.invariant)
+
+pub at-requires-clause-within : goal.at-requires-clause-within
+at-requires-clause-within c =
+    let a = c.self.inside in
+    let spot = c.spot_of-spot.result in
+    let rows : length c.args.self.now.rows ≡ length (concat a.chain) = rw (← c.self.view_is) refl in
+    let some = some_block a.chain (omega (arith, rows, c.requires)) in
+    let lt : spot.block < length a.chain = omega (arith, c.spot_of-spot.ensures.block, c.self.invariant.within) in
+    let within : spot.offset < length (get_or a.chain spot.block []) = c.spot_of-spot.ensures.at_entry (omega (arith, rows, c.requires, ends_there a.chain a.last a.room c.self.invariant)) in
+    within
 
 pub returns : goal.returns
-returns c = λ d.
+returns c =
+    λ d.
     let a = c.self.inside in
-    let len : length c.args.self.now.rows ≡ a.len = rw (← c.self.view_is) (sym c.self.invariant.counted) in
-    let block = c.index-block.result.now in
-    let lt : c.args.place / 2048 < length a.blocks.items = omega (arith, c.self.invariant.fits) in
-    let whole : c.args.place ≡ 2048 * (c.args.place / 2048) + c.args.place % 2048 = omega arith in
-    let item = item_is 2048 a.blocks.items a.len c.args.place (c.args.place / 2048) (c.args.place % 2048) block c.self.invariant lt (omega arith) whole c.index-block.ensures in
-    rw (← c.self.view_is) (sym (item.2 d) ∙ c.at.ensures d)
+    let spot = c.spot_of-spot.result in
+    let rows : length c.args.self.now.rows ≡ length (concat a.chain) = rw (← c.self.view_is) refl in
+    let some = some_block a.chain (omega (arith, rows, c.requires)) in
+    let lt : spot.block < length a.chain = omega (arith, c.spot_of-spot.ensures.block, c.self.invariant.within) in
+    let within : spot.offset < length (get_or a.chain spot.block []) = c.spot_of-spot.ensures.at_entry (omega (arith, rows, c.requires, ends_there a.chain a.last a.room c.self.invariant)) in
+    rw (← c.self.view_is) (ap (λ (i : ℕ). get_or (concat a.chain) i d) (sym c.spot_of-spot.ensures.place) ∙ item_at a.chain spot.block spot.offset d lt within ∙ c.at.ensures d)

@@ -1,47 +1,45 @@
-use Rattle.std.proofs.Common.{◌≡◌, ℕ, ◌+◌, ◌-◌, ◌*◌, ◌/◌, ◌%◌, ◌<◌, ◌≤◌, length, sym, ap, ◌∙◌, arith}
+use Rattle.std.proofs.Common.{◌≡◌, ℕ, ◌+◌, ◌-◌, ◌<◌, List, [], length, get_or, set, refl, sym, ap, ◌∙◌, subst, arith}
+use Rattle.std.specs.List.{concat}
 use Rattle.std.proofs.lemmas.List.{length-set}
-use Rattle.bo_index.proofs.BlockLemmas.{item_is, set_done}
+use Rattle.bo_index.specs.Blocks.{AreBlocks}
+use Rattle.bo_index.proofs.BlockLemmas.{set_in}
+use Rattle.bo_index.proofs.RoomLemmas.{some_block, ends_there, blocks_set}
 use Rattle.bo_index.proofs.blocks.Blocks.set.Goals as goal
 
-pub set-requires : goal.set-requires
-set-requires c =
+pub spot_of-spot-requires-clause-place : goal.spot_of-spot-requires-clause-place
+spot_of-spot-requires-clause-place c =
     let a = c.self.inside in
-    let len : length c.args.self.now.rows ≡ a.len = rw (← c.self.view_is) (sym c.self.invariant.counted) in
-    let block = c.index_mut-block.result.now in
-    let lt : c.args.place / 2048 < length a.blocks.items = omega (arith, c.self.invariant.fits) in
-    let whole : c.args.place ≡ 2048 * (c.args.place / 2048) + c.args.place % 2048 = omega arith in
-    let item = item_is 2048 a.blocks.items a.len c.args.place (c.args.place / 2048) (c.args.place % 2048) block c.self.invariant lt (omega arith) whole c.index_mut-block.ensures.value in
-    item.1 (omega arith)
+    let rows : length c.args.self.now.rows ≡ length (concat a.chain) = rw (← c.self.view_is) refl in
+    omega (arith, rows, c.requires, ends_there a.chain a.last a.room c.self.invariant)
+
+pub set-requires-clause-within : goal.set-requires-clause-within
+set-requires-clause-within c =
+    let a = c.self.inside in
+    let spot = c.spot_of-spot.result in
+    let rows : length c.args.self.now.rows ≡ length (concat a.chain) = rw (← c.self.view_is) refl in
+    let some = some_block a.chain (omega (arith, rows, c.requires)) in
+    let lt : spot.block < length a.chain = omega (arith, c.spot_of-spot.ensures.block, c.self.invariant.within) in
+    let within : spot.offset < length (get_or a.chain spot.block []) = c.spot_of-spot.ensures.at_entry (omega (arith, rows, c.requires, ends_there a.chain a.last a.room c.self.invariant)) in
+    within
 
 pub invariant_of-self : goal.invariant_of-self
 invariant_of-self c =
     let a = c.self.inside in
-    let len : length c.args.self.now.rows ≡ a.len = rw (← c.self.view_is) (sym c.self.invariant.counted) in
-    let block = c.index_mut-block.result.now in
-    let lt : c.args.place / 2048 < length a.blocks.items = omega (arith, c.self.invariant.fits) in
-    let whole : c.args.place ≡ 2048 * (c.args.place / 2048) + c.args.place % 2048 = omega arith in
-    let item = item_is 2048 a.blocks.items a.len c.args.place (c.args.place / 2048) (c.args.place % 2048) block c.self.invariant lt (omega arith) whole c.index_mut-block.ensures.value in
-    let done = set_done 2048 a.blocks.items a.len c.args.place c.args.entry (c.args.place / 2048) (c.args.place % 2048) block c.set.new.self c.self.invariant lt (omega arith) whole c.index_mut-block.ensures.value c.set.ensures in
-    done.0
+    let spot = c.spot_of-spot.result in
+    let rows : length c.args.self.now.rows ≡ length (concat a.chain) = rw (← c.self.view_is) refl in
+    let some = some_block a.chain (omega (arith, rows, c.requires)) in
+    let lt : spot.block < length a.chain = omega (arith, c.spot_of-spot.ensures.block, c.self.invariant.within) in
+    let within : spot.offset < length (get_or a.chain spot.block []) = c.spot_of-spot.ensures.at_entry (omega (arith, rows, c.requires, ends_there a.chain a.last a.room c.self.invariant)) in
+    let new = set (get_or a.chain spot.block []) spot.offset c.args.entry in
+    let count : length new ≡ length (get_or a.chain spot.block []) = length-set (get_or a.chain spot.block []) spot.offset c.args.entry in
+    subst (λ (l : List (List ℕ)). AreBlocks l a.last a.room) (sym c.set.ensures) (blocks_set a.chain a.last a.room c.self.invariant spot.block a.room new lt c.spot_of-spot.ensures.block (λ pos. omega (arith, count, within)) (ap (λ (n : ℕ). a.room + (n - 256)) count))
 
 pub returns-clause-rows : goal.returns-clause-rows
 returns-clause-rows c =
     let a = c.self.inside in
-    let len : length c.args.self.now.rows ≡ a.len = rw (← c.self.view_is) (sym c.self.invariant.counted) in
-    let block = c.index_mut-block.result.now in
-    let lt : c.args.place / 2048 < length a.blocks.items = omega (arith, c.self.invariant.fits) in
-    let whole : c.args.place ≡ 2048 * (c.args.place / 2048) + c.args.place % 2048 = omega arith in
-    let item = item_is 2048 a.blocks.items a.len c.args.place (c.args.place / 2048) (c.args.place % 2048) block c.self.invariant lt (omega arith) whole c.index_mut-block.ensures.value in
-    let done = set_done 2048 a.blocks.items a.len c.args.place c.args.entry (c.args.place / 2048) (c.args.place % 2048) block c.set.new.self c.self.invariant lt (omega arith) whole c.index_mut-block.ensures.value c.set.ensures in
-    rw (← c.self.view_is) done.1
-
-pub returns-clause-room : goal.returns-clause-room
-returns-clause-room c =
-    let a = c.self.inside in
-    let len : length c.args.self.now.rows ≡ a.len = rw (← c.self.view_is) (sym c.self.invariant.counted) in
-    let block = c.index_mut-block.result.now in
-    let lt : c.args.place / 2048 < length a.blocks.items = omega (arith, c.self.invariant.fits) in
-    let whole : c.args.place ≡ 2048 * (c.args.place / 2048) + c.args.place % 2048 = omega arith in
-    let item = item_is 2048 a.blocks.items a.len c.args.place (c.args.place / 2048) (c.args.place % 2048) block c.self.invariant lt (omega arith) whole c.index_mut-block.ensures.value in
-    let done = set_done 2048 a.blocks.items a.len c.args.place c.args.entry (c.args.place / 2048) (c.args.place % 2048) block c.set.new.self c.self.invariant lt (omega arith) whole c.index_mut-block.ensures.value c.set.ensures in
-    rw (← c.self.view_is) (ap (λ n. 2048 * n - a.len) done.2)
+    let spot = c.spot_of-spot.result in
+    let rows : length c.args.self.now.rows ≡ length (concat a.chain) = rw (← c.self.view_is) refl in
+    let some = some_block a.chain (omega (arith, rows, c.requires)) in
+    let lt : spot.block < length a.chain = omega (arith, c.spot_of-spot.ensures.block, c.self.invariant.within) in
+    let within : spot.offset < length (get_or a.chain spot.block []) = c.spot_of-spot.ensures.at_entry (omega (arith, rows, c.requires, ends_there a.chain a.last a.room c.self.invariant)) in
+    rw (← c.self.view_is) (ap concat c.set.ensures ∙ set_in a.chain spot.block spot.offset c.args.place c.args.entry lt c.spot_of-spot.ensures.place within)

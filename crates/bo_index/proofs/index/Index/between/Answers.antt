@@ -1,4 +1,4 @@
-use Rattle.std.proofs.Common.{◌+◌, map, ap, ◌∙◌}
+use Rattle.std.proofs.Common.{map, ap, ◌∙◌}
 use Rattle.bo_index.specs.Entries.{entry, id_of}
 use Rattle.bo_index.proofs.Cuts.{cut_is}
 use Rattle.bo_index.proofs.EntryLemmas.{between_is}
