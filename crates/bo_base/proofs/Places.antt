@@ -1,5 +1,5 @@
 -- What a search finds among rows in order, and what an edit at that place does.
-use Rattle.std.proofs.Common.{◌≡◌, ℕ, zero, suc, ◌+◌, ◌<◌, ◌≤◌, ◌≢◌, List, [], ◌∷◌, length, get_or, set, Some, None, Result, Ok, Err, IfOk, IfErr, true, false, eqb, leb, ◌⊎◌, inl, inr, refl, sym, ap, subst, arith}
+use Rattle.std.proofs.Common.{◌≡◌, ℕ, zero, suc, ◌+◌, ◌-◌, ◌<◌, ◌≤◌, ◌≢◌, List, [], ◌∷◌, length, get_or, set, Some, None, Result, Ok, Err, IfOk, IfErr, true, false, eqb, leb, ◌⊎◌, inl, inr, refl, sym, ap, subst, arith}
 use Rattle.std.specs.List.{insert, remove}
 use Rattle.std.specs.List.Sorted.{IsSearchInRange, IsBinarySearchResult, IsNonDecreasingBy}
 use Rattle.std.specs.Ordering.{nat_cmp, ordering_index}
@@ -37,6 +37,16 @@ module _ {T : Type 0} (key : T → ℕ) where
       smaller_before = λ j d lt. ranked _ k _ (sym ((parted (comparisons_rise rows h k)).0 j d (omega arith) lt));
       greater_after = λ j d le lt. ranked _ k _ (sym ((parted (comparisons_rise rows h k)).1 j d le lt));
     };
+  }
+
+  -- behind a last row of a smaller id all are smaller
+  pub behind_last : (rows : List T) (k : ℕ) → AreInOrder key rows → ((d : T) → key (get_or rows (length rows - 1) d) < k) → IsGap key rows k (length rows)
+  behind_last rows k h last = record {
+    in_range = omega arith;
+    smaller_before = λ j d lt.
+        let below : key (get_or rows j d) ≤ key (get_or rows (length rows - 1) d) = grind (arith, rises 0 rows h j (length rows - 1) d, λ (same : j ≡ length rows - 1). ap (λ n. key (get_or rows n d)) same) in
+        omega (arith, below, last d);
+    greater_after = λ j d le lt. absurd (omega arith);
   }
 
   place_tail : (r : T) (rows : List T) (k i : ℕ) → IsPlace key (r ∷ rows) k (suc i) → IsPlace key rows k i

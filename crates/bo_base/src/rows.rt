@@ -1,8 +1,8 @@
 //! Tables of rows in order of id.
 
-ghost use Rattle.std.specs.Prelude.{◌≡◌, ◌≤◌, ◌<◌, ◌+◌, ℕ, [], length, IfOk, IfErr, OnOk, OnErr, IsOk, vec_capacity};
+ghost use Rattle.std.specs.Prelude.{◌≡◌, ◌≤◌, ◌<◌, ◌+◌, ℕ, [], true, length, IfOk, IfErr, OnOk, OnErr, IsOk, vec_capacity};
 ghost use Rattle.std.specs.List.{insert};
-ghost use Rattle.std.specs.Option.{option_copied};
+ghost use Rattle.std.specs.Option.{option_copied, IfSome};
 ghost use Rattle.bo_base.specs.Dropped.{without_rows};
 ghost use Rattle.bo_base.specs.Tables.{Table, has, row_at, with_row, without_row, AreInOrder, AreKept, IsPlace, IsGap};
 
@@ -172,8 +172,48 @@ fn is_among(ids: &[u64], id: u64) -> bool
     ids.binary_search(&id).is_ok()
 }
 
-/// Where the row of an id is in rows in order of id, or where it would go.
+/// Where the row of an id is in rows in order of id, or where it would go. Where as many rows stand before it as ids, or it goes
+/// behind all of them, nothing is searched.
 pub fn place_of<T: Row>(rows: &[T], id: u64) -> Result<usize, usize>
+    requires { AreInOrder T.key rows.now }
+    ensures found { IfOk result (IsPlace T.key rows.now id) }
+    ensures absent { IfErr result (IsGap T.key rows.now id) }
+{
+    if let Some(at) = reckoned(rows, id) {
+        return Ok(at);
+    }
+    if is_behind(rows, id) {
+        return Err(rows.len());
+    }
+    searched(rows, id)
+}
+
+// The place of an id, where as many rows stand before it as ids from that of the first row on.
+fn reckoned<T: Row>(rows: &[T], id: u64) -> Option<usize>
+    ensures { IfSome result (IsPlace T.key rows.now id) }
+{
+    let first = rows.first()?.id();
+    let at = id.checked_sub(first)? as usize;
+    if rows.get(at)?.id() == id {
+        Some(at)
+    } else {
+        None
+    }
+}
+
+// Whether an id goes behind all rows.
+fn is_behind<T: Row>(rows: &[T], id: u64) -> bool
+    requires { AreInOrder T.key rows.now }
+    ensures { result ≡ true → IsGap T.key rows.now id (length rows.now) }
+{
+    match rows.last() {
+        None => true,
+        Some(last) => last.id() < id,
+    }
+}
+
+// The same by halving.
+fn searched<T: Row>(rows: &[T], id: u64) -> Result<usize, usize>
     requires { AreInOrder T.key rows.now }
     ensures found { IfOk result (IsPlace T.key rows.now id) }
     ensures absent { IfErr result (IsGap T.key rows.now id) }

@@ -1,7 +1,7 @@
 use Rattle.std.proofs.Common.{rules}
 use Rattle.std.proofs.lemmas.List.Sorted.{answers_always}
 use Rattle.bo_base.proofs.Places.{searched}
-use Rattle.bo_base.proofs.rows.place_of.Goals as goal
+use Rattle.bo_base.proofs.rows.searched.Goals as goal
 
 pub returns : goal.returns
 returns g c =
