@@ -6,8 +6,8 @@ ghost use Rattle.bo_desk.specs.Served.{Serves};
 
 use crate::words::HouseWords;
 use bo_base::Answer;
-use bo_devices::Tick;
 use bo_connection::Desk;
+use bo_devices::Tick;
 use bo_http::Frame;
 use bo_kept::Tables;
 use bo_office::Office;

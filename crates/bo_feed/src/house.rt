@@ -7,10 +7,10 @@ ghost use Rattle.bo_desk.specs.Served.{Serves};
 ghost use Rattle.bo_fresh.specs.House.{desk_with};
 ghost use Rattle.bo_feed.specs.House.{ServesFresh, no_desk};
 
-use bo_devices::{Drain, Source, Ticks};
 use bo_connection::{Desk, Failure, Room, run_stream};
 use bo_counters::Counters;
 use bo_desk::ShopDesk;
+use bo_devices::{Drain, Source, Ticks};
 use bo_fresh::open_memory;
 use bo_kept::Tables;
 use bo_office::Office;

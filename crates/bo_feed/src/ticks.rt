@@ -3,10 +3,10 @@
 ghost use Rattle.std.specs.Prelude.{◌≡◌, ◌<◌, ℕ, Some};
 ghost use Rattle.bo_feed.specs.FeedTicks.{feed_ticks};
 
-use bo_devices::device::{Refused, Tick, Ticks};
 use bo_base::draw::Draw;
 use bo_base::moment::Moment;
 use bo_base::steps::Steps;
+use bo_devices::device::{Refused, Tick, Ticks};
 use std::marker::{Brand, PhantomData};
 use std::sync::ledger::Ledger;
 
