@@ -19,3 +19,8 @@ returns-in-Ok-clause-opened g c =
 pub returns-in-Ok-clause-found : goal.returns-in-Ok-clause-found
 returns-in-Ok-clause-found g c =
     subst (λ h. HasCleanDisk (state g.S.Store h) → IsTrue (state g.S.Store h).is_open → (db : Database) → IsAt db (state g.S.Store c.args.connection) → IsReadable db) (sym c.over.ensures.connection) c.in-Ok.ensures.found
+
+pub returns-in-Ok-clause-whole : goal.returns-in-Ok-clause-whole
+returns-in-Ok-clause-whole g c =
+    subst (λ h. HasCleanDisk (state g.S.Store h) → IsTrue (state g.S.Store h).is_open → (db : Database) → IsAt db (state g.S.Store c.args.connection) → db.schema ≡ schema
+    → (error : OpenError) → IsReason db error → IsOfMachine error) (sym c.over.ensures.connection) c.in-Ok.ensures.whole
