@@ -16,6 +16,9 @@ use bo_lists::{CartPos, Own};
 use bo_usage::{Book, LookUps};
 use std::alloc::Global;
 
+// How long a cart position is held where no end is given, in seconds: half an hour.
+const HELD_FOR: u64 = 1_800;
+
 /// Adds a cart position, and answers a copy of it.
 /// A refusal leaves the draft as it was.
 /// Refusals, in this order: 45 `BadCart`; 10 `NoItem`, 11 `NoVariation`, 12 `NeedsVariation`, 15 `Inactive`,
@@ -58,7 +61,7 @@ fn new_row<B: Book>(
         product: sold.product,
         price: sold.price,
         made_at: draft.moment(),
-        expires: new.expires.unwrap_or(draft.moment().later(1800)),
+        expires: new.expires.unwrap_or(draft.moment().later(HELD_FOR)),
         voucher: sold.voucher,
     })
 }

@@ -9,7 +9,7 @@ ghost use Rattle.bo_rows.specs.Removed.{AreApart, without_past};
 use bo_base::Moment;
 use bo_columns::Column;
 use bo_columns::methods::bind_methods;
-use bo_kept::Kept;
+use bo_kept::{A_DAY, Kept};
 use bo_schema::{RowError, run};
 use sqlite::{Alter, Transaction};
 
@@ -51,10 +51,10 @@ pub fn forget<S: Alter>(tx: &mut Transaction<'_, S>, at: Moment) -> Result<(), R
     ensures crash { Survives (state S.Store tx.old.conn.now) (state S.Store tx.new.conn.now) (λ _. ⊥) }
 {
     let now = at.get();
-    if now < 86400 {
+    if now < A_DAY {
         return Ok(());
     }
-    let last = now - 86400;
+    let last = now - A_DAY;
     let since = last.bind()?;
     run(tx, "DELETE FROM kept WHERE first_moment <= ?1", &[since])?;
     Ok(())
