@@ -4,10 +4,10 @@ use Rattle.std.specs.Prelude.{◌||◌, ◌==◌}
 use Rattle.std.specs.List.{AllByRecursion, filter_map}
 use Rattle.std.specs.Cmp.Lexicographic.{bytes_decides}
 use Rattle.std.proofs.lemmas.Bool.Decides.{nat_tests}
-use Rattle.bo_base.specs.Tables.{has, with_row, InOrderFrom, AreInOrder}
-use Rattle.bo_base.specs.Rising.{with_ids, rising}
+use Rattle.bo_sorted.specs.Tables.{has, with_row, InOrderFrom, AreInOrder}
+use Rattle.bo_sorted.specs.Rising.{with_ids, rising}
 use Rattle.bo_base.specs.Texts.{same_text}
-use Rattle.bo_base.proofs.Places.{with_row_in_order}
+use Rattle.bo_sorted.proofs.Places.{with_row_in_order}
 use Rattle.bo_lists.specs.declared.rows.Checkin.{Checkin}
 use Rattle.bo_lists.proofs.EachRow.{all_weaker, all_of, neither_first, neither_second}
 use Rattle.bo_sound.specs.Checkins.{same_nonce, repeats, AreOnce}

@@ -2,13 +2,13 @@
 
 ghost use Rattle.std.specs.Prelude.{◌≡◌, ◌==◌, IfOk, true, length};
 ghost use Rattle.std.specs.List.{filter_map};
-ghost use Rattle.bo_base.specs.Rising.{rising};
+ghost use Rattle.bo_sorted.specs.Rising.{rising};
 ghost use Rattle.bo_sound.specs.Checkins.{AreOnce};
 ghost use Rattle.bo_alike.specs.Keys.{nonce_key};
 
-use bo_base::Ids;
 use bo_indexed::digest;
 use bo_lists::Checkin;
+use bo_sorted::Ids;
 use std::alloc::{AllocError, Global};
 
 // The digest of a check-in's list, position and nonce, where it has one.

@@ -1,9 +1,9 @@
 //! Ids that rise.
 
 ghost use Rattle.std.specs.Prelude.{◌↔◌, IsTrue};
-ghost use Rattle.bo_base.specs.Tables.{AreInOrder};
+ghost use Rattle.bo_sorted.specs.Tables.{AreInOrder};
 
-use bo_base::{Ids, Row};
+use bo_sorted::{Ids, Row};
 
 /// Whether each id is below the next.
 pub fn rises<T: Row>(rows: &[T]) -> bool

@@ -1,8 +1,8 @@
 -- Rows in order are arranged as the box office whose rows they are.
 use Rattle.std.proofs.Common.{◌≡◌, ℕ, ◌+◌, ◌≤◌, List, [], ◌∷◌, ◌++◌, map, refl, ap, ap₂, subst, ◌∙◌}
 use Rattle.std.specs.List.{AllByRecursion}
-use Rattle.bo_base.specs.Tables.{InOrderFrom, AreInOrder}
-use Rattle.bo_base.proofs.RisingLemmas.{rising_in_order}
+use Rattle.bo_sorted.specs.Tables.{InOrderFrom, AreInOrder}
+use Rattle.bo_sorted.proofs.RisingLemmas.{rising_in_order}
 use Rattle.bo_catalogue.specs.declared.rows.Quota.{Quota}
 use Rattle.bo_lists.specs.declared.rows.CheckinList.{CheckinList}
 use Rattle.bo_lists.specs.Lists.{Lists}

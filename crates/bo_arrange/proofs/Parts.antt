@@ -6,9 +6,9 @@ use Rattle.std.proofs.lemmas.Bool.Decides.{nat_tests}
 use Rattle.std.proofs.lemmas.List.{map-append, length-append, length-map}
 use Rattle.std.proofs.lemmas.List.Sorted.{IsPermutation-refl, IsPermutation-sym, IsPermutation-trans, IsPermutation-cons, IsPermutation-map, IsPermutation-middle, IsPermutation-append, IsPermutation-append_left, IsPermutation-append_right, IsPermutation-append_comm, length_permutation, Contains-permutation}
 use Rattle.sqlite_trees.proofs.ListLemmas.{IsPermutation-filter}
-use Rattle.bo_base.specs.Rising.{with_ids, rising}
-use Rattle.bo_base.specs.Tables.{with_row, InOrderFrom, AreInOrder}
-use Rattle.bo_base.proofs.RisingLemmas.{is_rising}
+use Rattle.bo_sorted.specs.Rising.{with_ids, rising}
+use Rattle.bo_sorted.specs.Tables.{with_row, InOrderFrom, AreInOrder}
+use Rattle.bo_sorted.proofs.RisingLemmas.{is_rising}
 use Rattle.bo_stand.specs.Links.{Link, links, all_links}
 use Rattle.bo_stand.proofs.Links.{filter_append}
 use Rattle.bo_stand.proofs.Order.{put_in, put_stays}

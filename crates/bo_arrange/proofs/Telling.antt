@@ -3,7 +3,7 @@ use Rattle.std.proofs.Common.{◌≡◌, ℕ, zero, suc, ◌+◌, ◌<◌, ◌�
 use Rattle.std.proofs.lemmas.Bool.{cases_lt}
 use Rattle.std.proofs.lemmas.Bool.Decides.{nat_tests}
 use Rattle.std.proofs.lemmas.List.{map-append}
-use Rattle.bo_base.specs.Tables.{InOrderFrom, AreInOrder, IsPlace, IsGap}
+use Rattle.bo_sorted.specs.Tables.{InOrderFrom, AreInOrder, IsPlace, IsGap}
 use Rattle.bo_stand.specs.Links.{Link}
 use Rattle.bo_stand.proofs.Links.{filter_append}
 use Rattle.bo_arrange.specs.Members.{told}

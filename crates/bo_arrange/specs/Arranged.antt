@@ -1,6 +1,6 @@
 -- The box office that the rows of a file tell.
 use Rattle.std.specs.Prelude.{List, map}
-use Rattle.bo_base.specs.Tables.{AreInOrder}
+use Rattle.bo_sorted.specs.Tables.{AreInOrder}
 use Rattle.bo_catalogue.specs.declared.rows.Quota.{Quota}
 use Rattle.bo_lists.specs.declared.rows.CheckinList.{CheckinList}
 use Rattle.bo_lists.specs.declared.count_rows.VoucherCount.{VoucherCount}

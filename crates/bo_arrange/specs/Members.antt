@@ -1,6 +1,6 @@
 -- The members of rows, as links tell them.
 use Rattle.std.specs.Prelude.{ℕ, ◌==◌, List, map, filter, flat_map}
-use Rattle.bo_base.specs.Rising.{rising}
+use Rattle.bo_sorted.specs.Rising.{rising}
 use Rattle.bo_stand.specs.Links.{Link}
 
 -- the members that are told of an owner, in the order of their links

@@ -1,7 +1,7 @@
 //! The rows of a file, arranged as those of a box office.
 
 ghost use Rattle.std.specs.Prelude.{◌≡◌, ◌↔◌, IfOk, OnOk, IsTrue, map};
-ghost use Rattle.bo_base.specs.Tables.{AreInOrder};
+ghost use Rattle.bo_sorted.specs.Tables.{AreInOrder};
 ghost use Rattle.bo_rules.specs.Told.{file_of};
 ghost use Rattle.bo_stand.specs.Stands.{AreRowsOf};
 ghost use Rattle.bo_arrange.specs.Arranged.{arranged, rows_in, told_by, IsInOrder};

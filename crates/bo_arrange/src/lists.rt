@@ -2,16 +2,16 @@
 
 ghost use Rattle.std.specs.Prelude.{◌≡◌, ◌↔◌, IfOk, OnOk, IsTrue, IsPermutation, map};
 ghost use Rattle.std.specs.List.{zip};
-ghost use Rattle.bo_base.specs.Tables.{AreInOrder};
+ghost use Rattle.bo_sorted.specs.Tables.{AreInOrder};
 ghost use Rattle.bo_stand.specs.Links.{all_links};
 ghost use Rattle.bo_arrange.specs.Arranged.{list_link, list_of};
 
 use crate::error::ArrangeError;
 use crate::members::{members_in, rise};
-use bo_base::Ids;
 use bo_columns::ListRow;
 use bo_lists::{Checkin, CheckinList};
 use bo_opens::DoorRows;
+use bo_sorted::Ids;
 use std::alloc::{AllocError, Global};
 
 /// What the doors have, and whether each link of a check-in list tells one of its items.

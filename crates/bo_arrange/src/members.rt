@@ -1,13 +1,13 @@
 //! The members of rows, as links tell them.
 
 ghost use Rattle.std.specs.Prelude.{◌≡◌, ◌↔◌, ◌++◌, [], ◌∷◌, IfOk, OnOk, IsTrue, IsPermutation, List, map, flat_map, length};
-ghost use Rattle.bo_base.specs.Rising.{rising};
-ghost use Rattle.bo_base.specs.Tables.{AreInOrder};
+ghost use Rattle.bo_sorted.specs.Rising.{rising};
+ghost use Rattle.bo_sorted.specs.Tables.{AreInOrder};
 ghost use Rattle.bo_stand.specs.Links.{Link};
 ghost use Rattle.bo_arrange.specs.Members.{told, members_of, links_of};
 
 use crate::links::Linking;
-use bo_base::{Ids, Row, place_of};
+use bo_sorted::{Ids, Row, place_of};
 use std::alloc::{AllocError, Global};
 
 /// Whether each id is below the next one.

@@ -2,16 +2,16 @@
 
 ghost use Rattle.std.specs.Prelude.{◌≡◌, ◌↔◌, IfOk, OnOk, IsTrue, IsPermutation, map};
 ghost use Rattle.std.specs.List.{zip};
-ghost use Rattle.bo_base.specs.Tables.{AreInOrder};
+ghost use Rattle.bo_sorted.specs.Tables.{AreInOrder};
 ghost use Rattle.bo_stand.specs.Links.{all_links};
 ghost use Rattle.bo_arrange.specs.Arranged.{item_link, variation_link, quota_of};
 
 use crate::error::ArrangeError;
 use crate::members::{both, members_in, rise};
-use bo_base::Ids;
 use bo_catalogue::{Item, Quota, Variation};
 use bo_columns::QuotaRow;
 use bo_opens::CatalogueRows;
+use bo_sorted::Ids;
 use std::alloc::{AllocError, Global};
 
 /// What is for sale, and whether each link of a quota tells one of its members.

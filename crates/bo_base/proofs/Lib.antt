@@ -1,8 +1,4 @@
 pub mod Decided
-pub mod Places
-pub mod RisingLemmas
-pub mod Edits
-pub mod Drops
 mod CivilLemmas
 mod TextLemmas
 mod DigitLemmas

@@ -1,6 +1,4 @@
 pub mod Deciding
-pub mod Tables
-pub mod Dropped
 pub mod Texts
 pub mod Slugs
 pub mod Counts
@@ -10,7 +8,6 @@ pub mod Digits
 pub mod Money
 pub mod Moments
 pub mod Civil
-pub mod Rising
 pub mod Percent
 pub mod Price
 pub mod Codes

@@ -1,4 +1,4 @@
-//! What every layer speaks of: money, moments, draws, texts, tables of rows and answers.
+//! What every layer speaks of: money, moments, draws, texts and answers.
 #![tactic(auto)]
 
 pub mod answer;
@@ -7,7 +7,6 @@ pub mod codes;
 pub mod counts;
 pub mod digits;
 pub mod draw;
-pub mod ids;
 pub mod known;
 pub mod laws;
 pub mod list;
@@ -15,7 +14,6 @@ pub mod moment;
 pub mod percent;
 pub mod price_mode;
 pub mod refusal;
-pub mod rows;
 pub mod secrets;
 pub mod slug;
 pub mod steps;
@@ -29,14 +27,12 @@ pub use codes::{order_code, read_code};
 pub use counts::{Priority, Size, Uses};
 pub use digits::number_of;
 pub use draw::Draw;
-pub use ids::{Ids, id_at};
 pub use known::Known;
 pub use list::List;
 pub use moment::{Moment, moment_text, read_day, read_moment};
 pub use percent::Percent;
 pub use price_mode::{PriceMode, price};
 pub use refusal::ValueRefusal;
-pub use rows::{Row, Rows, place_of};
 pub use secrets::secret;
 pub use slug::{Slug, is_slug};
 pub use steps::Steps;

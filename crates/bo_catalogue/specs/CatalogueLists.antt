@@ -3,7 +3,7 @@ use Rattle.std.specs.Prelude.{ℕ, Bool, true, false, ◌&&◌, List, map, filte
 use Rattle.std.specs.List.{list_any}
 use Rattle.std.specs.Option.{ok_or}
 use Rattle.bo_base.specs.Deciding.{◌>>=◌, ◌>>◌, check, refuse_if}
-use Rattle.bo_base.specs.Tables.{row_at}
+use Rattle.bo_sorted.specs.Tables.{row_at}
 use Rattle.bo_catalogue.specs.declared.rows.Item.{Item}
 use Rattle.bo_catalogue.specs.declared.rows.Variation.{Variation}
 use Rattle.bo_catalogue.specs.declared.rows.Quota.{Quota}

@@ -1,6 +1,6 @@
 -- Which products a quota has.
 use Rattle.std.specs.Prelude.{ℕ, Bool, Option, Some, None}
-use Rattle.bo_base.specs.Tables.{has}
+use Rattle.bo_sorted.specs.Tables.{has}
 use Rattle.bo_catalogue.specs.declared.rows.Quota.{Quota}
 use Rattle.bo_catalogue.specs.declared.rows.Product.{Product}
 

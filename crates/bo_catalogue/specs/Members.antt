@@ -1,6 +1,6 @@
 -- Which quotas list an item or a variation, as an index tells it.
 use Rattle.std.specs.Prelude.{◌≡◌, ℕ, ◌+◌, Bool, false, List, length, Option, Some, None, if◌then◌else◌, ◌==◌}
-use Rattle.bo_base.specs.Tables.{has, row_at}
+use Rattle.bo_sorted.specs.Tables.{has, row_at}
 use Rattle.bo_index.specs.Entries.{has_entry}
 use Rattle.bo_catalogue.specs.declared.rows.Quota.{Quota}
 

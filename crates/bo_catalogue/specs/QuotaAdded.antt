@@ -3,8 +3,8 @@ use Rattle.std.specs.Prelude.{ℕ, Bool, false, ◌&&◌, ◌||◌, not, List, O
 use Rattle.std.specs.List.{filter_map, list_all}
 use Rattle.std.specs.Option.{is_some}
 use Rattle.bo_base.specs.Deciding.{◌>>◌, check}
-use Rattle.bo_base.specs.Tables.{has}
-use Rattle.bo_base.specs.Rising.{rising}
+use Rattle.bo_sorted.specs.Tables.{has}
+use Rattle.bo_sorted.specs.Rising.{rising}
 use Rattle.bo_catalogue.specs.declared.rows.Item.{Item}
 use Rattle.bo_catalogue.specs.declared.rows.Variation.{Variation}
 use Rattle.bo_catalogue.specs.declared.rows.Quota.{Quota}

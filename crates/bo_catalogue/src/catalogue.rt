@@ -3,7 +3,7 @@
 ghost use Rattle.std.specs.Prelude.{◌≡◌, ◌≢◌, ◌≤◌, ◌+◌, Ok, Err, IfOk, IfErr, OnOk, []};
 ghost use Rattle.std.specs.List.{list_all};
 ghost use Rattle.std.specs.Option.{option_copied};
-ghost use Rattle.bo_base.specs.Tables.{with_row, AreKept};
+ghost use Rattle.bo_sorted.specs.Tables.{with_row, AreKept};
 ghost use Rattle.bo_catalogue.specs.CatalogueLists.{item_at, variation_at, quota_at, product_of, quotas_of, base_price, is_active, is_sold, variations_of, with_variations};
 ghost use Rattle.bo_catalogue.specs.ItemAdded.{item_added};
 ghost use Rattle.bo_catalogue.specs.ItemChanged.{item_changed};
@@ -17,8 +17,9 @@ use crate::members::{list_items, list_variations};
 use crate::refusal::CatalogueRefusal;
 use crate::requests::{ItemPatch, NewItem, NewQuota, NewVariation, QuotaPatch, variation_rows};
 use crate::rows::{Item, ItemRows, PricedVariation, Product, Quota, Variation};
-use bo_base::{Cents, Ids, List, Rows};
+use bo_base::{Cents, List};
 use bo_index::{Found, Index};
+use bo_sorted::{Ids, Rows};
 use std::alloc::{AllocError, Global};
 use std::marker::Model;
 

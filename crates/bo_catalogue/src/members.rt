@@ -3,13 +3,13 @@
 ghost use Rattle.std.specs.Prelude.{◌≡◌, ◌≤◌, ◌+◌, ℕ, length};
 ghost use Rattle.std.specs.Bool.{Decides};
 ghost use Rattle.std.specs.Option.{option_copied};
-ghost use Rattle.bo_base.specs.Tables.{with_row};
+ghost use Rattle.bo_sorted.specs.Tables.{with_row};
 ghost use Rattle.bo_index.specs.Entries.{has_entry};
 ghost use Rattle.bo_catalogue.specs.Members.{AreMembers, AreRelisted, has_if};
 
 use crate::rows::Quota;
-use bo_base::{Ids, Rows};
 use bo_index::Index;
+use bo_sorted::{Ids, Rows};
 
 /// Makes an index of quotas by their items tell of one that will be put.
 pub fn list_items(index: &mut Index, quotas: &Rows<Quota>, row: &Quota)

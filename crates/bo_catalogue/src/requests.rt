@@ -10,7 +10,8 @@ ghost use Rattle.bo_catalogue.specs.FitRequests.{IsFitVariation, IsFitItem, IsFi
 ghost use Rattle.bo_catalogue.specs.Limits.{last_id};
 
 use crate::rows::{Item, Quota, Variation};
-use bo_base::{Cents, Ids, Known, List, Size, Text};
+use bo_base::{Cents, Known, List, Size, Text};
+use bo_sorted::Ids;
 use std::alloc::{AllocError, Global};
 
 /// A new variation of an item. Where it has no price, the item's price holds.

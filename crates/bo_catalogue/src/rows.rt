@@ -4,7 +4,8 @@ ghost use Rattle.std.specs.Prelude.{◌≡◌, IfOk};
 ghost use Rattle.bo_catalogue.specs.Member.{is_in};
 ghost use Rattle.bo_catalogue.specs.Members.{quota_weight};
 
-use bo_base::{Cents, Ids, List, Row, Size, Text};
+use bo_base::{Cents, List, Size, Text};
+use bo_sorted::{Ids, Row};
 use std::alloc::{AllocError, Global};
 
 /// What is sold: by itself, or, where it is varied, by its variations alone.

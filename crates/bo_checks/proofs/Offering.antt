@@ -2,8 +2,8 @@
 use Rattle.std.proofs.Common.{◌≡◌, ℕ, Bool, List, [], ◌∷◌, Option, Some, None, refl, ap, ap₂}
 use Rattle.std.specs.Prelude.{◌&&◌, ◌||◌, not}
 use Rattle.std.specs.List.{list_all}
-use Rattle.bo_base.specs.Rising.{rising}
-use Rattle.bo_base.proofs.RisingLemmas.{has-rising}
+use Rattle.bo_sorted.specs.Rising.{rising}
+use Rattle.bo_sorted.proofs.RisingLemmas.{has-rising}
 use Rattle.bo_catalogue.specs.declared.rows.Item.{Item}
 use Rattle.bo_catalogue.specs.CatalogueLists.{CatalogueLists, item_at}
 use Rattle.bo_catalogue.specs.QuotaAdded.{is_offered}

@@ -1,8 +1,8 @@
 -- Counters, row by row, beside what is counted afresh.
 use Rattle.std.proofs.Common.{◌≡◌, ◌↔◌, ℕ, zero, suc, ◌+◌, ◌<◌, List, [], ◌∷◌, length, drop, map, get_or, Some, add-one, sym, ap, ◌∙◌, subst, arith}
 use Rattle.std.proofs.lemmas.List.{get_or_default}
-use Rattle.bo_base.specs.Tables.{row_at, AreInOrder}
-use Rattle.bo_base.proofs.Places.{row_at_place}
+use Rattle.bo_sorted.specs.Tables.{row_at, AreInOrder}
+use Rattle.bo_sorted.proofs.Places.{row_at_place}
 use Rattle.bo_catalogue.specs.declared.rows.Quota.{Quota}
 use Rattle.bo_catalogue.specs.CatalogueLists.{CatalogueLists, quota_at}
 

@@ -6,8 +6,8 @@ ghost use Rattle.bo_sound.specs.Ids.{AreNumbered, AllNumbered};
 ghost use Rattle.bo_rules.specs.Told.{lists_of};
 
 use bo_alike::rising::rises;
-use bo_base::Row;
 use bo_rules::FileRows;
+use bo_sorted::Row;
 
 /// Whether each id is at least 1.
 pub(crate) fn are_from_one<T: Row>(rows: &[T]) -> bool

@@ -1,6 +1,6 @@
 -- The usage of a quota whose size or name changes.
 use Rattle.std.proofs.Common.{◌≡◌, ℕ, List, get_or, map, sym, ap, ◌∙◌}
-use Rattle.bo_base.specs.Tables.{IsPlace}
+use Rattle.bo_sorted.specs.Tables.{IsPlace}
 use Rattle.bo_catalogue.specs.declared.rows.Quota.{Quota}
 use Rattle.bo_lists.specs.declared.rows.Usage.{Usage}
 use Rattle.bo_lists.specs.Lists.{Lists}

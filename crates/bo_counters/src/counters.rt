@@ -11,7 +11,7 @@ ghost use Rattle.bo_lists.specs.Weight.{change_weight, weight};
 ghost use Rattle.bo_catalogue.specs.Members.{quota_weight};
 ghost use Rattle.bo_lists.specs.CameDue.{came_due, naming_due};
 
-use bo_base::{Moment, Steps, place_of};
+use bo_base::{Moment, Steps};
 use bo_catalogue::{Item, Quota, Variation};
 use bo_lists::{
     CartPos, Change, Changes, Checkin, CheckinList, NextIds, Order, OrderPos, Usage, Voucher,
@@ -26,6 +26,7 @@ use bo_shifts::shift::{forget, keep};
 use bo_shifts::turns::{count_order, count_position, redeemed_in, vouchers};
 use bo_shifts::usage_later::later;
 use bo_shifts::waiting::shift_waiting;
+use bo_sorted::place_of;
 use bo_store::{Ended, Store};
 use bo_usage::LookUps;
 use std::alloc::{AllocError, Global};

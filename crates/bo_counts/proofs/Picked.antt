@@ -3,9 +3,9 @@ use Rattle.std.proofs.Common.{◌≡◌, ◌≢◌, ℕ, suc, ◌+◌, ◌<◌, 
 use Rattle.std.specs.Prelude.{◌||◌, if◌then◌else◌, flat_map, nat_lt}
 use Rattle.std.specs.List.{AllByRecursion, list_any}
 use Rattle.std.proofs.lemmas.Bool.Decides.{nat_tests, eqb_tells, leb_tells}
-use Rattle.bo_base.specs.Tables.{has, row_at, InOrderFrom, AreInOrder}
-use Rattle.bo_base.proofs.Edits.{row_at_above}
-use Rattle.bo_base.proofs.Places.{order_weaker}
+use Rattle.bo_sorted.specs.Tables.{has, row_at, InOrderFrom, AreInOrder}
+use Rattle.bo_sorted.proofs.Edits.{row_at_above}
+use Rattle.bo_sorted.proofs.Places.{order_weaker}
 use Rattle.bo_lists.proofs.EachRow.{all_weaker}
 use Rattle.bo_counts.specs.Told.{told_if}
 use Rattle.bo_counts.proofs.Shifted.{absent_below, other_id}

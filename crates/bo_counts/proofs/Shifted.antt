@@ -3,9 +3,9 @@ use Rattle.std.proofs.Common.{◌≡◌, ◌≢◌, ℕ, ◌+◌, ◌<◌, ◌�
 use Rattle.std.specs.Prelude.{◌||◌, if◌then◌else◌}
 use Rattle.std.proofs.lemmas.Bool.Decides.{nat_tests, eqb_tells}
 use Rattle.std.proofs.lemmas.List.Sums.{sum_by-cons}
-use Rattle.bo_base.specs.Tables.{has, row_at, without_row, sum_at, InOrderFrom, AreInOrder}
-use Rattle.bo_base.proofs.Edits.{row_at-without_row, row_at_above, sum_by-without_row}
-use Rattle.bo_base.proofs.Places.{without_row_in_order}
+use Rattle.bo_sorted.specs.Tables.{has, row_at, without_row, sum_at, InOrderFrom, AreInOrder}
+use Rattle.bo_sorted.proofs.Edits.{row_at-without_row, row_at_above, sum_by-without_row}
+use Rattle.bo_sorted.proofs.Places.{without_row_in_order}
 
 pub own_id : (k : ℕ) → eqb k k ≡ true
 own_id k = grind (arith, nat_tests)

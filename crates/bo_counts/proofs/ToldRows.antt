@@ -2,7 +2,7 @@
 use Rattle.std.proofs.Common.{◌≡◌, ℕ, Bool, true, false, ◌&&◌, eqb, List, [], ◌∷◌, ◌++◌, map, Option, Some, None, refl, sym, ap, ap₂, ◌∙◌, subst}
 use Rattle.std.specs.Prelude.{not, flat_map, if◌then◌else◌, is_none}
 use Rattle.std.specs.List.{list_any}
-use Rattle.bo_base.specs.Tables.{has, row_at, AreInOrder}
+use Rattle.bo_sorted.specs.Tables.{has, row_at, AreInOrder}
 use Rattle.bo_catalogue.specs.declared.rows.Quota.{Quota}
 use Rattle.bo_catalogue.specs.CatalogueLists.{CatalogueLists, quota_at}
 use Rattle.bo_lists.specs.declared.rows.Usage.{Usage}
@@ -11,9 +11,9 @@ use Rattle.bo_lists.specs.declared.count_rows.QuotaCount.{QuotaCount}
 use Rattle.bo_lists.specs.declared.count_rows.VoucherCount.{VoucherCount}
 use Rattle.bo_lists.specs.CountRows.{same_usage, quota_count, voucher_count, same_quota_count, same_voucher_count, counts_after}
 use Rattle.std.proofs.lemmas.Option.{none-some}
-use Rattle.bo_base.specs.Rising.{rising}
-use Rattle.bo_base.proofs.Edits.{row_at-with_row}
-use Rattle.bo_base.proofs.RisingLemmas.{has-rising, rising_in_order}
+use Rattle.bo_sorted.specs.Rising.{rising}
+use Rattle.bo_sorted.proofs.Edits.{row_at-with_row}
+use Rattle.bo_sorted.proofs.RisingLemmas.{has-rising, rising_in_order}
 use Rattle.bo_lists.specs.declared.changes.Change.{Change}
 use Rattle.bo_lists.specs.declared.changes.Change.TheVariants.{PutQuota}
 use Rattle.bo_lists.specs.Change.{Changed, after_change, after_all, applied}

@@ -5,10 +5,10 @@ use Rattle.std.specs.Option.{option_to_list}
 use Rattle.std.proofs.lemmas.Bool.Decides.{nat_tests, eqb_tells}
 use Rattle.std.proofs.lemmas.Bool.{false≢true}
 use Rattle.std.proofs.lemmas.List.Sums.{sum_by-cons}
-use Rattle.bo_base.specs.Tables.{has, row_at, AreInOrder}
-use Rattle.bo_base.specs.Rising.{rising}
-use Rattle.bo_base.proofs.Edits.{row_at-with_row, row_at-without_row}
-use Rattle.bo_base.proofs.RisingLemmas.{has-rising, rising_in_order}
+use Rattle.bo_sorted.specs.Tables.{has, row_at, AreInOrder}
+use Rattle.bo_sorted.specs.Rising.{rising}
+use Rattle.bo_sorted.proofs.Edits.{row_at-with_row, row_at-without_row}
+use Rattle.bo_sorted.proofs.RisingLemmas.{has-rising, rising_in_order}
 use Rattle.bo_lists.specs.declared.changes.Change.{Change}
 use Rattle.bo_lists.specs.declared.changes.Change.TheVariants.{PutVoucher, PutCart, PutOrder, PutPosition, PutWaiting, DropVoucher, DropCart, DropWaiting}
 use Rattle.bo_lists.specs.declared.rows.Voucher.{Voucher}

@@ -2,7 +2,7 @@
 use Rattle.std.proofs.Common.{◌≡◌, ℕ, ◌+◌, Bool, true, false, eqb, List, [], ◌∷◌, map, Option, Some, None, refl, sym, ap, ◌∙◌, subst, sum_by, count_by, arith}
 use Rattle.std.specs.Prelude.{◌||◌, if◌then◌else◌}
 use Rattle.std.proofs.lemmas.List.Sums.{sum_by-cons}
-use Rattle.bo_base.specs.Tables.{has, row_at, sum_at, InOrderFrom, AreInOrder, AreKept}
+use Rattle.bo_sorted.specs.Tables.{has, row_at, sum_at, InOrderFrom, AreInOrder, AreKept}
 use Rattle.bo_catalogue.specs.declared.rows.Quota.{Quota}
 use Rattle.bo_catalogue.specs.CatalogueLists.{CatalogueLists, quota_at}
 use Rattle.bo_lists.proofs.EachRow.{key-row_at}

@@ -1,6 +1,6 @@
 -- The quotas that changed rows reach: those in which they count, or would, and those of which they block places.
 use Rattle.std.specs.Prelude.{◌≡◌, ℕ, false, List, [], ◌∷◌, ◌++◌, flat_map, Option, Some, None, option_map}
-use Rattle.bo_base.specs.Tables.{has, AreInOrder}
+use Rattle.bo_sorted.specs.Tables.{has, AreInOrder}
 use Rattle.bo_catalogue.specs.declared.rows.Product.{Product}
 use Rattle.bo_catalogue.specs.declared.rows.Quota.{Quota}
 use Rattle.bo_catalogue.specs.CatalogueLists.{CatalogueLists, quota_at, quotas_of}

@@ -1,6 +1,6 @@
 -- What the row of one id adds to a count.
 use Rattle.std.specs.Prelude.{ℕ, if◌then◌else◌}
-use Rattle.bo_base.specs.Tables.{sum_at}
+use Rattle.bo_sorted.specs.Tables.{sum_at}
 use Rattle.bo_catalogue.specs.declared.rows.Quota.{Quota}
 use Rattle.bo_lists.specs.declared.count_rows.VoucherCount.{VoucherCount}
 use Rattle.bo_lists.specs.Conditions.{is_paid, is_pending}

@@ -1,7 +1,7 @@
 -- The rows that changes touch, and what is as it was of all others.
 use Rattle.std.specs.Prelude.{◌≡◌, ℕ, false, List, [], ◌∷◌, ◌++◌, map, flat_map, Option, Some, None}
 use Rattle.std.specs.Option.{option_to_list}
-use Rattle.bo_base.specs.Tables.{has, AreInOrder}
+use Rattle.bo_sorted.specs.Tables.{has, AreInOrder}
 use Rattle.bo_lists.specs.declared.changes.Change.{Change}
 use Rattle.bo_lists.specs.declared.changes.Change.TheVariants.{PutQuota, PutVoucher, PutCart, PutOrder, PutPosition, PutWaiting, DropVoucher, DropCart, DropWaiting}
 use Rattle.bo_lists.specs.declared.rows.OrderPos.{OrderPos}

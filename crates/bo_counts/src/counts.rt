@@ -1,7 +1,7 @@
 //! Which counts are to be written with changes.
 
 ghost use Rattle.std.specs.Prelude.{◌≡◌, ◌≤◌, ◌++◌, [], IfOk, OnOk, map, flat_map};
-ghost use Rattle.bo_base.specs.Rising.{rising};
+ghost use Rattle.bo_sorted.specs.Rising.{rising};
 ghost use Rattle.bo_lists.specs.Change.{applied, after_all};
 ghost use Rattle.bo_lists.specs.CountRows.{counts_after};
 ghost use Rattle.bo_counts.specs.Touched.{quotas_by};
@@ -11,9 +11,10 @@ use crate::copies::log_of;
 use crate::sides::Sides;
 use crate::touched::Touched;
 use crate::view::View;
-use bo_base::{Ids, Moment};
+use bo_base::Moment;
 use bo_lists::{Change, Changes, CountRows};
 use bo_log::ChangeLog;
+use bo_sorted::Ids;
 use bo_usage::Book;
 use std::alloc::{AllocError, Global};
 

@@ -2,13 +2,13 @@
 
 ghost use Rattle.std.specs.Prelude.{◌≡◌, ◌++◌, IfOk, OnOk, flat_map};
 ghost use Rattle.std.specs.Option.{option_copied};
-ghost use Rattle.bo_base.specs.Rising.{rising};
+ghost use Rattle.bo_sorted.specs.Rising.{rising};
 ghost use Rattle.bo_lists.specs.Change.{after_all};
 ghost use Rattle.bo_counts.specs.Touched.{positions_by, vouchers_by, carts_by, entries_by, names_in, name_of, AreTouched, AreOrdered};
 
 use crate::view::View;
-use bo_base::Ids;
 use bo_lists::{Change, OrderPos};
+use bo_sorted::Ids;
 use bo_usage::{Book, LookUps};
 use std::alloc::{AllocError, Global};
 

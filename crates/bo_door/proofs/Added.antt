@@ -3,7 +3,7 @@ use Rattle.std.proofs.Common.{◌≡◌, ℕ, Bool, true, false, List, [], ◌�
 use Rattle.std.specs.Prelude.{◌&&◌, is_some}
 use Rattle.std.specs.List.{list_all, AllByRecursion}
 use Rattle.bo_base.proofs.Decided.{gave_it, passed}
-use Rattle.bo_base.proofs.RisingLemmas.{rising_in_order}
+use Rattle.bo_sorted.proofs.RisingLemmas.{rising_in_order}
 use Rattle.bo_catalogue.specs.declared.rows.Quota.{Quota}
 use Rattle.bo_catalogue.specs.CatalogueLists.{CatalogueLists, item_at}
 use Rattle.bo_lists.specs.declared.rows.CheckinList.{CheckinList}

@@ -3,7 +3,7 @@ use Rattle.std.proofs.Common.{◌≡◌, ℕ, ◌⊎◌, inl, inr, Bool, true, f
 use Rattle.std.specs.Prelude.{is_some, unwrap_or, IfSome, if◌then◌else◌}
 use Rattle.bo_base.proofs.Decided.{gave, gave_it, passed}
 use Rattle.bo_base.specs.Moments.{IsMoment}
-use Rattle.bo_base.specs.Tables.{AreInOrder}
+use Rattle.bo_sorted.specs.Tables.{AreInOrder}
 use Rattle.bo_base.specs.Texts.{same_text}
 use Rattle.bo_catalogue.specs.declared.rows.Quota.{Quota}
 use Rattle.bo_lists.specs.declared.rows.OrderPos.{OrderPos}

@@ -4,8 +4,8 @@ use Rattle.std.specs.Prelude.{◌&&◌, ◌||◌, if◌then◌else◌}
 use Rattle.std.proofs.lemmas.Bool.Decides.{nat_tests, eqb_tells}
 use Rattle.std.proofs.lemmas.List.{length-map}
 use Rattle.std.proofs.lemmas.List.Sums.{sum_by-cons}
-use Rattle.bo_base.specs.Tables.{row_at, InOrderFrom, AreInOrder, IsPlace}
-use Rattle.bo_base.proofs.Places.{order_weaker, at_least}
+use Rattle.bo_sorted.specs.Tables.{row_at, InOrderFrom, AreInOrder, IsPlace}
+use Rattle.bo_sorted.proofs.Places.{order_weaker, at_least}
 use Rattle.bo_lists.specs.declared.rows.OrderPos.{OrderPos}
 use Rattle.bo_lists.specs.declared.rows.CheckinList.{CheckinList}
 use Rattle.bo_lists.specs.declared.rows.Checkin.{Checkin}

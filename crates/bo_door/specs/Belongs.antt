@@ -1,6 +1,6 @@
 -- Which positions belong to a check-in list.
 use Rattle.std.specs.Prelude.{ℕ, Bool, false, ◌&&◌, ◌||◌, List, filter, Option, Some, None}
-use Rattle.bo_base.specs.Tables.{has}
+use Rattle.bo_sorted.specs.Tables.{has}
 use Rattle.bo_lists.specs.declared.rows.Status.{Status}
 use Rattle.bo_lists.specs.declared.rows.Order.{Order}
 use Rattle.bo_lists.specs.declared.rows.OrderPos.{OrderPos}

@@ -2,7 +2,7 @@
 use Rattle.std.specs.Prelude.{ℕ, Bool, is_some, List, Result, Ok}
 use Rattle.std.specs.List.{list_all}
 use Rattle.bo_base.specs.Deciding.{◌>>◌, check}
-use Rattle.bo_base.specs.Rising.{rising}
+use Rattle.bo_sorted.specs.Rising.{rising}
 use Rattle.bo_catalogue.specs.declared.refusal.CatalogueRefusal.TheVariants.{NoItem, Full}
 use Rattle.bo_catalogue.specs.CatalogueLists.{CatalogueLists, item_at}
 use Rattle.bo_lists.specs.declared.rows.CheckinList.{CheckinList}

@@ -1,16 +1,16 @@
 //! Who came in by a check-in list, and who is inside.
 
 ghost use Rattle.std.specs.Prelude.{◌≡◌, IfOk, map};
-ghost use Rattle.bo_base.specs.Tables.{AreInOrder};
+ghost use Rattle.bo_sorted.specs.Tables.{AreInOrder};
 ghost use Rattle.bo_door.specs.Belongs.{belonging};
 ghost use Rattle.bo_door.specs.Stays.{no_stay, noted, noted_all, stays_inside, counts_of};
 ghost use Rattle.bo_door.specs.Status.{status_of};
 
 use crate::listing::belongs;
 use crate::passages::{Passage, is_entry, is_of, later};
-use bo_base::{Row, place_of};
 use bo_commands::DoorStatus;
 use bo_lists::{Checkin, CheckinList, OrderPos};
+use bo_sorted::{Row, place_of};
 use bo_usage::Book;
 use std::alloc::{AllocError, Global};
 

@@ -1,7 +1,7 @@
 -- All that is used after a new order position, and after an order's status changed.
 use Rattle.std.proofs.Common.{◌≡◌, ℕ, ◌+◌, Bool, ◌&&◌, Option, Some, None, refl, ap, ◌∙◌, count_by, sum_by, arith}
 use Rattle.std.specs.Prelude.{if◌then◌else◌}
-use Rattle.bo_base.specs.Tables.{sum_at}
+use Rattle.bo_sorted.specs.Tables.{sum_at}
 use Rattle.bo_catalogue.specs.declared.rows.Quota.{Quota}
 use Rattle.bo_catalogue.specs.Member.{is_in}
 use Rattle.bo_lists.specs.declared.rows.Order.{Order}

@@ -1,8 +1,8 @@
 -- All that is used of a quota after a change of one row.
 use Rattle.std.proofs.Common.{◌≡◌, ℕ, ◌+◌, Some, refl, count_by, arith}
 use Rattle.std.specs.Prelude.{if◌then◌else◌}
-use Rattle.bo_base.specs.Tables.{AreInOrder}
-use Rattle.bo_base.proofs.Edits.{sum_by-with_row, sum_by-without_row}
+use Rattle.bo_sorted.specs.Tables.{AreInOrder}
+use Rattle.bo_sorted.proofs.Edits.{sum_by-with_row, sum_by-without_row}
 use Rattle.bo_catalogue.specs.declared.rows.Quota.{Quota}
 use Rattle.bo_lists.specs.declared.rows.CartPos.{CartPos}
 use Rattle.bo_lists.specs.declared.rows.Waiting.{Waiting}

@@ -1,8 +1,8 @@
 -- A quota that is one of the catalogue's is the one of its id.
 use Rattle.std.proofs.Common.{◌≡◌, ℕ, ◌<◌, List, length, get_or, Some, sym, ap, ◌∙◌, subst}
 use Rattle.std.proofs.lemmas.List.{get_or_default}
-use Rattle.bo_base.specs.Tables.{row_at, AreInOrder}
-use Rattle.bo_base.proofs.Places.{row_at_place}
+use Rattle.bo_sorted.specs.Tables.{row_at, AreInOrder}
+use Rattle.bo_sorted.proofs.Places.{row_at_place}
 use Rattle.bo_catalogue.specs.declared.rows.Quota.{Quota}
 use Rattle.bo_catalogue.specs.CatalogueLists.{CatalogueLists, quota_at}
 

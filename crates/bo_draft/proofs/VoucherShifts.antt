@@ -1,8 +1,8 @@
 -- The usage after a voucher came, changed or went.
 use Rattle.std.proofs.Common.{◌≡◌, ℕ, ◌+◌, ◌-◌, sum_by, false, Option, Some, None, refl, sym, ap, count_by, arith}
 use Rattle.std.specs.Prelude.{if◌then◌else◌}
-use Rattle.bo_base.specs.Tables.{sum_at, with_row, without_row, AreInOrder}
-use Rattle.bo_base.proofs.Edits.{row_at-with_row, row_at-without_row, sum_by-with_row, sum_by-without_row}
+use Rattle.bo_sorted.specs.Tables.{sum_at, with_row, without_row, AreInOrder}
+use Rattle.bo_sorted.proofs.Edits.{row_at-with_row, row_at-without_row, sum_by-with_row, sum_by-without_row}
 use Rattle.bo_catalogue.specs.declared.rows.Quota.{Quota}
 use Rattle.bo_lists.specs.declared.rows.Voucher.{Voucher}
 use Rattle.bo_lists.specs.declared.changes.Change.TheVariants.{PutVoucher, DropVoucher}

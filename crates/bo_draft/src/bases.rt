@@ -1,15 +1,16 @@
 //! How much the book uses of the quotas that were asked for.
 
 ghost use Rattle.std.specs.Prelude.{◌≡◌, ◌≤◌, ◌<◌, length, slice_index_or, Some};
-ghost use Rattle.bo_base.specs.Tables.{AreInOrder};
+ghost use Rattle.bo_sorted.specs.Tables.{AreInOrder};
 ghost use Rattle.bo_catalogue.specs.CatalogueLists.{quota_at};
 ghost use Rattle.bo_catalogue.specs.declared.rows.Quota.{Quota};
 ghost use Rattle.bo_draft.specs.Used.{used, AreBases};
 ghost use Rattle.bo_lists.specs.Usage.{usage_of};
 
-use bo_base::{Moment, Row, Steps, place_of};
+use bo_base::{Moment, Steps};
 use bo_catalogue::Quota;
 use bo_lists::Usage;
+use bo_sorted::{Row, place_of};
 use bo_tally::Tally;
 use bo_usage::Book;
 use std::alloc::AllocError;

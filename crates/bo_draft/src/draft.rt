@@ -5,7 +5,7 @@ ghost use Rattle.bo_lists.specs.Full.{takes_cart, takes_voucher, takes_order, ta
 ghost use Rattle.bo_lists.specs.Lists.{position_at};
 ghost use Rattle.bo_lists.specs.Headroom.{has_use, held, HasHeadroom, AllHaveHeadroom};
 ghost use Rattle.bo_lists.specs.Conditions.{is_live_cart};
-ghost use Rattle.bo_base.specs.Tables.{AreInOrder};
+ghost use Rattle.bo_sorted.specs.Tables.{AreInOrder};
 ghost use Rattle.bo_lists.specs.Over.{first_over};
 ghost use Rattle.bo_lists.specs.Change.{changed};
 ghost use Rattle.bo_draft.specs.DraftState.{DraftState, MarkState, IsMarkOf, Extends, now, back, with_change};

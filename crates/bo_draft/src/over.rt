@@ -3,7 +3,7 @@
 ghost use Rattle.std.specs.Prelude.{◌≡◌, ◌≤◌, ◌<◌, ◌+◌, ◌-◌, true, false, length, take, slice_index_or, Some};
 ghost use Rattle.std.specs.Option.{IfSome};
 ghost use Rattle.bo_catalogue.specs.CatalogueLists.{quota_at};
-ghost use Rattle.bo_base.specs.Tables.{AreInOrder};
+ghost use Rattle.bo_sorted.specs.Tables.{AreInOrder};
 ghost use Rattle.bo_lists.specs.Over.{first_over, is_over};
 ghost use Rattle.bo_overlay.specs.Logs.{rows_of, rows_at};
 ghost use Rattle.bo_shares.specs.Counts.{value_at};
@@ -15,10 +15,11 @@ ghost use Rattle.bo_tally.specs.Counts.{newest};
 
 use crate::bases::{Base, base_of};
 use crate::weighed::is_too_much;
-use bo_base::{Moment, place_of};
+use bo_base::Moment;
 use bo_catalogue::Quota;
 use bo_lists::Own;
 use bo_overlay::Overlay;
+use bo_sorted::place_of;
 use bo_tally::{Count, Tally};
 use bo_usage::Book;
 

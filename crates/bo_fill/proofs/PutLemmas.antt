@@ -2,8 +2,8 @@
 use Rattle.std.proofs.Common.{◌≡◌, ℕ, ◌+◌, ◌<◌, ◌≤◌, List, [], ◌∷◌, ◌++◌, refl, sym, ap, ◌∙◌, arith, append-nil, append_assoc}
 use Rattle.std.specs.List.{AllByRecursion}
 use Rattle.std.proofs.lemmas.Bool.Decides.{nat_tests}
-use Rattle.bo_base.specs.Tables.{with_row, InOrderFrom, AreInOrder}
-use Rattle.bo_base.specs.Rising.{with_ids, rising}
+use Rattle.bo_sorted.specs.Tables.{with_row, InOrderFrom, AreInOrder}
+use Rattle.bo_sorted.specs.Rising.{with_ids, rising}
 use Rattle.bo_stand.specs.Counts.{with_all}
 
 module _ {T : Type 0} (key : T → ℕ) where

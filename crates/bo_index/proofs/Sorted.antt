@@ -5,10 +5,10 @@ use Rattle.std.specs.List.{Contains}
 use Rattle.std.specs.List.Sorted.{IsStrictlyIncreasing}
 use Rattle.std.proofs.lemmas.Bool.Decides.{nat_tests}
 use Rattle.std.proofs.lemmas.List.Folds.{list_any_at, Any-from_list_any}
-use Rattle.bo_base.specs.Tables.{has, with_row, InOrderFrom, AreInOrder}
-use Rattle.bo_base.specs.Rising.{with_ids, rising}
-use Rattle.bo_base.proofs.Places.{at_least, order_weaker}
-use Rattle.bo_base.proofs.RisingLemmas.{is_rising}
+use Rattle.bo_sorted.specs.Tables.{has, with_row, InOrderFrom, AreInOrder}
+use Rattle.bo_sorted.specs.Rising.{with_ids, rising}
+use Rattle.bo_sorted.proofs.Places.{at_least, order_weaker}
+use Rattle.bo_sorted.proofs.RisingLemmas.{is_rising}
 
 increasing : (n : ℕ) (ids : List ℕ) → InOrderFrom (λ n. n) n ids → IsStrictlyIncreasing ids
 increasing n [] h k lt = absurd (omega arith)

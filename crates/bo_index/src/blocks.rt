@@ -2,7 +2,7 @@
 
 ghost use Rattle.std.specs.Prelude.{◌≡◌, ◌≤◌, ◌<◌, ◌+◌, ◌-◌, ◌*◌, ◌↔◌, ℕ, [], length, slice_index_or, slice_set, IsTrue, OnOk, OnErr, IfOk, IfErr};
 ghost use Rattle.std.specs.List.{insert, remove};
-ghost use Rattle.bo_base.specs.Tables.{AreInOrder, IsPlace, IsGap};
+ghost use Rattle.bo_sorted.specs.Tables.{AreInOrder, IsPlace, IsGap};
 
 use crate::block::{HALF, SIZE};
 use crate::chain::{Chain, Spot};
@@ -27,7 +27,7 @@ pub struct Blocks {
 impl Model for Blocks {
     ghost use Rattle.std.specs.Prelude.{ℕ};
     ghost use Rattle.std.specs.List.{concat};
-    ghost use Rattle.bo_base.specs.Tables.{Table};
+    ghost use Rattle.bo_sorted.specs.Tables.{Table};
     ghost use Rattle.bo_index.specs.Blocks.{AreBlocks};
 
     ghost Value = { Table ℕ };

@@ -3,10 +3,10 @@ use Rattle.std.proofs.Common.{◌≡◌, ℕ, ◌+◌, Bool, true, false, cond, 
 use Rattle.std.specs.Prelude.{if◌then◌else◌, filter, not}
 use Rattle.std.proofs.lemmas.Bool.Decides.{nat_tests}
 use Rattle.std.proofs.lemmas.List.Sums.{sum_by-cons}
-use Rattle.bo_base.specs.Tables.{has, row_at, InOrderFrom, AreInOrder}
-use Rattle.bo_base.specs.Rising.{rising}
-use Rattle.bo_base.proofs.Places.{order_weaker}
-use Rattle.bo_base.proofs.RisingLemmas.{has-rising, rising_in_order}
+use Rattle.bo_sorted.specs.Tables.{has, row_at, InOrderFrom, AreInOrder}
+use Rattle.bo_sorted.specs.Rising.{rising}
+use Rattle.bo_sorted.proofs.Places.{order_weaker}
+use Rattle.bo_sorted.proofs.RisingLemmas.{has-rising, rising_in_order}
 use Rattle.bo_index.proofs.Sorted.{same_ids}
 use Rattle.bo_lists.proofs.EachRow.{key-row_at}
 use Rattle.bo_indexed.specs.Indexes.{Finds}

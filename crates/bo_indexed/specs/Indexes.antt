@@ -1,6 +1,6 @@
 -- Indexes of rows by their keys, and what is found by them.
 use Rattle.std.specs.Prelude.{◌≡◌, ℕ, Bool, List, Option, Some, None, sum_by, if◌then◌else◌}
-use Rattle.bo_base.specs.Tables.{with_row, without_row, row_at}
+use Rattle.bo_sorted.specs.Tables.{with_row, without_row, row_at}
 use Rattle.bo_index.specs.Entries.{entry, key_of, id_of}
 use Rattle.bo_indexed.specs.declared.keys.Keys.{Keys}
 

@@ -2,9 +2,9 @@
 
 ghost use Rattle.std.specs.Prelude.{◌≡◌, ◌≤◌, ◌+◌, ℕ, List, [], length, map, filter, take, OnOk};
 ghost use Rattle.std.specs.Option.{option_copied};
-ghost use Rattle.bo_base.specs.Dropped.{without_rows};
-ghost use Rattle.bo_base.specs.Rising.{rising};
-ghost use Rattle.bo_base.specs.Tables.{row_at, with_row, without_row, AreInOrder, AreKept};
+ghost use Rattle.bo_sorted.specs.Dropped.{without_rows};
+ghost use Rattle.bo_sorted.specs.Rising.{rising};
+ghost use Rattle.bo_sorted.specs.Tables.{row_at, with_row, without_row, AreInOrder, AreKept};
 ghost use Rattle.bo_lists.specs.CameDue.{ends_between};
 ghost use Rattle.bo_lists.specs.Conditions.{names};
 ghost use Rattle.bo_indexed.specs.Keys.{keys_if};
@@ -12,8 +12,8 @@ ghost use Rattle.bo_indexed.specs.Indexes.{AreIndexed, Finds, with_entry, withou
 
 use crate::keyed::Keyed;
 use crate::keys::Keys;
-use bo_base::{Rows, id_at};
 use bo_index::{Found, Index};
+use bo_sorted::{Rows, id_at};
 use std::alloc::{AllocError, Global};
 use std::marker::Model;
 
@@ -30,7 +30,7 @@ pub struct Indexed<T: Keyed> {
 
 impl<T: Keyed> Model for Indexed<T> {
     ghost use Rattle.std.specs.Prelude.{min};
-    ghost use Rattle.bo_base.specs.Tables.{Table};
+    ghost use Rattle.bo_sorted.specs.Tables.{Table};
     ghost use Rattle.bo_indexed.specs.Indexes.{AreIndexed};
 
     ghost Value = { Table T };

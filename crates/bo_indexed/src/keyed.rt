@@ -6,8 +6,8 @@ ghost use Rattle.bo_indexed.specs.Keys.{voucher_keys, cart_keys, order_keys, pos
 
 use crate::digests::{digest, pair};
 use crate::keys::Keys;
-use bo_base::Row;
 use bo_lists::{CartPos, Checkin, Order, OrderPos, Voucher, Waiting};
+use bo_sorted::Row;
 
 /// A row that is found by keys.
 pub trait Keyed: Row {

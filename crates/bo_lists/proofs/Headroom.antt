@@ -4,8 +4,8 @@ use Rattle.std.specs.Prelude.{◌||◌, not, if◌then◌else◌}
 use Rattle.std.specs.List.{AllByRecursion}
 use Rattle.std.proofs.lemmas.Bool.Decides.{nat_tests, eqb_tells}
 use Rattle.std.proofs.lemmas.List.Sums.{sum_by-le-sum_by}
-use Rattle.bo_base.specs.Tables.{row_at, InOrderFrom, AreInOrder}
-use Rattle.bo_base.proofs.Edits.{sum_by-with_row, sum_by-without_row}
+use Rattle.bo_sorted.specs.Tables.{row_at, InOrderFrom, AreInOrder}
+use Rattle.bo_sorted.proofs.Edits.{sum_by-with_row, sum_by-without_row}
 use Rattle.bo_lists.specs.declared.rows.Voucher.{Voucher}
 use Rattle.bo_lists.specs.declared.rows.CartPos.{CartPos}
 use Rattle.bo_lists.specs.declared.changes.Change.TheVariants.{PutCart, DropCart}

@@ -4,8 +4,8 @@ use Rattle.std.specs.Prelude.{◌||◌, not, if◌then◌else◌, is_some, filte
 use Rattle.std.specs.List.{AllByRecursion, list_any, list_all}
 use Rattle.std.proofs.lemmas.Bool.Decides.{nat_tests}
 use Rattle.std.proofs.lemmas.List.Sums.{sum_by-cons}
-use Rattle.bo_base.specs.Tables.{AreInOrder}
-use Rattle.bo_base.proofs.Edits.{row_at-with_row, sum_by-with_row}
+use Rattle.bo_sorted.specs.Tables.{AreInOrder}
+use Rattle.bo_sorted.proofs.Edits.{row_at-with_row, sum_by-with_row}
 use Rattle.bo_lists.specs.declared.rows.Voucher.{Voucher}
 use Rattle.bo_lists.specs.declared.rows.Order.{Order}
 use Rattle.bo_lists.specs.declared.rows.OrderPos.{OrderPos}

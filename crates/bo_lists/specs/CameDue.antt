@@ -1,6 +1,6 @@
 -- What has ended between two moments.
 use Rattle.std.specs.Prelude.{ℕ, ◌+◌, ◌&&◌, Bool, false, nat_le, nat_lt, List, Option, Some, None, count_by}
-use Rattle.bo_base.specs.Tables.{row_at}
+use Rattle.bo_sorted.specs.Tables.{row_at}
 use Rattle.bo_lists.specs.declared.rows.CartPos.{CartPos}
 use Rattle.bo_lists.specs.declared.rows.Voucher.{Voucher}
 use Rattle.bo_lists.specs.Lists.{Lists, voucher_at}

@@ -1,7 +1,7 @@
 -- The counts of an office, one row for each quota and each voucher, and which of them a change changes.
 use Rattle.std.specs.Prelude.{ℕ, Bool, not, ◌&&◌, ◌==◌, is_none, List, map, filter}
 use Rattle.std.specs.List.{list_any}
-use Rattle.bo_base.specs.Tables.{row_at}
+use Rattle.bo_sorted.specs.Tables.{row_at}
 use Rattle.bo_catalogue.specs.declared.rows.Quota.{Quota}
 use Rattle.bo_lists.specs.declared.rows.Usage.{Usage}
 use Rattle.bo_lists.specs.declared.rows.Voucher.{Voucher}

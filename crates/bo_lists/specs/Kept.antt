@@ -1,6 +1,6 @@
 -- What is known of the lists of every book.
 use Rattle.std.specs.Prelude.{ℕ}
-use Rattle.bo_base.specs.Tables.{AreKept}
+use Rattle.bo_sorted.specs.Tables.{AreKept}
 use Rattle.bo_lists.specs.Lists.{Lists}
 
 -- in the lists of sales and of the door ids rise, and none of them is longer than this

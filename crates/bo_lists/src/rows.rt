@@ -11,8 +11,9 @@ ghost use Rattle.bo_lists.specs.Due.{is_due};
 ghost use Rattle.bo_lists.specs.CameDue.{is_due_cart, is_due_voucher};
 ghost use Rattle.bo_lists.specs.Fits.{has_variation, fits_item, fits_by, fits};
 
-use bo_base::{Cents, Ids, List, Moment, PriceMode, Priority, Row, Size, Text, Uses};
+use bo_base::{Cents, List, Moment, PriceMode, Priority, Size, Text, Uses};
 use bo_catalogue::{Catalogue, Product, Quota};
+use bo_sorted::{Ids, Row};
 use std::alloc::{AllocError, Global};
 
 /// A voucher. Its `value` is in cents, or in hundredths of a percent where the mode is percent.

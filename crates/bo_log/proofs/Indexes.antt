@@ -7,8 +7,8 @@ use Rattle.std.proofs.lemmas.Option.{none-some}
 use Rattle.std.proofs.lemmas.List.{get_or-set_same, get_or-set_other, get_or_append_left, get_or-take, take-append-le, length-take-le, take_all, take_more, get_or_default}
 use Rattle.std.proofs.lemmas.Bool.{cases_lt}
 use Rattle.std.proofs.lemmas.Bool.Decides.{eqb_tells, nat_tests}
-use Rattle.bo_base.specs.Tables.{row_at, with_row}
-use Rattle.bo_base.proofs.Edits.{row_at-with_row}
+use Rattle.bo_sorted.specs.Tables.{row_at, with_row}
+use Rattle.bo_sorted.proofs.Edits.{row_at-with_row}
 use Rattle.bo_lists.specs.declared.changes.Change.{Change}
 use Rattle.bo_log.specs.declared.touched.Touch.{Touch}
 use Rattle.bo_log.specs.Places.{table_of, id_of, touches, last_place, kept_place, place_in, IsIndex}

@@ -2,10 +2,10 @@
 
 ghost use Rattle.std.specs.Prelude.{◌≡◌, ◌++◌, [], ◌∷◌, OnOk, OnErr, None, Some};
 ghost use Rattle.bo_log.specs.declared.touched.Touch.{Touch};
-ghost use Rattle.bo_base.specs.Tables.{with_row};
+ghost use Rattle.bo_sorted.specs.Tables.{with_row};
 ghost use Rattle.bo_log.specs.Places.{place_in};
 
-use bo_base::{Row, place_of};
+use bo_sorted::{Row, place_of};
 use std::alloc::{AllocError, Global};
 use std::marker::Model;
 
@@ -32,7 +32,7 @@ pub struct Touched {
 
 impl Model for Touched {
     ghost use Rattle.std.specs.Prelude.{List};
-    ghost use Rattle.bo_base.specs.Tables.{AreInOrder};
+    ghost use Rattle.bo_sorted.specs.Tables.{AreInOrder};
     ghost use Rattle.bo_log.specs.declared.touched.Touch.{Touch};
 
     ghost Value = { List Touch };

@@ -1,7 +1,7 @@
 -- The members of a quota that was added stand and fit together.
 use Rattle.std.proofs.Common.{◌≡◌, ℕ, Bool, true, false, Ok, refl, subst}
 use Rattle.std.specs.Prelude.{◌&&◌}
-use Rattle.bo_base.proofs.RisingLemmas.{rising_in_order}
+use Rattle.bo_sorted.proofs.RisingLemmas.{rising_in_order}
 use Rattle.bo_catalogue.specs.declared.rows.Quota.{Quota}
 use Rattle.bo_catalogue.specs.declared.requests.NewQuota.{NewQuota}
 use Rattle.bo_catalogue.specs.CatalogueLists.{CatalogueLists}

@@ -4,7 +4,7 @@ use Rattle.std.specs.Prelude.{is_some, nat_lt}
 use Rattle.std.specs.List.{AllByRecursion}
 use Rattle.std.proofs.lemmas.Bool.Decides.{nat_tests}
 use Rattle.bo_base.proofs.Decided.{gave, gave_below, gave_it, gave_unit, unrefused}
-use Rattle.bo_base.specs.Tables.{row_at, with_row}
+use Rattle.bo_sorted.specs.Tables.{row_at, with_row}
 use Rattle.bo_base.specs.declared.draw.Draw.{Draw}
 use Rattle.bo_lists.specs.declared.rows.Order.{Order}
 use Rattle.bo_lists.specs.declared.rows.OrderPos.{OrderPos}

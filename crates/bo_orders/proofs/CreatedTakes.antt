@@ -3,7 +3,7 @@ use Rattle.std.proofs.Common.{◌≡◌, ℕ, ◌+◌, ◌<◌, false, List, [],
 use Rattle.std.specs.List.{AllByRecursion}
 use Rattle.std.proofs.lemmas.Bool.Decides.{nat_tests}
 use Rattle.bo_base.specs.declared.draw.Draw.{Draw}
-use Rattle.bo_base.proofs.Edits.{row_at-with_row}
+use Rattle.bo_sorted.proofs.Edits.{row_at-with_row}
 use Rattle.bo_catalogue.specs.declared.rows.Quota.{Quota}
 use Rattle.bo_lists.specs.declared.rows.OrderPos.{OrderPos}
 use Rattle.bo_lists.specs.declared.rows.OrderRows.{OrderRows}

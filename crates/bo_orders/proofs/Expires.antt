@@ -1,6 +1,6 @@
 -- What expiring orders and deleting dead cart positions keeps.
 use Rattle.std.proofs.Common.{◌≡◌, ℕ, ◌≤◌, inl, false, List, [], ◌∷◌, map, Option, Some, None, refl, ap, ◌∙◌, subst, arith}
-use Rattle.bo_base.specs.Tables.{AreInOrder}
+use Rattle.bo_sorted.specs.Tables.{AreInOrder}
 use Rattle.bo_catalogue.specs.declared.rows.Quota.{Quota}
 use Rattle.bo_catalogue.specs.CatalogueLists.{quota_at}
 use Rattle.bo_lists.specs.declared.rows.Order.{Order}

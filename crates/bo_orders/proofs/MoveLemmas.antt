@@ -12,7 +12,7 @@ use Rattle.bo_lists.specs.Change.{after_change}
 use Rattle.bo_lists.specs.Usage.{stands_as, redeemed}
 use Rattle.bo_lists.specs.Headroom.{held}
 use Rattle.bo_lists.proofs.OrderHeadroom.{redeemed_order}
-use Rattle.bo_base.specs.Tables.{row_at}
+use Rattle.bo_sorted.specs.Tables.{row_at}
 use Rattle.bo_commands.specs.declared.orders.Move.{Move}
 use Rattle.bo_commands.specs.declared.orders.Move.TheVariants.{MarkPaid, MarkPending, MarkExpired, MarkCanceled, Extend}
 use Rattle.bo_orders.specs.declared.moves.Turn.{Turn}

@@ -3,7 +3,7 @@ use Rattle.std.proofs.Common.{◌≡◌, ℕ, ◌+◌, ◌<◌, ◌≤◌, Bool,
 use Rattle.std.specs.Prelude.{if◌then◌else◌, nat_lt}
 use Rattle.std.specs.List.{AllByRecursion}
 use Rattle.std.proofs.lemmas.Bool.Decides.{nat_tests}
-use Rattle.bo_base.specs.Tables.{row_at, with_row, without_row, InOrderFrom, AreInOrder}
+use Rattle.bo_sorted.specs.Tables.{row_at, with_row, without_row, InOrderFrom, AreInOrder}
 use Rattle.bo_lists.specs.declared.changes.Change.{Change}
 use Rattle.bo_lists.specs.declared.changes.Change.TheVariants.{PutOrder, DropCart}
 use Rattle.bo_lists.specs.declared.rows.CartPos.{CartPos}

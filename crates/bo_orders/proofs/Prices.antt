@@ -6,7 +6,7 @@ use Rattle.bo_base.proofs.Decided.{found, gave_it, gave_unit}
 use Rattle.bo_base.specs.Money.{IsMoney}
 use Rattle.bo_base.specs.Percent.{whole, left_of}
 use Rattle.bo_base.specs.Price.{price}
-use Rattle.bo_base.specs.Tables.{AreInOrder}
+use Rattle.bo_sorted.specs.Tables.{AreInOrder}
 use Rattle.bo_base.specs.Texts.{same_text}
 use Rattle.bo_base.specs.declared.price_mode.PriceMode.{PriceMode}
 use Rattle.bo_base.specs.declared.price_mode.PriceMode.TheVariants as modes

@@ -2,7 +2,7 @@
 use Rattle.std.proofs.Common.{◌≡◌, ℕ, Bool, true, false, List, Option, Some, None, Result, Ok, Err, refl, sym, ap, ◌∙◌, subst}
 use Rattle.std.specs.Prelude.{option_map}
 use Rattle.std.specs.List.{AllByRecursion}
-use Rattle.bo_base.specs.Tables.{AreInOrder}
+use Rattle.bo_sorted.specs.Tables.{AreInOrder}
 use Rattle.bo_base.proofs.Decided.{found, gave, gave_below, gave_it, gave_unit, passed}
 use Rattle.bo_base.specs.Texts.{same_text}
 use Rattle.bo_catalogue.specs.declared.rows.Product.{Product}

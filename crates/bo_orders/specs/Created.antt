@@ -3,7 +3,7 @@ use Rattle.std.specs.Prelude.{◌≡◌, ℕ, ◌+◌, ◌≤◌, ◌&&◌, nat_
 use Rattle.bo_base.specs.Deciding.{◌>>=◌, ◌>>◌, check, refuse_if, refuse_some, map_err}
 use Rattle.bo_base.specs.Moments.{last_moment}
 use Rattle.bo_base.specs.Secrets.{secret}
-use Rattle.bo_base.specs.Tables.{AreInOrder}
+use Rattle.bo_sorted.specs.Tables.{AreInOrder}
 use Rattle.bo_base.specs.declared.draw.Draw.{Draw}
 use Rattle.bo_catalogue.specs.declared.refusal.CatalogueRefusal.TheVariants.{Full}
 use Rattle.bo_lists.specs.declared.rows.Order.{Order}

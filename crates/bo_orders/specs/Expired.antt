@@ -6,7 +6,7 @@ use Rattle.bo_lists.specs.declared.rows.Order.{Order}
 use Rattle.bo_lists.specs.declared.rows.Status.TheVariants.{Expired}
 use Rattle.bo_lists.specs.Conditions.{is_live_cart}
 use Rattle.bo_lists.specs.Lists.{Lists, State}
-use Rattle.bo_base.specs.Tables.{row_at, with_row}
+use Rattle.bo_sorted.specs.Tables.{row_at, with_row}
 use Rattle.bo_lists.specs.Due.{is_due, dead_carts}
 
 abbrev pub expired_row : Order → Order

@@ -3,9 +3,9 @@ use Rattle.std.proofs.Common.{◌≡◌, ℕ, ◌+◌, ◌<◌, ◌≤◌, ◌�
 use Rattle.std.specs.Prelude.{find, option_map, is_none, min, if◌then◌else◌}
 use Rattle.std.proofs.lemmas.Option.{none-some}
 use Rattle.std.proofs.lemmas.Bool.Decides.{nat_tests, leb_tells, eqb_tells}
-use Rattle.bo_base.specs.Tables.{row_at, InOrderFrom, AreInOrder}
+use Rattle.bo_sorted.specs.Tables.{row_at, InOrderFrom, AreInOrder}
 use Rattle.bo_base.specs.Texts.{same_text}
-use Rattle.bo_base.proofs.Edits.{row_at_above}
+use Rattle.bo_sorted.proofs.Edits.{row_at_above}
 use Rattle.bo_lists.specs.declared.rows.Voucher.{Voucher}
 use Rattle.bo_lists.specs.declared.changes.Change.{Change}
 use Rattle.bo_lists.specs.declared.changes.Change.TheVariants.{PutItem, PutVariation, PutQuota, PutVoucher, PutCart, PutOrder, PutPosition, PutWaiting, DropVoucher, DropCart, DropWaiting, PutCheckinList, PutCheckin}

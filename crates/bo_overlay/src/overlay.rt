@@ -10,7 +10,7 @@ ghost use Rattle.bo_overlay.specs.Coded.{IsLeast, lesser, IsPutBelow, IsUnchange
 ghost use Rattle.bo_log.specs.Places.{touches, last_place};
 ghost use Rattle.bo_base.specs.Texts.{same_text};
 ghost use Rattle.bo_lists.specs.Kept.{IsKept};
-ghost use Rattle.bo_base.specs.Tables.{sum_at};
+ghost use Rattle.bo_sorted.specs.Tables.{sum_at};
 ghost use Rattle.bo_lists.specs.Headroom.{held, held_in};
 ghost use Rattle.bo_overlay.specs.Logs.{Log, rows_of, rows_at, IsSale, AreSales};
 ghost use Rattle.bo_lists.specs.Conditions.{is_in_force, names};

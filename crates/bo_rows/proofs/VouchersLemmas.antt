@@ -12,7 +12,7 @@ use Rattle.sqlite.specs.Values.{or_null}
 use Rattle.sqlite.specs.Listing.{understood}
 use Rattle.sqlite.specs.State.{State, Executes}
 use Rattle.sqlite.proofs.Callers.{IsPlain, command_of}
-use Rattle.bo_base.specs.Tables.{sum_at}
+use Rattle.bo_sorted.specs.Tables.{sum_at}
 use Rattle.bo_schema.specs.Tables.{schema, vouchers_table}
 use Rattle.bo_schema.specs.Parts.{shown}
 use Rattle.bo_schema.specs.Shapes.{places, over, plainly, equals, delete_keyed}

@@ -5,11 +5,11 @@ use Rattle.std.specs.List.{AllByRecursion}
 use Rattle.std.specs.Result.{is_err}
 use Rattle.std.proofs.lemmas.Bool.Decides.{nat_tests, eqb_tells}
 use Rattle.std.proofs.lemmas.List.{take_more, take_all}
-use Rattle.bo_base.specs.Tables.{has, row_at, InOrderFrom, AreInOrder, IsPlace, IsGap}
-use Rattle.bo_base.specs.Rising.{rising}
-use Rattle.bo_base.proofs.Edits.{row_at_above}
-use Rattle.bo_base.proofs.Places.{at_least, row_at_gap}
-use Rattle.bo_base.proofs.RisingLemmas.{has-rising}
+use Rattle.bo_sorted.specs.Tables.{has, row_at, InOrderFrom, AreInOrder, IsPlace, IsGap}
+use Rattle.bo_sorted.specs.Rising.{rising}
+use Rattle.bo_sorted.proofs.Edits.{row_at_above}
+use Rattle.bo_sorted.proofs.Places.{at_least, row_at_gap}
+use Rattle.bo_sorted.proofs.RisingLemmas.{has-rising}
 use Rattle.bo_catalogue.specs.declared.rows.Quota.{Quota}
 use Rattle.bo_catalogue.specs.declared.rows.Product.{Product}
 use Rattle.bo_catalogue.specs.CatalogueLists.{CatalogueLists, quota_at, quotas_of}

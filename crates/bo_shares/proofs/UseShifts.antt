@@ -3,8 +3,8 @@ use mathlib.Core.Bool.{beq}
 use Rattle.std.proofs.Common.{◌≡◌, ℕ, ◌≤◌, length, not, Bool, true, false, ◌&&◌, eqb, List, [], ◌∷◌, Option, None, Some, refl, ap, count_by, arith}
 use Rattle.std.proofs.lemmas.List.Sums.{sum_by-cons}
 use Rattle.std.specs.Prelude.{if◌then◌else◌}
-use Rattle.bo_base.specs.Tables.{sum_at, AreInOrder}
-use Rattle.bo_base.proofs.Edits.{sum_by-with_row, sum_by-without_row}
+use Rattle.bo_sorted.specs.Tables.{sum_at, AreInOrder}
+use Rattle.bo_sorted.proofs.Edits.{sum_by-with_row, sum_by-without_row}
 use Rattle.bo_lists.specs.declared.rows.CartPos.{CartPos}
 use Rattle.bo_lists.specs.declared.rows.Order.{Order}
 use Rattle.bo_lists.specs.declared.rows.OrderPos.{OrderPos}

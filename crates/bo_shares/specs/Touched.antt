@@ -1,6 +1,6 @@
 -- Which quotas a change can touch.
 use Rattle.std.specs.Prelude.{◌≡◌, ℕ, ◌==◌, Bool, false, List, Some, if◌then◌else◌}
-use Rattle.bo_base.specs.Tables.{has}
+use Rattle.bo_sorted.specs.Tables.{has}
 use Rattle.bo_catalogue.specs.declared.rows.Quota.{Quota}
 use Rattle.bo_catalogue.specs.CatalogueLists.{CatalogueLists, quota_at}
 

@@ -1,14 +1,14 @@
 //! What a change brings to each quota and takes from it, counted by the quota's place.
 
 ghost use Rattle.std.specs.Prelude.{◌≡◌, ℕ, ◌+◌, ◌==◌, OnOk, OnErr, if◌then◌else◌};
-ghost use Rattle.bo_base.specs.Tables.{AreInOrder};
+ghost use Rattle.bo_sorted.specs.Tables.{AreInOrder};
 ghost use Rattle.bo_catalogue.specs.declared.rows.Quota.{Quota};
 ghost use Rattle.bo_shares.specs.Counts.{IsMore};
 ghost use Rattle.bo_tally.specs.Counts.{came, went, GoesOn};
 ghost use Rattle.bo_shares.specs.Touched.{NoneElse, Keeps, among, at_id};
 
-use bo_base::{Ids, place_of};
 use bo_catalogue::{Catalogue, Quota};
+use bo_sorted::{Ids, place_of};
 use bo_tally::Tally;
 use std::alloc::{AllocError, Global};
 

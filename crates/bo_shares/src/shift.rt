@@ -2,7 +2,7 @@
 
 ghost use Rattle.std.specs.Prelude.{◌≡◌, ◌-◌, ℕ, IfOk, OnOk, OnErr, length, count_by, false, true, if◌then◌else◌};
 ghost use Rattle.std.specs.Option.{option_copied};
-ghost use Rattle.bo_base.specs.Tables.{sum_at};
+ghost use Rattle.bo_sorted.specs.Tables.{sum_at};
 ghost use Rattle.bo_catalogue.specs.declared.rows.Quota.{Quota};
 ghost use Rattle.bo_catalogue.specs.Member.{is_in};
 ghost use Rattle.bo_lists.specs.declared.changes.Change.TheVariants.{PutOrder};

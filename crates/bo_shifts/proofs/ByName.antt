@@ -3,8 +3,8 @@ use Rattle.std.proofs.Common.{◌≡◌, ℕ, ◌+◌, Bool, true, false, eqb, L
 use Rattle.std.specs.Prelude.{if◌then◌else◌}
 use Rattle.std.proofs.lemmas.Bool.Decides.{nat_tests}
 use Rattle.std.proofs.lemmas.List.Sums.{sum_by-cons}
-use Rattle.bo_base.specs.Tables.{row_at, InOrderFrom, AreInOrder}
-use Rattle.bo_base.proofs.Edits.{row_at_above}
+use Rattle.bo_sorted.specs.Tables.{row_at, InOrderFrom, AreInOrder}
+use Rattle.bo_sorted.proofs.Edits.{row_at_above}
 use Rattle.bo_lists.specs.Conditions.{names}
 use Rattle.bo_lists.proofs.Time.{sum_by_split, eqb_flip}
 use Rattle.bo_shifts.specs.Names.{passes_if, names_one}

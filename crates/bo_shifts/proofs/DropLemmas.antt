@@ -4,9 +4,9 @@ use Rattle.std.specs.Prelude.{if◌then◌else◌}
 use Rattle.std.proofs.lemmas.List.{take_more, take_all, reverse-append}
 use Rattle.std.proofs.lemmas.List.Sums.{count_by-le-length}
 use Rattle.std.proofs.lemmas.Option.{slice_get-get_or}
-use Rattle.bo_base.specs.Dropped.{without_rows}
-use Rattle.bo_base.specs.Tables.{InOrderFrom, AreInOrder, sum_at, without_row}
-use Rattle.bo_base.proofs.Drops.{without_none, without_more, sum_by-without_rows}
+use Rattle.bo_sorted.specs.Dropped.{without_rows}
+use Rattle.bo_sorted.specs.Tables.{InOrderFrom, AreInOrder, sum_at, without_row}
+use Rattle.bo_sorted.proofs.Drops.{without_none, without_more, sum_by-without_rows}
 use Rattle.bo_indexed.proofs.EntryLemmas.{sums_like, sum_map}
 use Rattle.bo_lists.specs.declared.rows.CartPos.{CartPos}
 use Rattle.bo_lists.specs.declared.rows.Usage.{Usage}

@@ -2,7 +2,7 @@
 use Rattle.std.proofs.Common.{◌≡◌, ℕ, ◌+◌, ◌-◌, ◌≤◌, Bool, true, false, not, ◌&&◌, leb, List, Option, Some, None, refl, count_by, sum_by, arith}
 use Rattle.std.specs.Prelude.{if◌then◌else◌}
 use Rattle.std.proofs.lemmas.Bool.Decides.{nat_tests}
-use Rattle.bo_base.specs.Tables.{row_at}
+use Rattle.bo_sorted.specs.Tables.{row_at}
 use Rattle.bo_catalogue.specs.declared.rows.Quota.{Quota}
 use Rattle.bo_catalogue.specs.Member.{is_in}
 use Rattle.bo_lists.specs.declared.rows.Voucher.{Voucher}

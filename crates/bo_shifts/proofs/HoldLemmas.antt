@@ -3,8 +3,8 @@ use Rattle.std.proofs.Common.{◌≡◌, ℕ, ◌+◌, ◌≤◌, Bool, true, fa
 use Rattle.std.specs.Prelude.{if◌then◌else◌}
 use Rattle.std.proofs.lemmas.Bool.Decides.{nat_tests}
 use Rattle.std.proofs.lemmas.List.Sums.{count_by-le-length}
-use Rattle.bo_base.specs.Tables.{with_row, without_row, sum_at}
-use Rattle.bo_base.proofs.Edits.{sum_by-with_row, sum_by-without_row}
+use Rattle.bo_sorted.specs.Tables.{with_row, without_row, sum_at}
+use Rattle.bo_sorted.proofs.Edits.{sum_by-with_row, sum_by-without_row}
 use Rattle.bo_lists.specs.declared.rows.CartPos.{CartPos}
 use Rattle.bo_lists.specs.declared.rows.Voucher.{Voucher}
 use Rattle.bo_lists.specs.declared.changes.Change.TheVariants.{PutVoucher, PutCart, DropVoucher, DropCart}

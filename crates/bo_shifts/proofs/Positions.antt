@@ -4,8 +4,8 @@ use Rattle.std.specs.Prelude.{if◌then◌else◌}
 use Rattle.std.specs.List.{AllByRecursion}
 use Rattle.std.specs.Bool.{beq}
 use Rattle.std.proofs.lemmas.List.Sums.{count_by-le-length}
-use Rattle.bo_base.specs.Tables.{sum_at, with_row}
-use Rattle.bo_base.proofs.Edits.{sum_by-with_row}
+use Rattle.bo_sorted.specs.Tables.{sum_at, with_row}
+use Rattle.bo_sorted.proofs.Edits.{sum_by-with_row}
 use Rattle.bo_catalogue.specs.declared.rows.Quota.{Quota}
 use Rattle.bo_catalogue.specs.CatalogueLists.{CatalogueLists}
 use Rattle.bo_catalogue.specs.Member.{is_in}

@@ -3,12 +3,12 @@ use Rattle.std.proofs.Common.{◌≡◌, ℕ, ◌+◌, ◌-◌, ◌*◌, ◌≤�
 use Rattle.std.specs.Prelude.{if◌then◌else◌}
 use Rattle.std.specs.List.{AllByRecursion}
 use Rattle.std.proofs.lemmas.List.Sums.{count_by-le-length, sum_by-cons}
-use Rattle.bo_base.specs.Tables.{row_at, with_row, without_row, AreInOrder, sum_at, IsPlace}
-use Rattle.bo_base.proofs.Places.{row_at_place}
+use Rattle.bo_sorted.specs.Tables.{row_at, with_row, without_row, AreInOrder, sum_at, IsPlace}
+use Rattle.bo_sorted.proofs.Places.{row_at_place}
 use Rattle.bo_indexed.proofs.EntryLemmas.{map_at}
 use Rattle.bo_usage.specs.Shares.{blocked_share, cart_share, waiting_share}
 use Rattle.bo_shifts.proofs.Later.{time_is}
-use Rattle.bo_base.proofs.Edits.{sum_by-with_row, sum_by-without_row}
+use Rattle.bo_sorted.proofs.Edits.{sum_by-with_row, sum_by-without_row}
 use Rattle.bo_catalogue.specs.declared.rows.Quota.{Quota}
 use Rattle.bo_lists.specs.declared.rows.CartPos.{CartPos}
 use Rattle.bo_lists.specs.declared.rows.Waiting.{Waiting}
@@ -20,7 +20,7 @@ use Rattle.bo_catalogue.specs.Member.{is_in}
 use Rattle.bo_lists.proofs.EachRow.{all-with_row, all-without_row, key-row_at}
 use Rattle.bo_usage.proofs.VoucherCounts.{carts_with}
 use Rattle.bo_lists.specs.Usage.{blocks_if}
-use Rattle.bo_base.proofs.Edits.{row_at-with_row, row_at-without_row}
+use Rattle.bo_sorted.proofs.Edits.{row_at-with_row, row_at-without_row}
 use Rattle.bo_lists.specs.Lists.{Lists, State, voucher_at, cart_at, waiting_at}
 use Rattle.bo_lists.specs.Kept.{IsKept}
 use Rattle.bo_lists.specs.Headroom.{held_in}

@@ -3,9 +3,9 @@ use Rattle.std.proofs.Common.{◌≡◌, ◌≢◌, ℕ, zero, suc, ◌+◌, ◌
 use Rattle.std.specs.Prelude.{◌||◌, if◌then◌else◌, filter}
 use Rattle.std.specs.List.{AllByRecursion}
 use Rattle.std.proofs.lemmas.Bool.Decides.{nat_tests, eqb_tells}
-use Rattle.bo_base.specs.Tables.{has, row_at, InOrderFrom, AreInOrder, IsPlace, IsGap}
-use Rattle.bo_base.proofs.Edits.{row_at_above}
-use Rattle.bo_base.proofs.Places.{at_least, row_at_gap, order_weaker}
+use Rattle.bo_sorted.specs.Tables.{has, row_at, InOrderFrom, AreInOrder, IsPlace, IsGap}
+use Rattle.bo_sorted.proofs.Edits.{row_at_above}
+use Rattle.bo_sorted.proofs.Places.{at_least, row_at_gap, order_weaker}
 use Rattle.bo_lists.proofs.Found.{each_found}
 use Rattle.bo_catalogue.specs.declared.rows.Quota.{Quota}
 use Rattle.bo_lists.specs.declared.rows.Usage.{Usage}

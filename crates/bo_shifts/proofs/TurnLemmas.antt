@@ -5,9 +5,9 @@ use Rattle.std.specs.List.{AllByRecursion}
 use Rattle.std.proofs.lemmas.Bool.Decides.{nat_tests, eqb_tells}
 use Rattle.std.proofs.lemmas.List.Sums.{sum_by-cons}
 use Rattle.std.proofs.lemmas.Grind.{common_steps}
-use Rattle.bo_base.specs.Tables.{row_at, InOrderFrom, AreInOrder, sum_at, IsPlace, IsGap}
-use Rattle.bo_base.proofs.Places.{row_at_place, row_at_gap, at_least}
-use Rattle.bo_base.proofs.Edits.{row_at_above}
+use Rattle.bo_sorted.specs.Tables.{row_at, InOrderFrom, AreInOrder, sum_at, IsPlace, IsGap}
+use Rattle.bo_sorted.proofs.Places.{row_at_place, row_at_gap, at_least}
+use Rattle.bo_sorted.proofs.Edits.{row_at_above}
 use Rattle.bo_catalogue.specs.declared.rows.Quota.{Quota}
 use Rattle.bo_lists.specs.declared.rows.Voucher.{Voucher}
 use Rattle.bo_lists.specs.declared.rows.Usage.{Usage}

@@ -1,7 +1,7 @@
 -- What a walk over what came due counts of each row.
 use Rattle.std.specs.Prelude.{◌≡◌, ◌≤◌, ℕ, ◌-◌, Bool, ◌&&◌, List, map, Option, Some, None, count_by, if◌then◌else◌}
 use Rattle.std.specs.List.{AllByRecursion}
-use Rattle.bo_base.specs.Tables.{sum_at}
+use Rattle.bo_sorted.specs.Tables.{sum_at}
 use Rattle.bo_catalogue.specs.declared.rows.Quota.{Quota}
 use Rattle.bo_lists.specs.declared.rows.Voucher.{Voucher}
 use Rattle.bo_lists.specs.declared.rows.Usage.{Usage}

@@ -1,6 +1,6 @@
 -- Rows that name others.
 use Rattle.std.specs.Prelude.{ℕ, Bool, false, List, Option, Some, None}
-use Rattle.bo_base.specs.Tables.{row_at}
+use Rattle.bo_sorted.specs.Tables.{row_at}
 
 abbrev pub passes_if : {V : Type 0} → (V → Bool) → Option V → Bool
 passes_if test None = false

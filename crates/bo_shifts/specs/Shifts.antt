@@ -1,6 +1,6 @@
 -- What a change adds to the usage of a quota, and takes from it.
 use Rattle.std.specs.Prelude.{ℕ, ◌+◌, ◌-◌, min, max, Bool, ◌&&◌, List, [], ◌∷◌, Option, Some, count_by, sum_by, if◌then◌else◌}
-use Rattle.bo_base.specs.Tables.{sum_at}
+use Rattle.bo_sorted.specs.Tables.{sum_at}
 use Rattle.bo_catalogue.specs.declared.rows.Quota.{Quota}
 use Rattle.bo_lists.specs.declared.rows.CartPos.{CartPos}
 use Rattle.bo_lists.specs.declared.rows.Waiting.{Waiting}

@@ -1,7 +1,7 @@
 //! Runs of dropped cart positions.
 
 ghost use Rattle.std.specs.Prelude.{◌≡◌, ◌≤◌, ◌<◌, ◌-◌, ◌++◌, ◌∷◌, [], map, reverse, length, slice_get, vec_len, vec_capacity, Some, true, IfSome};
-ghost use Rattle.bo_base.specs.Tables.{AreInOrder};
+ghost use Rattle.bo_sorted.specs.Tables.{AreInOrder};
 ghost use Rattle.bo_lists.specs.declared.changes.Change.TheVariants.{DropCart};
 
 use bo_lists::Change;

@@ -2,8 +2,8 @@
 
 ghost use Rattle.std.specs.Prelude.{◌≡◌, ◌≤◌, ◌&&◌, ℕ, count_by, length, map, vec_capacity, Some, true, false};
 ghost use Rattle.std.specs.Option.{option_copied};
-ghost use Rattle.bo_base.specs.Dropped.{without_rows};
-ghost use Rattle.bo_base.specs.Tables.{AreInOrder};
+ghost use Rattle.bo_sorted.specs.Dropped.{without_rows};
+ghost use Rattle.bo_sorted.specs.Tables.{AreInOrder};
 ghost use Rattle.bo_lists.specs.Change.{after_change};
 ghost use Rattle.bo_lists.specs.CameDue.{is_due_cart};
 ghost use Rattle.bo_lists.specs.Conditions.{names};
@@ -15,8 +15,9 @@ ghost use Rattle.bo_shifts.specs.Held.{AreHeld, named_by};
 ghost use Rattle.bo_shifts.specs.Turns.{turn};
 
 use crate::turns::{turned, vouchers};
-use bo_base::{Moment, id_at, place_of};
+use bo_base::Moment;
 use bo_lists::{CartPos, Change, Voucher};
+use bo_sorted::{id_at, place_of};
 use bo_store::Store;
 use bo_store::ids::count_one;
 use bo_usage::LookUps;

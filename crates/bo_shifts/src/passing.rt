@@ -9,9 +9,10 @@ ghost use Rattle.bo_shifts.specs.Shifts.{map_beside, leave_shift, lapse_shift, e
 use crate::blocking::voucher_leaves;
 use crate::carts::cart_goes;
 use crate::turns::redeemed_in;
-use bo_base::{Moment, id_at};
+use bo_base::Moment;
 use bo_index::Found;
 use bo_lists::Usage;
+use bo_sorted::id_at;
 use bo_store::Store;
 use bo_usage::LookUps;
 

@@ -2,15 +2,16 @@
 
 ghost use Rattle.std.specs.Prelude.{◌≡◌, ◌≤◌, ◌<◌, ◌+◌, ◌-◌, length, map, vec_capacity};
 ghost use Rattle.std.specs.List.{insert};
-ghost use Rattle.bo_base.specs.Tables.{with_row, without_row, AreInOrder};
+ghost use Rattle.bo_sorted.specs.Tables.{with_row, without_row, AreInOrder};
 ghost use Rattle.std.specs.Option.{option_copied};
 ghost use Rattle.bo_catalogue.specs.declared.rows.Quota.{Quota};
 ghost use Rattle.bo_lists.specs.declared.rows.Usage.{Usage};
 ghost use Rattle.bo_shifts.specs.Shifts.{map_beside, moved, cart_shift, waiting_shift};
 
-use bo_base::{Moment, Row, place_of};
+use bo_base::Moment;
 use bo_catalogue::Quota;
 use bo_lists::{CartPos, Usage, Waiting};
+use bo_sorted::{Row, place_of};
 use bo_store::Store;
 use bo_usage::rules::{cart_share, waiting_share};
 

@@ -1,16 +1,16 @@
 //! The usages of those quotas alone that a change touches.
 
 ghost use Rattle.std.specs.Prelude.{◌≡◌, ◌==◌, ℕ, length, vec_capacity};
-ghost use Rattle.bo_base.specs.Tables.{AreInOrder, has};
+ghost use Rattle.bo_sorted.specs.Tables.{AreInOrder, has};
 ghost use Rattle.bo_catalogue.specs.Member.{is_in};
 ghost use Rattle.bo_lists.specs.Conditions.{hits, hits_by, hits_by_product};
 ghost use Rattle.bo_shifts.specs.Shifts.{map_beside, only};
 
 use crate::shift::Shift;
-use bo_base::place_of;
 use bo_catalogue::{Catalogue, Product, Quota};
 use bo_index::Found;
 use bo_lists::{Usage, Voucher};
+use bo_sorted::place_of;
 
 // Shifts the usage of the quota of an id, if it stands.
 fn shift_one<S: Shift>(quotas: &[Quota], usages: &mut Vec<Usage>, id: u64, shift: &S)

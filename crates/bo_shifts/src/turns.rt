@@ -16,9 +16,10 @@ ghost use Rattle.bo_shifts.specs.Turns.{turned, turn, turn_each, IsCountedBy, tu
 
 use crate::shift::{Shift, moved};
 use crate::touched::{shift_hit, shift_product};
-use bo_base::{Moment, place_of};
+use bo_base::Moment;
 use bo_catalogue::{Product, Quota};
 use bo_lists::{Change, Order, OrderPos, Usage, Voucher};
+use bo_sorted::place_of;
 use bo_store::Store;
 use bo_store::ids::count_one;
 use bo_usage::LookUps;

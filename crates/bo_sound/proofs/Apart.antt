@@ -3,7 +3,7 @@ use Rattle.std.proofs.Common.{◌≡◌, ℕ, Bool, true, false, ◌&&◌, not, 
 use Rattle.std.specs.Prelude.{◌||◌}
 use Rattle.std.specs.List.{list_any, AllByRecursion}
 use Rattle.std.proofs.lemmas.Bool.Decides.{nat_tests}
-use Rattle.bo_base.specs.Tables.{with_row}
+use Rattle.bo_sorted.specs.Tables.{with_row}
 use Rattle.bo_lists.proofs.EachRow.{with_row_cases}
 
 -- none is alike to one behind it

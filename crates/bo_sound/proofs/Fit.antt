@@ -2,8 +2,8 @@
 use Rattle.std.proofs.Common.{◌≡◌, ℕ, ◌≢◌, ◌⊎◌, inl, inr, true, false, eqb, cond, List, Option, Some, None, refl, sym, ap, ◌∙◌, subst}
 use Rattle.std.specs.List.{AllByRecursion}
 use Rattle.std.proofs.lemmas.Bool.Decides.{eqb_tells}
-use Rattle.bo_base.specs.Tables.{row_at}
-use Rattle.bo_base.proofs.Edits.{row_at-with_row, row_at-without_row}
+use Rattle.bo_sorted.specs.Tables.{row_at}
+use Rattle.bo_sorted.proofs.Edits.{row_at-with_row, row_at-without_row}
 use Rattle.bo_catalogue.specs.declared.rows.Product.{Product}
 use Rattle.bo_catalogue.specs.declared.rows.Quota.{Quota}
 use Rattle.bo_catalogue.specs.CatalogueLists.{CatalogueLists, quota_at}

@@ -3,9 +3,9 @@ use Rattle.std.proofs.Common.{◌≡◌, ℕ, ◌+◌, ◌<◌, ◌≤◌, List,
 use Rattle.std.specs.Prelude.{true}
 use Rattle.std.specs.List.{AllByRecursion}
 use Rattle.std.proofs.lemmas.Bool.Decides.{nat_tests}
-use Rattle.bo_base.specs.Tables.{row_at, with_row, without_row, InOrderFrom}
-use Rattle.bo_base.proofs.Edits.{length-with_row, length-without_row, row_at_above}
-use Rattle.bo_base.proofs.Places.{with_row_in_order, without_row_in_order}
+use Rattle.bo_sorted.specs.Tables.{row_at, with_row, without_row, InOrderFrom}
+use Rattle.bo_sorted.proofs.Edits.{length-with_row, length-without_row, row_at_above}
+use Rattle.bo_sorted.proofs.Places.{with_row_in_order, without_row_in_order}
 use Rattle.bo_catalogue.specs.Limits.{most_rows, last_id, takes_row, takes_rows}
 use Rattle.bo_lists.proofs.EachRow.{all_weaker, all-with_row, all-without_row, all-row_at, key-row_at, found_below}
 use Rattle.bo_sound.specs.Ids.{AreNumbered}

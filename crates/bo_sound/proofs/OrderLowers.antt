@@ -4,8 +4,8 @@ use Rattle.std.specs.Prelude.{◌||◌, if◌then◌else◌}
 use Rattle.std.specs.List.{AllByRecursion}
 use Rattle.std.proofs.lemmas.Bool.Decides.{nat_tests}
 use Rattle.std.proofs.lemmas.List.Sums.{sum_by-cons}
-use Rattle.bo_base.specs.Tables.{AreInOrder}
-use Rattle.bo_base.proofs.Edits.{row_at-with_row}
+use Rattle.bo_sorted.specs.Tables.{AreInOrder}
+use Rattle.bo_sorted.proofs.Edits.{row_at-with_row}
 use Rattle.bo_catalogue.specs.declared.rows.Quota.{Quota}
 use Rattle.bo_catalogue.specs.CatalogueLists.{quota_at}
 use Rattle.bo_catalogue.specs.Member.{is_in}

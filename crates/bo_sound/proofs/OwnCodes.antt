@@ -2,7 +2,7 @@
 use Rattle.std.proofs.Common.{◌≡◌, ℕ, ◌^◌, ◌<◌, Bool, true, false, not, ◌||◌, List, [], ◌∷◌, nat_eq, refl, sym, ◌∙◌, subst, arith}
 use Rattle.std.specs.List.{ends_with, AllByRecursion}
 use Rattle.std.specs.Cmp.Lexicographic.{bytes_decides}
-use Rattle.bo_base.specs.Tables.{AreInOrder, with_row, without_row}
+use Rattle.bo_sorted.specs.Tables.{AreInOrder, with_row, without_row}
 use Rattle.bo_base.specs.Texts.{same_text}
 use Rattle.bo_lists.specs.declared.rows.Voucher.{Voucher}
 use Rattle.bo_lists.specs.Lists.{Lists}

@@ -4,8 +4,8 @@ use Rattle.std.specs.Prelude.{is_some}
 use Rattle.std.specs.List.{AllByRecursion}
 use Rattle.std.proofs.lemmas.Bool.Decides.{nat_tests, eqb_tells}
 use Rattle.std.proofs.lemmas.List.Elements.{filter-append}
-use Rattle.bo_base.specs.Tables.{row_at, with_row}
-use Rattle.bo_base.proofs.Edits.{row_at-with_row}
+use Rattle.bo_sorted.specs.Tables.{row_at, with_row}
+use Rattle.bo_sorted.proofs.Edits.{row_at-with_row}
 use Rattle.bo_lists.specs.declared.rows.Order.{Order}
 use Rattle.bo_lists.specs.declared.rows.OrderPos.{OrderPos}
 use Rattle.bo_lists.specs.declared.changes.Change.TheVariants.{PutOrder}

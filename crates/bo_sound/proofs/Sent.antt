@@ -2,8 +2,8 @@
 use Rattle.std.proofs.Common.{◌≡◌, ℕ, true, false, eqb, cond, List, Option, Some, None, refl, ap, ◌∙◌}
 use Rattle.std.specs.Prelude.{is_some}
 use Rattle.std.specs.List.{AllByRecursion}
-use Rattle.bo_base.specs.Tables.{row_at, with_row, without_row}
-use Rattle.bo_base.proofs.Edits.{row_at-without_row}
+use Rattle.bo_sorted.specs.Tables.{row_at, with_row, without_row}
+use Rattle.bo_sorted.proofs.Edits.{row_at-without_row}
 use Rattle.bo_lists.specs.declared.rows.Voucher.{Voucher}
 use Rattle.bo_lists.specs.declared.rows.Waiting.{Waiting}
 use Rattle.bo_lists.specs.Conditions.{names}

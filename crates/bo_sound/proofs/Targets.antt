@@ -2,7 +2,7 @@
 use Rattle.std.proofs.Common.{◌≡◌, ℕ, true, List, Option, Some, None, refl}
 use Rattle.std.specs.Prelude.{is_some}
 use Rattle.std.specs.List.{AllByRecursion}
-use Rattle.bo_base.specs.Tables.{with_row}
+use Rattle.bo_sorted.specs.Tables.{with_row}
 use Rattle.bo_catalogue.specs.declared.rows.Item.{Item}
 use Rattle.bo_catalogue.specs.declared.rows.Quota.{Quota}
 use Rattle.bo_catalogue.specs.declared.rows.Variation.{Variation}

@@ -1,7 +1,7 @@
 -- The door: lists, by which tickets are checked in, and check-ins.
 use Rattle.std.specs.Prelude.{◌≡◌, ℕ, Bool, true, false, ◌&&◌, ◌==◌, is_some, List, [], ◌∷◌, Option, Some, None}
 use Rattle.std.specs.List.{list_any, AllByRecursion}
-use Rattle.bo_base.specs.Tables.{row_at, AreInOrder}
+use Rattle.bo_sorted.specs.Tables.{row_at, AreInOrder}
 use Rattle.bo_base.specs.Texts.{same_text}
 use Rattle.bo_catalogue.specs.declared.rows.Item.{Item}
 use Rattle.bo_lists.specs.declared.rows.OrderPos.{OrderPos}

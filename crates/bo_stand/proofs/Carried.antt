@@ -6,8 +6,8 @@ use Rattle.std.specs.List.Sorted.{IsPermutation}
 use Rattle.std.proofs.lemmas.Bool.Decides.{nat_tests}
 use Rattle.std.proofs.lemmas.List.Sorted.{IsPermutation-refl, IsPermutation-sym, IsPermutation-trans, IsPermutation-cons, IsPermutation-map, IsPermutation-to_front}
 use Rattle.sqlite_trees.proofs.ListLemmas.{filter-map, filter-filter, IsPermutation-filter, IsPermutation-same, map-map}
-use Rattle.bo_base.specs.Tables.{row_at, with_row, InOrderFrom, AreInOrder}
-use Rattle.bo_base.proofs.Edits.{row_at_above, row_at-with_row}
+use Rattle.bo_sorted.specs.Tables.{row_at, with_row, InOrderFrom, AreInOrder}
+use Rattle.bo_sorted.proofs.Edits.{row_at_above, row_at-with_row}
 use Rattle.bo_lists.specs.declared.changes.Change.{Change}
 use Rattle.bo_lists.specs.declared.count_rows.QuotaCount.{QuotaCount}
 use Rattle.bo_lists.specs.declared.count_rows.VoucherCount.{VoucherCount}

@@ -2,8 +2,8 @@
 use Rattle.std.proofs.Common.{◌≡◌, ℕ, ◌+◌, ◌==◌, eqb, Bool, true, false, cond, not, ◌||◌, ◌&&◌, List, [], ◌∷◌, map, filter, find, Option, Some, None, is_some, is_none, refl, sym, ap, subst, ◌∙◌, arith, ◌⊎◌, inl, inr}
 use Rattle.std.specs.List.{list_any}
 use Rattle.std.proofs.lemmas.Bool.{and_parts, eqb-true}
-use Rattle.bo_base.specs.Tables.{row_at, with_row, without_row, InOrderFrom, AreInOrder}
-use Rattle.bo_base.proofs.Edits.{row_at-with_row, row_at-without_row}
+use Rattle.bo_sorted.specs.Tables.{row_at, with_row, without_row, InOrderFrom, AreInOrder}
+use Rattle.bo_sorted.proofs.Edits.{row_at-with_row, row_at-without_row}
 use Rattle.bo_catalogue.specs.declared.rows.Quota.{Quota}
 use Rattle.bo_lists.specs.declared.rows.Usage.{Usage}
 use Rattle.bo_lists.specs.declared.rows.Voucher.{Voucher}

@@ -3,8 +3,8 @@ use Rattle.std.proofs.Common.{◌≡◌, ℕ, ◌+◌, ◌<◌, ◌≤◌, ◌==
 use Rattle.std.specs.List.{list_any, AllByRecursion}
 use Rattle.std.specs.List.Sorted.{IsPermutation}
 use Rattle.std.proofs.lemmas.Bool.Decides.{nat_tests}
-use Rattle.bo_base.specs.Tables.{row_at, with_row, without_row, InOrderFrom, AreInOrder}
-use Rattle.bo_base.proofs.Edits.{row_at-with_row, row_at_above}
+use Rattle.bo_sorted.specs.Tables.{row_at, with_row, without_row, InOrderFrom, AreInOrder}
+use Rattle.bo_sorted.proofs.Edits.{row_at-with_row, row_at_above}
 use Rattle.bo_stand.specs.Counts.{with_all}
 use Rattle.bo_stand.proofs.Order.{weaker, put_stays}
 

@@ -4,7 +4,7 @@ use Rattle.std.specs.List.{AllByRecursion}
 use Rattle.std.specs.List.Sorted.{IsPermutation}
 use Rattle.std.proofs.lemmas.Bool.{and_parts}
 use Rattle.std.proofs.lemmas.List.Sorted.{IsPermutation-trans, IsPermutation-refl}
-use Rattle.bo_base.specs.Tables.{AreInOrder, with_row}
+use Rattle.bo_sorted.specs.Tables.{AreInOrder, with_row}
 use Rattle.bo_lists.specs.declared.count_rows.VoucherCount.{VoucherCount}
 use Rattle.bo_lists.specs.declared.changes.Change.{Change}
 use Rattle.bo_lists.specs.declared.changes.Change.TheVariants.{PutItem, PutVariation, PutQuota, PutVoucher, PutCart, PutOrder, PutPosition, PutWaiting, DropVoucher, DropCart, DropWaiting, PutCheckinList, PutCheckin}
@@ -127,7 +127,7 @@ module _ (listed before : List VoucherCount) where
   counts_follow (PutWaiting row ∷ changes) from to t u h dropped first lists counts kept same =
       counts_follow changes h.0 to h.1 u h.3 dropped first (after_change (PutWaiting row) lists) counts kept (IsPermutation-trans _ _ _ h.2.redeemed same)
   counts_follow (DropVoucher id ∷ changes) from to t u h dropped first lists counts kept same =
-      counts_follow changes h.0 to h.1 u h.3 true first (after_change (DropVoucher id) lists) (Rattle.bo_base.specs.Tables.without_row of_voucher id counts) (counting_drop listed before lists.vouchers counts dropped id kept)
+      counts_follow changes h.0 to h.1 u h.3 true first (after_change (DropVoucher id) lists) (Rattle.bo_sorted.specs.Tables.without_row of_voucher id counts) (counting_drop listed before lists.vouchers counts dropped id kept)
       (IsPermutation-trans _ _ _ h.2.redeemed (row_dropped of_voucher id (redeemed_in t) counts same))
   counts_follow (DropCart id ∷ changes) from to t u h dropped first lists counts kept same =
       counts_follow changes h.0 to h.1 u h.3 dropped first (after_change (DropCart id) lists) counts kept (IsPermutation-trans _ _ _ h.2.redeemed same)

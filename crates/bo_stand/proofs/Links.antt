@@ -5,7 +5,7 @@ use Rattle.std.specs.List.Sorted.{IsPermutation}
 use Rattle.std.proofs.lemmas.Bool.Decides.{nat_tests}
 use Rattle.std.proofs.lemmas.List.Sorted.{IsPermutation-refl, IsPermutation-sym, IsPermutation-trans, IsPermutation-map, IsPermutation-append_right}
 use Rattle.sqlite_trees.proofs.ListLemmas.{IsPermutation-filter, IsPermutation-flat_map}
-use Rattle.bo_base.specs.Tables.{with_row, without_row, InOrderFrom, AreInOrder}
+use Rattle.bo_sorted.specs.Tables.{with_row, without_row, InOrderFrom, AreInOrder}
 use Rattle.bo_stand.specs.Links.{Link, links, all_links, links_but}
 use Rattle.bo_stand.proofs.Order.{put_in, only_first, first_gone, weaker, same_order}
 

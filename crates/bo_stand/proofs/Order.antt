@@ -5,7 +5,7 @@ use Rattle.std.proofs.lemmas.Bool.Decides.{nat_tests}
 use Rattle.std.proofs.lemmas.List.Sorted.{IsPermutation-refl, IsPermutation-sym, IsPermutation-trans, IsPermutation-cons, IsPermutation-middle, length_permutation}
 use Rattle.sqlite_trees.proofs.ListLemmas.{IsPermutation-filter}
 use Rattle.sqlite.proofs.Callers.{one_permutation}
-use Rattle.bo_base.specs.Tables.{with_row, without_row, InOrderFrom, AreInOrder}
+use Rattle.bo_sorted.specs.Tables.{with_row, without_row, InOrderFrom, AreInOrder}
 
 module _ {T : Type 0} (key : T → ℕ) where
   abbrev pub rows_at : ℕ → List T → List T

@@ -3,7 +3,7 @@ use Rattle.std.proofs.Common.{◌≡◌, ℕ, ◌+◌, ◌≤◌, Bool, List, []
 use Rattle.std.specs.List.{AllByRecursion}
 use Rattle.std.specs.List.Sorted.{IsPermutation}
 use Rattle.std.proofs.lemmas.List.Sorted.{IsPermutation-sym, IsPermutation-trans}
-use Rattle.bo_base.specs.Tables.{InOrderFrom, AreInOrder}
+use Rattle.bo_sorted.specs.Tables.{InOrderFrom, AreInOrder}
 use Rattle.bo_catalogue.specs.declared.rows.Quota.{Quota}
 use Rattle.bo_catalogue.specs.CatalogueLists.{CatalogueLists}
 use Rattle.bo_lists.specs.declared.rows.CheckinList.{CheckinList}

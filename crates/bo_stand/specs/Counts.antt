@@ -1,6 +1,6 @@
 -- Counts that are put one after another.
 use Rattle.std.specs.Prelude.{◌≡◌, ◌⊎◌, ℕ, Bool, true, List, [], ◌∷◌, Option, Some, None, is_some}
-use Rattle.bo_base.specs.Tables.{row_at, with_row, AreInOrder}
+use Rattle.bo_sorted.specs.Tables.{row_at, with_row, AreInOrder}
 use Rattle.bo_lists.specs.declared.rows.Voucher.{Voucher}
 use Rattle.bo_lists.specs.declared.count_rows.VoucherCount.{VoucherCount}
 

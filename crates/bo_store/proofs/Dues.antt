@@ -3,10 +3,10 @@ use Rattle.std.proofs.Common.{◌≡◌, ℕ, ◌+◌, ◌<◌, Bool, true, fals
 use Rattle.std.specs.Prelude.{if◌then◌else◌, filter, ◌||◌}
 use Rattle.std.proofs.lemmas.Bool.Decides.{nat_tests}
 use Rattle.std.proofs.lemmas.List.Sums.{sum_by-cons}
-use Rattle.bo_base.specs.Rising.{rising}
-use Rattle.bo_base.specs.Tables.{has, AreInOrder}
+use Rattle.bo_sorted.specs.Rising.{rising}
+use Rattle.bo_sorted.specs.Tables.{has, AreInOrder}
 use Rattle.bo_base.specs.Texts.{same_text}
-use Rattle.bo_base.proofs.RisingLemmas.{has-rising, rising_in_order}
+use Rattle.bo_sorted.proofs.RisingLemmas.{has-rising, rising_in_order}
 use Rattle.bo_index.proofs.Sorted.{same_ids}
 use Rattle.bo_indexed.proofs.Selected.{selected_in_order}
 use Rattle.bo_lists.specs.declared.rows.CartPos.{CartPos}

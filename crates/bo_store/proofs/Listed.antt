@@ -3,7 +3,7 @@ use Rattle.std.proofs.Common.{◌≡◌, ℕ, suc, zero, ◌+◌, ◌<◌, ◌�
 use Rattle.std.proofs.lemmas.Grind.{common_steps}
 use Rattle.std.specs.Prelude.{if◌then◌else◌, find, filter, is_some, ◌||◌}
 use Rattle.std.specs.List.{AllByRecursion, list_any}
-use Rattle.bo_base.specs.Tables.{row_at, AreInOrder}
+use Rattle.bo_sorted.specs.Tables.{row_at, AreInOrder}
 use Rattle.bo_lists.proofs.Found.{each_found}
 use Rattle.bo_store.specs.Walks.{listed, rows_of, passing}
 

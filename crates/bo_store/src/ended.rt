@@ -1,7 +1,7 @@
 //! What a count at a later moment may look at.
 
 ghost use Rattle.std.specs.Prelude.{◌≡◌, ◌≤◌, IfOk, IfErr, length};
-ghost use Rattle.bo_base.specs.Tables.{IsPlace, IsGap};
+ghost use Rattle.bo_sorted.specs.Tables.{IsPlace, IsGap};
 ghost use Rattle.bo_lists.specs.CameDue.{is_due_cart, is_due_voucher};
 ghost use Rattle.bo_lists.specs.Conditions.{names};
 ghost use Rattle.bo_lists.specs.Kept.{IsKept};
@@ -9,10 +9,11 @@ ghost use Rattle.bo_lists.specs.Usage.{cart_counts};
 ghost use Rattle.bo_indexed.specs.Indexes.{Finds};
 
 use crate::store::Store;
-use bo_base::{Moment, place_of};
+use bo_base::Moment;
 use bo_catalogue::Quota;
 use bo_indexed::Walk;
 use bo_lists::{CartPos, Voucher};
+use bo_sorted::place_of;
 use bo_usage::rules::cart_counts;
 use std::marker::Model;
 

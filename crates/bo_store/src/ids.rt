@@ -1,7 +1,7 @@
 //! Ids and counts.
 
 ghost use Rattle.std.specs.Prelude.{◌≡◌, if◌then◌else◌};
-ghost use Rattle.bo_base.specs.Rising.{rising};
+ghost use Rattle.bo_sorted.specs.Rising.{rising};
 
 /// 1 where it is so.
 pub fn count_one(is: bool) -> u64

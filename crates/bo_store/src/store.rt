@@ -2,17 +2,18 @@
 
 ghost use Rattle.std.specs.Prelude.{◌≡◌, ◌≤◌, ◌+◌, OnOk};
 ghost use Rattle.std.specs.Option.{option_copied};
-ghost use Rattle.bo_base.specs.Dropped.{without_rows};
-ghost use Rattle.bo_base.specs.Tables.{AreInOrder};
+ghost use Rattle.bo_sorted.specs.Dropped.{without_rows};
+ghost use Rattle.bo_sorted.specs.Tables.{AreInOrder};
 ghost use Rattle.bo_lists.specs.Lists.{empty, checkin_list_at, checkin_at};
 ghost use Rattle.bo_lists.specs.Change.{after_change};
 ghost use Rattle.bo_lists.specs.Weight.{change_weight};
 ghost use Rattle.bo_lists.specs.Kept.{IsKept};
 
-use bo_base::{Moment, Rows};
+use bo_base::Moment;
 use bo_catalogue::Catalogue;
 use bo_indexed::Indexed;
 use bo_lists::{CartPos, Change, Checkin, CheckinList, NextIds, Order, OrderPos, Voucher, Waiting};
+use bo_sorted::Rows;
 use bo_usage::LookUps;
 use std::alloc::{AllocError, Global};
 use std::marker::Model;

@@ -1,7 +1,7 @@
 -- How often orders that stand use a voucher, after a change of one row.
 use Rattle.std.proofs.Common.{◌≡◌, ℕ, ◌+◌, ◌≤◌, Bool, true, false, ◌&&◌, None, Some, refl, ap, ◌∙◌, count_by, arith}
 use Rattle.std.proofs.lemmas.List.Sums.{count_by-le-length}
-use Rattle.bo_base.specs.Tables.{sum_at, AreInOrder}
+use Rattle.bo_sorted.specs.Tables.{sum_at, AreInOrder}
 use Rattle.bo_lists.specs.declared.rows.Order.{Order}
 use Rattle.bo_lists.specs.declared.rows.OrderPos.{OrderPos}
 use Rattle.bo_lists.specs.declared.changes.Change.TheVariants.{PutOrder, PutPosition}

@@ -1,6 +1,6 @@
 -- What single rows count, each by itself.
 use Rattle.std.specs.Prelude.{ℕ, ◌-◌, Bool, Option, Some, None, if◌then◌else◌}
-use Rattle.bo_base.specs.Tables.{sum_at}
+use Rattle.bo_sorted.specs.Tables.{sum_at}
 use Rattle.bo_catalogue.specs.declared.rows.Quota.{Quota}
 use Rattle.bo_lists.specs.declared.rows.CartPos.{CartPos}
 use Rattle.bo_lists.specs.declared.rows.OrderPos.{OrderPos}

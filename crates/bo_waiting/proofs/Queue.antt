@@ -3,7 +3,7 @@ use Rattle.std.proofs.Common.{◌≡◌, ℕ, ◌+◌, ◌≤◌, Bool, true, fa
 use Rattle.std.specs.Prelude.{filter, if◌then◌else◌}
 use Rattle.std.specs.List.{AllByRecursion}
 use Rattle.std.proofs.lemmas.Bool.Decides.{nat_tests}
-use Rattle.bo_base.specs.Tables.{InOrderFrom, AreInOrder}
+use Rattle.bo_sorted.specs.Tables.{InOrderFrom, AreInOrder}
 use Rattle.bo_lists.specs.declared.rows.Waiting.{Waiting}
 use Rattle.bo_lists.specs.Lists.{Lists, waiting_at}
 use Rattle.bo_lists.specs.Usage.{has_none}

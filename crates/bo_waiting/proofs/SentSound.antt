@@ -1,11 +1,11 @@
 -- A box office stays sound where a voucher is sent, and where all are served; and the changes can be made one after another.
 use Rattle.std.proofs.Common.{◌≡◌, ℕ, ◌+◌, ◌<◌, ◌^◌, min, Bool, true, false, eqb, List, [], ◌∷◌, Option, Some, None, Result, Ok, Err, map, refl, ap, ◌∙◌, subst, arith}
 use Rattle.std.specs.Prelude.{◌||◌, not, is_some, if◌then◌else◌}
-use Rattle.bo_base.specs.Tables.{row_at, with_row}
+use Rattle.bo_sorted.specs.Tables.{row_at, with_row}
 use Rattle.bo_base.specs.Draws.{IsDraw}
 use Rattle.bo_base.specs.Moments.{last_moment, IsMoment}
 use Rattle.bo_base.specs.declared.draw.Draw.{Draw}
-use Rattle.bo_base.proofs.Edits.{row_at-with_row}
+use Rattle.bo_sorted.proofs.Edits.{row_at-with_row}
 use Rattle.std.proofs.lemmas.Bool.Decides.{nat_tests}
 use Rattle.bo_catalogue.specs.declared.rows.Item.{Item}
 use Rattle.bo_catalogue.specs.declared.rows.Product.{Product}

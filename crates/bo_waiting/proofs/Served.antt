@@ -7,8 +7,8 @@ use Rattle.bo_base.specs.Deciding.{◌>>=◌, ◌>>◌, check, refuse_some}
 use Rattle.std.proofs.lemmas.Bool.Decides.{nat_tests}
 use Rattle.std.proofs.lemmas.List.Sums.{sum_by-cons}
 use Rattle.bo_base.specs.declared.draw.Draw.{Draw}
-use Rattle.bo_base.specs.Tables.{with_row}
-use Rattle.bo_base.proofs.Edits.{row_at-with_row}
+use Rattle.bo_sorted.specs.Tables.{with_row}
+use Rattle.bo_sorted.proofs.Edits.{row_at-with_row}
 use Rattle.bo_catalogue.specs.declared.rows.Quota.{Quota}
 use Rattle.bo_catalogue.specs.declared.refusal.CatalogueRefusal.TheVariants.{Inactive, NotSold, Full}
 use Rattle.bo_catalogue.specs.CatalogueLists.{CatalogueLists, is_active, is_sold}

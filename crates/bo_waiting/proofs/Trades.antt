@@ -4,9 +4,9 @@ use Rattle.std.specs.Prelude.{if◌then◌else◌}
 use Rattle.std.proofs.lemmas.Bool.Decides.{nat_tests}
 use Rattle.std.proofs.lemmas.List.Sums.{sum_by-le-sum_by}
 use Rattle.bo_base.specs.declared.draw.Draw.{Draw}
-use Rattle.bo_base.specs.Tables.{sum_at, with_row}
-use Rattle.bo_base.proofs.Edits.{sum_by-with_row, row_at-with_row}
-use Rattle.bo_base.proofs.Places.{with_row_in_order}
+use Rattle.bo_sorted.specs.Tables.{sum_at, with_row}
+use Rattle.bo_sorted.proofs.Edits.{sum_by-with_row, row_at-with_row}
+use Rattle.bo_sorted.proofs.Places.{with_row_in_order}
 use Rattle.bo_catalogue.specs.declared.rows.Product.{Product}
 use Rattle.bo_catalogue.specs.declared.rows.Quota.{Quota}
 use Rattle.bo_catalogue.specs.Member.{is_in, lists as quota_lists}

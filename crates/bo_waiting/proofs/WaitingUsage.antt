@@ -1,7 +1,7 @@
 -- The usage of a quota after an entry came, changed or went.
 use Rattle.std.proofs.Common.{◌≡◌, ℕ, ◌+◌, ◌≤◌, ◌&&◌, Option, Some, None, ap, ◌∙◌, arith}
-use Rattle.bo_base.specs.Tables.{sum_at}
-use Rattle.bo_base.proofs.Edits.{sum_by-with_row, sum_by-without_row}
+use Rattle.bo_sorted.specs.Tables.{sum_at}
+use Rattle.bo_sorted.proofs.Edits.{sum_by-with_row, sum_by-without_row}
 use Rattle.bo_catalogue.specs.declared.rows.Quota.{Quota}
 use Rattle.bo_catalogue.specs.Member.{is_in}
 use Rattle.bo_lists.specs.declared.rows.Waiting.{Waiting}

@@ -3,7 +3,7 @@ use Rattle.std.specs.Prelude.{◌≡◌, ℕ, ◌+◌, ◌≤◌, List, [], ◌�
 use Rattle.std.specs.Option.{ok_or}
 use Rattle.bo_base.specs.Deciding.{◌>>=◌, ◌>>◌, check, refuse_some}
 use Rattle.bo_base.specs.Moments.{last_moment}
-use Rattle.bo_base.specs.Tables.{AreInOrder}
+use Rattle.bo_sorted.specs.Tables.{AreInOrder}
 use Rattle.bo_base.specs.declared.draw.Draw.{Draw}
 use Rattle.bo_base.specs.declared.price_mode.PriceMode.TheVariants as modes
 use Rattle.bo_catalogue.specs.declared.rows.Product.{Product}

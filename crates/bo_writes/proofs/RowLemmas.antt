@@ -5,7 +5,7 @@ use Rattle.std.specs.List.Sorted.{IsPermutation}
 use Rattle.std.proofs.lemmas.List.Sorted.{IsPermutation-refl, IsPermutation-sym, IsPermutation-trans, IsPermutation-cons, IsPermutation-map, IsPermutation-middle}
 use Rattle.sqlite.specs.State.{State}
 use Rattle.sqlite_trees.specs.Tree.{Trees}
-use Rattle.bo_base.specs.Tables.{row_at, sum_at}
+use Rattle.bo_sorted.specs.Tables.{row_at, sum_at}
 use Rattle.bo_lists.specs.declared.rows.Voucher.{Voucher}
 use Rattle.bo_lists.specs.declared.count_rows.VoucherCount.{VoucherCount}
 use Rattle.bo_columns.specs.declared.rows.VoucherRow.{VoucherRow}

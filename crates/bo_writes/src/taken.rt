@@ -2,7 +2,7 @@
 
 ghost use Rattle.std.specs.Prelude.{◌≡◌, ◌∷◌, true, false, IsTrue, IfSome, IfNone, List};
 ghost use Rattle.std.specs.List.{AllByRecursion};
-ghost use Rattle.bo_base.specs.Tables.{AreInOrder};
+ghost use Rattle.bo_sorted.specs.Tables.{AreInOrder};
 ghost use Rattle.bo_lists.specs.declared.changes.Change.{Change as Made};
 ghost use Rattle.bo_stand.specs.Lawful.{puts_come_first};
 ghost use Rattle.bo_stand.specs.Stands.{IsRising};

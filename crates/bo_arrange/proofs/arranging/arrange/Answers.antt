@@ -1,5 +1,5 @@
 use Rattle.std.proofs.Common.{map, refl, subst}
-use Rattle.bo_base.specs.Tables.{AreInOrder}
+use Rattle.bo_sorted.specs.Tables.{AreInOrder}
 use Rattle.bo_columns.specs.declared.rows.ListRow.{ListRow}
 use Rattle.bo_columns.specs.declared.rows.QuotaRow.{QuotaRow}
 use Rattle.bo_columns.specs.declared.rows.VoucherRow.{VoucherRow}

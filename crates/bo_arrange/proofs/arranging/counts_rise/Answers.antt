@@ -1,5 +1,5 @@
 use Rattle.std.proofs.Common.{◌∙◌, refl, subst}
-use Rattle.bo_base.specs.Tables.{AreInOrder}
+use Rattle.bo_sorted.specs.Tables.{AreInOrder}
 use Rattle.bo_arrange.proofs.Offices.{order_in_parts}
 use Rattle.bo_arrange.proofs.arranging.counts_rise.Goals as goal
 

@@ -1,5 +1,5 @@
 use Rattle.std.proofs.Common.{◌∙◌, IsTrue, map, ap, refl, subst}
-use Rattle.bo_base.specs.Tables.{AreInOrder}
+use Rattle.bo_sorted.specs.Tables.{AreInOrder}
 use Rattle.bo_columns.specs.declared.rows.ListRow.{ListRow}
 use Rattle.bo_arrange.proofs.Joined.{lists_are, lists_whole}
 use Rattle.bo_arrange.proofs.Offices.{order_in_parts}

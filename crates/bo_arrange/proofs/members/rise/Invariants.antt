@@ -1,5 +1,5 @@
 use Rattle.std.proofs.Common.{drop}
-use Rattle.bo_base.specs.Tables.{InOrderFrom, AreInOrder}
+use Rattle.bo_sorted.specs.Tables.{InOrderFrom, AreInOrder}
 use Rattle.bo_arrange.proofs.members.rise.Given as goal
 
 abbrev pub invariant-loop-row : goal.invariant-loop-row

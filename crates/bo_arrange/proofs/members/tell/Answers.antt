@@ -1,6 +1,6 @@
 use Rattle.std.proofs.Common.{◌≡◌, ◌<◌, [], ◌∷◌, ◌++◌, length, get_or, map, sym, ap, subst, ◌∙◌, arith}
 use Rattle.std.proofs.lemmas.List.{map-set, get_or-map}
-use Rattle.bo_base.specs.Tables.{IsPlace, IsGap}
+use Rattle.bo_sorted.specs.Tables.{IsPlace, IsGap}
 use Rattle.bo_arrange.proofs.Telling.{place_told, gap_same}
 use Rattle.bo_arrange.proofs.members.tell.Goals as goal
 

@@ -1,5 +1,5 @@
 use Rattle.std.proofs.Common.{◌≡◌, ◌∙◌, IsTrue, map, ap, refl, sym, subst}
-use Rattle.bo_base.specs.Tables.{AreInOrder}
+use Rattle.bo_sorted.specs.Tables.{AreInOrder}
 use Rattle.bo_columns.specs.declared.rows.QuotaRow.{QuotaRow}
 use Rattle.bo_arrange.specs.Arranged.{item_link, variation_link}
 use Rattle.bo_arrange.specs.Members.{members_of}

@@ -1,6 +1,6 @@
 use Rattle.std.proofs.Common.{◌≡◌, ap, ◌∙◌}
 use Rattle.std.specs.List.{list_all}
-use Rattle.bo_base.specs.Rising.{rising}
+use Rattle.bo_sorted.specs.Rising.{rising}
 use Rattle.bo_catalogue.specs.CatalogueLists.{item_at}
 use Rattle.bo_catalogue.specs.QuotaAdded.{items_of, items_fit, is_offered}
 use Rattle.bo_checks.proofs.Offering.{offered_is}

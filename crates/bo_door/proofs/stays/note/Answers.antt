@@ -1,6 +1,6 @@
 use Rattle.std.proofs.Common.{◌∙◌, set, sym, ap, subst}
-use Rattle.bo_base.specs.Tables.{AreInOrder}
-use Rattle.bo_base.proofs.Places.{row_at_gap}
+use Rattle.bo_sorted.specs.Tables.{AreInOrder}
+use Rattle.bo_sorted.proofs.Places.{row_at_gap}
 use Rattle.bo_door.specs.declared.stays.Stay.{Stay}
 use Rattle.bo_door.specs.Stays.{noted}
 use Rattle.bo_door.proofs.Noting.{noted_here, noted_nowhere, noted_in_order}

@@ -1,5 +1,5 @@
 use Rattle.std.proofs.Common.{◌∙◌, map, sym, ap, subst}
-use Rattle.bo_base.specs.Tables.{AreInOrder}
+use Rattle.bo_sorted.specs.Tables.{AreInOrder}
 use Rattle.bo_door.specs.declared.stays.Stay.{Stay}
 use Rattle.bo_door.specs.Stays.{noted_all, counts_of}
 use Rattle.bo_door.proofs.Noting.{no_stays_in_order, status_is}

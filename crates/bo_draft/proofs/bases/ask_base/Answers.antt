@@ -1,6 +1,6 @@
 use Rattle.std.proofs.Common.{◌≡◌, List, sym, ap, ◌∙◌, subst, arith}
-use Rattle.bo_base.specs.Tables.{AreInOrder}
-use Rattle.bo_base.proofs.Places.{insert_is_with_row, with_row_in_order}
+use Rattle.bo_sorted.specs.Tables.{AreInOrder}
+use Rattle.bo_sorted.proofs.Places.{insert_is_with_row, with_row_in_order}
 use Rattle.bo_draft.specs.declared.bases.Base.{Base}
 use Rattle.bo_shares.specs.Counts.{value_at}
 use Rattle.bo_draft.specs.Used.{used, IsBase, AreBases}

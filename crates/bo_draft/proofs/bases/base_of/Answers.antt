@@ -1,5 +1,5 @@
 use Rattle.std.proofs.Common.{get_or, ◌∙◌}
-use Rattle.bo_base.proofs.Places.{row_at_place}
+use Rattle.bo_sorted.proofs.Places.{row_at_place}
 use Rattle.bo_draft.specs.declared.bases.Base.{Base}
 use Rattle.bo_draft.specs.Used.{used, IsBase}
 use Rattle.bo_shares.proofs.Values.{value_here}

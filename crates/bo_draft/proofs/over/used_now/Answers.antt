@@ -1,6 +1,6 @@
 use Rattle.std.proofs.Common.{◌≡◌, List, get_or, Some, sym, ap, ◌∙◌, subst, arith}
-use Rattle.bo_base.specs.Tables.{AreInOrder, row_at}
-use Rattle.bo_base.proofs.Places.{row_at_place, row_at_gap}
+use Rattle.bo_sorted.specs.Tables.{AreInOrder, row_at}
+use Rattle.bo_sorted.proofs.Places.{row_at_place, row_at_gap}
 use Rattle.bo_catalogue.specs.declared.rows.Quota.{Quota}
 use Rattle.bo_catalogue.specs.CatalogueLists.{CatalogueLists}
 use Rattle.bo_lists.specs.Lists.{Lists}

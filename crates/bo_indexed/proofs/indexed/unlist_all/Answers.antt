@@ -1,8 +1,8 @@
 use Rattle.std.proofs.Common.{subst, sym, take, arith}
 use Rattle.std.specs.Prelude.{not}
 use Rattle.std.proofs.lemmas.List.{take_all}
-use Rattle.bo_base.specs.Tables.{has}
-use Rattle.bo_base.proofs.Drops.{filter_in_order, without_none, without_push, row_at-without_rows, not_before}
+use Rattle.bo_sorted.specs.Tables.{has}
+use Rattle.bo_sorted.proofs.Drops.{filter_in_order, without_none, without_push, row_at-without_rows, not_before}
 use Rattle.bo_indexed.specs.Indexes.{AreIndexed}
 use Rattle.bo_indexed.proofs.indexed.unlist_all.Goals as goal
 

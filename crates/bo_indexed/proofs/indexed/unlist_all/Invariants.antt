@@ -1,5 +1,5 @@
 use Rattle.std.proofs.Common.{◌≤◌, take}
-use Rattle.bo_base.specs.Dropped.{without_rows}
+use Rattle.bo_sorted.specs.Dropped.{without_rows}
 use Rattle.bo_indexed.specs.Indexes.{AreIndexed}
 use Rattle.bo_indexed.proofs.indexed.unlist_all.Given as goal
 

@@ -1,5 +1,5 @@
 use Rattle.std.proofs.Common.{◌≡◌, length, option_copied, ap, arith}
-use Rattle.bo_base.specs.Tables.{sum_at}
+use Rattle.bo_sorted.specs.Tables.{sum_at}
 use Rattle.bo_lists.specs.declared.changes.Change.{Change}
 use Rattle.bo_lists.specs.Lists.{voucher_at}
 use Rattle.bo_lists.specs.Change.{after_change}

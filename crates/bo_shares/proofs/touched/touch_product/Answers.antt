@@ -1,5 +1,5 @@
 use Rattle.std.proofs.Common.{sym, ap, ◌∙◌}
-use Rattle.bo_base.specs.Tables.{has}
+use Rattle.bo_sorted.specs.Tables.{has}
 use Rattle.bo_shares.proofs.Reached.{no_other_of, absent_more}
 use Rattle.bo_shares.proofs.touched.touch_product.Goals as goal
 

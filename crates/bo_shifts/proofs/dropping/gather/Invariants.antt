@@ -1,5 +1,5 @@
 use Rattle.std.proofs.Common.{◌≡◌, ◌≤◌, ◌++◌, map, reverse, vec_len}
-use Rattle.bo_base.specs.Tables.{AreInOrder}
+use Rattle.bo_sorted.specs.Tables.{AreInOrder}
 use Rattle.bo_lists.specs.declared.changes.Change.TheVariants.{DropCart}
 use Rattle.bo_shifts.proofs.dropping.gather.Given as goal
 

@@ -1,6 +1,6 @@
 use Rattle.std.proofs.Common.{refl, sym, ◌∙◌, take}
 use Rattle.std.proofs.lemmas.List.{take_all}
-use Rattle.bo_base.specs.Tables.{has}
+use Rattle.bo_sorted.specs.Tables.{has}
 use Rattle.bo_shifts.specs.Shifts.{only}
 use Rattle.bo_shifts.proofs.TouchedLemmas.{beside_same, each_more, each_taken}
 use Rattle.bo_shifts.proofs.touched.shift_each.Goals as goal

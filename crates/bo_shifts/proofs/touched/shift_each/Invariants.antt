@@ -1,5 +1,5 @@
 use Rattle.std.proofs.Common.{◌≡◌, length, take, vec_capacity}
-use Rattle.bo_base.specs.Tables.{has}
+use Rattle.bo_sorted.specs.Tables.{has}
 use Rattle.bo_shifts.specs.Shifts.{map_beside, only}
 use Rattle.bo_shifts.proofs.touched.shift_each.Given as goal
 

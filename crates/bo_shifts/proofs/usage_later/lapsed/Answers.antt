@@ -1,5 +1,5 @@
 use Rattle.std.proofs.Common.{List, ◌∙◌, ap, get_or, sum_by, arith}
-use Rattle.bo_base.specs.Tables.{row_at}
+use Rattle.bo_sorted.specs.Tables.{row_at}
 use Rattle.bo_lists.specs.declared.rows.CartPos.{CartPos}
 use Rattle.bo_lists.specs.Lists.{cart_at}
 use Rattle.bo_lists.specs.Usage.{cart_counts}

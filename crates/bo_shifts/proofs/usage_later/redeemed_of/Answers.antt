@@ -1,5 +1,5 @@
 use Rattle.bo_lists.specs.Usage.{redeemed}
-use Rattle.bo_base.proofs.Places.{row_at_gap}
+use Rattle.bo_sorted.proofs.Places.{row_at_gap}
 use Rattle.bo_indexed.proofs.EntryLemmas.{kept_at}
 use Rattle.bo_shifts.proofs.Later.{none_stands}
 use Rattle.bo_shifts.proofs.usage_later.redeemed_of.Goals as goal

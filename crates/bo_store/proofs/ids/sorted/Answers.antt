@@ -2,7 +2,7 @@ use Rattle.std.proofs.lemmas.List.Filters.{dedup_is}
 use Rattle.std.proofs.lemmas.List.Kept.{Contains-dedup_nat, Contains-from_dedup}
 use Rattle.std.proofs.lemmas.List.Sorted.{Contains-permutation, IsPermutation-sym}
 use Rattle.std.proofs.lemmas.Map.Keys.{IsStrictlyIncreasing-dedup}
-use Rattle.bo_base.proofs.RisingLemmas.{is_rising}
+use Rattle.bo_sorted.proofs.RisingLemmas.{is_rising}
 use Rattle.bo_store.proofs.ids.sorted.Goals as goal
 
 pub returns : goal.returns

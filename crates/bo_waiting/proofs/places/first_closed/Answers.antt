@@ -1,7 +1,7 @@
 use Rattle.std.proofs.Common.{◌≡◌, ℕ, ◌+◌, ◌∷◌, List, drop, length, ◌<◌, rules, sym, ap, ◌∙◌, subst, arith}
 use Rattle.std.specs.Prelude.{find}
 use Rattle.std.proofs.lemmas.List.{drop_more}
-use Rattle.bo_base.specs.Tables.{AreInOrder}
+use Rattle.bo_sorted.specs.Tables.{AreInOrder}
 use Rattle.bo_catalogue.specs.CatalogueLists.{CatalogueLists, quotas_of}
 use Rattle.bo_draft.specs.DraftState.{now}
 use Rattle.bo_waiting.specs.Places.{is_full_at}

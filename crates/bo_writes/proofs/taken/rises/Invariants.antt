@@ -1,5 +1,5 @@
 use Rattle.std.proofs.Common.{drop}
-use Rattle.bo_base.specs.Tables.{InOrderFrom, AreInOrder}
+use Rattle.bo_sorted.specs.Tables.{InOrderFrom, AreInOrder}
 use Rattle.bo_writes.proofs.TakenLemmas.{above}
 use Rattle.bo_writes.proofs.taken.rises.Given as goal
 

@@ -1,6 +1,6 @@
 use Rattle.std.proofs.Common.{refl}
 use Rattle.bo_shifts.proofs.HoldLemmas.{held_same}
-use Rattle.bo_base.specs.Tables.{with_row}
+use Rattle.bo_sorted.specs.Tables.{with_row}
 use Rattle.bo_shifts.proofs.Positions.{counted_door}
 use Rattle.bo_counters.proofs.counters.Counters.put_checkin.Goals as goal
 

@@ -1,5 +1,5 @@
 use Rattle.std.proofs.Common.{not, eqb, subst, sym, ◌∙◌}
-use Rattle.bo_base.specs.Tables.{AreInOrder}
+use Rattle.bo_sorted.specs.Tables.{AreInOrder}
 use Rattle.bo_index.specs.Entries.{id_of}
 use Rattle.bo_index.proofs.Sorted.{filter_in_order}
 use Rattle.bo_index.proofs.index.Index.remove_all.Goals as goal

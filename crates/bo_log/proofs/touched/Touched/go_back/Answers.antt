@@ -1,6 +1,6 @@
 use Rattle.std.proofs.Common.{subst, sym, ap, arith}
-use Rattle.bo_base.specs.Tables.{AreInOrder}
-use Rattle.bo_base.proofs.Places.{set_is_with_row, with_row_in_order, row_at_gap}
+use Rattle.bo_sorted.specs.Tables.{AreInOrder}
+use Rattle.bo_sorted.proofs.Places.{set_is_with_row, with_row_in_order, row_at_gap}
 use Rattle.bo_log.specs.Places.{kept_place}
 use Rattle.bo_log.proofs.touched.Touched.go_back.Goals as goal
 

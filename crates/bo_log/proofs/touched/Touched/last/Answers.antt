@@ -1,5 +1,5 @@
 use Rattle.std.proofs.Common.{sym, ap, ◌∙◌, Some}
-use Rattle.bo_base.proofs.Places.{row_at_place, row_at_gap}
+use Rattle.bo_sorted.proofs.Places.{row_at_place, row_at_gap}
 use Rattle.bo_log.specs.Places.{kept_place}
 use Rattle.bo_log.specs.declared.touched.Touch.{Touch}
 use Rattle.bo_log.proofs.touched.Touched.last.Goals as goal

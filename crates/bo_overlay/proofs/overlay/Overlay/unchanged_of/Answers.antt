@@ -1,5 +1,5 @@
 use Rattle.std.proofs.Common.{◌≡◌, Option, None, Some, sym, ap, ◌∙◌, subst}
-use Rattle.bo_base.specs.Tables.{AreInOrder}
+use Rattle.bo_sorted.specs.Tables.{AreInOrder}
 use Rattle.bo_lists.specs.declared.rows.Voucher.{Voucher}
 use Rattle.bo_lists.specs.Kept.{IsKept}
 use Rattle.bo_lists.specs.Named.{voucher_of}

@@ -1,5 +1,5 @@
 use Rattle.std.proofs.Common.{ap, ◌∙◌}
-use Rattle.bo_base.specs.Rising.{rising}
+use Rattle.bo_sorted.specs.Rising.{rising}
 use Rattle.bo_store.proofs.Dues.{next_cart, no_cart, each_sorted}
 use Rattle.bo_store.proofs.store.Store.carts_in.Goals as goal
 

@@ -1,0 +1,84 @@
+//! Lists of ids.
+
+ghost use Rattle.std.specs.Prelude.{◌≡◌, ◌<◌, ℕ, length, slice_index_or, IfOk};
+ghost use Rattle.bo_sorted.specs.Rising.{rising};
+ghost use Rattle.bo_sorted.specs.Tables.{has};
+
+use crate::rows::{Row, place_of};
+use std::alloc::{AllocError, Global};
+use std::marker::Model;
+
+/// Ids in rising order, each once, which contracts see as a list.
+#[derive(Debug, Drop)]
+pub struct Ids {
+    ids: Vec<u64>,
+}
+
+impl Model for Ids {
+    ghost use Rattle.std.specs.Prelude.{List, ℕ};
+    ghost use Rattle.bo_sorted.specs.Tables.{AreInOrder};
+
+    ghost Value = { List ℕ };
+
+    ghost view = { λ t. t.ids.items };
+
+    ghost invariant = { λ t. AreInOrder (λ n. n) t.ids.items };
+}
+
+impl Ids {
+    /// These ids in rising order, each once.
+    pub fn sorted(ids: Vec<u64>) -> Self
+        ensures { result ≡ rising ids.items }
+    {
+        let mut ids = ids;
+        ids.sort_unstable();
+        ids.dedup();
+        Ids { ids }
+    }
+
+    /// The ids in rising order, each once.
+    pub fn rising(alloc: Global, given: &[u64]) -> Result<Self, AllocError>
+        ensures { IfOk result (λ ids. ids ≡ rising given.now) }
+    {
+        Ok(Ids::sorted(given.to_vec(alloc)?))
+    }
+
+    /// A copy.
+    pub fn copy(&self, alloc: Global) -> Result<Self, AllocError>
+        ensures { IfOk result (λ ids. ids ≡ self.now) }
+    {
+        Ok(Ids {
+            ids: self.ids.to_vec(alloc)?,
+        })
+    }
+
+    /// The ids in order.
+    pub fn as_slice(&self) -> &[u64]
+        ensures { result.now ≡ self.now }
+    {
+        self.ids.as_slice()
+    }
+
+    /// Whether the id is among them.
+    pub fn has(&self, id: u64) -> bool
+        ensures { result ≡ has id self.now }
+    {
+        place_of(&self.ids, id).is_ok()
+    }
+}
+
+/// The id at a place.
+pub fn id_at(ids: &[u64], place: usize) -> u64
+    requires { place < length ids.now }
+    ensures { (d : ℕ) → slice_index_or ids.now place d ≡ result }
+{
+    ids[place]
+}
+
+impl Row for u64 {
+    ghost key = { λ n. n };
+
+    fn id(&self) -> u64 {
+        *self
+    }
+}

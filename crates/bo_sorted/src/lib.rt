@@ -1,0 +1,8 @@
+//! Rows in order of id, and ids that rise.
+#![tactic(auto)]
+
+pub mod ids;
+pub mod rows;
+
+pub use ids::{Ids, id_at};
+pub use rows::{Row, Rows, place_of};
