@@ -6,7 +6,7 @@ use Rattle.bo_base.specs.declared.answer.Answer.{Answer}
 use Rattle.bo_devices.specs.declared.device.Tick.{Tick}
 use Rattle.bo_devices.specs.Told.{Adds, Gives}
 use Rattle.bo_devices.proofs.ToldLemmas.{Adds-nil, Adds-append, Gives-nil, Gives-append}
-use Rattle.bo_http.specs.declared.fault.Fault.{Fault}
+use Rattle.bo_http.specs.declared.fault.FrameFault.{FrameFault}
 use Rattle.bo_http.specs.Text.{text, fault_text}
 use Rattle.bo_http.specs.Messages.{Message, Takes, Faults, HasNone, closes, Messages, whole}
 use Rattle.bo_http.specs.Framed.{TakesFirst}
@@ -66,7 +66,7 @@ takes_frame l l' frame taken is (m, same, takes) =
     let e : frame ≡ m = cc in
     subst (λ (x : Message). TakesFirst l x l') (sym e) takes
 
-pub fault_done : {D : Type 0} (Serves : D → Tick → Message → Answer → D → Type 0) (l l' : List ℕ) (t : Option (List Tick)) (d : D) (w w' : Option (List ℕ)) (f : Fault)
+pub fault_done : {D : Type 0} (Serves : D → Tick → Message → Answer → D → Type 0) (l l' : List ℕ) (t : Option (List Tick)) (d : D) (w w' : Option (List ℕ)) (f : FrameFault)
     → ((more : List ℕ) → Faults (l ++ more) f) → Adds w (fault_text f) w' → Finished Serves (AreAlways l) (cursor l t d w) (cursor l' t d w')
 fault_done Serves l l' t d w w' f faults wrote = record {
   items = Err f ∷ [];
@@ -197,7 +197,7 @@ module _ {D : Type 0} (Serves : D → Tick → Message → Answer → D → Type
   stopped : (l l' : List ℕ) (t t' : Option (List Tick)) (d : D) (w : Option (List ℕ)) → Adds t [] t' → Stopped (cursor l t d w) (cursor l' t' d w)
   stopped l l' t t' d w told = record { told = told; taken = Adds-nil w; desk = refl }
 
-  pub fault_broken : (l l' : List ℕ) (t : Option (List Tick)) (d : D) (w w' : Option (List ℕ)) (f : Fault) (part rest : List ℕ)
+  pub fault_broken : (l l' : List ℕ) (t : Option (List Tick)) (d : D) (w w' : Option (List ℕ)) (f : FrameFault) (part rest : List ℕ)
       → ((more : List ℕ) → Faults (l ++ more) f) → fault_text f ≡ part ++ rest → Adds w part w' → Broken Serves failures.Output (cursor l t d w) (cursor l' t d w')
   fault_broken l l' t d w w' f part rest faults split wrote = record {
     mid = cursor l t d w;

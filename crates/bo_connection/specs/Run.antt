@@ -4,7 +4,7 @@ use Rattle.std.specs.Io.KnownBytes.{IsAtEnd}
 use Rattle.bo_base.specs.declared.answer.Answer.{Answer}
 use Rattle.bo_devices.specs.declared.device.Tick.{Tick}
 use Rattle.bo_devices.specs.Told.{Adds, Gives}
-use Rattle.bo_http.specs.declared.fault.Fault.{Fault}
+use Rattle.bo_http.specs.declared.fault.FrameFault.{FrameFault}
 use Rattle.bo_http.specs.Text.{text, fault_text}
 use Rattle.bo_http.specs.Messages.{Message, Takes, Faults, HasNone, closes, Messages, whole}
 use Rattle.bo_http.specs.Framed.{TakesFirst}
@@ -15,7 +15,7 @@ use Rattle.bo_connection.specs.declared.failure.Step.TheVariants as steps
 
 -- what a stream holds: a whole message, or the fault that ends it
 abbrev pub Item : Type 0
-Item = Result Message Fault
+Item = Result Message FrameFault
 
 -- A run from one desk to another, with what is written: one tick and one answer for each message, in order, and the
 -- text of each answer, one after another, and nothing else. A fault takes no tick, and leaves the desk as it is.

@@ -11,8 +11,8 @@ use Rattle.bo_desk.specs.DeskView.{DeskView, Meaning}
 use Rattle.bo_desk.specs.Served.{Serves}
 use Rattle.bo_fresh.specs.House.{IsFresh}
 use Rattle.bo_fresh.specs.Stored.{MemoryDesk, in_memory}
-use Rattle.bo_feed.specs.declared.fault.Fault.{Fault}
-use Rattle.bo_feed.specs.declared.fault.Fault.TheVariants as faults
+use Rattle.bo_feed.specs.declared.fault.RunFault.{RunFault}
+use Rattle.bo_feed.specs.declared.fault.RunFault.TheVariants as faults
 use Rattle.bo_feed.specs.FeedTicks.{feed_ticks}
 
 -- where a reader and a writer stand: the bytes that are still to come and what was written, where they are known; the calls of
@@ -70,11 +70,11 @@ abbrev pub feed_values : List ℕ → List ℕ → Option (ℕ × ℕ)
 feed_values from step = both_values (moment_of from) (step_within (number_of step))
 
 -- the end of a run, as the program's
-abbrev pub as_fault : Result (Unit {0}) Failure → Result (Unit {0}) Fault
+abbrev pub as_fault : Result (Unit {0}) Failure → Result (Unit {0}) RunFault
 as_fault (Ok u) = Ok u
 as_fault (Err failure) = Err (faults.Run failure)
 
 -- a value that can't be read is found before anything is read or written
-abbrev pub FeedsTexts : Option (ℕ × ℕ) → Ports → Ports → Result (Unit {0}) Fault → Type 0
+abbrev pub FeedsTexts : Option (ℕ × ℕ) → Ports → Ports → Result (Unit {0}) RunFault → Type 0
 FeedsTexts None old new result = (result ≡ Err faults.Argument) × (new ≡ old)
 FeedsTexts (Some (from, step)) old new result = (run : Result (Unit {0}) Failure) × Feeds from step old new run × (result ≡ as_fault run)

@@ -7,7 +7,7 @@ use bo_connection::Failure;
 
 /// Why the program ends with status 1.
 #[derive(Clone, Copy, Debug, PartialEq, Eq)]
-pub enum Fault {
+pub enum RunFault {
     /// There is no memory to read the command line.
     Memory,
     /// The value of an argument can't be read, or is out of its range.
@@ -16,15 +16,15 @@ pub enum Fault {
     Run(Failure),
 }
 
-impl Fault {
+impl RunFault {
     /// Its number: 6 for want of memory, 84 for an argument, and that of the failure.
     pub fn number(self) -> u8
         ensures { result ≡ fault_number self }
     {
         match self {
-            Fault::Memory => 6,
-            Fault::Argument => 84,
-            Fault::Run(failure) => failure.number(),
+            RunFault::Memory => 6,
+            RunFault::Argument => 84,
+            RunFault::Run(failure) => failure.number(),
         }
     }
 }

@@ -5,7 +5,7 @@ ghost use Rattle.bo_desk.specs.DeskView.{meaning};
 ghost use Rattle.bo_fresh.specs.House.{desk_with};
 ghost use Rattle.bo_feed.specs.Feed.{Feeds, FeedsDesk, FeedsTexts, as_fault, feed_values};
 
-use crate::fault::Fault;
+use crate::fault::RunFault;
 use crate::house::serve_office;
 use crate::ticks::{FeedTicks, Pace};
 use bo_base::{Moment, Steps, number_of, read_moment};
@@ -126,12 +126,12 @@ pub fn feed_values(from: &str, step: &str) -> Option<(Moment, u64)>
 }
 
 // The end of a run, as the program's.
-fn ended(run: Result<(), Failure>) -> Result<(), Fault>
+fn ended(run: Result<(), Failure>) -> Result<(), RunFault>
     ensures { result ≡ as_fault run }
 {
     match run {
         Ok(()) => Ok(()),
-        Err(failure) => Err(Fault::Run(failure)),
+        Err(failure) => Err(RunFault::Run(failure)),
     }
 }
 
@@ -142,13 +142,13 @@ pub fn feed_texts<R: Source, W: Drain>(
     step: &str,
     reader: &mut R,
     writer: &mut W,
-) -> Result<(), Fault>
+) -> Result<(), RunFault>
     ensures { FeedsTexts (feed_values from.now step.now)
         (record { left = R.left reader.old; taken = W.taken writer.old; calls = R.calls reader.old; input = R.failures reader.old; output = W.failures writer.old })
         (record { left = R.left reader.new; taken = W.taken writer.new; calls = R.calls reader.new; input = R.failures reader.new; output = W.failures writer.new }) result }
 {
     let Some((from, step)) = feed_values(from, step) else {
-        return Err(Fault::Argument);
+        return Err(RunFault::Argument);
     };
     ended(feed(alloc, from, step, reader, writer))
 }

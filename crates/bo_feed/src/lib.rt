@@ -10,8 +10,8 @@ pub mod line;
 pub mod ticks;
 pub mod words;
 
-pub use ended::Ended;
-pub use fault::Fault;
+pub use ended::LineEnd;
+pub use fault::RunFault;
 pub use feeding::{counted, feed, feed_office, feed_texts, feed_values};
 pub use house::{serve_desk, serve_house, serve_office};
 pub use line::{report_words, run};

@@ -13,7 +13,7 @@ ghost use Rattle.bo_opens.specs.Lawful.{IsOfMachine};
 ghost use Rattle.bo_reopen.specs.Opened.{IsReason, IsOpened};
 
 use bo_counters::Counters;
-use bo_made::Refused;
+use bo_made::HandedBack;
 use bo_office::Office;
 use bo_opens::OpenError;
 use bo_reopen::{Reopened, reopen};
@@ -30,7 +30,7 @@ use std::alloc::Global;
 pub fn open_file<S: Alter>(
     alloc: Global,
     mut connection: Connection<S>,
-) -> Result<(SqlTables<S>, Office<Counters>), Refused<S, OpenError>>
+) -> Result<(SqlTables<S>, Office<Counters>), HandedBack<S, OpenError>>
     ensures opened { IfOk result (λ it. HasCleanDisk (state S.Store it.0.connection) → IsTrue (state S.Store it.0.connection).is_open → (db : Database) → IsAt db (state S.Store connection) → db.schema ≡ schema → IsOpened db.trees it.0.head it.0.next_row it.1.state (state S.Store it.0.connection)) }
     ensures names { IfOk result (λ it. (it.1.organizer ≡ it.0.head.organizer) × (it.1.event ≡ it.0.head.event)) }
     ensures version { IfOk result (λ it. it.0.head.version ≡ 1) }
@@ -55,6 +55,6 @@ pub fn open_file<S: Alter>(
             let office = Office::over(organizer, event, book);
             Ok((SqlTables::over(alloc, connection, head, next_row), office))
         }
-        Err(error) => Err(Refused { connection, error }),
+        Err(error) => Err(HandedBack { connection, error }),
     }
 }

@@ -5,8 +5,8 @@ use Rattle.http.specs.StatusCode.{code_digits, reason_phrase}
 use Rattle.bo_base.specs.declared.answer.Methods.{Methods}
 use Rattle.bo_base.specs.declared.answer.Answer.{Answer}
 use Rattle.bo_base.specs.declared.answer.Answer.TheVariants.{Decided, Unavailable}
-use Rattle.bo_http.specs.declared.fault.Fault.{Fault}
-use Rattle.bo_http.specs.declared.fault.Fault.TheVariants.{BadHead, BodyTooLarge, HeadTooLarge, UnknownCoding}
+use Rattle.bo_http.specs.declared.fault.FrameFault.{FrameFault}
+use Rattle.bo_http.specs.declared.fault.FrameFault.TheVariants.{BadHead, BodyTooLarge, HeadTooLarge, UnknownCoding}
 
 -- the text where the test holds, and nothing elsewhere
 abbrev pub when : Bool → List ℕ → List ℕ
@@ -87,18 +87,18 @@ abbrev pub text : Answer → Bool → List ℕ
 text (Decided t) closes = answer_text t.status t.allow t.body closes
 text Unavailable closes = answer_text 503 None unavailable_body closes
 
-abbrev pub fault_status : Fault → ℕ
+abbrev pub fault_status : FrameFault → ℕ
 fault_status BadHead = 400
 fault_status BodyTooLarge = 413
 fault_status HeadTooLarge = 431
 fault_status UnknownCoding = 501
 
-abbrev pub fault_body : Fault → List ℕ
+abbrev pub fault_body : FrameFault → List ℕ
 fault_body BadHead = codes "{\"detail\":\"Bad request head.\"}"
 fault_body BodyTooLarge = codes "{\"detail\":\"Body too large.\"}"
 fault_body HeadTooLarge = codes "{\"detail\":\"Request head too large.\"}"
 fault_body UnknownCoding = codes "{\"detail\":\"Transfer-Encoding is not supported.\"}"
 
 -- the text of a fault, after which the connection always ends
-abbrev pub fault_text : Fault → List ℕ
+abbrev pub fault_text : FrameFault → List ℕ
 fault_text f = answer_text (fault_status f) None (fault_body f) true

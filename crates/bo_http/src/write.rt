@@ -5,7 +5,7 @@ ghost use Rattle.bo_http.specs.Text.{content, answer_text, text, fault_text};
 ghost use Rattle.bo_http.specs.Written.{Writes};
 
 use crate::answer_head::{head_of, when};
-use crate::fault::Fault;
+use crate::fault::FrameFault;
 use bo_base::{Answer, Methods};
 use bo_devices::{Drain, Refused};
 use http::StatusCode;
@@ -74,7 +74,7 @@ pub fn write_answer<W: Drain>(writer: &mut W, answer: &Answer, closes: bool) -> 
 
 /// Writes the answer of a fault, after which the connection ends.
 /// Where the writer refuses, a part of its text was written, and the writer has counted it.
-pub fn write_fault<W: Drain>(writer: &mut W, fault: Fault) -> Result<(), Refused>
+pub fn write_fault<W: Drain>(writer: &mut W, fault: FrameFault) -> Result<(), Refused>
     ensures { Writes result (fault_text fault) (record { taken = W.taken writer.old; failures = W.failures writer.old }) (record { taken = W.taken writer.new; failures = W.failures writer.new }) }
 {
     write_text(writer, fault.status(), None, fault.body().as_bytes(), true)

@@ -10,7 +10,7 @@ ghost use Rattle.bo_transaction.specs.Whole.{IsStill, IsWritten, MayBeWritten};
 ghost use Rattle.bo_begins.specs.Begun.{IsBegun};
 ghost use Rattle.bo_made.specs.Made.{first_shop, IsMade};
 
-use crate::error::Refused;
+use crate::error::HandedBack;
 use bo_base::Slug;
 use bo_begins::{begin, first_row, is_blank};
 use bo_columns::Shop;
@@ -71,7 +71,7 @@ pub fn create<S: Alter>(
     mut connection: Connection<S>,
     organizer: Slug,
     event: Slug,
-) -> Result<(SqlTables<S>, Office<Counters>), Refused<S, RowError>>
+) -> Result<(SqlTables<S>, Office<Counters>), HandedBack<S, RowError>>
     ensures office { IfOk result (λ made. (made.1.organizer ≡ organizer) × (made.1.event ≡ event) × (made.1.state ≡ empty)) }
     ensures made { IfOk result (λ made. HasCleanDisk (state S.Store made.0.connection) → IsMade (first_shop organizer event) (state S.Store connection) made.0.head made.0.next_row (state S.Store made.0.connection)) }
     ensures none { IfErr result (λ it. HasCleanDisk (state S.Store it.connection) → IsStill (state S.Store connection) (state S.Store it.connection)) }
@@ -81,6 +81,6 @@ pub fn create<S: Alter>(
 {
     match make(alloc, &mut connection, organizer, event) {
         Ok((head, office)) => Ok((SqlTables::over(alloc, connection, head, 1), office)),
-        Err(error) => Err(Refused { connection, error }),
+        Err(error) => Err(HandedBack { connection, error }),
     }
 }

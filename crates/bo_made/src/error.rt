@@ -7,7 +7,7 @@ use sqlite::{Alter, Connection};
 
 /// A connection that is handed back, and why it was.
 #[derive(Drop)]
-pub struct Refused<S: Alter, E: Drop> {
+pub struct HandedBack<S: Alter, E: Drop> {
     pub connection: Connection<S>,
     pub error: E,
 }

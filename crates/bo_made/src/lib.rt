@@ -6,5 +6,5 @@ pub mod error;
 pub mod tokens;
 
 pub use creating::create;
-pub use error::{Refused, TokenError};
+pub use error::{HandedBack, TokenError};
 pub use tokens::add_token;

@@ -3,7 +3,7 @@
 
 ghost use Rattle.std.specs.Prelude.{◌≡◌, ◌<◌};
 
-use bo_feed::{Ended, counted, report_words, run};
+use bo_feed::{LineEnd, counted, report_words, run};
 use std::io;
 use std::io::{Stdin, Stdout};
 use std::marker::Brand;
@@ -23,7 +23,7 @@ fn run_words<A: Ledger, B: Ledger, C: Ledger, D: Ledger>(
     read_failures: Blank,
     writes: Blank,
     write_failures: Blank,
-) -> Ended
+) -> LineEnd
     requires reads { (reads.name ≡ A.name) × (reads.parts ≡ A.parts) × (0 < A.parts) }
     requires read_failures { (read_failures.name ≡ B.name) × (read_failures.parts ≡ B.parts) × (0 < B.parts) }
     requires writes { (writes.name ≡ C.name) × (writes.parts ≡ C.parts) × (0 < C.parts) }

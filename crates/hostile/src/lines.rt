@@ -2,7 +2,7 @@
 
 use crate::failing::FailingReader;
 use crate::tried::{run_line, words};
-use bo_feed::Ended;
+use bo_feed::LineEnd;
 
 /// The lines, each with its words.
 static LINES: [&str; 10] = [
@@ -19,9 +19,9 @@ static LINES: [&str; 10] = [
 ];
 
 // The number of the fault with which a line ended, or 0.
-fn number(ended: Ended) -> u8 {
+fn number(ended: LineEnd) -> u8 {
     match ended {
-        Ended::Failed(fault) => fault.number(),
+        LineEnd::Failed(fault) => fault.number(),
         _ => 0,
     }
 }

@@ -12,7 +12,7 @@ use crate::failing::FailingReader;
 use crate::lines::show_lines;
 use crate::tried::{Tried, run_line, words};
 use bo_connection::Failure;
-use bo_feed::{Ended, Fault};
+use bo_feed::{LineEnd, RunFault};
 use std::io::Read;
 
 // What the line comes to where the reader fails at its call number `reads + 1`, and the writer at its call number
@@ -29,7 +29,7 @@ fn answered(
 
 // Whether a run that failed so wrote the front of what is written without a failure.
 fn breaks_off(run: &Tried, failure: Failure, full: &[u8]) -> bool {
-    run.ended == Ended::Failed(Fault::Run(failure)) && full.starts_with(run.written.as_slice())
+    run.ended == LineEnd::Failed(RunFault::Run(failure)) && full.starts_with(run.written.as_slice())
 }
 
 // Fails each call of the reader in turn. How many runs failed, and whether each broke off as it should.
@@ -37,7 +37,7 @@ fn failing_reads(rt: &HostRuntime, line: &[String], requests: &[u8], full: &[u8]
     let mut good = true;
     for reads in 0..10_000usize {
         let run = answered(rt, line, requests, reads, usize::MAX);
-        if run.ended == Ended::Well {
+        if run.ended == LineEnd::Well {
             return (reads, good && run.written.as_slice() == full);
         }
         good &= breaks_off(&run, Failure::Input, full);
@@ -55,7 +55,7 @@ fn failing_writes(
     let mut good = true;
     for writes in 0..10_000usize {
         let run = answered(rt, line, requests, usize::MAX, writes);
-        if run.ended == Ended::Well {
+        if run.ended == LineEnd::Well {
             return (writes, good && run.written.as_slice() == full);
         }
         good &= breaks_off(&run, Failure::Output, full);
@@ -70,7 +70,7 @@ fn without_end(rt: &HostRuntime, line: &[String], answer: &[u8]) -> Option<usize
         .written
         .chunks(answer.len().max(1))
         .all(|text| text == answer);
-    if run.ended == Ended::Failed(Fault::Run(Failure::Limit)) && all {
+    if run.ended == LineEnd::Failed(RunFault::Run(Failure::Limit)) && all {
         Some(run.written.chunks(answer.len().max(1)).count())
     } else {
         None
@@ -90,7 +90,7 @@ fn main(rt: HostRuntime) -> anyhow::Result<()> {
     println!(rt;
         "without a failure: {} bytes, ended well: {}",
         full.written.len(),
-        full.ended == Ended::Well
+        full.ended == LineEnd::Well
     )?;
     let (reads, good) = failing_reads(&rt, line, &requests, &full.written);
     println!(rt; "each of {reads} reads failing in turn: fault 82 after a front of that: {good}")?;

@@ -3,7 +3,7 @@
 ghost use Rattle.std.specs.Prelude.{◌≡◌, ◌<◌};
 
 use crate::failing::FailingWriter;
-use bo_feed::{Ended, counted, run};
+use bo_feed::{LineEnd, counted, run};
 use std::alloc::{AllocError, Global};
 use std::io::Read;
 use std::marker::Brand;
@@ -13,7 +13,7 @@ use std::sync::ledger::{Blank, Ledger};
 #[derive(Drop)]
 pub struct Tried {
     /// How it ended.
-    pub ended: Ended,
+    pub ended: LineEnd,
     /// What was written.
     pub written: Vec<u8>,
 }
