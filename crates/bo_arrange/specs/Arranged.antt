@@ -10,7 +10,7 @@ use Rattle.bo_columns.specs.declared.rows.ListRow.{ListRow}
 use Rattle.bo_columns.specs.declared.rows.QuotaItem.{QuotaItem}
 use Rattle.bo_columns.specs.declared.rows.QuotaRow.{QuotaRow}
 use Rattle.bo_columns.specs.declared.rows.QuotaVariation.{QuotaVariation}
-use Rattle.bo_columns.specs.declared.rows.Shop.{Shop}
+use Rattle.bo_columns.specs.declared.rows.ShopRow.{ShopRow}
 use Rattle.bo_columns.specs.declared.rows.VoucherRow.{VoucherRow}
 use Rattle.bo_opens.specs.declared.read.TableRows.{TableRows}
 use Rattle.bo_rules.specs.Rules.{File}
@@ -75,7 +75,7 @@ told_by rows = record {
 }
 
 -- with the shop's row, and the counters that stand beside the rows
-abbrev pub arranged : Shop → TableRows → File
+abbrev pub arranged : ShopRow → TableRows → File
 arranged shop tables = record {
   organizer = shop.organizer;
   event = shop.event;

@@ -11,7 +11,7 @@ use crate::lists::doors_in;
 use crate::members::{both, rise};
 use crate::quotas::catalogue_in;
 use crate::vouchers::{redeemed_in, vouchers_in};
-use bo_columns::Shop;
+use bo_columns::ShopRow;
 use bo_lists::QuotaCount;
 use bo_opens::TableRows;
 use bo_rules::FileRows;
@@ -64,7 +64,7 @@ fn all_rise(rows: &FileRows) -> bool
 /// What was read of a file, arranged: the box office that its rows tell, with its counters. It is whole where the tables hold
 /// just that office, so that no link is of a row that isn't there, and none comes twice.
 /// Refusals: 6, and 63 where the store didn't show rows in order of id.
-pub fn arrange(alloc: Global, shop: &Shop, tables: TableRows) -> Result<Arranged, ArrangeError>
+pub fn arrange(alloc: Global, shop: &ShopRow, tables: TableRows) -> Result<Arranged, ArrangeError>
     ensures told { IfOk result (λ a. file_of a.rows ≡ arranged shop.now tables) }
     ensures order { OnOk result (IsInOrder (arranged shop.now tables)) }
     ensures whole { IfOk result (λ a. IsTrue a.whole ↔ AreRowsOf (told_by (rows_in tables)) (rows_in tables)) }

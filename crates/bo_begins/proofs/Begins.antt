@@ -8,7 +8,7 @@ use Rattle.bo_schema.specs.Tables.{schema}
 use Rattle.bo_schema.specs.Parts.{shown}
 use Rattle.bo_lists.specs.Lists.{State, empty, first_ids}
 use Rattle.bo_kept.specs.declared.kept.Kept.{Kept}
-use Rattle.bo_columns.specs.declared.rows.Shop.{Shop}
+use Rattle.bo_columns.specs.declared.rows.ShopRow.{ShopRow}
 use Rattle.bo_columns.specs.declared.rows.Token.{Token}
 use Rattle.bo_columns.specs.Changes.{IsInside, Changes, with_shop, without_shop, with_token}
 use Rattle.bo_columns.specs.Tables.{Tables, Holds, no_rows}
@@ -43,19 +43,19 @@ pub before : (old new : Connected) → Survives old new (λ _. ⊥) → HasClean
 before old new s clean = omega (arith, s.clean)
 
 -- the first row is put into empty tables
-pub begun : {T E : Type 0} (r : Result T E) (shop : Shop) (mid new : Connected) → IsEmptyOver schema mid → OnOk r (Changes (with_shop shop) mid new) → IfOk r (λ _. (new.in_transaction ≡ true) × IsBegun shop new.now)
+pub begun : {T E : Type 0} (r : Result T E) (shop : ShopRow) (mid new : Connected) → IsEmptyOver schema mid → OnOk r (Changes (with_shop shop) mid new) → IfOk r (λ _. (new.in_transaction ≡ true) × IsBegun shop new.now)
 begun (Ok x) shop mid new h changes = (changes.inside, record { known = changes.known; held = changes.holds no_rows (holds_none mid h) })
 begun (Err e) shop mid new h changes = tt
 
 -- the shop's row is put, and then a token
-pub has_token : {T E : Type 0} (r : Result T E) (shop : Shop) (token : Token) (old mid new : Connected) → Changes (λ t. with_shop shop (without_shop 1 t)) old mid → OnOk r (Changes (with_token token) mid new)
+pub has_token : {T E : Type 0} (r : Result T E) (shop : ShopRow) (token : Token) (old mid new : Connected) → Changes (λ t. with_shop shop (without_shop 1 t)) old mid → OnOk r (Changes (with_token token) mid new)
     → IfOk r (λ _. (new.in_transaction ≡ true) × HasToken shop token old.now new.now)
 has_token (Ok x) shop token old mid new a b = (b.inside, record { known = b.known; holds = λ t held. b.holds (with_shop shop (without_shop 1 t)) (a.holds t held) })
 has_token (Err e) shop token old mid new a b = tt
 
 -- ---- laws
 
-pub begins_empty : (shop : Shop) → shop.moment ≡ 0 → shop.next ≡ first_ids → Stand shop (first_tables shop) empty []
+pub begins_empty : (shop : ShopRow) → shop.moment ≡ 0 → shop.next ≡ first_ids → Stand shop (first_tables shop) empty []
 begins_empty shop moment next = record {
   shop_is = refl;
   moment = moment;
@@ -85,12 +85,12 @@ begins_empty shop moment next = record {
   kept = IsPermutation-refl [];
 }
 
-pub begins_free : (shop : Shop) (number : ℕ) → IsFree number (first_tables shop)
+pub begins_free : (shop : ShopRow) (number : ℕ) → IsFree number (first_tables shop)
 begins_free shop number = record { quota_items = record { apart = tt; below = tt }; quota_variations = record { apart = tt; below = tt }; list_items = record { apart = tt; below = tt }; kept = record { apart = tt; below = tt } }
 
-pub token_stands : (old shop : Shop) (token : Token) (t : Tables) (state : State) (answers : List Kept) → shop.moment ≡ old.moment → shop.next ≡ old.next → Stand old t state answers → Stand shop (token_added shop token t) state answers
+pub token_stands : (old shop : ShopRow) (token : Token) (t : Tables) (state : State) (answers : List Kept) → shop.moment ≡ old.moment → shop.next ≡ old.next → Stand old t state answers → Stand shop (token_added shop token t) state answers
 token_stands old shop token t state answers moment next h = record {
-  shop_is = ap (λ (l : List Shop). (with_shop shop (without_shop 1 (record t { shop = l }))).shop) h.shop_is;
+  shop_is = ap (λ (l : List ShopRow). (with_shop shop (without_shop 1 (record t { shop = l }))).shop) h.shop_is;
   moment = moment ∙ h.moment;
   next = next ∙ h.next;
   rows = h.rows;
@@ -100,5 +100,5 @@ token_stands old shop token t state answers moment next h = record {
   kept = h.kept;
 }
 
-pub token_free : (shop : Shop) (token : Token) (t : Tables) (number : ℕ) → IsFree number t → IsFree number (token_added shop token t)
+pub token_free : (shop : ShopRow) (token : Token) (t : Tables) (number : ℕ) → IsFree number t → IsFree number (token_added shop token t)
 token_free shop token t number h = record { quota_items = h.quota_items; quota_variations = h.quota_variations; list_items = h.list_items; kept = h.kept }

@@ -7,7 +7,7 @@ ghost use Rattle.bo_schema.specs.Tables.{schema};
 ghost use Rattle.bo_transaction.specs.Whole.{IsOver, IsStill, IsWritten, MayBeWritten};
 ghost use Rattle.bo_begins.specs.Begun.{HasToken};
 
-use bo_columns::{Shop, Token};
+use bo_columns::{ShopRow, Token};
 use bo_rows::{Stored, put};
 use bo_schema::RowError;
 use bo_transaction::{Writing, write_whole};
@@ -16,7 +16,7 @@ use sqlite::{Alter, Connection, Transaction};
 // A token, and the shop's row with the id that the next one gets.
 #[derive(Drop)]
 struct NewToken<'a> {
-    shop: &'a Shop,
+    shop: &'a ShopRow,
     token: &'a Token,
 }
 
@@ -35,7 +35,7 @@ impl Writing<()> for NewToken<'_> {
 /// no such table, and 63 where a transaction is open, the connection is shut, the token isn't new or the store fails.
 pub fn put_token<S: Alter>(
     connection: &mut Connection<S>,
-    shop: &Shop,
+    shop: &ShopRow,
     token: &Token,
 ) -> Result<(), RowError>
     ensures all { HasCleanDisk (state S.Store connection.new) → IsOver schema (state S.Store connection.old) → OnOk result (IsWritten (HasToken shop.now token.now) (state S.Store connection.old) (state S.Store connection.new)) }

@@ -10,7 +10,7 @@ ghost use Rattle.bo_transaction.specs.Whole.{IsStill, IsWritten, MayBeWritten};
 ghost use Rattle.bo_begins.specs.Begun.{IsBegun};
 
 use bo_base::{Moment, Slug};
-use bo_columns::Shop;
+use bo_columns::ShopRow;
 use bo_lists::NextIds;
 use bo_make::make_tables;
 use bo_rows::Stored;
@@ -20,10 +20,10 @@ use sqlite::{Alter, Connection, Transaction};
 use sqlite_schema::schema::Schema;
 
 /// The row of a shop before its first change: version 1 of its tables, moment 0, and each id begins with 1.
-pub fn first_row(organizer: Slug, event: Slug) -> Shop
+pub fn first_row(organizer: Slug, event: Slug) -> ShopRow
     ensures { result ≡ record { version = 1; organizer = organizer; event = event; moment = 0; next = first_ids; next_token = 1 } }
 {
-    Shop {
+    ShopRow {
         version: 1,
         organizer,
         event,
@@ -36,7 +36,7 @@ pub fn first_row(organizer: Slug, event: Slug) -> Shop
 // The tables of a shop with its row alone.
 #[derive(Drop)]
 struct NewShop<'a> {
-    shop: &'a Shop,
+    shop: &'a ShopRow,
 }
 
 impl Writing<()> for NewShop<'_> {
@@ -60,7 +60,7 @@ pub fn is_blank(schema: &Schema) -> bool
 
 /// Makes the tables of a shop in a database that has none, and puts the shop's row, all of it or nothing. Refusals: 60 where the
 /// database has a table already, 6, and 63 where a transaction is open, the connection is shut or the store fails.
-pub fn begin<S: Alter>(connection: &mut Connection<S>, shop: &Shop) -> Result<(), RowError>
+pub fn begin<S: Alter>(connection: &mut Connection<S>, shop: &ShopRow) -> Result<(), RowError>
     ensures all { HasCleanDisk (state S.Store connection.new) → OnOk result (IsWritten (λ db after. IsBegun shop.now after) (state S.Store connection.old) (state S.Store connection.new)) }
     ensures none { HasCleanDisk (state S.Store connection.new) → OnErr result (IsStill (state S.Store connection.old) (state S.Store connection.new)) }
     ensures blank { ¬ ((state S.Store connection.old).now.schema ≡ blank_schema) → result ≡ Err Foreign }

@@ -1,7 +1,7 @@
 -- What one statement makes of the tables.
 use Rattle.std.specs.Prelude.{◌≡◌, ℕ, true, not, ◌==◌, List, [], ◌∷◌, filter}
 use Rattle.sqlite.specs.State.{State}
-use Rattle.bo_columns.specs.declared.rows.Shop.{Shop}
+use Rattle.bo_columns.specs.declared.rows.ShopRow.{ShopRow}
 use Rattle.bo_catalogue.specs.declared.rows.Item.{Item}
 use Rattle.bo_catalogue.specs.declared.rows.Variation.{Variation}
 use Rattle.bo_columns.specs.declared.rows.QuotaRow.{QuotaRow}
@@ -44,7 +44,7 @@ pub record Changes (change : Tables → Tables) (old new : State) : Type 0 where
 
 -- ---- a row more, and no row of an id
 
-abbrev pub with_shop : Shop → Tables → Tables
+abbrev pub with_shop : ShopRow → Tables → Tables
 with_shop w t = record t { shop = w ∷ t.shop }
 
 abbrev pub without_shop : ℕ → Tables → Tables

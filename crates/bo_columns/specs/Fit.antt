@@ -13,7 +13,7 @@ use Rattle.bo_lists.specs.declared.rows.Order.{Order}
 use Rattle.bo_lists.specs.declared.rows.OrderPos.{OrderPos}
 use Rattle.bo_lists.specs.declared.rows.Waiting.{Waiting}
 use Rattle.bo_lists.specs.declared.rows.Checkin.{Checkin}
-use Rattle.bo_columns.specs.declared.rows.Shop.{Shop}
+use Rattle.bo_columns.specs.declared.rows.ShopRow.{ShopRow}
 use Rattle.bo_columns.specs.declared.rows.QuotaRow.{QuotaRow}
 use Rattle.bo_columns.specs.declared.rows.VoucherRow.{VoucherRow}
 use Rattle.bo_columns.specs.declared.rows.ListRow.{ListRow}
@@ -34,7 +34,7 @@ abbrev pub IsDigest : List ℕ → Type 0
 IsDigest digest = length digest ≡ 32
 
 -- whatever the version is
-pub record IsFitShop (w : Shop) : Type 0 where
+pub record IsFitShop (w : ShopRow) : Type 0 where
   pub organizer : IsSlug w.organizer
   pub event : IsSlug w.event
   pub moment : IsMoment w.moment

@@ -3,7 +3,7 @@ use Rattle.std.specs.Prelude.{ℕ, List, [], ◌∷◌}
 use Rattle.sqlite_value.specs.declared.value.Value.TheVariants.{Int, Text, Blob}
 use Rattle.sqlite_value.specs.Order.{Row}
 use Rattle.sqlite.specs.Values.{or_null}
-use Rattle.bo_columns.specs.declared.rows.Shop.{Shop}
+use Rattle.bo_columns.specs.declared.rows.ShopRow.{ShopRow}
 use Rattle.bo_catalogue.specs.declared.rows.Item.{Item}
 use Rattle.bo_catalogue.specs.declared.rows.Variation.{Variation}
 use Rattle.bo_columns.specs.declared.rows.QuotaRow.{QuotaRow}
@@ -23,7 +23,7 @@ use Rattle.bo_columns.specs.declared.rows.KeptRow.{KeptRow}
 use Rattle.bo_columns.specs.Cells.{number, truth, mode, status, kind, methods}
 
 -- the shop itself: one row
-abbrev pub shop_row : Shop → Row
+abbrev pub shop_row : ShopRow → Row
 shop_row w = number 1 ∷ number w.version ∷ Text w.organizer ∷ Text w.event ∷ number w.moment ∷ number w.next.item ∷ number w.next.variation ∷ number w.next.quota ∷ number w.next.voucher ∷ number w.next.cart ∷ number w.next.order ∷ number w.next.position ∷ number w.next.waiting ∷ number w.next.list ∷ number w.next.checkin ∷ number w.next_token ∷ []
 
 -- what is sold

@@ -2,7 +2,7 @@
 use Rattle.std.specs.Prelude.{ℕ, List, [], ◌∷◌, map}
 use Rattle.sqlite_value.specs.Order.{Row}
 use Rattle.sqlite_trees.specs.Tree.{Trees}
-use Rattle.bo_columns.specs.declared.rows.Shop.{Shop}
+use Rattle.bo_columns.specs.declared.rows.ShopRow.{ShopRow}
 use Rattle.bo_catalogue.specs.declared.rows.Item.{Item}
 use Rattle.bo_catalogue.specs.declared.rows.Variation.{Variation}
 use Rattle.bo_columns.specs.declared.rows.QuotaRow.{QuotaRow}
@@ -25,7 +25,7 @@ use Rattle.bo_columns.specs.Rows.{shop_row, item_row, variation_row, quota_row, 
 
 -- the rows of each table, in some order
 pub record Tables : Type 0 where
-  pub shop : List Shop
+  pub shop : List ShopRow
   pub items : List Item
   pub variations : List Variation
   pub quotas : List QuotaRow

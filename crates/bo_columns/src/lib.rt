@@ -10,5 +10,5 @@ pub mod words;
 
 pub use column::Column;
 pub use rows::{
-    KeptRow, ListItem, ListRow, QuotaItem, QuotaRow, QuotaVariation, Shop, Token, VoucherRow,
+    KeptRow, ListItem, ListRow, QuotaItem, QuotaRow, QuotaVariation, ShopRow, Token, VoucherRow,
 };

@@ -7,7 +7,7 @@ use bo_lists::{NextIds, Voucher};
 /// The row of the shop itself: the version of its tables, whose it is, the moment up to which it has got, and the ids that
 /// the next rows get.
 #[derive(Debug, Drop)]
-pub struct Shop {
+pub struct ShopRow {
     pub version: u64,
     pub organizer: Slug,
     pub event: Slug,

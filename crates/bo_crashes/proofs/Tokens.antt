@@ -3,7 +3,7 @@ use Rattle.std.proofs.Common.{◌≡◌, ℕ, List, Option, sym, subst, ◌∙�
 use Rattle.sqlite_trees.specs.Tree.{Trees}
 use Rattle.sqlite.specs.State.{State as Connected}
 use Rattle.bo_schema.specs.Tables.{schema}
-use Rattle.bo_columns.specs.declared.rows.Shop.{Shop}
+use Rattle.bo_columns.specs.declared.rows.ShopRow.{ShopRow}
 use Rattle.bo_columns.specs.Tables.{Tables, Holds}
 use Rattle.bo_transaction.specs.Whole.{MayBeWritten}
 use Rattle.bo_begins.specs.Begun.{HasToken, token_added}
@@ -26,7 +26,7 @@ known_as db next c tokens tell knows is_open =
 pub token_out : (next : ℕ) (old : Connected) (db : Trees) (tokens : List ℕ → Option ℕ) → db ≡ old.now.trees → Knows next old.now tokens → Tell db tokens
 token_out next old db tokens is knows = record { tables = knows.told.tables; held = subst (λ d. Holds d knows.told.tables) (sym is) knows.told.held; told = knows.told.told }
 
-pub token_in : (head : Shop) (digest : List ℕ) (next : ℕ) (old : Connected) (db : Trees) (tokens : List ℕ → Option ℕ) → MayBeWritten schema (λ (_ : Unit {0}). HasToken (raised head) (next_one head digest)) old db → Knows next old.now tokens → Tell db (also_known digest head.next_token tokens)
+pub token_in : (head : ShopRow) (digest : List ℕ) (next : ℕ) (old : Connected) (db : Trees) (tokens : List ℕ → Option ℕ) → MayBeWritten schema (λ (_ : Unit {0}). HasToken (raised head) (next_one head digest)) old db → Knows next old.now tokens → Tell db (also_known digest head.next_token tokens)
 token_in head digest next old db tokens may knows = record {
   tables = token_added (raised head) (next_one head digest) knows.told.tables;
   held = subst (λ d. Holds d (token_added (raised head) (next_one head digest) knows.told.tables)) (sym may.is) ((may.turned knows.told.known).holds knows.told.tables knows.told.held);

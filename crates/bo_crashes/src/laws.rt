@@ -13,7 +13,7 @@ ghost use Rattle.bo_kept.specs.ShopView.{ShopView, IsSame};
 ghost use Rattle.bo_transaction.specs.Whole.{MayBeWritten};
 ghost use Rattle.bo_begins.specs.Begun.{HasToken};
 ghost use Rattle.bo_tables.specs.Shops.{HoldsWhileOpen, KnowsWhileOpen, Leaves};
-ghost use Rattle.bo_columns.specs.declared.rows.Shop.{Shop};
+ghost use Rattle.bo_columns.specs.declared.rows.ShopRow.{ShopRow};
 ghost use Rattle.bo_opens.specs.declared.error.OpenError.{OpenError};
 ghost use Rattle.bo_opens.specs.Lawful.{IsOfMachine};
 ghost use Rattle.bo_reopen.specs.Opened.{IsReason, IsOpened};
@@ -30,7 +30,7 @@ use sqlite::{Alter, Connection};
 
 /// A shop's file that was just made runs from the opening without rows and answers.
 pub fn a_made_shop_runs<S: Alter>(blank: &Connection<S>, made: &SqlTables<S>)
-    ensures { (words : Reply → Response) (first : Shop) → IsMade first (state S.Store blank.now) made.now.head made.now.next_row (state S.Store made.now.connection)
+    ensures { (words : Reply → Response) (first : ShopRow) → IsMade first (state S.Store blank.now) made.now.head made.now.next_row (state S.Store made.now.connection)
         → IsRunning words ⟦<SqlTables<S> as Tables>⟧.holds ⟦<SqlTables<S> as Tables>⟧.may_leave made.now empty (opened words (stood words (record { state = empty; kept = [] }) [])) }
 {
     let _ = blank;

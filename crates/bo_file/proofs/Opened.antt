@@ -4,7 +4,7 @@ use Rattle.sqlite.specs.State.{State as Connected}
 use Rattle.bo_schema.specs.Tables.{schema}
 use Rattle.bo_lists.specs.Lists.{State, empty}
 use Rattle.bo_sound.proofs.Sound.{sound_empty}
-use Rattle.bo_columns.specs.declared.rows.Shop.{Shop}
+use Rattle.bo_columns.specs.declared.rows.ShopRow.{ShopRow}
 use Rattle.bo_opens.specs.declared.error.OpenError.{OpenError}
 use Rattle.bo_opens.specs.Rests.{IsAt}
 use Rattle.bo_opens.specs.Lawful.{IsOfMachine}
@@ -16,8 +16,8 @@ use Rattle.bo_reopen.proofs.Undamaged.{undamaged, same_shop}
 use Rattle.bo_made.specs.Made.{first_shop, IsMade}
 
 -- what was just made is opened as it was made
-pub made_opens : (old c new : Connected) (organizer event : List ℕ) (head : Shop) (next : ℕ) → IsMade (first_shop organizer event) old head next c
-    → IsAt c.now c × (c.now.schema ≡ schema) × ((error : OpenError) → IsReason c.now error → IsOfMachine error) × ((shop : Shop) (number : ℕ) (z : State) → IsOpened c.now.trees shop number z new → (shop ≡ first_shop organizer event) × (z ≡ empty))
+pub made_opens : (old c new : Connected) (organizer event : List ℕ) (head : ShopRow) (next : ℕ) → IsMade (first_shop organizer event) old head next c
+    → IsAt c.now c × (c.now.schema ≡ schema) × ((error : OpenError) → IsReason c.now error → IsOfMachine error) × ((shop : ShopRow) (number : ℕ) (z : State) → IsOpened c.now.trees shop number z new → (shop ≡ first_shop organizer event) × (z ≡ empty))
 made_opens old c new organizer event head next made =
     let its = made.holds made.is_open in
     let t = its.tables in

@@ -13,7 +13,7 @@ use Rattle.bo_lists.specs.declared.rows.Status.{Status}
 use Rattle.bo_lists.specs.declared.rows.Status.TheVariants as statuses
 use Rattle.bo_lists.specs.declared.rows.CheckinKind.{CheckinKind}
 use Rattle.bo_lists.specs.declared.rows.CheckinKind.TheVariants as kinds
-use Rattle.bo_columns.specs.declared.rows.Shop.{Shop}
+use Rattle.bo_columns.specs.declared.rows.ShopRow.{ShopRow}
 use Rattle.bo_catalogue.specs.declared.rows.Item.{Item}
 use Rattle.bo_catalogue.specs.declared.rows.Variation.{Variation}
 use Rattle.bo_columns.specs.declared.rows.QuotaRow.{QuotaRow}
@@ -146,10 +146,10 @@ methods_back (Some m) = by_flags m.get m.post m.patch m.delete
 
 -- ---- each row
 
-abbrev pub shop_in : Row → Shop
+abbrev pub shop_in : Row → ShopRow
 shop_in r = record { version = number_in (column r 1); organizer = text_in (column r 2); event = text_in (column r 3); moment = number_in (column r 4); next = record { item = number_in (column r 5); variation = number_in (column r 6); quota = number_in (column r 7); voucher = number_in (column r 8); cart = number_in (column r 9); order = number_in (column r 10); position = number_in (column r 11); waiting = number_in (column r 12); list = number_in (column r 13); checkin = number_in (column r 14) }; next_token = number_in (column r 15) }
 
-pub shop_back : (w : Shop) → shop_in (shop_row w) ≡ w
+pub shop_back : (w : ShopRow) → shop_in (shop_row w) ≡ w
 shop_back w = refl
 
 abbrev pub item_in : Row → Item

@@ -6,7 +6,7 @@ ghost use Rattle.sqlite.specs.State.{HasCleanDisk, Survives, KeepsCommit};
 ghost use Rattle.bo_schema.specs.declared.error.RowError.TheVariants.{Foreign};
 ghost use Rattle.bo_schema.specs.Tables.{schema};
 ghost use Rattle.bo_schema.specs.Parts.{shown};
-ghost use Rattle.bo_columns.specs.declared.rows.Shop.{Shop};
+ghost use Rattle.bo_columns.specs.declared.rows.ShopRow.{ShopRow};
 ghost use Rattle.bo_columns.specs.Rows.{shop_row};
 ghost use Rattle.bo_columns.specs.Fit.{IsFitShop};
 ghost use Rattle.bo_columns.specs.Unread.{IsUnread};
@@ -15,16 +15,16 @@ ghost use Rattle.bo_loads.specs.Texts.{shop_text};
 
 use crate::columns::Columns;
 use crate::loaded::{Loaded, rows_of};
-use bo_columns::Shop;
+use bo_columns::ShopRow;
 use bo_lists::NextIds;
 use bo_schema::RowError;
 use sqlite::{Alter, Row, Transaction};
 use std::alloc::Global;
 
-fn read_row(alloc: Global, row: &Row) -> Result<Shop, RowError>
+fn read_row(alloc: Global, row: &Row) -> Result<ShopRow, RowError>
     ensures value { IfOk result (λ w. row.now ≡ shop_row w) }
     ensures limits { IfOk result IsFitShop }
-    ensures refused { IfErr result (IsUnread ((w : Shop) → IsFitShop w → row.now ≢ shop_row w)) }
+    ensures refused { IfErr result (IsUnread ((w : ShopRow) → IsFitShop w → row.now ≢ shop_row w)) }
 {
     match Columns::read_from(alloc, row, 0) {
         Ok((id, (version, (organizer, (event, (moment, middle)))))) => {
@@ -38,7 +38,7 @@ fn read_row(alloc: Global, row: &Row) -> Result<Shop, RowError>
                 next_order,
                 (next_position, (next_waiting, (next_list, (next_checkin, (next_token, ()))))),
             ) = others;
-            Ok(Shop {
+            Ok(ShopRow {
                 version,
                 organizer,
                 event,
@@ -62,19 +62,19 @@ fn read_row(alloc: Global, row: &Row) -> Result<Shop, RowError>
     }
 }
 
-impl Loaded for Shop {
+impl Loaded for ShopRow {
     ghost as_row = { shop_row };
 
     ghost fits = { IsFitShop };
 
-    fn read(alloc: Global, row: &Row) -> Result<Shop, RowError> {
+    fn read(alloc: Global, row: &Row) -> Result<ShopRow, RowError> {
         read_row(alloc, row)
     }
 }
 
 /// All rows by id. Nothing changes.
 /// Refusals: 6, 60 where the file has no such table with these columns, 62, 63.
-pub fn load<S: Alter>(alloc: Global, tx: &mut Transaction<'_, S>) -> Result<Vec<Shop>, RowError>
+pub fn load<S: Alter>(alloc: Global, tx: &mut Transaction<'_, S>) -> Result<Vec<ShopRow>, RowError>
     ensures same { tx.new.conn.ghost_name ≡ tx.old.conn.ghost_name }
     ensures loaded { HasCleanDisk (state S.Store tx.new.conn.now) → (state S.Store tx.old.conn.now).now.schema ≡ schema → IfOk result (λ all. IsPermutation (map shop_row all.items) (map (shown schema 0) ((state S.Store tx.old.conn.now).now.trees 0))) }
     ensures limits { IfOk result (λ all. All IsFitShop all.items) }

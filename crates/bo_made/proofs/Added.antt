@@ -9,7 +9,7 @@ use Rattle.bo_schema.specs.Tables.{schema}
 use Rattle.bo_lists.specs.Lists.{State}
 use Rattle.bo_kept.specs.declared.kept.Kept.{Kept}
 use Rattle.bo_kept.specs.ShopView.{ShopView, IsSame}
-use Rattle.bo_columns.specs.declared.rows.Shop.{Shop}
+use Rattle.bo_columns.specs.declared.rows.ShopRow.{ShopRow}
 use Rattle.bo_columns.specs.declared.rows.Token.{Token}
 use Rattle.bo_columns.specs.Fit.{IsDigest}
 use Rattle.bo_columns.specs.Tables.{Tables, Holds}
@@ -60,7 +60,7 @@ found_knows next c digest number tokens known knows is_open =
 
 -- ---- a token more
 
-module _ (head : Shop) (digest : List ℕ) (next : ℕ) (old new : Connected) where
+module _ (head : ShopRow) (digest : List ℕ) (next : ℕ) (old new : Connected) where
   abbrev token : Token
   token = next_one head digest
 
@@ -117,11 +117,11 @@ pub same_number : (number next : ℕ) (o : Option ℕ) → Some number ≡ o →
 same_number number next (Some known) e = cc
 same_number number next None e = absurd cc
 
-pub same_head : (number : ℕ) (head : Shop) (o : Option ℕ) → Some number ≡ o → head ≡ head_after o head
+pub same_head : (number : ℕ) (head : ShopRow) (o : Option ℕ) → Some number ≡ o → head ≡ head_after o head
 same_head number head (Some known) e = refl
 same_head number head None e = absurd cc
 
-pub same_tables : (number : ℕ) (head : Shop) (digest : List ℕ) (db : Trees) (t : Tables) (o : Option ℕ) → Some number ≡ o → Holds db t → Holds db (tables_after o head digest t)
+pub same_tables : (number : ℕ) (head : ShopRow) (digest : List ℕ) (db : Trees) (t : Tables) (o : Option ℕ) → Some number ≡ o → Holds db t → Holds db (tables_after o head digest t)
 same_tables number head digest db t (Some known) e held = held
 same_tables number head digest db t None e held = absurd cc
 
@@ -133,13 +133,13 @@ pub no_room : (next : ℕ) (o : Option ℕ) → None ≡ o → most_tokens < nex
 no_room next None e h = h
 no_room next (Some known) e h = absurd cc
 
-pub next_head : {T E : Type 0} (r : Result T E) (head now : Shop) (o : Option ℕ) → None ≡ o → OnOk r (now ≡ raised head) → OnOk r (now ≡ head_after o head)
+pub next_head : {T E : Type 0} (r : Result T E) (head now : ShopRow) (o : Option ℕ) → None ≡ o → OnOk r (now ≡ raised head) → OnOk r (now ≡ head_after o head)
 next_head r head now None e h = h
 next_head r head now (Some known) e h = absurd cc
 
 -- ---- after a look-up that found no number
 
-module _ {E : Type 0} (r : Result ℕ E) (head : Shop) (digest : List ℕ) (next : ℕ) (old mid new : Connected) where
+module _ {E : Type 0} (r : Result ℕ E) (head : ShopRow) (digest : List ℕ) (next : ℕ) (old mid new : Connected) where
   pub then_tables : (o : Option ℕ) → None ≡ o → IsStill old mid → OnOk r (IsWritten (HasToken (raised head) (next_one head digest)) mid new)
       → OnOk r ((t : Tables) → Holds old.now.trees t → Holds new.now.trees (tables_after o head digest t))
   then_tables None e still = elim r as (λ x. OnOk x (IsWritten (HasToken (raised head) (next_one head digest)) mid new) → OnOk x ((t : Tables) → Holds old.now.trees t → Holds new.now.trees (token_added (raised head) (next_one head digest) t))) [
@@ -155,7 +155,7 @@ module _ {E : Type 0} (r : Result ℕ E) (head : Shop) (digest : List ℕ) (next
     | Err error ↦ λ is w. tt
   ]
 
-  pub then_holds : (now : Shop) (n : ℕ) → n ≡ next → (s : State) (ks : List Kept) → IsStill old mid → HoldsWhileOpen head next old s ks → IsDigest digest → IfOk r (λ number. (number ≡ head.next_token) × (head.next_token ≤ most_tokens)) → OnOk r (now ≡ raised head) → OnErr r (now ≡ head)
+  pub then_holds : (now : ShopRow) (n : ℕ) → n ≡ next → (s : State) (ks : List Kept) → IsStill old mid → HoldsWhileOpen head next old s ks → IsDigest digest → IfOk r (λ number. (number ≡ head.next_token) × (head.next_token ≤ most_tokens)) → OnOk r (now ≡ raised head) → OnErr r (now ≡ head)
       → OnOk r (IsWritten (HasToken (raised head) (next_one head digest)) mid new) → OnErr r (IsStill mid new) → HoldsWhileOpen now n new s ks
   then_holds now n row s ks still holds digest_is = elim r as (λ x. IfOk x (λ number. (number ≡ head.next_token) × (head.next_token ≤ most_tokens)) → OnOk x (now ≡ raised head) → OnErr x (now ≡ head) → OnOk x (IsWritten (HasToken (raised head) (next_one head digest)) mid new) → OnErr x (IsStill mid new) → HoldsWhileOpen now n new s ks) [
     | Ok number ↦ λ known is _ w _. rw (is, row) (added_holds head digest next mid new known.1 digest_is w s ks (still_holds head next old mid s ks still holds))

@@ -4,7 +4,7 @@ use Rattle.sqlite_trees.specs.Tree.{Trees}
 use Rattle.sqlite.specs.Effect.{Database}
 use Rattle.sqlite.specs.State.{State as Connected}
 use Rattle.bo_base.specs.Slugs.{IsSlug}
-use Rattle.bo_columns.specs.declared.rows.Shop.{Shop}
+use Rattle.bo_columns.specs.declared.rows.ShopRow.{ShopRow}
 use Rattle.bo_columns.specs.Tables.{Holds}
 use Rattle.bo_transaction.specs.Whole.{IsStill, IsWritten}
 use Rattle.bo_begins.specs.Begun.{IsBegun, first_tables}
@@ -18,14 +18,14 @@ pub as_it_was : (s : Connected) → IsStill s s
 as_it_was s = record { same = λ is_open. record { was_open = is_open; now = refl; committed = refl }; outside = λ it. it }
 
 module _ (organizer event : List ℕ) (old new : Connected) where
-  abbrev first : Shop
+  abbrev first : ShopRow
   first = first_shop organizer event
 
   typed_so : IsSlug organizer → IsSlug event → IsTypedShop first (first_tables first)
   typed_so org ev = first_typed first refl org ev (record { from_one = omega arith; within = omega arith })
 
   -- of an open connection a crash leaves the last commit
-  pub is_made : ((db : Trees) → IsTrue new.is_open → new.may_leave db → db ≡ new.committed.trees) → IsSlug organizer → IsSlug event → (head : Shop) → head ≡ first → IsWritten (λ db after. IsBegun first after) old new → IsMade first old head 1 new
+  pub is_made : ((db : Trees) → IsTrue new.is_open → new.may_leave db → db ≡ new.committed.trees) → IsSlug organizer → IsSlug event → (head : ShopRow) → head ≡ first → IsWritten (λ db after. IsBegun first after) old new → IsMade first old head 1 new
   is_made law org ev head is w = subst (λ h. IsMade first old h 1 new) (sym is) (record {
     was_open = w.was_open;
     is_open = w.is_open;

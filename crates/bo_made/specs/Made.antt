@@ -3,14 +3,14 @@ use Rattle.std.specs.Prelude.{◌≡◌, ℕ, List, [], Option, None, IsTrue}
 use Rattle.sqlite.specs.State.{State as Connected}
 use Rattle.bo_schema.specs.Tables.{schema}
 use Rattle.bo_lists.specs.Lists.{empty, first_ids}
-use Rattle.bo_columns.specs.declared.rows.Shop.{Shop}
+use Rattle.bo_columns.specs.declared.rows.ShopRow.{ShopRow}
 use Rattle.bo_columns.specs.Tables.{Holds}
 use Rattle.bo_begins.specs.Begun.{first_tables}
 use Rattle.bo_kept.specs.ShopView.{ShopView, IsSame}
 use Rattle.bo_tables.specs.Shops.{HoldsWhileOpen, KnowsWhileOpen, Leaves}
 
 -- the shop's row before its first change: version 1, moment 0, and each id begins with 1
-abbrev pub first_shop : List ℕ → List ℕ → Shop
+abbrev pub first_shop : List ℕ → List ℕ → ShopRow
 first_shop organizer event = record { version = 1; organizer = organizer; event = event; moment = 0; next = first_ids; next_token = 1 }
 
 -- a shop that has no rows and keeps no answers
@@ -19,7 +19,7 @@ nothing_yet = record { state = empty; kept = [] }
 
 -- The connection was open and is. The tables are a shop's, with its first row alone; they hold an office without rows and no answer,
 -- and know no token; a crash leaves them so.
-pub record IsMade (first : Shop) (old : Connected) (head : Shop) (next : ℕ) (new : Connected) : Type 0 where
+pub record IsMade (first : ShopRow) (old : Connected) (head : ShopRow) (next : ℕ) (new : Connected) : Type 0 where
   pub was_open : IsTrue old.is_open
   pub is_open : IsTrue new.is_open
   pub head_is : head ≡ first

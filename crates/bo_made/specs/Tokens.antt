@@ -1,6 +1,6 @@
 -- A token is added.
 use Rattle.std.specs.Prelude.{◌≡◌, ℕ, ◌+◌, ◌<◌, ◌≤◌, List, Option, Some, None, bytes_eq, if◌then◌else◌}
-use Rattle.bo_columns.specs.declared.rows.Shop.{Shop}
+use Rattle.bo_columns.specs.declared.rows.ShopRow.{ShopRow}
 use Rattle.bo_columns.specs.declared.rows.Token.{Token}
 use Rattle.bo_columns.specs.Tables.{Tables}
 use Rattle.bo_begins.specs.Begun.{token_added}
@@ -24,19 +24,19 @@ HasNoRoom (Some known) next = ⊥
 HasNoRoom None next = most_tokens < next
 
 -- the shop's row once the next token has come
-abbrev pub raised : Shop → Shop
+abbrev pub raised : ShopRow → ShopRow
 raised head = record head { next_token = head.next_token + 1 }
 
 -- the next token, with this digest
-abbrev pub next_one : Shop → List ℕ → Token
+abbrev pub next_one : ShopRow → List ℕ → Token
 next_one head digest = record { id = head.next_token; digest = digest }
 
 -- the shop's row after a digest that has this number already, or none
-abbrev pub head_after : Option ℕ → Shop → Shop
+abbrev pub head_after : Option ℕ → ShopRow → ShopRow
 head_after (Some known) head = head
 head_after None head = raised head
 
 -- and the tables: the next token, and the shop's row, where it has none
-abbrev pub tables_after : Option ℕ → Shop → List ℕ → Tables → Tables
+abbrev pub tables_after : Option ℕ → ShopRow → List ℕ → Tables → Tables
 tables_after (Some known) head digest t = t
 tables_after None head digest t = token_added (raised head) (next_one head digest) t

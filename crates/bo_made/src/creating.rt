@@ -13,7 +13,7 @@ ghost use Rattle.bo_made.specs.Made.{first_shop, IsMade};
 use crate::error::HandedBack;
 use bo_base::Slug;
 use bo_begins::{begin, first_row, is_blank};
-use bo_columns::Shop;
+use bo_columns::ShopRow;
 use bo_counters::Counters;
 use bo_office::Office;
 use bo_schema::RowError;
@@ -45,7 +45,7 @@ fn make<S: Alter>(
     connection: &mut Connection<S>,
     organizer: Slug,
     event: Slug,
-) -> Result<(Shop, Office<Counters>), RowError>
+) -> Result<(ShopRow, Office<Counters>), RowError>
     ensures head { IfOk result (λ made. made.0 ≡ first_shop organizer event) }
     ensures office { IfOk result (λ made. (made.1.organizer ≡ organizer) × (made.1.event ≡ event) × (made.1.state ≡ empty)) }
     ensures all { HasCleanDisk (state S.Store connection.new) → OnOk result (IsWritten (λ db after. IsBegun (first_shop organizer event) after) (state S.Store connection.old) (state S.Store connection.new)) }

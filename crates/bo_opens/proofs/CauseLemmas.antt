@@ -15,7 +15,7 @@ use Rattle.bo_schema.specs.Parts.{shown}
 use Rattle.bo_schema.proofs.Answered.{passes, answered}
 use Rattle.bo_schema.specs.declared.error.RowError.{RowError}
 use Rattle.bo_schema.specs.declared.error.RowError.TheVariants.{Memory, Foreign, Damaged, Store}
-use Rattle.bo_columns.specs.declared.rows.Shop.{Shop}
+use Rattle.bo_columns.specs.declared.rows.ShopRow.{ShopRow}
 use Rattle.bo_columns.specs.Rows.{shop_row}
 use Rattle.bo_loads.specs.Damage.{IsFor, IsForReading}
 use Rattle.bo_loads.proofs.Loads.{IsSelect}
@@ -83,7 +83,7 @@ short_row [] h = refl
 short_row (x ∷ []) h = refl
 short_row (x ∷ (y ∷ r)) h = absurd (omega (arith, h))
 
-pub version_told : (shop : Shop) (row : Row) (version : ℤ) → row ≡ shop_row shop → column row 1 ≡ Int version → pos shop.version ≡ version
+pub version_told : (shop : ShopRow) (row : Row) (version : ℤ) → row ≡ shop_row shop → column row 1 ≡ Int version → pos shop.version ≡ version
 version_told shop row version is told = let both = sym (ap (λ (r : Row). column r 1) is) ∙ told in cc
 
 -- the shop's row has version 1

@@ -10,7 +10,7 @@ use Rattle.sqlite_schema.specs.declared.schema.Schema.{Schema}
 use Rattle.sqlite.specs.Effect.{Database}
 use Rattle.sqlite.proofs.Callers.{one_permutation}
 use Rattle.bo_schema.specs.Tables.{schema}
-use Rattle.bo_columns.specs.declared.rows.Shop.{Shop}
+use Rattle.bo_columns.specs.declared.rows.ShopRow.{ShopRow}
 use Rattle.bo_columns.specs.Rows.{shop_row, item_row, variation_row, quota_row, quota_item_row, quota_variation_row, voucher_row, cart_row, order_row, position_row, waiting_row, list_row, list_item_row, checkin_row, count_row, token_row, kept_row}
 use Rattle.bo_columns.specs.Fit.{IsFitShop, IsFitItem, IsFitVariation, IsFitQuota, IsFitVoucher, IsFitCart, IsFitOrder, IsFitPosition, IsFitWaiting, IsFitList, IsFitCheckin, IsFitToken, IsFitKept}
 use Rattle.bo_columns.specs.Tables.{Tables, Holds}
@@ -113,7 +113,7 @@ has_tables s known (inr (inr (inr none))) = has_others s known none
 -- ---- the shop's row
 
 -- the row that is shown is the one that tables hold
-alone : (t : Tables) (db : Database) → db.schema ≡ schema → Holds db.trees t → (shop : Shop) → t.shop ≡ shop ∷ [] → (rows : List Row) → ShowsBy of_shop.select_text db rows → rows ≡ shop_row shop ∷ []
+alone : (t : Tables) (db : Database) → db.schema ≡ schema → Holds db.trees t → (shop : ShopRow) → t.shop ≡ shop ∷ [] → (rows : List Row) → ShowsBy of_shop.select_text db rows → rows ≡ shop_row shop ∷ []
 alone t db known held shop one rows shows =
     one_shown t.shop shop rows (IsPermutation-trans _ _ _ held.0 (IsPermutation-sym _ _ (shows_rows of_shop.select_text 0 of_shop.select_is db known rows shows))) one
 
@@ -127,7 +127,7 @@ shown_again db known (all, shows, (shop, fit, ids, first, is)) rows again =
     (shop, fit, ids, first, one_permutation (shop_row shop) rows (IsPermutation-trans _ _ _ one (IsPermutation-sym _ _ (shows_rows of_shop.select_text 0 of_shop.select_is db known rows again))))
 
 -- a version that is told is that of the shop's row
-pub tells : (t : Tables) (db : Database) → db.schema ≡ schema → Holds db.trees t → (shop : Shop) → t.shop ≡ shop ∷ [] → (version : ℤ) → IsCause db (Version version) → (pos shop.version ≡ version) × (version ≢ pos 1)
+pub tells : (t : Tables) (db : Database) → db.schema ≡ schema → Holds db.trees t → (shop : ShopRow) → t.shop ≡ shop ∷ [] → (version : ℤ) → IsCause db (Version version) → (pos shop.version ≡ version) × (version ≢ pos 1)
 tells t db known held shop one version (rows, shows, (row, single, told, other)) =
     let is = alone t db known held shop one rows shows in
     let same : row ≡ shop_row shop = cc in

@@ -4,7 +4,7 @@ use Rattle.std.specs.List.Sorted.{IsPermutation}
 use Rattle.sqlite_value.specs.Order.{Row}
 use Rattle.sqlite.specs.State.{State, IsRolledBack}
 use Rattle.sqlite.proofs.Callers.{one_permutation}
-use Rattle.bo_columns.specs.declared.rows.Shop.{Shop}
+use Rattle.bo_columns.specs.declared.rows.ShopRow.{ShopRow}
 use Rattle.bo_columns.specs.Rows.{shop_row}
 use Rattle.bo_opens.specs.Rests.{StaysOpen}
 
@@ -55,5 +55,5 @@ on_ok (Ok x) P Q h k = k x h
 on_ok (Err e) P Q h k = tt
 
 -- the shop's row is the one that is shown
-pub one_shown : (shops : List Shop) (shop : Shop) (rows : List Row) → IsPermutation (map shop_row shops) rows → shops ≡ shop ∷ [] → rows ≡ shop_row shop ∷ []
+pub one_shown : (shops : List ShopRow) (shop : ShopRow) (rows : List Row) → IsPermutation (map shop_row shops) rows → shops ≡ shop ∷ [] → rows ≡ shop_row shop ∷ []
 one_shown shops shop rows h is = one_permutation (shop_row shop) rows (subst (λ l. IsPermutation (map shop_row l) rows) is h)

@@ -12,7 +12,7 @@ use Rattle.bo_schema.specs.Tables.{schema}
 use Rattle.bo_schema.specs.Parts.{shown}
 use Rattle.bo_catalogue.specs.Limits.{last_id}
 use Rattle.bo_sound.specs.Range.{IsNextId, AllNextIds}
-use Rattle.bo_columns.specs.declared.rows.Shop.{Shop}
+use Rattle.bo_columns.specs.declared.rows.ShopRow.{ShopRow}
 use Rattle.bo_columns.specs.Rows.{shop_row, item_row, variation_row, quota_row, quota_item_row, quota_variation_row, voucher_row, cart_row, order_row, position_row, waiting_row, list_row, list_item_row, checkin_row, count_row, token_row, kept_row}
 use Rattle.bo_columns.specs.Fit.{IsFitShop, IsFitItem, IsFitVariation, IsFitQuota, IsFitVoucher, IsFitCart, IsFitOrder, IsFitPosition, IsFitWaiting, IsFitList, IsFitCheckin, IsFitToken, IsFitKept}
 use Rattle.bo_loads.specs.Damage.{HasMeaning, HasNoMeaning, IsDamaged}
@@ -88,7 +88,7 @@ HasDamage db = IsDamagedCatalogue db ⊎ (AreDamagedSales db ⊎ (AreDamagedDoor
 -- ---- all values are within their limits; the tables that aren't named have none
 
 -- each next id is in range, that of the tokens too
-pub record HasNextIds (shop : Shop) : Type 0 where
+pub record HasNextIds (shop : ShopRow) : Type 0 where
   pub ids : AllNextIds shop.next
   pub token : IsNextId last_id shop.next_token
 
@@ -138,7 +138,7 @@ HasNoOtherVersion rows = (version : ℤ) → HasOtherVersion version rows → �
 
 -- there is one row, which is that of a shop of version 1 within its limits, whose next ids are in range
 abbrev pub IsOneShop : List Row → Type 0
-IsOneShop rows = (shop : Shop) × IsFitShop shop × HasNextIds shop × (shop.version ≡ 1) × (rows ≡ shop_row shop ∷ [])
+IsOneShop rows = (shop : ShopRow) × IsFitShop shop × HasNextIds shop × (shop.version ≡ 1) × (rows ≡ shop_row shop ∷ [])
 
 -- the file has the table `shop`, and of the rows that are shown of it this holds
 abbrev pub OfTheShop : Database → (List Row → Type 0) → Type 0

@@ -1,6 +1,6 @@
 -- Tables that a shop has written.
 use Rattle.std.specs.Prelude.{◌≡◌, [], ◌∷◌, All}
-use Rattle.bo_columns.specs.declared.rows.Shop.{Shop}
+use Rattle.bo_columns.specs.declared.rows.ShopRow.{ShopRow}
 use Rattle.bo_columns.specs.Tables.{Tables}
 use Rattle.bo_columns.specs.Fit.{IsFitShop, IsFitItem, IsFitVariation, IsFitQuota, IsFitVoucher, IsFitCart, IsFitOrder, IsFitPosition, IsFitWaiting, IsFitList, IsFitCheckin, IsFitToken, IsFitKept}
 use Rattle.bo_opens.specs.Causes.{HasNextIds}
@@ -9,7 +9,7 @@ use Rattle.bo_opens.specs.declared.error.OpenError.TheVariants.{Memory, NotAShop
 
 -- all values are within their limits, and there is one shop, of version 1; the tables that aren't named have no limits
 pub record AreFit (t : Tables) : Type 0 where
-  pub shop : Shop
+  pub shop : ShopRow
   pub alone : t.shop ≡ shop ∷ []
   pub first : shop.version ≡ 1
   pub shop_fits : IsFitShop shop

@@ -17,7 +17,7 @@ ghost use Rattle.bo_opens.specs.Causes.{LacksTable, HasTables, HasDamage, AreFit
 use crate::error::OpenError;
 use crate::head::{read_shop, shop_rows, test_version};
 use crate::read::{TableRows, read_tables};
-use bo_columns::Shop;
+use bo_columns::ShopRow;
 use bo_rules::Rule;
 use bo_schema::RowError;
 use sqlite::{Alter, Connection, Row};
@@ -26,7 +26,7 @@ use std::alloc::Global;
 /// All that the tables of a file hold.
 #[derive(Drop)]
 pub struct FileTables {
-    pub shop: Shop,
+    pub shop: ShopRow,
     pub tables: TableRows,
 }
 

@@ -17,7 +17,7 @@ ghost use Rattle.bo_opens.specs.Causes.{HasNextIds, ShowsBy, HasNoOtherVersion, 
 
 use crate::error::OpenError;
 use crate::ids::has_next_ids;
-use bo_columns::Shop;
+use bo_columns::ShopRow;
 use bo_loads::Loaded;
 use bo_rules::Rule;
 use bo_schema::RowError;
@@ -92,7 +92,7 @@ pub(crate) fn test_version(rows: &[Row]) -> Result<(), OpenError>
 }
 
 /// The shop's row. Refusals: 6, and 62 where there isn't one row, or a value or a next id of it is out of range.
-pub(crate) fn read_shop(alloc: Global, rows: &[Row]) -> Result<Shop, OpenError>
+pub(crate) fn read_shop(alloc: Global, rows: &[Row]) -> Result<ShopRow, OpenError>
     ensures row { IfOk result (λ shop. rows.now ≡ shop_row shop ∷ []) }
     ensures version { IfOk result (λ shop. shop.version ≡ 1) }
     ensures limits { IfOk result IsFitShop }
@@ -102,7 +102,7 @@ pub(crate) fn read_shop(alloc: Global, rows: &[Row]) -> Result<Shop, OpenError>
     let [row] = rows else {
         return Err(OpenError::Damaged(Rule::Shop));
     };
-    match Shop::read(alloc, row) {
+    match ShopRow::read(alloc, row) {
         Ok(shop) if shop.version == VERSION && has_next_ids(&shop) => Ok(shop),
         Ok(_) => Err(OpenError::Damaged(Rule::Shop)),
         Err(RowError::Memory) => Err(OpenError::Memory),

@@ -6,7 +6,7 @@ ghost use Rattle.bo_opens.specs.Causes.{HasNextIds};
 
 use bo_base::codes::LAST_ORDER;
 use bo_catalogue::LAST_ID;
-use bo_columns::Shop;
+use bo_columns::ShopRow;
 use bo_lists::NextIds;
 
 // Whether the next id is at least 1, and at most the one behind the last.
@@ -33,7 +33,7 @@ fn are_next_ids(next: &NextIds) -> bool
 }
 
 /// Whether each next id of a shop is in range, that of the tokens too.
-pub(crate) fn has_next_ids(shop: &Shop) -> bool
+pub(crate) fn has_next_ids(shop: &ShopRow) -> bool
     ensures { IsTrue result ↔ HasNextIds shop.now }
 {
     are_next_ids(&shop.next) && is_next_id(LAST_ID, shop.next_token)

@@ -9,7 +9,7 @@ ghost use Rattle.bo_catalogue.specs.Limits.{last_id};
 ghost use Rattle.bo_sound.specs.Range.{IsNextId};
 ghost use Rattle.bo_sound.specs.Sound.{IsSound};
 ghost use Rattle.bo_kept.specs.declared.kept.Kept.{Kept};
-ghost use Rattle.bo_columns.specs.declared.rows.Shop.{Shop};
+ghost use Rattle.bo_columns.specs.declared.rows.ShopRow.{ShopRow};
 ghost use Rattle.bo_columns.specs.Tables.{Tables, Holds};
 ghost use Rattle.bo_stand.specs.Stands.{Stand};
 ghost use Rattle.bo_typed.specs.Typed.{AreTyped};
@@ -31,10 +31,10 @@ pub fn readable_files_are_no_fault()
 
 /// A version that is told is that of the shop's row, and not 1.
 pub fn a_version_is_told_of_the_shop()
-    ensures { (t : Tables) (db : Database) → db.schema ≡ schema → Holds db.trees t → (shop : Shop) → t.shop ≡ shop ∷ [] → (version : ℤ) → IsCause db (Version version) → (pos shop.version ≡ version) × (version ≢ pos 1) }
+    ensures { (t : Tables) (db : Database) → db.schema ≡ schema → Holds db.trees t → (shop : ShopRow) → t.shop ≡ shop ∷ [] → (version : ℤ) → IsCause db (Version version) → (pos shop.version ≡ version) × (version ≢ pos 1) }
 {}
 
 /// The values of tables that hold a sound box office are within their limits, where their types keep what they promise.
 pub fn a_sound_office_is_fit()
-    ensures { (shop : Shop) (t : Tables) (state : State) (answers : List Kept) → shop.version ≡ 1 → IsSlug shop.organizer → IsSlug shop.event → IsNextId last_id shop.next_token → Stand shop t state answers → IsSound state → AreTyped t → AreFit t }
+    ensures { (shop : ShopRow) (t : Tables) (state : State) (answers : List Kept) → shop.version ≡ 1 → IsSlug shop.organizer → IsSlug shop.event → IsNextId last_id shop.next_token → Stand shop t state answers → IsSound state → AreTyped t → AreFit t }
 {}

@@ -8,14 +8,14 @@ ghost use Rattle.bo_loads.specs.Texts.{shop_text, items_text, variations_text, q
 use crate::table::Table;
 use bo_catalogue::{Item, Variation};
 use bo_columns::{
-    KeptRow, ListItem, ListRow, QuotaItem, QuotaRow, QuotaVariation, Shop, Token, VoucherRow,
+    KeptRow, ListItem, ListRow, QuotaItem, QuotaRow, QuotaVariation, ShopRow, Token, VoucherRow,
 };
 use bo_lists::{CartPos, Checkin, Order, OrderPos, QuotaCount, Waiting};
 use bo_schema::RowError;
 use sqlite::{Alter, Transaction};
 use std::alloc::Global;
 
-impl Table for Shop {
+impl Table for ShopRow {
     ghost as_row = { shop_row };
 
     ghost fits = { IsFitShop };
@@ -24,7 +24,10 @@ impl Table for Shop {
 
     ghost tree = { 0 };
 
-    fn load<S: Alter>(alloc: Global, tx: &mut Transaction<'_, S>) -> Result<Vec<Shop>, RowError> {
+    fn load<S: Alter>(
+        alloc: Global,
+        tx: &mut Transaction<'_, S>,
+    ) -> Result<Vec<ShopRow>, RowError> {
         bo_loads::shop::load(alloc, tx)
     }
 }

@@ -14,7 +14,7 @@ use Rattle.bo_lists.specs.Lists.{State}
 use Rattle.bo_rules.specs.declared.file_rows.FileRows.{FileRows}
 use Rattle.bo_rules.specs.Told.{state_of, file_of}
 use Rattle.bo_checks.specs.Last.{KeepsFirst, KeepsAll, IsLeastOf, file_with}
-use Rattle.bo_columns.specs.declared.rows.Shop.{Shop}
+use Rattle.bo_columns.specs.declared.rows.ShopRow.{ShopRow}
 use Rattle.bo_columns.specs.declared.rows.Token.{Token}
 use Rattle.bo_columns.specs.Tables.{Holds}
 use Rattle.bo_opens.specs.declared.error.OpenError.{OpenError}
@@ -27,7 +27,7 @@ use Rattle.bo_arrange.specs.Arranged.{arranged, rows_in, IsInOrder}
 use Rattle.bo_typed.specs.Typed.{AreBelowNext}
 use Rattle.bo_reopen.specs.Opened.{KeepsIn, IsLeastIn, IsDamagedBy, IsWhy, IsBroken, IsReason}
 
-module _ (shop : Shop) (tokens : List Token) (rows : OfficeRows) (file : File) where
+module _ (shop : ShopRow) (tokens : List Token) (rows : OfficeRows) (file : File) where
   -- the first two rules speak of nothing beside the office
   early : (rule : Rule) → number rule < 3 → Keeps rule file → KeepsIn shop tokens rows file rule
   early rules.Shop lt k = k
@@ -95,7 +95,7 @@ abbrev pub IsBeside : (numbered whole : Bool) → Rule → Type 0
 IsBeside numbered whole rule = ((rule ≡ rules.Ids) × (¬ IsTrue numbered)) ⊎ ((rule ≡ rules.Names) × IsTrue numbered × (¬ IsTrue whole))
 
 abbrev pub IsToldFor : File → (numbered whole : Bool) → Rule → Type 0
-IsToldFor file numbered whole rule = (shop : Shop) (tokens : List Token) (links : OfficeRows) → (IsTrue numbered ↔ AreBelowNext shop tokens) → (AreRowsOf file.state.lists links → IsTrue whole) → IsLeastIn shop tokens links file rule
+IsToldFor file numbered whole rule = (shop : ShopRow) (tokens : List Token) (links : OfficeRows) → (IsTrue numbered ↔ AreBelowNext shop tokens) → (AreRowsOf file.state.lists links → IsTrue whole) → IsLeastIn shop tokens links file rule
 
 beside_is : (file : File) (rule : Rule) (numbered whole : Bool) → KeepsFirst file → IsBeside numbered whole rule → IsToldFor file numbered whole rule
 beside_is file rule numbered whole first (inl (is, lost)) = λ shop tokens links is_numbered is_whole. subst (IsLeastIn shop tokens links file) (sym is) (least_tokens shop tokens links file first (λ k. lost (is_numbered.1 k)))

@@ -8,7 +8,7 @@ use Rattle.sqlite.specs.State.{State as Connected}
 use Rattle.bo_schema.specs.Tables.{schema}
 use Rattle.bo_lists.specs.Lists.{State}
 use Rattle.bo_lists.specs.CountRows.{quota_counts, voucher_counts}
-use Rattle.bo_columns.specs.declared.rows.Shop.{Shop}
+use Rattle.bo_columns.specs.declared.rows.ShopRow.{ShopRow}
 use Rattle.bo_columns.specs.declared.rows.VoucherRow.{VoucherRow}
 use Rattle.bo_columns.specs.Tables.{Tables, Holds}
 use Rattle.bo_stand.specs.Free.{IsFree}
@@ -62,7 +62,7 @@ stand_as t read file s is state of order whole counted =
     subst (λ z. Stand read.shop t z (map (λ r. r.kept) t.kept)) (sym (state ∙ ap (λ (f : File). f.state) is)) (stand_read t read of order whole (subst IsCounted is counted))
 
 -- of an open connection a crash leaves the last commit
-pub is_opened : (t : Tables) (head : Shop) (next : ℕ) (s : State) (old new : Connected) → ((db : Trees) → IsTrue new.is_open → new.may_leave db → db ≡ new.committed.trees) → IsTrue new.is_open → new.in_transaction ≡ false → StaysOpen old new
+pub is_opened : (t : Tables) (head : ShopRow) (next : ℕ) (s : State) (old new : Connected) → ((db : Trees) → IsTrue new.is_open → new.may_leave db → db ≡ new.committed.trees) → IsTrue new.is_open → new.in_transaction ≡ false → StaysOpen old new
     → (db : Database) → IsAt db old → db.schema ≡ schema → Holds db.trees t → Stand head t s (map (λ r. r.kept) t.kept) → ((u : Tables) → Holds db.trees u → IsFree next u) → IsTypedShop head t → IsOpened db.trees head next s new
 is_opened t head next s old new law opened outside stays db was has holds stand free typed =
     let at = stays.stays db was in

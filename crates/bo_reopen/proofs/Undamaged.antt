@@ -11,7 +11,7 @@ use Rattle.bo_lists.specs.CountRows.{quota_count, quota_counts, voucher_count, v
 use Rattle.bo_sound.specs.Sound.{IsSound}
 use Rattle.bo_kept.specs.declared.kept.Kept.{Kept}
 use Rattle.bo_kept.specs.ShopView.{IsSame}
-use Rattle.bo_columns.specs.declared.rows.Shop.{Shop}
+use Rattle.bo_columns.specs.declared.rows.ShopRow.{ShopRow}
 use Rattle.bo_columns.specs.declared.rows.Token.{Token}
 use Rattle.bo_columns.specs.Rows.{shop_row}
 use Rattle.bo_columns.specs.Tables.{Tables, Holds}
@@ -54,10 +54,10 @@ same_again a b h = record {
 }
 
 -- one row is one shop
-one_row : (rows : List Shop) (a b : Shop) → rows ≡ a ∷ [] → rows ≡ b ∷ [] → a ≡ b
+one_row : (rows : List ShopRow) (a b : ShopRow) → rows ≡ a ∷ [] → rows ≡ b ∷ [] → a ≡ b
 one_row rows a b h k = let is : a ∷ [] ≡ b ∷ [] = sym h ∙ k in cc
 
-module _ (head : Shop) (t : Tables) (s : State) (ks : List Kept) (stand : Stand head t s ks) where
+module _ (head : ShopRow) (t : Tables) (s : State) (ks : List Kept) (stand : Stand head t s ks) where
   module _ (read : FileTables) (of : IsFileOf t read) (order : IsInOrder (arranged read.shop read.tables)) where
     abbrev file : File
     file = arranged read.shop read.tables
@@ -73,8 +73,8 @@ module _ (head : Shop) (t : Tables) (s : State) (ks : List Kept) (stand : Stand 
 
     state_is : file.state ≡ s
     state_is =
-        let next = ap (λ (h : Shop). h.next) shop_is ∙ stand.next in
-        let moment = ap (λ (h : Shop). h.moment) shop_is ∙ stand.moment in
+        let next = ap (λ (h : ShopRow). h.next) shop_is ∙ stand.next in
+        let moment = ap (λ (h : ShopRow). h.moment) shop_is ∙ stand.moment in
         λ i. record { lists = lists_are i; next = next i; moment = moment i }
 
     used_is : file.used ≡ quota_counts s
@@ -92,10 +92,10 @@ module _ (head : Shop) (t : Tables) (s : State) (ks : List Kept) (stand : Stand 
 
     keeps : IsSlug head.organizer → IsSlug head.event → IsSound s → (rule : Rule) → Keeps rule file
     keeps organizer event sound rule =
-        keeps_all file rule (subst (λ (h : Shop). IsSlug h.organizer) (sym shop_is) organizer) (subst (λ (h : Shop). IsSlug h.event) (sym shop_is) event) (subst IsSound (sym state_is) sound) counted
+        keeps_all file rule (subst (λ (h : ShopRow). IsSlug h.organizer) (sym shop_is) organizer) (subst (λ (h : ShopRow). IsSlug h.event) (sym shop_is) event) (subst IsSound (sym state_is) sound) counted
 
     below : AreBelowNext head t.tokens → AreBelowNext read.shop read.tables.others.tokens.items
-    below numbered = subst (λ (h : Shop). AreBelowNext h read.tables.others.tokens.items) (sym shop_is) (all-permutation (λ (w : Token). w.id < head.next_token) t.tokens read.tables.others.tokens.items of.tables.others.tokens numbered)
+    below numbered = subst (λ (h : ShopRow). AreBelowNext h read.tables.others.tokens.items) (sym shop_is) (all-permutation (λ (w : Token). w.id < head.next_token) t.tokens read.tables.others.tokens.items of.tables.others.tokens numbered)
 
   -- trees that hold them break no rule
   pub undamaged : (db : Trees) → Holds db t → AreBelowNext head t.tokens → IsSlug head.organizer → IsSlug head.event → IsSound s → (rule : Rule) → ¬ IsDamagedBy rule db
@@ -106,7 +106,7 @@ module _ (head : Shop) (t : Tables) (s : State) (ks : List Kept) (stand : Stand 
       d.least.broken (kept_in d.read.shop d.read.tables.others.tokens.items rows (arranged d.read.shop d.read.tables) rule (below d.read of d.order numbered) whole (keeps d.read of d.order organizer event sound rule))
 
 -- what trees hold is one shop
-pub same_shop : (db : Trees) (t u : Tables) → Holds db t → Holds db u → (head shop : Shop) (s z : State) (ks js : List Kept) → Stand head t s ks → Stand shop u z js → (shop ≡ head) × IsSame (record { state = z; kept = js }) (record { state = s; kept = ks })
+pub same_shop : (db : Trees) (t u : Tables) → Holds db t → Holds db u → (head shop : ShopRow) (s z : State) (ks js : List Kept) → Stand head t s ks → Stand shop u z js → (shop ≡ head) × IsSame (record { state = z; kept = js }) (record { state = s; kept = ks })
 same_shop db t u h k head shop s z ks js stand other =
     let shops = alike shop_row shop_in shop_back u.shop t.shop _ k.0 h.0 in
     let one : IsPermutation (shop ∷ []) (head ∷ []) = subst (λ l. IsPermutation l (head ∷ [])) other.shop_is (subst (IsPermutation u.shop) stand.shop_is shops) in

@@ -5,7 +5,7 @@ use Rattle.sqlite.specs.Effect.{Database}
 use Rattle.sqlite.specs.State.{State as Connected}
 use Rattle.bo_schema.specs.Tables.{schema}
 use Rattle.bo_lists.specs.Lists.{State}
-use Rattle.bo_columns.specs.declared.rows.Shop.{Shop}
+use Rattle.bo_columns.specs.declared.rows.ShopRow.{ShopRow}
 use Rattle.bo_columns.specs.declared.rows.Token.{Token}
 use Rattle.bo_columns.specs.Tables.{Tables, Holds}
 use Rattle.bo_kept.specs.ShopView.{ShopView, IsSame}
@@ -29,13 +29,13 @@ use Rattle.bo_tables.specs.Shops.{HoldsWhileOpen, KnowsWhileOpen, Leaves}
 
 -- the rows keep the rule; to that of ids it belongs that each token's is below the next one, and to that of names that each member of a
 -- quota or a check-in list is of one that stands
-abbrev pub KeepsIn : Shop → List Token → OfficeRows → File → Rule → Type 0
+abbrev pub KeepsIn : ShopRow → List Token → OfficeRows → File → Rule → Type 0
 KeepsIn shop tokens rows file rules.Ids = AreBelowNext shop tokens × Keeps rules.Ids file
 KeepsIn shop tokens rows file rules.Names = AreRowsOf file.state.lists rows × Keeps rules.Names file
 KeepsIn shop tokens rows file rule = Keeps rule file
 
 -- all rules before it are kept, and it isn't
-pub record IsLeastIn (shop : Shop) (tokens : List Token) (rows : OfficeRows) (file : File) (rule : Rule) : Type 0 where
+pub record IsLeastIn (shop : ShopRow) (tokens : List Token) (rows : OfficeRows) (file : File) (rule : Rule) : Type 0 where
   pub before : (other : Rule) → number other < number rule → KeepsIn shop tokens rows file other
   pub broken : ¬ KeepsIn shop tokens rows file rule
 
@@ -80,7 +80,7 @@ IsReason db Store = Unit {0}
 -- The trees hold tables, whose shop's row is this one; they hold the office with all answers that stand in them. All values are what their
 -- types promise, the numbers of tokens are below the next one, and each token is known, in whatever order they are listed. And a crash leaves
 -- nothing else.
-pub record IsOpened (db : Trees) (head : Shop) (next : ℕ) (state : State) (new : Connected) : Type 0 where
+pub record IsOpened (db : Trees) (head : ShopRow) (next : ℕ) (state : State) (new : Connected) : Type 0 where
   pub tables : Tables
   pub held : Holds db tables
   pub stand : Stand head tables state (map (λ r. r.kept) tables.kept)

@@ -17,7 +17,7 @@ ghost use Rattle.bo_reopen.specs.Opened.{IsBroken, IsWhy};
 use crate::rows::{first_kept, free_number};
 use bo_base::Slug;
 use bo_checks::last_broken;
-use bo_columns::Shop;
+use bo_columns::ShopRow;
 use bo_fill::fill;
 use bo_opens::{FileTables, OpenError};
 use bo_rules::FileRows;
@@ -28,7 +28,7 @@ use std::alloc::Global;
 /// on, and a book with the rows of the box office.
 #[derive(Drop)]
 pub struct Reopened<B: Book + Drop> {
-    pub head: Shop,
+    pub head: ShopRow,
     pub organizer: Slug,
     pub event: Slug,
     pub next_row: u64,

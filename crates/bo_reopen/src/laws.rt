@@ -7,7 +7,7 @@ ghost use Rattle.bo_lists.specs.Lists.{State};
 ghost use Rattle.bo_sound.specs.Sound.{IsSound};
 ghost use Rattle.bo_kept.specs.declared.kept.Kept.{Kept};
 ghost use Rattle.bo_kept.specs.ShopView.{IsSame};
-ghost use Rattle.bo_columns.specs.declared.rows.Shop.{Shop};
+ghost use Rattle.bo_columns.specs.declared.rows.ShopRow.{ShopRow};
 ghost use Rattle.bo_rules.specs.declared.rule.Rule.{Rule};
 ghost use Rattle.bo_opens.specs.declared.error.OpenError.{OpenError};
 ghost use Rattle.bo_opens.specs.Rests.{IsAt};
@@ -21,10 +21,10 @@ use sqlite::{Alter, Connection};
 /// no rule, and it is refused for want of memory or because the store fails, and never with 60, 61 or 62. What it is opened as is that shop:
 /// its row, its box office and its answers.
 pub fn what_is_held_is_opened<S: Alter>(held: &Connection<S>, opened: &Connection<S>)
-    ensures shows { (head : Shop) (next : ℕ) (s : State) (ks : List Kept) → Keeps head next (state S.Store held.now) s ks → IsAt (state S.Store held.now).now (state S.Store held.now) × ((state S.Store held.now).now.schema ≡ schema) }
-    ensures whole { (head : Shop) (next : ℕ) (s : State) (ks : List Kept) → Keeps head next (state S.Store held.now) s ks → IsSound s → (rule : Rule) → ¬ IsDamagedBy rule (state S.Store held.now).now.trees }
-    ensures no_fault { (head : Shop) (next : ℕ) (s : State) (ks : List Kept) → Keeps head next (state S.Store held.now) s ks → IsSound s → (error : OpenError) → IsReason (state S.Store held.now).now error → IsOfMachine error }
-    ensures same { (head : Shop) (next : ℕ) (s : State) (ks : List Kept) → Keeps head next (state S.Store held.now) s ks → (shop : Shop) (number : ℕ) (z : State) (o : IsOpened (state S.Store held.now).now.trees shop number z (state S.Store opened.now))
+    ensures shows { (head : ShopRow) (next : ℕ) (s : State) (ks : List Kept) → Keeps head next (state S.Store held.now) s ks → IsAt (state S.Store held.now).now (state S.Store held.now) × ((state S.Store held.now).now.schema ≡ schema) }
+    ensures whole { (head : ShopRow) (next : ℕ) (s : State) (ks : List Kept) → Keeps head next (state S.Store held.now) s ks → IsSound s → (rule : Rule) → ¬ IsDamagedBy rule (state S.Store held.now).now.trees }
+    ensures no_fault { (head : ShopRow) (next : ℕ) (s : State) (ks : List Kept) → Keeps head next (state S.Store held.now) s ks → IsSound s → (error : OpenError) → IsReason (state S.Store held.now).now error → IsOfMachine error }
+    ensures same { (head : ShopRow) (next : ℕ) (s : State) (ks : List Kept) → Keeps head next (state S.Store held.now) s ks → (shop : ShopRow) (number : ℕ) (z : State) (o : IsOpened (state S.Store held.now).now.trees shop number z (state S.Store opened.now))
         → (shop ≡ head) × IsSame (record { state = z; kept = map (λ r. r.kept) o.tables.kept }) (record { state = s; kept = ks }) }
 {
     let _ = held;

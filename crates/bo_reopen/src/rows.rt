@@ -1,7 +1,7 @@
 //! The rows of a file, as those of a box office.
 
 ghost use Rattle.std.specs.Prelude.{◌≡◌, ◌⊎◌, ◌↔◌, List, IfOk, IfErr, IfSome, IfNone, OnOk, IsTrue};
-ghost use Rattle.bo_columns.specs.declared.rows.Shop.{Shop as Head};
+ghost use Rattle.bo_columns.specs.declared.rows.ShopRow.{ShopRow as Head};
 ghost use Rattle.bo_columns.specs.declared.rows.Token.{Token as TokenRow};
 ghost use Rattle.bo_columns.specs.Tables.{Tables};
 ghost use Rattle.bo_stand.specs.Free.{IsFree};
@@ -18,7 +18,7 @@ ghost use Rattle.bo_reopen.specs.Opened.{IsLeastIn, IsWhy};
 
 use bo_arrange::{ArrangeError, Arranged, arrange};
 use bo_checks::first_broken;
-use bo_columns::{Shop, Token};
+use bo_columns::{ShopRow, Token};
 use bo_opens::numbers::next_number;
 use bo_opens::{OpenError, TableRows};
 use bo_rules::{FileRows, Rule};
@@ -36,7 +36,7 @@ pub(crate) fn free_number(tables: &TableRows) -> Option<u64>
 }
 
 // Whether each token's number is below the next one.
-fn are_below(shop: &Shop, tokens: &[Token]) -> bool
+fn are_below(shop: &ShopRow, tokens: &[Token]) -> bool
     ensures { IsTrue result ↔ AreBelowNext shop.now tokens.now }
 {
     tokens.iter().all(|token| token.id < shop.next_token)
@@ -81,7 +81,7 @@ fn unarranged(error: ArrangeError) -> OpenError
 /// no member; 63.
 pub(crate) fn first_kept(
     alloc: Global,
-    shop: &Shop,
+    shop: &ShopRow,
     tables: TableRows,
 ) -> Result<FileRows, OpenError>
     ensures told { IfOk result (λ rows. file_of rows ≡ arranged shop.now tables) }

@@ -11,7 +11,7 @@ use Rattle.bo_schema.specs.Tables.{schema, shop_table}
 use Rattle.bo_schema.specs.Shapes.{insert_keyed, update_keyed, delete_keyed}
 use Rattle.bo_schema.proofs.Generic.{IsPlainTable}
 use Rattle.bo_schema.proofs.Casts.{cast_null, cast_int}
-use Rattle.bo_columns.specs.declared.rows.Shop.{Shop}
+use Rattle.bo_columns.specs.declared.rows.ShopRow.{ShopRow}
 use Rattle.bo_columns.specs.Cells.{number}
 use Rattle.bo_columns.specs.Rows.{shop_row}
 use Rattle.bo_columns.specs.Changes.{IsInside, Changes, with_shop, without_shop}
@@ -42,23 +42,23 @@ table_is : IsPlainTable schema 0 shop_table
 table_is = record { placed = refl; uncounted = refl; unstamped = refl; restricts = refl }
 
 -- the row as it is stored
-abbrev stored : Shop → Row
+abbrev stored : ShopRow → Row
 stored w = number 1 ∷ Null ∷ number w.version ∷ Text w.organizer ∷ Text w.event ∷ number w.moment ∷ number w.next.item ∷ number w.next.variation ∷ number w.next.quota ∷ number w.next.voucher ∷ number w.next.cart ∷ number w.next.order ∷ number w.next.position ∷ number w.next.waiting ∷ number w.next.list ∷ number w.next.checkin ∷ number w.next_token ∷ []
 
-casts : (w : Shop) → cast_row shop_table (stored w) ≡ stored w
+casts : (w : ShopRow) → cast_row shop_table (stored w) ≡ stored w
 casts w = simp (cast_int, cast_null)
 
 module _ (old new : State) (at : IsInside old) (limit : new.step_limit ≡ old.step_limit) where
-  pub adds : (w : Shop) (count : ℕ) → Executes insert_text (shop_row w) old new (Ok count) → Changes (with_shop w) old new
+  pub adds : (w : ShopRow) (count : ℕ) → Executes insert_text (shop_row w) old new (Ok count) → Changes (with_shop w) old new
   adds w count h =
       adds_row 0 shop_table table_is insert_text insert_is.1 old new at limit _ 17 insert_is.0 (shop_row w) (stored w) refl (pos 1) _ (casts w) (shop_row w) refl (with_shop w) (λ t. refl) (λ t. refl) count h
 
-  pub puts : (w : Shop) (count : ℕ) → count ≡ 1 → Executes update_text (shop_row w) old new (Ok count) → Changes (λ t. with_shop w (without_shop 1 t)) old new
+  pub puts : (w : ShopRow) (count : ℕ) → count ≡ 1 → Executes update_text (shop_row w) old new (Ok count) → Changes (λ t. with_shop w (without_shop 1 t)) old new
   puts w count one h =
       puts_row 0 shop_table table_is update_text update_is.1 old new at limit shop_row (λ w. 1) (λ w. refl) (λ t. t.shop) (λ t h. h.0) (λ t. refl) _ update_is.0
       w _ refl _ _ (λ r. refl) (casts w) refl (subst (λ n. Executes update_text (shop_row w) old new (Ok n)) one h) (λ t. with_shop w (without_shop 1 t)) (λ t e. rw e)
 
-  pub misses : (w : Shop) (count : ℕ) → count ≡ 0 → Executes update_text (shop_row w) old new (Ok count) → Changes (without_shop 1) old new
+  pub misses : (w : ShopRow) (count : ℕ) → count ≡ 0 → Executes update_text (shop_row w) old new (Ok count) → Changes (without_shop 1) old new
   misses w count none h =
       misses_row 0 shop_table table_is update_text update_is.1 old new at limit shop_row (λ w. 1) (λ w. refl) (λ t. t.shop) (λ t h. h.0) (λ t. refl) _ update_is.0
       1 _ (subst (λ n. Executes update_text (shop_row w) old new (Ok n)) none h) (without_shop 1) (λ t e. rw e)

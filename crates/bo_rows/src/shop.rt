@@ -4,11 +4,11 @@ ghost use Rattle.bo_columns.specs.Rows.{shop_row};
 ghost use Rattle.bo_columns.specs.Changes.{with_shop, without_shop};
 
 use crate::stored::Stored;
-use bo_columns::{Column, Shop};
+use bo_columns::{Column, ShopRow};
 use bo_schema::{RowError, run};
 use sqlite::{Alter, Transaction};
 
-impl Stored for Shop {
+impl Stored for ShopRow {
     ghost key = { λ r. 1 };
 
     ghost as_row = { shop_row };

@@ -17,7 +17,7 @@ use Rattle.bo_lists.specs.Lists.{Lists, State}
 use Rattle.bo_kept.specs.declared.kept.Kept.{Kept}
 use Rattle.bo_kept.specs.KeptAnswers.{lasts}
 use Rattle.bo_kept.specs.ShopView.{listed, with_kept}
-use Rattle.bo_columns.specs.declared.rows.Shop.{Shop}
+use Rattle.bo_columns.specs.declared.rows.ShopRow.{ShopRow}
 use Rattle.bo_columns.specs.declared.rows.KeptRow.{KeptRow}
 use Rattle.bo_columns.specs.declared.rows.VoucherRow.{VoucherRow}
 use Rattle.bo_columns.specs.Tables.{Tables}
@@ -190,7 +190,7 @@ past_twice at ks more =
 
 -- ---- the whole commit
 
-none_left : (rows : List Shop) → filter (λ r. not (1 == 1)) rows ≡ []
+none_left : (rows : List ShopRow) → filter (λ r. not (1 == 1)) rows ≡ []
 none_left [] = refl
 none_left (r ∷ rows) = none_left rows
 
@@ -202,7 +202,7 @@ pub all_but_kept : (at rowid : ℕ) (ks : List Kept) (t : Tables) → without_pa
 all_but_kept at rowid [] t = refl
 all_but_kept at rowid (k ∷ ks) t = refl
 
-module _ (old shop : Shop) (changes : Changed) (counts : CountRows) (from at : ℕ) (o : Option (Bor Kept)) (moment : shop.moment ≡ at) (number : shop.next ≡ changes.next) (rising : AllByRecursion IsRising changes.list) (first : puts_come_first false changes.list ≡ true) (t : Tables) (s : State) (ks : List Kept)
+module _ (old shop : ShopRow) (changes : Changed) (counts : CountRows) (from at : ℕ) (o : Option (Bor Kept)) (moment : shop.moment ≡ at) (number : shop.next ≡ changes.next) (rising : AllByRecursion IsRising changes.list) (first : puts_come_first false changes.list ≡ true) (t : Tables) (s : State) (ks : List Kept)
     (right : counts ≡ counts_after s (applied changes at s)) (h : Stand old t s ks) (free : IsFree from t) where
   abbrev start : Tables
   start = put_shop shop t
@@ -283,7 +283,7 @@ module _ (old shop : Shop) (changes : Changed) (counts : CountRows) (from at : �
       ap (λ (u : Tables). u.shop) end_is
       ∙ ap (λ (u : Tables). u.shop) full_is
       ∙ as_was.shop
-      ∙ ap (λ (l : List Shop). shop ∷ l) (none_left t.shop)
+      ∙ ap (λ (l : List ShopRow). shop ∷ l) (none_left t.shop)
 
   -- the changes, the counts that differ and the answer, all at the moment, and what is past is gone
   pub carried : Stand shop end after (with_kept at ks (listed o))
@@ -315,18 +315,18 @@ free_listed n (k ∷ ks) t h = record {
   kept = below_new n _ h.kept;
 }
 
-pub free_shop : (shop : Shop) (n : ℕ) (t : Tables) → IsFree n t → IsFree n (put_shop shop t)
+pub free_shop : (shop : ShopRow) (n : ℕ) (t : Tables) → IsFree n t → IsFree n (put_shop shop t)
 free_shop shop n t h = record { quota_items = h.quota_items; quota_variations = h.quota_variations; list_items = h.list_items; kept = h.kept }
 
 pub free_made : (changes : List Change) (from : ℕ) (t : Tables) → IsFree from t → IsFree (next_after changes from) (made changes from t)
 free_made changes from t h = still_free changes from (next_after changes from) t (made changes from t) (all_turned changes from t h) h
 
-pub free_done : (shop : Shop) (changes : List Change) (counts : CountRows) (from : ℕ) (ks : List Kept) (at : ℕ) (t : Tables) → IsFree from t → IsFree (next_after changes from + 1) (done shop changes counts from ks at t)
+pub free_done : (shop : ShopRow) (changes : List Change) (counts : CountRows) (from : ℕ) (ks : List Kept) (at : ℕ) (t : Tables) → IsFree from t → IsFree (next_after changes from + 1) (done shop changes counts from ks at t)
 free_done shop changes counts from ks at t h =
     free_past at _ _ (free_listed (next_after changes from) ks _ (free_past at _ _ (free_counted counts _ _ (free_made changes from (put_shop shop t) (free_shop shop from t h)))))
 
 -- a commit leaves the tokens as they are
-pub tokens_stay : (shop : Shop) (changes : List Change) (counts : CountRows) (from at : ℕ) (ks : List Kept) (t : Tables) → IsFree from t → (done shop changes counts from ks at t).tokens ≡ t.tokens
+pub tokens_stay : (shop : ShopRow) (changes : List Change) (counts : CountRows) (from at : ℕ) (ks : List Kept) (t : Tables) → IsFree from t → (done shop changes counts from ks at t).tokens ≡ t.tokens
 tokens_stay shop changes counts from at ks t h =
     let full = counted counts (made changes from (put_shop shop t)) in
     ap (λ (u : Tables). u.tokens) (all_but_kept at (next_after changes from) ks full)

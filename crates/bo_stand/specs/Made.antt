@@ -10,7 +10,7 @@ use Rattle.bo_lists.specs.declared.changes.Change.TheVariants.{PutItem, PutVaria
 use Rattle.bo_lists.specs.CountRows.{CountRows}
 use Rattle.bo_kept.specs.declared.kept.Kept.{Kept}
 use Rattle.bo_kept.specs.KeptAnswers.{lasts}
-use Rattle.bo_columns.specs.declared.rows.Shop.{Shop}
+use Rattle.bo_columns.specs.declared.rows.ShopRow.{ShopRow}
 use Rattle.bo_columns.specs.Changes.{with_shop, without_shop, with_item, without_item, with_variation, without_variation, with_quota, without_quota, with_cart, without_cart, with_order, without_order, with_position, without_position, with_waiting, without_waiting, with_list, without_list, with_checkin, without_checkin, with_count, without_count, with_kept}
 use Rattle.bo_columns.specs.Tables.{Tables}
 use Rattle.bo_stand.specs.Rows.{redeemed_in}
@@ -88,7 +88,7 @@ next_after (change ∷ changes) from = next_after changes (next_by change from)
 
 -- ---- the rest of a commit
 
-abbrev pub put_shop : Shop → Tables → Tables
+abbrev pub put_shop : ShopRow → Tables → Tables
 put_shop w t = with_shop w (without_shop 1 t)
 
 abbrev pub put_count : QuotaCount → Tables → Tables
@@ -110,5 +110,5 @@ abbrev pub without_past : ℕ → Tables → Tables
 without_past at t = record t { kept = filter (λ r. lasts at r.kept.at) t.kept }
 
 -- what a commit makes of the tables
-abbrev pub done : Shop → List Change → CountRows → ℕ → List Kept → ℕ → Tables → Tables
+abbrev pub done : ShopRow → List Change → CountRows → ℕ → List Kept → ℕ → Tables → Tables
 done shop changes counts from kept at t = without_past at (with_listed (next_after changes from) kept (without_past at (counted counts (made changes from (put_shop shop t)))))

@@ -11,7 +11,7 @@ use Rattle.bo_lists.specs.Lists.{Lists, State}
 use Rattle.bo_sound.specs.Ids.{EachTable}
 use Rattle.bo_stand.specs.Links.{all_links}
 use Rattle.bo_columns.specs.Changes.{head_of_quota, head_of_list}
-use Rattle.bo_columns.specs.declared.rows.Shop.{Shop}
+use Rattle.bo_columns.specs.declared.rows.ShopRow.{ShopRow}
 use Rattle.bo_columns.specs.Tables.{Tables}
 use Rattle.bo_kept.specs.declared.kept.Kept.{Kept}
 use Rattle.bo_stand.specs.Rows.{OfficeRows, rows_of, redeemed_in}
@@ -101,7 +101,7 @@ IsRising _ = Unit {0}
 
 -- the tables hold this box office, these counts of it and these answers, and the shop's row is this one with the office's moment
 -- and next ids; tokens are as they were left
-pub record Stand (shop : Shop) (t : Tables) (state : State) (answers : List Kept) : Type 0 where
+pub record Stand (shop : ShopRow) (t : Tables) (state : State) (answers : List Kept) : Type 0 where
   pub shop_is : t.shop ≡ shop ∷ []
   pub moment : shop.moment ≡ state.moment
   pub next : shop.next ≡ state.next

@@ -8,7 +8,7 @@ ghost use Rattle.bo_lists.specs.CountRows.{CountRows, counts_after};
 ghost use Rattle.bo_lists.specs.Lists.{Lists, State};
 ghost use Rattle.bo_kept.specs.declared.kept.Kept.{Kept};
 ghost use Rattle.bo_kept.specs.ShopView.{listed, with_kept};
-ghost use Rattle.bo_columns.specs.declared.rows.Shop.{Shop};
+ghost use Rattle.bo_columns.specs.declared.rows.ShopRow.{ShopRow};
 ghost use Rattle.bo_columns.specs.Tables.{Tables};
 ghost use Rattle.bo_stand.specs.Free.{IsFree};
 ghost use Rattle.bo_stand.specs.Lawful.{puts_come_first};
@@ -25,13 +25,13 @@ pub fn rows_tell_one_office()
 /// commit makes of the tables holds the office after its changes, at the moment of the shop's new row, with the answer that is
 /// kept, and without those that are past. The changes have to be such as a file takes.
 pub fn a_commit_carries()
-    ensures { (old shop : Shop) (changes : Changed) (counts : CountRows) (from : ℕ) (answer : Option (Bor Kept)) (t : Tables) (state : State) (answers : List Kept) → shop.next ≡ changes.next →
+    ensures { (old shop : ShopRow) (changes : Changed) (counts : CountRows) (from : ℕ) (answer : Option (Bor Kept)) (t : Tables) (state : State) (answers : List Kept) → shop.next ≡ changes.next →
         AllByRecursion IsRising changes.list → puts_come_first false changes.list ≡ true → counts ≡ counts_after state (applied changes shop.moment state) → Stand old t state answers → IsFree from t →
         Stand shop (done shop changes.list counts from (listed answer) shop.moment t) (applied changes shop.moment state) (with_kept shop.moment answers (listed answer)) }
 {}
 
 /// After a commit the row number that follows on those that it gave is free.
 pub fn row_numbers_stay_free()
-    ensures { (shop : Shop) (changes : Changed) (counts : CountRows) (from at : ℕ) (answers : List Kept) (t : Tables) → IsFree from t →
+    ensures { (shop : ShopRow) (changes : Changed) (counts : CountRows) (from at : ℕ) (answers : List Kept) (t : Tables) → IsFree from t →
         IsFree (next_after changes.list from + 1) (done shop changes.list counts from answers at t) }
 {}

@@ -12,7 +12,7 @@ use Rattle.bo_lists.specs.Lists.{State}
 use Rattle.bo_lists.specs.declared.rows.NextIds.{NextIds}
 use Rattle.bo_kept.specs.declared.kept.Kept.{Kept}
 use Rattle.bo_kept.specs.ShopView.{ShopView, IsSame, listed, with_kept, committed}
-use Rattle.bo_columns.specs.declared.rows.Shop.{Shop}
+use Rattle.bo_columns.specs.declared.rows.ShopRow.{ShopRow}
 use Rattle.bo_columns.specs.declared.rows.Token.{Token}
 use Rattle.bo_columns.specs.Tables.{Tables, Holds}
 use Rattle.bo_stand.specs.Lawful.{puts_come_first}
@@ -28,7 +28,7 @@ use Rattle.bo_tables.specs.Shops.{Keeps, HoldsWhileOpen, Knows, KnowsWhileOpen, 
 
 -- ---- nothing changed
 
-pub still_holds : (head : Shop) (next : ℕ) (old new : Connected) (s : State) (ks : List Kept) → IsStill old new → HoldsWhileOpen head next old s ks → HoldsWhileOpen head next new s ks
+pub still_holds : (head : ShopRow) (next : ℕ) (old new : Connected) (s : State) (ks : List Kept) → IsStill old new → HoldsWhileOpen head next old s ks → HoldsWhileOpen head next new s ks
 still_holds head next old new s ks still holds is_open =
     let was = still.same is_open in
     let it = holds was.was_open in
@@ -56,16 +56,16 @@ leaves_still old new h left l =
       | inr none ↦ absurd none
     ]
 
-pub keeps_answers : (head : Shop) (next : ℕ) (c : Connected) (s : State) (ks : List Kept) → Keeps head next c s ks → KeepsAnswers c.now ks
+pub keeps_answers : (head : ShopRow) (next : ℕ) (c : Connected) (s : State) (ks : List Kept) → Keeps head next c s ks → KeepsAnswers c.now ks
 keeps_answers head next c s ks it = record { known = it.known; tables = it.tables; held = it.held; kept = it.stand.kept }
 
 -- ---- a commit
 
 -- the shop's row at another moment, with other next ids
-pub moved_on : (head : Shop) (at : ℕ) (next : NextIds) → IsSameShop head (record head { moment = at; next = next })
+pub moved_on : (head : ShopRow) (at : ℕ) (next : NextIds) → IsSameShop head (record head { moment = at; next = next })
 moved_on head at next = record { version = refl; organizer = refl; event = refl; token = refl }
 
-module _ (head shop : Shop) (changes : Changed) (counts : CountRows) (from : ℕ) (o : Option (Bor Kept)) (number : shop.next ≡ changes.next) (rising : AllByRecursion IsRising changes.list) (first : puts_come_first false changes.list ≡ true)
+module _ (head shop : ShopRow) (changes : Changed) (counts : CountRows) (from : ℕ) (o : Option (Bor Kept)) (number : shop.next ≡ changes.next) (rising : AllByRecursion IsRising changes.list) (first : puts_come_first false changes.list ≡ true)
     (same : IsSameShop head shop) (of_changes : AllByRecursion IsTypedChange changes.list) (of_kept : AllByRecursion IsTypedKept (listed o)) (old new : Connected) where
   abbrev change : Tables → Tables
   change = done shop changes.list counts from (listed o) shop.moment

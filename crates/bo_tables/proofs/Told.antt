@@ -7,7 +7,7 @@ use Rattle.sqlite.proofs.Callers.{one_permutation}
 use Rattle.bo_lists.specs.Lists.{State}
 use Rattle.bo_kept.specs.declared.kept.Kept.{Kept}
 use Rattle.bo_kept.specs.ShopView.{ShopView, IsSame}
-use Rattle.bo_columns.specs.declared.rows.Shop.{Shop}
+use Rattle.bo_columns.specs.declared.rows.ShopRow.{ShopRow}
 use Rattle.bo_columns.specs.Rows.{shop_row, item_row, variation_row, quota_row, quota_item_row, quota_variation_row, voucher_row, cart_row, order_row, position_row, waiting_row, list_row, list_item_row, checkin_row, kept_row}
 use Rattle.bo_columns.specs.Tables.{Tables, Holds}
 use Rattle.bo_loads.proofs.Back.{alike, shop_in, shop_back, item_in, item_back, variation_in, variation_back, quota_in, quota_back, quota_item_in, quota_item_back, quota_variation_in, quota_variation_back, voucher_in, voucher_back, cart_in, cart_back, order_in, order_back, position_in, position_back, waiting_in, waiting_back, list_in, list_back, list_item_in, list_item_back, checkin_in, checkin_back, kept_in, kept_back}
@@ -39,7 +39,7 @@ module _ (db : Trees) (t u : Tables) (h : Holds db t) (k : Holds db u) where
   same_answers : IsPermutation (map (λ r. r.kept) t.kept) (map (λ r. r.kept) u.kept)
   same_answers = IsPermutation-map (λ r. r.kept) t.kept u.kept (alike kept_row kept_in kept_back t.kept u.kept _ h.1.1.1.1.1.1.1.1.1.1.1.1.1.1.1.1.0 k.1.1.1.1.1.1.1.1.1.1.1.1.1.1.1.1.0)
 
-  module _ (a b : Shop) (x y : State) (ks js : List Kept) (s : Stand a t x ks) (r : Stand b u y js) where
+  module _ (a b : ShopRow) (x y : State) (ks js : List Kept) (s : Stand a t x ks) (r : Stand b u y js) where
     same_head : a ≡ b
     same_head =
         let one : IsPermutation (a ∷ []) (b ∷ []) = subst (λ l. IsPermutation l (b ∷ [])) s.shop_is (subst (IsPermutation t.shop) r.shop_is same_shops) in
@@ -49,8 +49,8 @@ module _ (db : Trees) (t u : Tables) (h : Holds db t) (k : Holds db u) where
     pub one_shop : IsSame (record { state = x; kept = ks }) (record { state = y; kept = js })
     one_shop =
         let lists = tell_one x.lists y.lists (rows_of t) (rows_of u) s.ordered r.ordered s.rows r.rows same_office in
-        let moment : x.moment ≡ y.moment = sym s.moment ∙ ap (λ (h : Shop). h.moment) same_head ∙ r.moment in
-        let next : x.next ≡ y.next = sym s.next ∙ ap (λ (h : Shop). h.next) same_head ∙ r.next in
+        let moment : x.moment ≡ y.moment = sym s.moment ∙ ap (λ (h : ShopRow). h.moment) same_head ∙ r.moment in
+        let next : x.next ≡ y.next = sym s.next ∙ ap (λ (h : ShopRow). h.next) same_head ∙ r.next in
         record {
           state = rw (lists, next, moment);
           kept = IsPermutation-trans ks _ js (IsPermutation-sym _ ks s.kept) (IsPermutation-trans _ _ js same_answers r.kept);

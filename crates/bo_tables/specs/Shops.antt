@@ -8,7 +8,7 @@ use Rattle.bo_schema.specs.Tables.{schema}
 use Rattle.bo_lists.specs.Lists.{State}
 use Rattle.bo_kept.specs.declared.kept.Kept.{Kept}
 use Rattle.bo_kept.specs.ShopView.{ShopView, IsSame}
-use Rattle.bo_columns.specs.declared.rows.Shop.{Shop}
+use Rattle.bo_columns.specs.declared.rows.ShopRow.{ShopRow}
 use Rattle.bo_columns.specs.Tables.{Tables, Holds}
 use Rattle.bo_stand.specs.Free.{IsFree}
 use Rattle.bo_stand.specs.Stands.{Stand}
@@ -18,7 +18,7 @@ use Rattle.bo_tables.specs.Held.{KnowsTokens}
 -- the connection shows what was committed, outside a transaction; it has a shop's tables, which hold this office and these
 -- answers, and this is the shop's row; all values are what their types promise, and each token's number is below the next one;
 -- and rows without an id of their own may be numbered from here on
-pub record Keeps (head : Shop) (next : ℕ) (c : Connected) (s : State) (answers : List Kept) : Type 0 where
+pub record Keeps (head : ShopRow) (next : ℕ) (c : Connected) (s : State) (answers : List Kept) : Type 0 where
   pub known : c.now.schema ≡ schema
   pub outside : c.in_transaction ≡ false
   pub settled : c.now ≡ c.committed
@@ -29,7 +29,7 @@ pub record Keeps (head : Shop) (next : ℕ) (c : Connected) (s : State) (answers
   pub free : IsFree next tables
 
 -- so it is while the connection is open
-abbrev pub HoldsWhileOpen : Shop → ℕ → Connected → State → List Kept → Type 0
+abbrev pub HoldsWhileOpen : ShopRow → ℕ → Connected → State → List Kept → Type 0
 HoldsWhileOpen head next c s answers = IsTrue c.is_open → Keeps head next c s answers
 
 -- it knows these tokens, and rows may be numbered from here on
@@ -42,7 +42,7 @@ KnowsWhileOpen next c tokens = IsTrue c.is_open → Knows next c.now tokens
 
 -- whatever shop these trees hold, with values that are what their types promise, is this one
 abbrev pub HoldNoOther : Trees → ShopView → Type 0
-HoldNoOther trees left = (head : Shop) (tables : Tables) (it : ShopView) → Holds trees tables → Stand head tables it.state it.kept → IsTypedShop head tables → IsSame left it
+HoldNoOther trees left = (head : ShopRow) (tables : Tables) (it : ShopView) → Holds trees tables → Stand head tables it.state it.kept → IsTypedShop head tables → IsSame left it
 
 -- The disk has returned what was written, and a crash may leave trees that hold no other shop than this. Of trees that hold none so it is
 -- with each shop: where all that a crash may leave are some shops, it leaves one of them, and nothing else.
@@ -53,7 +53,7 @@ pub record Leaves (c : Connected) (left : ShopView) : Type 0 where
   pub only : HoldNoOther trees left
 
 -- the order of the answers doesn't matter
-pub reordered : (head : Shop) (next : ℕ) (c : Connected) (s : State) (ks js : List Kept) → HoldsWhileOpen head next c s ks → IsPermutation ks js → HoldsWhileOpen head next c s js
+pub reordered : (head : ShopRow) (next : ℕ) (c : Connected) (s : State) (ks js : List Kept) → HoldsWhileOpen head next c s ks → IsPermutation ks js → HoldsWhileOpen head next c s js
 reordered head next c s ks js held more is_open =
     let it = held is_open in
     let st = it.stand in

@@ -7,7 +7,7 @@ ghost use Rattle.bo_stand.specs.Made.{done, next_after};
 ghost use Rattle.bo_tables.specs.Committed.{Turns};
 
 use bo_base::Moment;
-use bo_columns::Shop;
+use bo_columns::ShopRow;
 use bo_kept::Kept;
 use bo_lists::{Change, CountRows};
 use bo_schema::RowError;
@@ -19,7 +19,7 @@ use sqlite::{Alter, Transaction};
 /// without an id of their own are numbered on from a number.
 #[derive(Drop)]
 pub(crate) struct Commit<'a> {
-    pub(crate) shop: &'a Shop,
+    pub(crate) shop: &'a ShopRow,
     pub(crate) changes: &'a [Change],
     pub(crate) counts: &'a CountRows,
     pub(crate) from: u64,

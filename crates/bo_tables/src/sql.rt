@@ -13,7 +13,7 @@ use crate::answers::find_answer;
 use crate::committing::Commit;
 use crate::tokens::find_number;
 use bo_base::{Moment, Response};
-use bo_columns::Shop;
+use bo_columns::ShopRow;
 use bo_kept::{Kept, Tables, TablesError};
 use bo_lists::{Changes, CountRows};
 use bo_schema::RowError;
@@ -29,13 +29,13 @@ use std::alloc::Global;
 pub struct SqlTables<S: Alter> {
     pub alloc: Global,
     pub connection: Connection<S>,
-    pub head: Shop,
+    pub head: ShopRow,
     pub next_row: u64,
 }
 
 impl<S: Alter> SqlTables<S> {
     /// The tables of a connection to a shop's file, whose shop's row was read, and the number that its next row may have.
-    pub fn over(alloc: Global, connection: Connection<S>, head: Shop, next_row: u64) -> Self
+    pub fn over(alloc: Global, connection: Connection<S>, head: ShopRow, next_row: u64) -> Self
         ensures connection { result.connection ≡ connection }
         ensures head { result.head ≡ head }
         ensures next_row { result.next_row ≡ next_row }

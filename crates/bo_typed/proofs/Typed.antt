@@ -20,7 +20,7 @@ use Rattle.bo_lists.specs.CountRows.{CountRows}
 use Rattle.bo_kept.specs.declared.kept.Kept.{Kept}
 use Rattle.bo_kept.specs.KeptAnswers.{lasts}
 use Rattle.bo_sound.specs.Range.{IsNextId}
-use Rattle.bo_columns.specs.declared.rows.Shop.{Shop}
+use Rattle.bo_columns.specs.declared.rows.ShopRow.{ShopRow}
 use Rattle.bo_columns.specs.declared.rows.QuotaRow.{QuotaRow}
 use Rattle.bo_columns.specs.declared.rows.VoucherRow.{VoucherRow}
 use Rattle.bo_columns.specs.declared.rows.ListRow.{ListRow}
@@ -103,7 +103,7 @@ past_typed at t h = set_kept h (All-filter (λ (r : KeptRow). lasts at r.kept.at
 
 -- ---- a commit
 
-module _ (old shop : Shop) (changes : List Change) (counts : CountRows) (from : ℕ) (ks : List Kept) (at : ℕ) (t : Tables) (same : IsSameShop old shop) (of_changes : AllByRecursion IsTypedChange changes) (of_kept : AllByRecursion IsTypedKept ks) where
+module _ (old shop : ShopRow) (changes : List Change) (counts : CountRows) (from : ℕ) (ks : List Kept) (at : ℕ) (t : Tables) (same : IsSameShop old shop) (of_changes : AllByRecursion IsTypedChange changes) (of_kept : AllByRecursion IsTypedKept ks) where
   done_typed : AreTyped t → AreTyped (done shop changes counts from ks at t)
   done_typed h =
       let start = put_shop shop t in
@@ -125,7 +125,7 @@ module _ (old shop : Shop) (changes : List Change) (counts : CountRows) (from : 
 
 -- ---- a shop that begins, and a token
 
-pub first_typed : (shop : Shop) → shop.version ≡ 1 → IsSlug shop.organizer → IsSlug shop.event → IsNextId last_id shop.next_token → IsTypedShop shop (with_shop shop no_rows)
+pub first_typed : (shop : ShopRow) → shop.version ≡ 1 → IsSlug shop.organizer → IsSlug shop.event → IsNextId last_id shop.next_token → IsTypedShop shop (with_shop shop no_rows)
 first_typed shop first organizer event token = record {
   first = first;
   organizer = organizer;
@@ -152,8 +152,8 @@ below_more : (n : ℕ) (tokens : List Token) → AllByRecursion (λ (w : Token).
 below_more n [] h = tt
 below_more n (w ∷ tokens) h = (omega (arith, h.0), below_more n tokens h.1)
 
-module _ (head : Shop) (digest : List ℕ) (t : Tables) where
-  abbrev raised : Shop
+module _ (head : ShopRow) (digest : List ℕ) (t : Tables) where
+  abbrev raised : ShopRow
   raised = record head { next_token = head.next_token + 1 }
 
   abbrev token : Token

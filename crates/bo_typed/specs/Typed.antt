@@ -18,7 +18,7 @@ use Rattle.bo_lists.specs.declared.rows.Waiting.{Waiting}
 use Rattle.bo_lists.specs.declared.rows.Checkin.{Checkin}
 use Rattle.bo_kept.specs.declared.kept.Kept.{Kept}
 use Rattle.bo_sound.specs.Range.{IsNextId}
-use Rattle.bo_columns.specs.declared.rows.Shop.{Shop}
+use Rattle.bo_columns.specs.declared.rows.ShopRow.{ShopRow}
 use Rattle.bo_columns.specs.declared.rows.Token.{Token}
 use Rattle.bo_columns.specs.Fit.{IsStatus, IsFitToken, IsFitKept}
 use Rattle.bo_columns.specs.Tables.{Tables}
@@ -102,11 +102,11 @@ AreTyped t =
     (All IsFitKept t.kept)
 
 -- each token's number is below the next one
-abbrev pub AreBelowNext : Shop → List Token → Type 0
+abbrev pub AreBelowNext : ShopRow → List Token → Type 0
 AreBelowNext shop tokens = AllByRecursion (λ w. w.id < shop.next_token) tokens
 
 -- so it is of a shop's row, which is of version 1, and of the rows of its tables
-pub record IsTypedShop (head : Shop) (tables : Tables) : Type 0 where
+pub record IsTypedShop (head : ShopRow) (tables : Tables) : Type 0 where
   pub first : head.version ≡ 1
   pub organizer : IsSlug head.organizer
   pub event : IsSlug head.event
@@ -115,7 +115,7 @@ pub record IsTypedShop (head : Shop) (tables : Tables) : Type 0 where
   pub rows : AreTyped tables
 
 -- the shop's row but for its moment and the next ids of its office
-pub record IsSameShop (old new : Shop) : Type 0 where
+pub record IsSameShop (old new : ShopRow) : Type 0 where
   pub version : new.version ≡ old.version
   pub organizer : new.organizer ≡ old.organizer
   pub event : new.event ≡ old.event

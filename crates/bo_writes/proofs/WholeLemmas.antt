@@ -4,7 +4,7 @@ use Rattle.sqlite.specs.State.{State}
 use Rattle.bo_lists.specs.declared.changes.Change.{Change}
 use Rattle.bo_lists.specs.CountRows.{CountRows}
 use Rattle.bo_kept.specs.declared.kept.Kept.{Kept}
-use Rattle.bo_columns.specs.declared.rows.Shop.{Shop}
+use Rattle.bo_columns.specs.declared.rows.ShopRow.{ShopRow}
 use Rattle.bo_columns.specs.Tables.{Tables, Holds}
 use Rattle.bo_columns.specs.Changes.{Changes, ChangesFit}
 use Rattle.bo_stand.specs.Free.{IsFree}
@@ -27,7 +27,7 @@ same_next (change ∷ changes) from = same_next changes (next_by change from)
 
 -- ---- the whole
 
-pub all_written : (shop : Shop) (changes : List Change) (counts : CountRows) (from number at : ℕ) (ks : List Kept) (s0 s2 s3 s4 s5 : State) → number ≡ next_after changes from → Changes (put_shop shop) s0 s2
+pub all_written : (shop : ShopRow) (changes : List Change) (counts : CountRows) (from number at : ℕ) (ks : List Kept) (s0 s2 s3 s4 s5 : State) → number ≡ next_after changes from → Changes (put_shop shop) s0 s2
     → ChangesFit (IsFree from) (each_change changes from) s2 s3 → ChangesFit (IsFree number) (counted counts) s3 s4
     → ChangesFit (IsFree number) (λ t. without_past at (with_listed number ks (without_past at t))) s4 s5 → ChangesFit (IsFree from) (done shop changes counts from ks at) s0 s5
 all_written shop changes counts from number at ks s0 s2 s3 s4 s5 is a b c d = record {

@@ -12,7 +12,7 @@ use crate::answers::write_answer;
 use crate::counts::write_counts;
 use crate::writable::write_each;
 use bo_base::Moment;
-use bo_columns::Shop;
+use bo_columns::ShopRow;
 use bo_kept::Kept;
 use bo_lists::{Change, CountRows};
 use bo_schema::RowError;
@@ -23,7 +23,7 @@ use sqlite::{Alter, Transaction};
 /// number that is free. Gives the number that is free afterwards. Refusals: 6, 60 where the file has no such table, 63.
 pub fn write_all<S: Alter>(
     tx: &mut Transaction<'_, S>,
-    shop: &Shop,
+    shop: &ShopRow,
     changes: &[Change],
     counts: &CountRows,
     from: u64,

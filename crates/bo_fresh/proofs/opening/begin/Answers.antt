@@ -1,12 +1,12 @@
 use Rattle.std.proofs.Common.{ap, ◌∙◌}
-use Rattle.bo_columns.specs.declared.rows.Shop.{Shop}
+use Rattle.bo_columns.specs.declared.rows.ShopRow.{ShopRow}
 use Rattle.bo_fresh.proofs.opening.begin.Goals as goal
 
 pub returns-in-Ok-clause-office : goal.returns-in-Ok-clause-office
 returns-in-Ok-clause-office g c = (c.in-Ok.ensures.office.0 ∙ c.in_ok-organizer.ensures, c.in-Ok.ensures.office.1 ∙ c.in_ok-event.ensures, c.in-Ok.ensures.office.2)
 
 pub returns-in-Ok-clause-next : goal.returns-in-Ok-clause-next
-returns-in-Ok-clause-next g c clean = ap (λ (h : Shop). h.next_token) (c.in-Ok.ensures.made clean).head_is
+returns-in-Ok-clause-next g c clean = ap (λ (h : ShopRow). h.next_token) (c.in-Ok.ensures.made clean).head_is
 
 pub returns-in-Ok-clause-holds : goal.returns-in-Ok-clause-holds
 returns-in-Ok-clause-holds g c clean = (c.in-Ok.ensures.made clean).holds

@@ -1,7 +1,7 @@
 use Rattle.std.proofs.Common.{◌≡◌, rules, sym, subst, ◌∙◌, IsTrue}
 use Rattle.sqlite.specs.Held.{state}
 use Rattle.sqlite.specs.State.{Survives}
-use Rattle.bo_columns.specs.declared.rows.Shop.{Shop}
+use Rattle.bo_columns.specs.declared.rows.ShopRow.{ShopRow}
 use Rattle.bo_make.specs.Blank.{blank_schema}
 use Rattle.bo_transaction.specs.Whole.{IsWritten, MayBeWritten}
 use Rattle.bo_begins.specs.Begun.{IsBegun}
@@ -13,10 +13,10 @@ returns-in_err-begin-clause-blank g c not_blank =
     absurd (not_blank (sym c.schema.ensures.value ∙ c.is_blank.ensures.yes yes))
 
 pub returns-in_err-begin-clause-crash : goal.returns-in_err-begin-clause-crash
-returns-in_err-begin-clause-crash g c = subst (λ (h : Shop). Survives (state g.S.Store c.args.connection.now) (state g.S.Store c.begin.new.connection) (MayBeWritten blank_schema (λ (_ : Unit {0}) db after. IsBegun h after) (state g.S.Store c.args.connection.now))) c.first_row-head.ensures c.begin.ensures.crash
+returns-in_err-begin-clause-crash g c = subst (λ (h : ShopRow). Survives (state g.S.Store c.args.connection.now) (state g.S.Store c.begin.new.connection) (MayBeWritten blank_schema (λ (_ : Unit {0}) db after. IsBegun h after) (state g.S.Store c.args.connection.now))) c.first_row-head.ensures c.begin.ensures.crash
 
 pub returns-clause-all : goal.returns-clause-all
-returns-clause-all g c clean = subst (λ (h : Shop). IsWritten (λ db after. IsBegun h after) (state g.S.Store c.args.connection.now) (state g.S.Store c.begin.new.connection)) c.first_row-head.ensures (c.in_ok-begin.ensures.all clean)
+returns-clause-all g c clean = subst (λ (h : ShopRow). IsWritten (λ db after. IsBegun h after) (state g.S.Store c.args.connection.now) (state g.S.Store c.begin.new.connection)) c.first_row-head.ensures (c.in_ok-begin.ensures.all clean)
 
 pub returns-clause-crash : goal.returns-clause-crash
-returns-clause-crash g c = subst (λ (h : Shop). Survives (state g.S.Store c.args.connection.now) (state g.S.Store c.begin.new.connection) (MayBeWritten blank_schema (λ (_ : Unit {0}) db after. IsBegun h after) (state g.S.Store c.args.connection.now))) c.first_row-head.ensures c.begin.ensures.crash
+returns-clause-crash g c = subst (λ (h : ShopRow). Survives (state g.S.Store c.args.connection.now) (state g.S.Store c.begin.new.connection) (MayBeWritten blank_schema (λ (_ : Unit {0}) db after. IsBegun h after) (state g.S.Store c.args.connection.now))) c.first_row-head.ensures c.begin.ensures.crash

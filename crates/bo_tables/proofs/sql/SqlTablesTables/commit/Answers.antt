@@ -4,7 +4,7 @@ use Rattle.sqlite.specs.Held.{state}
 use Rattle.sqlite.specs.State.{Survives}
 use Rattle.bo_schema.specs.Tables.{schema}
 use Rattle.bo_lists.specs.declared.changes.Change.{Change}
-use Rattle.bo_columns.specs.declared.rows.Shop.{Shop}
+use Rattle.bo_columns.specs.declared.rows.ShopRow.{ShopRow}
 use Rattle.bo_transaction.specs.Whole.{IsWritten, MayBeWritten}
 use Rattle.bo_stand.specs.Lawful.{puts_come_first}
 use Rattle.bo_stand.specs.Stands.{IsRising}
@@ -16,7 +16,7 @@ returns-in-Ok-clause-all g c clean s ks holds right =
     let old = state g.S.Store c.args.self.now.connection in
     let new = state g.S.Store c.write_whole.new.connection in
     let head = c.args.self.now.head in
-    let shop : Shop = record head { moment = c.args.at; next = c.next-self.result } in
+    let shop : ShopRow = record head { moment = c.args.at; next = c.next-self.result } in
     let from = c.args.self.now.next_row in
     let rises : AllByRecursion IsRising c.as_slice.result.now = search rules in
     let comes : puts_come_first false c.as_slice.result.now ≡ true = search rules in
@@ -30,7 +30,7 @@ returns-in-Ok-clause-tokens g c clean tokens knows =
     let old = state g.S.Store c.args.self.now.connection in
     let new = state g.S.Store c.write_whole.new.connection in
     let head = c.args.self.now.head in
-    let shop : Shop = record head { moment = c.args.at; next = c.next-self.result } in
+    let shop : ShopRow = record head { moment = c.args.at; next = c.next-self.result } in
     let from = c.args.self.now.next_row in
     let rises : AllByRecursion IsRising c.as_slice.result.now = search rules in
     let comes : puts_come_first false c.as_slice.result.now ≡ true = search rules in
@@ -44,7 +44,7 @@ returns-in-Ok-clause-crash g c =
     let old = state g.S.Store c.args.self.now.connection in
     let new = state g.S.Store c.write_whole.new.connection in
     let head = c.args.self.now.head in
-    let shop : Shop = record head { moment = c.args.at; next = c.next-self.result } in
+    let shop : ShopRow = record head { moment = c.args.at; next = c.next-self.result } in
     let from = c.args.self.now.next_row in
     let rises : AllByRecursion IsRising c.as_slice.result.now = search rules in
     let comes : puts_come_first false c.as_slice.result.now ≡ true = search rules in
@@ -58,7 +58,7 @@ returns-in-Ok-clause-settled g c clean left l s ks holds right =
     let old = state g.S.Store c.args.self.now.connection in
     let new = state g.S.Store c.write_whole.new.connection in
     let head = c.args.self.now.head in
-    let shop : Shop = record head { moment = c.args.at; next = c.next-self.result } in
+    let shop : ShopRow = record head { moment = c.args.at; next = c.next-self.result } in
     let from = c.args.self.now.next_row in
     let rises : AllByRecursion IsRising c.as_slice.result.now = search rules in
     let comes : puts_come_first false c.as_slice.result.now ≡ true = search rules in
@@ -76,7 +76,7 @@ returns-in-Err-clause-crash g c =
     let old = state g.S.Store c.args.self.now.connection in
     let new = state g.S.Store c.write_whole.new.connection in
     let head = c.args.self.now.head in
-    let shop : Shop = record head { moment = c.args.at; next = c.next-self.result } in
+    let shop : ShopRow = record head { moment = c.args.at; next = c.next-self.result } in
     let from = c.args.self.now.next_row in
     let rises : AllByRecursion IsRising c.as_slice.result.now = search rules in
     let comes : puts_come_first false c.as_slice.result.now ≡ true = search rules in

@@ -3,7 +3,7 @@ use Rattle.sqlite.specs.Held.{state}
 use Rattle.sqlite.specs.State.{Executes}
 use Rattle.bo_columns.specs.Cells.{number}
 use Rattle.bo_rows.proofs.ShopLemmas.{delete_text, removes}
-use Rattle.bo_rows.proofs.shop.ShopStored.remove.Goals as goal
+use Rattle.bo_rows.proofs.shop.ShopRowStored.remove.Goals as goal
 
 pub returns-clause-written : goal.returns-clause-written
 returns-clause-written g c clean at =

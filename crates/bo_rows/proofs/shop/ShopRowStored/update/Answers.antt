@@ -3,7 +3,7 @@ use Rattle.sqlite.specs.Held.{state}
 use Rattle.sqlite.specs.State.{Executes}
 use Rattle.bo_columns.specs.Rows.{shop_row}
 use Rattle.bo_rows.proofs.ShopLemmas.{update_text, misses, puts}
-use Rattle.bo_rows.proofs.shop.ShopStored.update.Goals as goal
+use Rattle.bo_rows.proofs.shop.ShopRowStored.update.Goals as goal
 
 pub returns-in-0-clause-written : goal.returns-in-0-clause-written
 returns-in-0-clause-written g c clean at =

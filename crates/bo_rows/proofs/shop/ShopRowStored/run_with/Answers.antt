@@ -2,7 +2,7 @@ use Rattle.std.proofs.Common.{Ok, IfOk, refl, subst}
 use Rattle.sqlite.specs.Held.{state}
 use Rattle.sqlite.specs.State.{Executes}
 use Rattle.bo_rows.proofs.PartRows.{same_cons}
-use Rattle.bo_rows.proofs.shop.ShopStored.run_with.Goals as goal
+use Rattle.bo_rows.proofs.shop.ShopRowStored.run_with.Goals as goal
 
 pub returns-clause-ran : goal.returns-clause-ran
 returns-clause-ran g c clean inside =

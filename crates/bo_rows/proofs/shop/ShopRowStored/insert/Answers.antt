@@ -3,7 +3,7 @@ use Rattle.sqlite.specs.Held.{state}
 use Rattle.sqlite.specs.State.{Executes}
 use Rattle.bo_columns.specs.Rows.{shop_row}
 use Rattle.bo_rows.proofs.ShopLemmas.{insert_text, adds}
-use Rattle.bo_rows.proofs.shop.ShopStored.insert.Goals as goal
+use Rattle.bo_rows.proofs.shop.ShopRowStored.insert.Goals as goal
 
 pub returns-clause-written : goal.returns-clause-written
 returns-clause-written g c clean at =
