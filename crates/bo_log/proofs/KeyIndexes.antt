@@ -1,12 +1,12 @@
 -- The index of a list of keys, with one more and with one fewer.
-use Rattle.std.proofs.Common.{◌≡◌, ◌≢◌, ℕ, ◌+◌, ◌<◌, Bool, true, false, eqb, List, [], ◌∷◌, ◌++◌, length, take, get_or, Some, None, Option, ◌⊎◌, inl, inr, refl, sym, ap, ap₂, ◌∙◌, subst, arith, length-append}
+use Rattle.std.proofs.Common.{◌≡◌, ◌≢◌, ℕ, ◌+◌, Bool, true, false, eqb, List, [], ◌∷◌, ◌++◌, length, take, get_or, Some, None, Option, ◌⊎◌, inl, inr, refl, sym, ap, ap₂, ◌∙◌, subst, arith, length-append}
 use Rattle.std.specs.Prelude.{if◌then◌else◌}
 use Rattle.std.proofs.Math.Seq.{get_or-append_seam}
 use Rattle.std.proofs.lemmas.Option.{none-some}
 use Rattle.std.proofs.lemmas.List.{get_or_append_left, get_or-take, take-append-le, length-take-le, take_all, take_more, get_or_default}
 use Rattle.std.proofs.lemmas.Bool.{cases_lt}
 use Rattle.std.proofs.lemmas.Bool.Decides.{eqb_tells, nat_tests}
-use Rattle.bo_sorted.specs.Tables.{row_at, with_row}
+use Rattle.bo_sorted.specs.Tables.{with_row}
 use Rattle.bo_log.specs.declared.touched.Touch.{Touch}
 use Rattle.bo_log.specs.Places.{last_place, place_in}
 use Rattle.bo_log.specs.Keys.{IsKeyIndex}

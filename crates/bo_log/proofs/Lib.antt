@@ -1,4 +1,5 @@
 pub mod LastPlaces
+pub mod TableCounts
 pub mod Indexes
 pub mod EarlierPlaces
 pub mod KeyIndexes

@@ -1,5 +1,6 @@
 -- The rows that changes touch, and the last place in a log that touches a row.
-use Rattle.std.specs.Prelude.{◌≡◌, ℕ, suc, ◌<◌, Bool, ◌&&◌, ◌==◌, List, [], ◌∷◌, length, take, Option, Some, None, if◌then◌else◌, slice_index_or}
+use Rattle.std.specs.Prelude.{◌≡◌, ℕ, suc, ◌<◌, Bool, ◌&&◌, ◌==◌, List, [], ◌∷◌, length, take, Option, Some, None, count_by, if◌then◌else◌, slice_index_or}
+use Rattle.std.specs.List.{list_any}
 use Rattle.bo_sorted.specs.Tables.{row_at}
 use Rattle.bo_lists.specs.declared.changes.Change.{Change}
 use Rattle.bo_lists.specs.declared.changes.Change.TheVariants.{PutItem, PutVariation, PutQuota, PutVoucher, PutCart, PutOrder, PutPosition, PutWaiting, DropVoucher, DropCart, DropWaiting, PutCheckinList, PutCheckin}
@@ -56,6 +57,14 @@ id_of (PutCheckin row) = row.id
 abbrev pub touches : ℕ → ℕ → Change → Bool
 touches table id change = table_of change == table && id_of change == id
 
+-- the change puts or drops a row of this table
+abbrev pub is_of : ℕ → Change → Bool
+is_of table change = table_of change == table
+
+-- some change puts or drops a row of this table
+abbrev pub touches_table : ℕ → List Change → Bool
+touches_table table changes = list_any (is_of table) changes
+
 -- one place further on than the later one, or the first where there is none and it passes
 abbrev pub further : Bool → Option ℕ → Option ℕ
 further here (Some place) = Some (suc place)
@@ -79,9 +88,12 @@ place_in id touches = kept_place (row_at (λ t. t.id) id touches)
 abbrev pub place_before : ℕ → Change → List Change → Option ℕ
 place_before place change log = last_place (touches (table_of change) (id_of change)) (take place log)
 
--- the index of a log: for each row the last place that touches it, and for each place the one before it of the same row
-pub record IsIndex (log : List Change) (tables : List (List Touch)) (before : List (Option ℕ)) : Type 0 where
+-- the index of a log: for each row the last place that touches it, for each place the one before it of the same row, and
+-- for each table how many changes are of it
+pub record IsIndex (log : List Change) (tables : List (List Touch)) (before : List (Option ℕ)) (counts : List ℕ) : Type 0 where
   pub ten : length tables ≡ 10
   pub lasts : (table id : ℕ) → table < 10 → place_in id (slice_index_or tables table []) ≡ last_place (touches table id) log
   pub count : length before ≡ length log
   pub befores : (place : ℕ) (d : Change) → place < length log → slice_index_or before place None ≡ place_before place (slice_index_or log place d) log
+  pub all_counted : length counts ≡ 10
+  pub counted : (table : ℕ) → table < 10 → slice_index_or counts table 0 ≡ count_by (is_of table) log

@@ -3,7 +3,7 @@
 ghost use Rattle.std.specs.Prelude.{◌≡◌, ◌≤◌, ◌<◌, ◌-◌, ◌++◌, [], ◌∷◌, length, take, OnOk, OnErr, slice_index_or};
 ghost use Rattle.std.specs.Option.{IfSome};
 ghost use Rattle.bo_lists.specs.declared.changes.Change.{Change};
-ghost use Rattle.bo_log.specs.Places.{number, table_of, id_of, touches, last_place, place_before};
+ghost use Rattle.bo_log.specs.Places.{number, table_of, id_of, touches, touches_table, last_place, place_before};
 
 use crate::touched::{Touched, note};
 use bo_lists::Change;
@@ -49,12 +49,14 @@ impl Table {
 /// Changes in order. Contracts see the list.
 ///
 /// For each row of each table it keeps the last place that touches it, so that a look-up is a search by halving;
-/// and for each place the place before it that touches the same row, so that going back needs no memory.
+/// and for each place the place before it that touches the same row, so that going back needs no memory. For each table
+/// it counts the changes of it, so that a caller need not look where nothing changed.
 #[derive(Drop)]
 pub struct ChangeLog {
     changes: Vec<Change>,
     tables: [Touched; 10],
     before: Vec<Option<usize>>,
+    counts: [usize; 10],
 }
 
 impl Model for ChangeLog {
@@ -66,7 +68,7 @@ impl Model for ChangeLog {
 
     ghost view = { λ l. l.changes.items };
 
-    ghost invariant = { λ l. IsIndex l.changes.items l.tables l.before.items };
+    ghost invariant = { λ l. IsIndex l.changes.items l.tables l.before.items l.counts };
 }
 
 impl ChangeLog {
@@ -90,6 +92,7 @@ impl ChangeLog {
                 Touched::new(alloc),
             ],
             before: Vec::new(alloc),
+            counts: [0; 10],
         }
     }
 
@@ -123,8 +126,16 @@ impl ChangeLog {
             changes,
             tables: _,
             before: _,
+            counts: _,
         } = self;
         changes
+    }
+
+    /// Whether some change touches a row of the table.
+    pub fn touches(&self, table: Table) -> bool
+        ensures { result ≡ touches_table (number table) self.now }
+    {
+        0 < self.counts[table.number()]
     }
 
     /// The last place that touches the row of a table.
@@ -172,6 +183,7 @@ impl ChangeLog {
             self.changes.truncate(place);
             return Err(AllocError);
         }
+        self.counts[table] += 1;
         Ok(())
     }
 
@@ -195,6 +207,7 @@ impl ChangeLog {
         let table = table_of(change).number();
         let id = id_of(change);
         self.tables[table].go_back(id, self.before[last]);
+        self.counts[table] -= 1;
         self.before.truncate(last);
         self.changes.truncate(last);
     }

@@ -1,4 +1,4 @@
-use Rattle.std.proofs.Common.{◌-◌, length, ap, ◌∙◌, arith}
+use Rattle.std.proofs.Common.{◌-◌, length, ap, arith}
 use Rattle.bo_log.proofs.KeyIndexes.{key_popped}
 use Rattle.bo_log.proofs.key_log.KeyLog.undo.Goals as goal
 
