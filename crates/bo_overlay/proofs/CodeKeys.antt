@@ -1,5 +1,5 @@
 -- Going back in a log from one voucher of a code to the one before.
-use Rattle.std.proofs.Common.{◌≡◌, ◌≢◌, ℕ, zero, suc, ◌+◌, ◌*◌, ◌%◌, ◌<◌, ◌≤◌, ◌⊎◌, inl, inr, Bool, true, false, ◌&&◌, eqb, leb, List, [], ◌∷◌, ◌++◌, length, take, map, get_or, Option, None, Some, refl, sym, ap, ◌∙◌, subst, arith}
+use Rattle.std.proofs.Common.{◌≡◌, ◌≢◌, ℕ, zero, suc, ◌+◌, ◌*◌, ◌%◌, ◌<◌, ◌≤◌, ◌⊎◌, inl, inr, Bool, true, false, ◌&&◌, eqb, leb, List, [], ◌∷◌, ◌++◌, length, take, get_or, Option, None, Some, refl, sym, ap, ◌∙◌, subst, arith}
 use Rattle.std.specs.Prelude.{Result, Ok, Err, OnOk}
 use Rattle.std.specs.Result.{is_err}
 use Rattle.std.proofs.lemmas.Option.{none-some}
@@ -9,8 +9,7 @@ use Rattle.bo_base.specs.Texts.{same_text}
 use Rattle.bo_lists.specs.declared.rows.Voucher.{Voucher}
 use Rattle.bo_lists.specs.declared.changes.Change.{Change}
 use Rattle.bo_lists.specs.declared.changes.Change.TheVariants.{PutItem, PutVariation, PutQuota, PutVoucher, PutCart, PutOrder, PutPosition, PutWaiting, DropVoucher, DropCart, DropWaiting, PutCheckinList, PutCheckin}
-use Rattle.bo_lists.specs.Lists.{voucher_at}
-use Rattle.bo_overlay.specs.Logs.{Log, rows_of}
+use Rattle.bo_overlay.specs.Logs.{Log}
 use Rattle.bo_log.specs.Places.{further, touches, last_place}
 use Rattle.bo_log.specs.Puts.{voucher_put}
 use Rattle.bo_overlay.specs.Coded.{passes_if, IsLeast, lesser, IsBelow, IsFrom, HasCode, IsPutAt, IsPutBelow, IsPutFrom, put_if}

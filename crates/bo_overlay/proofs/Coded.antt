@@ -9,7 +9,7 @@ use Rattle.bo_sorted.proofs.Edits.{row_at_above}
 use Rattle.bo_lists.specs.declared.rows.Voucher.{Voucher}
 use Rattle.bo_lists.specs.declared.changes.Change.{Change}
 use Rattle.bo_lists.specs.declared.changes.Change.TheVariants.{PutItem, PutVariation, PutQuota, PutVoucher, PutCart, PutOrder, PutPosition, PutWaiting, DropVoucher, DropCart, DropWaiting, PutCheckinList, PutCheckin}
-use Rattle.bo_lists.specs.Lists.{Lists, voucher_at}
+use Rattle.bo_lists.specs.Lists.{voucher_at}
 use Rattle.bo_lists.specs.Named.{voucher_of}
 use Rattle.bo_lists.proofs.EachRow.{key-row_at}
 use Rattle.bo_lists.proofs.Found.{row_at_found}

@@ -7,3 +7,4 @@ pub mod OfOrder
 pub mod Names
 pub mod Coded
 pub mod CodeKeys
+pub mod Still

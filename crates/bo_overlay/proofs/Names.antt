@@ -1,22 +1,22 @@
 -- How many rows name a voucher, one change after another.
-use Rattle.std.proofs.Common.{◌≡◌, ℕ, zero, suc, ◌+◌, ◌<◌, Bool, true, false, ◌||◌, List, [], ◌∷◌, length, get_or, take, Option, None, Some, refl, sym, ap, ◌∙◌, count_by, arith}
+use Rattle.std.proofs.Common.{◌≡◌, ℕ, zero, suc, ◌+◌, ◌<◌, ◌||◌, length, get_or, Option, None, Some, refl, ap, ◌∙◌, count_by, arith}
 use Rattle.std.specs.Prelude.{if◌then◌else◌, nat_lt}
 use Rattle.std.specs.List.{list_any}
 use Rattle.std.proofs.lemmas.Bool.Decides.{nat_tests}
-use Rattle.std.proofs.lemmas.List.Sums.{sum_by-cons}
 use Rattle.bo_sorted.specs.Tables.{sum_at}
 use Rattle.bo_sorted.proofs.Edits.{sum_by-with_row, sum_by-without_row}
 use Rattle.bo_lists.specs.declared.rows.CartPos.{CartPos}
 use Rattle.bo_lists.specs.declared.rows.OrderPos.{OrderPos}
 use Rattle.bo_lists.specs.declared.rows.Waiting.{Waiting}
 use Rattle.bo_lists.specs.declared.changes.Change.{Change}
-use Rattle.bo_lists.specs.declared.changes.Change.TheVariants.{PutItem, PutVariation, PutQuota, PutVoucher, PutCart, PutOrder, PutPosition, PutWaiting, DropVoucher, DropCart, DropWaiting}
+use Rattle.bo_lists.specs.declared.changes.Change.TheVariants.{PutCart, PutPosition, PutWaiting, DropCart, DropWaiting}
 use Rattle.bo_lists.specs.Conditions.{names}
 use Rattle.bo_lists.specs.Lists.{Lists, cart_at, waiting_at, position_at}
 use Rattle.bo_lists.specs.Change.{after_change}
 use Rattle.bo_lists.specs.Kept.{IsKept}
 use Rattle.bo_lists.specs.Named.{is_used}
 use Rattle.bo_usage.specs.Naming.{naming}
+use Rattle.bo_log.proofs.TableCounts.{some_counted}
 use Rattle.bo_overlay.specs.Logs.{Log, IsSale, AreSales, rows_at}
 use Rattle.bo_overlay.specs.Names.{cart_name, entry_name, name_put, name_gone}
 use Rattle.bo_overlay.proofs.Sales.{sale_at}
@@ -25,17 +25,6 @@ use Rattle.bo_overlay.proofs.Steps.{after_all_more}
 -- one, where the name is the voucher's
 abbrev pub one_name : ℕ → Option ℕ → ℕ
 one_name voucher name = if names voucher name then 1 else 0
-
-any_or_more : (a : Bool) (n : ℕ) → (a || nat_lt 0 n) ≡ nat_lt 0 ((if a then 1 else 0) + n)
-any_or_more true n = grind (arith, nat_tests)
-any_or_more false n = grind (arith, nat_tests)
-
-some_counted : {T : Type 0} (passes : T → Bool) (rows : List T) → list_any passes rows ≡ nat_lt 0 (count_by passes rows)
-some_counted passes [] = refl
-some_counted passes (r ∷ rows) =
-    ap (λ b. passes r || b) (some_counted passes rows)
-    ∙ any_or_more (passes r) (count_by passes rows)
-    ∙ ap (nat_lt 0) (sym (sum_by-cons (λ s. if passes s then 1 else 0) r rows))
 
 either : (m n : ℕ) → (nat_lt 0 m || nat_lt 0 n) ≡ nat_lt 0 (m + n)
 either zero n = grind (arith, nat_tests)

@@ -1,13 +1,13 @@
 //! The rows of a book, with changes.
 
-ghost use Rattle.std.specs.Prelude.{◌≡◌, ◌++◌, [], ◌∷◌, IfOk, OnOk, OnErr, length, take, ◌≤◌, ◌<◌, ◌+◌, ◌-◌, ◌^◌, ◌==◌, ◌&&◌, count_by, if◌then◌else◌, find, option_map, is_none};
+ghost use Rattle.std.specs.Prelude.{◌≡◌, ◌++◌, [], ◌∷◌, IfOk, OnOk, OnErr, length, take, ◌≤◌, ◌<◌, ◌+◌, ◌-◌, ◌^◌, ◌==◌, ◌&&◌, ◌||◌, count_by, if◌then◌else◌, find, option_map, is_none};
 ghost use Rattle.std.specs.Option.{option_copied};
 ghost use Rattle.bo_lists.specs.Lists.{cart_at, order_at, waiting_at, checkin_list_at, checkin_at};
 ghost use Rattle.bo_lists.specs.Named.{voucher_of, is_used};
 ghost use Rattle.bo_usage.specs.Naming.{naming};
 ghost use Rattle.bo_overlay.specs.Names.{name_gone};
 ghost use Rattle.bo_overlay.specs.Coded.{IsLeast, lesser, IsPutBelow, IsUnchanged, is_place, put_if};
-ghost use Rattle.bo_log.specs.Places.{touches, last_place};
+ghost use Rattle.bo_log.specs.Places.{touches, touches_table, last_place};
 ghost use Rattle.bo_base.specs.Texts.{same_text};
 ghost use Rattle.bo_lists.specs.Kept.{IsKept};
 ghost use Rattle.bo_sorted.specs.Tables.{sum_at};
@@ -160,11 +160,14 @@ impl<'a, B: Book> Overlay<'a, B> {
         0 < self.naming(voucher)
     }
 
-    // How many rows name the voucher.
+    // How many rows name the voucher: as many as in the book, where no change touches a row that may.
     fn naming(&self, voucher: u64) -> u64
         ensures { result ≡ naming voucher (rows_of self.now) }
     {
         let mut count = self.book.naming(voucher);
+        if !self.touches_names() {
+            return count;
+        }
         for i in 0..self.log.len() {
             count = self.naming_after(i, voucher, count);
         }
@@ -208,6 +211,27 @@ impl<'a, B: Book> Overlay<'a, B> {
         waiting_after(&self.log, i, id, self.book.entry(id))
     }
 
+    // Whether a change touches a row that may name a voucher.
+    fn touches_names(&self) -> bool
+        ensures { result ≡ ((touches_table 4 self.now.changes || touches_table 6 self.now.changes) || touches_table 7 self.now.changes) }
+    {
+        self.touches_carts() || self.puts_positions() || self.log.touches(Table::Waiting)
+    }
+
+    // Whether a change touches a cart position.
+    fn touches_carts(&self) -> bool
+        ensures { result ≡ touches_table 4 self.now.changes }
+    {
+        self.log.touches(Table::Carts)
+    }
+
+    // Whether a change puts an order position.
+    fn puts_positions(&self) -> bool
+        ensures { result ≡ touches_table 6 self.now.changes }
+    {
+        self.log.touches(Table::Positions)
+    }
+
     /// One more change, or a refusal where 2^32 stand or there is no memory: then the changes are as they were.
     pub fn push(&mut self, change: Change) -> Result<(), AllocError>
         requires { IsSale change (rows_of self.old) }
@@ -232,10 +256,20 @@ impl<'a, B: Book> Overlay<'a, B> {
         ensures few { result ≤ 8589934592 }
     {
         let mut count = self.book.redeemed(voucher);
+        if !self.puts_orders() {
+            return count;
+        }
         for i in 0..self.log.len() {
             count = self.redeemed_after(i, voucher, count);
         }
         count
+    }
+
+    // Whether a change puts an order or an order position: no other one makes a voucher redeemed more or less often.
+    fn puts_orders(&self) -> bool
+        ensures { result ≡ (touches_table 5 self.now.changes || touches_table 6 self.now.changes) }
+    {
+        self.log.touches(Table::Orders) || self.puts_positions()
     }
 
     /// How often the voucher was used before the changes: by orders that stood and by carts that are live at a moment.
@@ -309,6 +343,9 @@ impl<'a, B: Book> Overlay<'a, B> {
         self.book.known();
         let rows = self.book.positions_of(alloc, order)?;
         let mut tickets = copy_tickets(alloc, rows.as_slice())?;
+        if !self.puts_positions() {
+            return Ok(tickets);
+        }
         put_tickets(&mut tickets, order, self.log.as_slice())?;
         Ok(tickets)
     }
@@ -319,6 +356,9 @@ impl<'a, B: Book> Overlay<'a, B> {
         ensures value { result ≡ count_by (puts (λ p. order == p.order && T.passes test.now p)) (take i self.now.changes) }
         ensures few { result ≤ 4294967296 }
     {
+        if !self.puts_positions() {
+            return 0;
+        }
         let log = self.log.as_slice();
         log[..i]
             .iter()
@@ -350,6 +390,9 @@ impl<'a, B: Book> Overlay<'a, B> {
         ensures value { result ≡ count_by (T.passes test.now) (rows_of self.now).carts }
         ensures few { result ≤ 8589934592 }
     {
+        if !self.touches_carts() {
+            return book;
+        }
         let mut count = book;
         for i in 0..self.log.len() {
             count = self.count_after(i, test, count);

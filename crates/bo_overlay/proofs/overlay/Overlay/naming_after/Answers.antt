@@ -1,5 +1,4 @@
 use Rattle.std.proofs.Common.{◌≡◌, take, get_or, if◌then◌else◌, arith, ap, ◌∙◌, subst}
-use Rattle.bo_lists.specs.declared.changes.Change.{Change}
 use Rattle.bo_lists.specs.Kept.{IsKept}
 use Rattle.bo_overlay.specs.Logs.{Log, AreSales, rows_at}
 use Rattle.bo_overlay.specs.Names.{name_put, name_gone}

@@ -1,7 +1,7 @@
-use Rattle.std.proofs.Common.{◌≡◌, ◌<◌, eqb, length, take, get_or, Option, None, Some, sym, ap, ◌∙◌, subst, arith}
+use Rattle.std.proofs.Common.{eqb, length, take, get_or, sym, ap, ◌∙◌, subst, arith}
 use Rattle.bo_overlay.specs.Logs.{Log}
 use Rattle.bo_log.specs.Places.{last_place}
-use Rattle.bo_overlay.specs.Coded.{lesser, put_if}
+use Rattle.bo_overlay.specs.Coded.{put_if}
 use Rattle.bo_log.specs.Keys.{digest, code_keys}
 use Rattle.bo_overlay.proofs.CodeKeys.{IsWalked, walk_starts, walk_within, walk_goes_on, walk_lowers, walk_ends, as_many}
 use Rattle.bo_overlay.proofs.overlay.Overlay.put_of.Goals as goal

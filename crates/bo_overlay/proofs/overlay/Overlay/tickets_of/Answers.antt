@@ -1,4 +1,4 @@
-use Rattle.std.proofs.Common.{◌≡◌, Bool, ◌&&◌, eqb, map, ap, ◌∙◌, subst, count_by, arith}
+use Rattle.std.proofs.Common.{◌≡◌, Bool, ◌&&◌, eqb, map, sym, ap, ◌∙◌, subst, count_by, arith}
 use Rattle.bo_lists.specs.declared.rows.OrderPos.{OrderPos}
 use Rattle.bo_lists.specs.Kept.{IsKept}
 use Rattle.bo_lists.specs.Lists.{positions_of}
@@ -7,7 +7,18 @@ use Rattle.bo_log.specs.Puts.{puts}
 use Rattle.bo_overlay.specs.Tickets.{ticket}
 use Rattle.bo_overlay.proofs.OfOrder.{of_order}
 use Rattle.bo_overlay.proofs.Sales.{sales_count}
+use Rattle.bo_overlay.proofs.Still.{positions_still}
 use Rattle.bo_overlay.proofs.overlay.Overlay.tickets_of.Goals as goal
+
+pub returns-then-not-puts_positions : goal.returns-then-not-puts_positions
+returns-then-not-puts_positions g c passes =
+    let log = c.args.self.now in
+    let order = c.args.order in
+    let test : OrderPos → Bool = λ p. eqb order p.order && passes (ticket p) in
+    let rows : c.as_slice.result.now ≡ positions_of order log.base = c.as_slice.ensures ∙ c.in_ok-rows.ensures ∙ ap (λ (l : Log). positions_of order l.base) c.self.view_is in
+    let before : count_by passes c.in_ok-tickets.tickets.items ≡ count_by test log.base.positions = ap (λ rs. count_by passes rs) (c.in_ok-tickets.ensures ∙ ap (map ticket) rows) ∙ of_order order passes log.base.positions in
+    let none = sym c.puts_positions.ensures ∙ c.if-not-puts_positions.true in
+    before ∙ sym (ap (λ ps. count_by test ps) (positions_still log.changes log.base none))
 
 pub returns : goal.returns
 returns g c passes =

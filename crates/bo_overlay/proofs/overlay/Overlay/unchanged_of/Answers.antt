@@ -1,7 +1,6 @@
-use Rattle.std.proofs.Common.{◌≡◌, Option, None, Some, sym, ap, ◌∙◌, subst}
+use Rattle.std.proofs.Common.{◌≡◌, None, Some, sym, ap, ◌∙◌, subst}
 use Rattle.bo_sorted.specs.Tables.{AreInOrder}
 use Rattle.bo_lists.specs.declared.rows.Voucher.{Voucher}
-use Rattle.bo_lists.specs.Kept.{IsKept}
 use Rattle.bo_lists.specs.Named.{voucher_of}
 use Rattle.bo_overlay.specs.Logs.{Log}
 use Rattle.bo_overlay.specs.Coded.{IsLeast, IsUnchanged}

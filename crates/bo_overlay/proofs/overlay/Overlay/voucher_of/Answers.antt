@@ -1,5 +1,4 @@
-use Rattle.std.proofs.Common.{◌≡◌, None, Some, sym, ap, ◌∙◌, subst}
-use Rattle.bo_sorted.specs.Tables.{AreInOrder}
+use Rattle.std.proofs.Common.{sym, ◌∙◌, subst}
 use Rattle.bo_base.specs.Texts.{same_text}
 use Rattle.bo_lists.specs.declared.rows.Voucher.{Voucher}
 use Rattle.bo_lists.specs.Kept.{IsKept}
