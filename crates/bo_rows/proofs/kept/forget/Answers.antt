@@ -7,8 +7,8 @@ use Rattle.bo_rows.specs.Removed.{AreApart, without_past}
 use Rattle.bo_rows.proofs.RemovedLemmas.{forget_text, forgets, forgets_nothing}
 use Rattle.bo_rows.proofs.kept.forget.Goals as goal
 
-pub returns-then-now-lt86400-clause-written : goal.returns-then-now-lt86400-clause-written
-returns-then-now-lt86400-clause-written g c clean at = forgets_nothing (state g.S.Store c.args.tx.now.conn.now) c.args.at at (omega (arith, c.if-now-lt86400.true, c.get-now.ensures.value))
+pub returns-then-now-lt-A_DAY-clause-written : goal.returns-then-now-lt-A_DAY-clause-written
+returns-then-now-lt-A_DAY-clause-written g c clean at = forgets_nothing (state g.S.Store c.args.tx.now.conn.now) c.args.at at (omega (arith, c.if-now-lt-A_DAY.true, c.get-now.ensures.value))
 
 pub returns-clause-written : goal.returns-clause-written
 returns-clause-written g c clean at =
@@ -17,4 +17,4 @@ returns-clause-written g c clean at =
     let now = c.get-now.result in
     let ran : Executes forget_text (number (now - 86400) ∷ []) old new (Ok c.in_ok-run.field-0) = rw c.in_ok-since.ensures at (c.in_ok-run.ensures.ran clean at.inside) in
     subst (λ n. ChangesFit (λ t. AreApart (λ r. r.rowid) t.kept) (without_past n) old new) c.get-now.ensures.value
-    (forgets old new at c.run.ensures.crash.limit now (omega (arith, c.if-now-lt86400.false)) c.in_ok-run.field-0 ran)
+    (forgets old new at c.run.ensures.crash.limit now (omega (arith, c.if-now-lt-A_DAY.false)) c.in_ok-run.field-0 ran)
