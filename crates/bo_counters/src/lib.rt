@@ -3,5 +3,6 @@
 
 pub mod book;
 pub mod counters;
+pub mod dues;
 
 pub use counters::Counters;

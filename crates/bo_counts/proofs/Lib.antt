@@ -4,6 +4,7 @@ pub mod FiveCounts
 pub mod Untouched
 pub mod Ordered
 pub mod Usages
-pub mod NoneDue
+pub mod HasNone
+pub mod Undue
 pub mod ToldRows
 pub mod Unreached

@@ -1,8 +1,8 @@
 -- The counts that are told are those of the definition.
-use Rattle.std.proofs.Common.{◌≡◌, ℕ, Bool, true, false, ◌&&◌, eqb, List, [], ◌∷◌, ◌++◌, map, Option, Some, None, refl, sym, ap, ap₂, ◌∙◌, subst}
+use Rattle.std.proofs.Common.{◌≡◌, ℕ, Bool, true, false, eqb, List, [], ◌∷◌, ◌++◌, Option, Some, None, refl, sym, ap, ap₂, ◌∙◌}
 use Rattle.std.specs.Prelude.{not, flat_map, if◌then◌else◌, is_none}
 use Rattle.std.specs.List.{list_any}
-use Rattle.bo_sorted.specs.Tables.{has, row_at, AreInOrder}
+use Rattle.bo_sorted.specs.Tables.{has, AreInOrder}
 use Rattle.bo_catalogue.specs.declared.rows.Quota.{Quota}
 use Rattle.bo_catalogue.specs.CatalogueLists.{CatalogueLists, quota_at}
 use Rattle.bo_lists.specs.declared.rows.Usage.{Usage}
@@ -10,23 +10,21 @@ use Rattle.bo_lists.specs.declared.rows.Voucher.{Voucher}
 use Rattle.bo_lists.specs.declared.count_rows.QuotaCount.{QuotaCount}
 use Rattle.bo_lists.specs.declared.count_rows.VoucherCount.{VoucherCount}
 use Rattle.bo_lists.specs.CountRows.{same_usage, quota_count, voucher_count, same_quota_count, same_voucher_count, counts_after}
-use Rattle.std.proofs.lemmas.Option.{none-some}
 use Rattle.bo_sorted.specs.Rising.{rising}
 use Rattle.bo_sorted.proofs.Edits.{row_at-with_row}
-use Rattle.bo_sorted.proofs.RisingLemmas.{has-rising, rising_in_order}
+use Rattle.bo_sorted.proofs.RisingLemmas.{rising_in_order}
 use Rattle.bo_lists.specs.declared.changes.Change.{Change}
 use Rattle.bo_lists.specs.declared.changes.Change.TheVariants.{PutQuota}
-use Rattle.bo_lists.specs.Change.{Changed, after_change, after_all, applied}
+use Rattle.bo_lists.specs.Change.{after_change, after_all}
 use Rattle.bo_lists.specs.CountRows.{CountRows}
 use Rattle.bo_counts.specs.Touched.{quotas_by}
-use Rattle.bo_counts.proofs.Untouched.{absent_both, neither, unaltered}
+use Rattle.bo_counts.proofs.Untouched.{neither, unaltered}
 use Rattle.bo_lists.specs.Lists.{Lists, State, voucher_at}
 use Rattle.bo_lists.specs.Usage.{usage_of, redeemed}
 use Rattle.bo_lists.proofs.EachRow.{all_weaker, key-row_at}
 use Rattle.bo_lists.proofs.Found.{each_found}
 use Rattle.bo_counts.specs.declared.touched.Touched.{Touched}
 use Rattle.bo_counts.specs.Told.{Passage, IsPassage, has_count, has_voucher, told_unless, told_if, quota_told, voucher_told, voucher_told_as, gone_told, redeemed_each}
-use Rattle.bo_counts.specs.Reached.{AreAsked}
 use Rattle.bo_counts.proofs.Picked.{filter_is, picked, passes_if, one_passes, any_mapped}
 use Rattle.bo_counts.proofs.Shifted.{own_id}
 
@@ -109,25 +107,6 @@ quota_stood id changes lists absent = unaltered (λ l. quota_at id l.catalogue) 
     quota_step : (change : Change) (l : Lists) → has id (quotas_by change) ≡ false → quota_at id (after_change change l).catalogue ≡ quota_at id l.catalogue
     quota_step (PutQuota row) l none = row_at-with_row (λ r. r.id) id row l.catalogue.quotas ∙ ap (λ b. if b then Some row else quota_at id l.catalogue) (neither (eqb row.id id) false none).0
     quota_step _ l none = refl
-
--- the quotas that stood, or that changes put, are all
-no_other : (lists : Lists) (changes : List Change) (ids : List ℕ) → ids ≡ rising (map (λ q. q.id) lists.catalogue.quotas ++ flat_map quotas_by changes) → (q : Quota) → quota_at q.id (after_all changes lists).catalogue ≡ Some q → has q.id ids ≡ false → ⊥
-no_other lists changes ids is q found absent =
-    let both = absent_both q.id (map (λ (r : Quota). r.id) lists.catalogue.quotas) (flat_map quotas_by changes) (sym (has-rising q.id (map (λ (r : Quota). r.id) lists.catalogue.quotas ++ flat_map quotas_by changes)) ∙ ap (has q.id) (sym is) ∙ absent) in
-    none-some q (sym (quota_stood q.id changes lists both.1 ∙ absent_at lists.catalogue.quotas both.0) ∙ found)
-  where
-    absent_at : (quotas : List Quota) → has q.id (map (λ (r : Quota). r.id) quotas) ≡ false → row_at (λ r. r.id) q.id quotas ≡ None
-    absent_at [] none = refl
-    absent_at (r ∷ rs) none =
-        let two = neither (eqb r.id q.id) (has q.id (map (λ (s : Quota). s.id) rs)) none in
-        rw two.0 (absent_at rs two.1)
-
--- so nothing is told of any other
-pub asked_all : (p : Passage) (lists : Lists) (changes : List Change) (ids : List ℕ) → p.before.lists ≡ lists → p.after.lists ≡ after_all changes p.before.lists → ids ≡ rising (map (λ q. q.id) lists.catalogue.quotas ++ flat_map quotas_by changes) → AreAsked p ids
-asked_all p lists changes ids before_is after_is is = record {
-  order = rises ids (map (λ q. q.id) lists.catalogue.quotas ++ flat_map quotas_by changes) is;
-  others = λ q found absent. absurd (no_other lists changes ids is q (sym (ap (λ (l : Lists). quota_at q.id l.catalogue) (after_is ∙ ap (after_all changes) before_is)) ∙ found) absent);
-}
 
 -- the three lists together
 pub counts_are : (before after : State) (rows : CountRows) (quotas : List QuotaCount) (vouchers : List VoucherCount) (gone : List ℕ) → rows.quotas ≡ quotas → rows.vouchers ≡ vouchers → rows.gone ≡ gone → quotas ≡ (counts_after before after).quotas → vouchers ≡ (counts_after before after).vouchers → gone ≡ (counts_after before after).gone → rows ≡ counts_after before after

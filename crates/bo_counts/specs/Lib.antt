@@ -1,4 +1,5 @@
 pub mod Touched
+pub mod Due
 pub mod Shares
 pub mod Told
 pub mod Reached

@@ -1,6 +1,6 @@
 //! Which counts are to be written with changes.
 
-ghost use Rattle.std.specs.Prelude.{◌≡◌, ◌≤◌, ◌++◌, [], IfOk, OnOk, map, flat_map};
+ghost use Rattle.std.specs.Prelude.{◌≡◌, ◌≤◌, ◌++◌, [], IfOk, OnOk, flat_map};
 ghost use Rattle.bo_sorted.specs.Rising.{rising};
 ghost use Rattle.bo_lists.specs.Change.{applied, after_all};
 ghost use Rattle.bo_lists.specs.CountRows.{counts_after};
@@ -12,6 +12,7 @@ use crate::sides::Sides;
 use crate::touched::Touched;
 use crate::view::View;
 use bo_base::Moment;
+use bo_dues::Dues;
 use bo_lists::{Change, Changes, CountRows};
 use bo_log::ChangeLog;
 use bo_sorted::Ids;
@@ -21,7 +22,8 @@ use std::alloc::{AllocError, Global};
 /// The counts that are to be written with these changes of a book, at a moment that isn't before the book's: those of
 /// the quotas and vouchers that are new or whose counts differ, and the ids of the vouchers that are gone.
 /// It is refused where there is no memory, and where a count doesn't fit in 64 bits.
-pub fn counts_after<B: Book>(
+/// Only those quotas are asked that changes put, or that are reached by what they touch or by what came due.
+pub fn counts_after<B: Dues>(
     book: &B,
     alloc: Global,
     changes: &Changes,
@@ -36,7 +38,7 @@ pub fn counts_after<B: Book>(
 }
 
 // The same, with the log of no change and that of the changes.
-fn counts_by<B: Book>(
+fn counts_by<B: Dues>(
     book: &B,
     alloc: Global,
     none: &ChangeLog,
@@ -53,7 +55,7 @@ fn counts_by<B: Book>(
     sides.counts(alloc, changes)
 }
 
-impl<'s, B: Book> Sides<'s, B> {
+impl<'s, B: Dues> Sides<'s, B> {
     // What is told of these changes.
     fn counts(&self, alloc: Global, changes: &[Change]) -> Result<CountRows, AllocError>
         requires { self.now.after.lists ≡ after_all changes.now self.now.before.lists }
@@ -66,23 +68,27 @@ impl<'s, B: Book> Sides<'s, B> {
         Ok(CountRows::new(quotas, vouchers, gone))
     }
 
-    // The quotas whose counts may differ by these changes: where nothing came due, those that they put or reach.
+    // The quotas whose counts may differ by these changes, or by what came due until the moment after them.
     fn asked(&self, alloc: Global, changes: &[Change]) -> Result<Ids, AllocError>
         requires { self.now.after.lists ≡ after_all changes.now self.now.before.lists }
         ensures { IfOk result (λ ids. AreAsked self.now ids) }
     {
-        if self.book.came_due(self.at) == 0 {
-            let rows = &self.touched;
-            let ids = reached_ids(self.book, alloc, changes, &self.before, &self.after, rows)?;
-            Ok(ids)
-        } else {
-            let ids = all_ids(self.book, alloc, changes)?;
-            Ok(ids)
-        }
+        let due = Touched::due(self.book, alloc, self.at)?;
+        let ids = reached_ids(
+            self.book,
+            alloc,
+            changes,
+            &self.before,
+            &self.after,
+            &self.touched,
+            &due,
+        )?;
+        Ok(ids)
     }
 }
 
-// The quotas that changes put, or that the rows which they touch reach, by what stood or by what stands.
+// The quotas that changes put, those that the rows which they touch reach, by what stood or by what stands, and those that
+// what came due reaches, by what stood.
 fn reached_ids<B: Book>(
     book: &B,
     alloc: Global,
@@ -90,24 +96,16 @@ fn reached_ids<B: Book>(
     before: &View<'_, B>,
     after: &View<'_, B>,
     touched: &Touched,
+    due: &Touched,
 ) -> Result<Ids, AllocError>
-    ensures { IfOk result (λ ids. ids ≡ rising (flat_map quotas_by changes.now ++ reached (B.state book.now).lists.catalogue before.now touched.now ++ reached (B.state book.now).lists.catalogue after.now touched.now)) }
+    ensures { IfOk result (λ ids. ids ≡ rising (flat_map quotas_by changes.now ++ reached (B.state book.now).lists.catalogue before.now touched.now ++ reached (B.state book.now).lists.catalogue after.now touched.now ++ reached (B.state book.now).lists.catalogue before.now due.now)) }
 {
     let catalogue = book.catalogue();
     let mut ids = Vec::new(alloc);
     add_quotas(changes, &mut ids)?;
     before.add_reached(alloc, catalogue, touched, &mut ids)?;
     after.add_reached(alloc, catalogue, touched, &mut ids)?;
-    Ok(Ids::sorted(ids))
-}
-
-// All quotas, and those that changes put.
-fn all_ids<B: Book>(book: &B, alloc: Global, changes: &[Change]) -> Result<Ids, AllocError>
-    ensures { IfOk result (λ ids. ids ≡ rising (map (λ q. q.id) (B.state book.now).lists.catalogue.quotas ++ flat_map quotas_by changes.now)) }
-{
-    let quotas = book.catalogue().quotas();
-    let mut ids: Vec<u64> = quotas.iter().map(|quota| quota.id).collect(alloc)?;
-    add_quotas(changes, &mut ids)?;
+    before.add_reached(alloc, catalogue, due, &mut ids)?;
     Ok(Ids::sorted(ids))
 }
 

@@ -3,6 +3,7 @@
 
 mod copies;
 mod counts;
+mod due;
 mod reached;
 mod shares;
 mod sides;

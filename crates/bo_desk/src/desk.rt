@@ -8,6 +8,7 @@ use crate::words::HouseWords;
 use bo_base::Answer;
 use bo_connection::Desk;
 use bo_devices::Tick;
+use bo_dues::Dues;
 use bo_http::Frame;
 use bo_kept::Tables;
 use bo_office::Office;
@@ -54,7 +55,7 @@ impl<T: Tables + Drop, B: Book + Drop> ShopDesk<T, B> {
     }
 }
 
-impl<T: Tables, B: Book> Desk for ShopDesk<T, B> {
+impl<T: Tables, B: Dues> Desk for ShopDesk<T, B> {
     ghost serves = { Serves (meaning T.sure T.holds T.knows T.may_leave) };
 
     fn serve(&mut self, alloc: Global, tick: Tick, frame: &Frame<'_>) -> Answer {

@@ -14,9 +14,9 @@ use bo_api::{Call, key_of};
 use bo_base::{Answer, Known, Response};
 use bo_deliveries::{Arrival, Request};
 use bo_devices::Tick;
+use bo_dues::Dues;
 use bo_http::Frame;
 use bo_kept::{Key, Tables, TablesError};
-use bo_usage::Book;
 use std::alloc::{AllocError, Global};
 
 // A request that comes at a tick.
@@ -46,7 +46,7 @@ fn arrival_of(tick: Tick, token: u64, key: Key, call: Call) -> Result<Arrival, R
     Ok(arriving(tick, token, key, request))
 }
 
-impl<T: Tables, B: Book> ShopDesk<T, B> {
+impl<T: Tables, B: Dues> ShopDesk<T, B> {
     // The number of the token that a message shows, if it is known. Nothing changes.
     pub(crate) fn number(&mut self, frame: &Frame<'_>) -> Result<Option<u64>, TablesError>
         ensures organizer { self.new.organizer ≡ self.old.organizer }

@@ -13,12 +13,12 @@ use bo_base::{Draw, Moment, Response};
 use bo_commands::Command;
 use bo_counts::counts_after;
 use bo_deliveries::Request;
+use bo_dues::Dues;
 use bo_kept::Tables;
 use bo_lists::{Changes, CountRows};
-use bo_usage::Book;
 use std::alloc::{AllocError, Global};
 
-impl<T: Tables, B: Book, W: Wording> Shop<T, B, W> {
+impl<T: Tables, B: Dues, W: Wording> Shop<T, B, W> {
     // What a command changes at a moment, and what is told.
     fn decide_command(
         &self,

@@ -11,11 +11,11 @@ use crate::shop::Shop;
 use crate::wording::Wording;
 use bo_base::{Answer, Moment, Response};
 use bo_deliveries::Arrival;
+use bo_dues::Dues;
 use bo_kept::{Kept, Tables, TablesError};
-use bo_usage::Book;
 use std::alloc::Global;
 
-impl<T: Tables, B: Book, W: Wording> Shop<T, B, W> {
+impl<T: Tables, B: Dues, W: Wording> Shop<T, B, W> {
     // Carries a write out: decides, words, counts, takes memory, commits with the answer to keep, adopts.
     fn execute(
         &mut self,

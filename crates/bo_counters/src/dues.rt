@@ -1,0 +1,23 @@
+//! What came due of the counters' book.
+
+use crate::counters::Counters;
+use bo_base::Moment;
+use bo_dues::Dues;
+use bo_store::ids::sorted;
+use std::alloc::{AllocError, Global};
+
+impl Dues for Counters {
+    fn due_carts(&self, alloc: Global, at: Moment) -> Result<Vec<u64>, AllocError> {
+        let store = self.store();
+        let from = store.moment();
+        let ids = store.carts().ending(from.get(), at.get()).to_vec(alloc)?;
+        Ok(sorted(ids))
+    }
+
+    fn due_vouchers(&self, alloc: Global, at: Moment) -> Result<Vec<u64>, AllocError> {
+        let store = self.store();
+        let from = store.moment();
+        let ids = store.vouchers().ending(from.get(), at.get()).to_vec(alloc)?;
+        Ok(sorted(ids))
+    }
+}
