@@ -18,6 +18,9 @@ use Rattle.bo_schema.specs.Tables.{schema}
 use Rattle.bo_schema.specs.Parts.{shown}
 use Rattle.bo_schema.specs.Shapes.{over, plainly}
 use Rattle.bo_schema.proofs.Answered.{passes, answered}
+use Rattle.bo_columns.specs.Tables.{Holds}
+use Rattle.bo_columns.specs.Changes.{IsInside, Changes}
+use Rattle.bo_loads.specs.Damage.{IsForReading}
 
 -- ---- a row that is read column by column
 
@@ -74,6 +77,20 @@ unchanged sql params old new plain known rows h =
 pub still : (sql : List ℕ) (tree : ℕ) → IsSelect sql tree → (old new : State) → old.now.schema ≡ schema → (rows : List Row) → Shown sql [] old new rows → new.now ≡ old.now
 still sql tree is old new known rows h = unchanged sql [] old new is.plain known rows h
 
+-- inside a transaction over the schema it leaves all as it is
+pub still_inside : (sql : List ℕ) (params : Row) (old new : State) → IsPlain (understood schema sql) → IsInside old → (rows : List Row) → Shown sql params old new rows → Changes (λ t. t) old new
+unfolding Shown
+still_inside sql params old new plain at rows h =
+    let none = (subst IsPlain (ap (λ s. understood s sql) (sym at.known) ∙ h.1.is) plain).0 in
+    let it = subst (ShowsRows old new sql h.0 _ rows) none h.2 in
+    let same = it.3.0 in
+    record {
+      known = ap (λ (d : Database). d.schema) same.now_is ∙ at.known;
+      inside = same.mode ∙ at.inside;
+      committed = same.committed_is;
+      holds = λ t held. subst (λ (d : Database). Holds d.trees t) (sym same.now_is) held;
+    }
+
 -- ---- a query inside a transaction keeps the last commit, whatever its text
 
 shows_keeps : (old new : State) (sql : List ℕ) (c : Compiled) (params : Row) (rows : List Row) (r : Option Returning) → old.in_transaction ≡ true → ShowsRows old new sql c params rows r → KeepsCommit old new
@@ -83,6 +100,13 @@ shows_keeps old new sql c params rows (Some what) inside h = record { was_open =
 pub shown_keeps : (old new : State) (sql : List ℕ) (params : Row) (rows : List Row) → old.in_transaction ≡ true → Shown sql params old new rows → KeepsCommit old new
 unfolding Shown
 shown_keeps old new sql params rows inside h = shows_keeps old new sql h.0 _ rows h.0.returning inside h.2
+
+-- one that only reads keeps it outside of one too
+pub reading_keeps : (old new : State) (sql : List ℕ) (params : Row) (rows : List Row) → IsForReading old.now.schema sql → Shown sql params old new rows → KeepsCommit old new
+unfolding Shown
+reading_keeps old new sql params rows reads h =
+    let it = subst (ShowsRows old new sql h.0 _ rows) (reads h.0 h.1.is) h.2 in
+    record { was_open = λ _. it.3.0.was_open; committed = λ _. it.3.0.committed_is }
 
 not_run : (old new : State) (sql : List ℕ) (params : Row) (e : Error) → IsNotRun old new sql params e → KeepsCommit old new
 unfolding IsNotRun

@@ -14,6 +14,7 @@ use Rattle.sqlite_sql.specs.Term.{Term, col, eval_all}
 use Rattle.sqlite_sql.specs.declared.ops.BinaryOp.TheVariants.{Compare}
 use Rattle.sqlite_sql.specs.declared.ops.CompareOp.TheVariants.{Eq}
 use Rattle.sqlite_schema.specs.declared.command.Command.TheVariants.{Select}
+use Rattle.sqlite_resolve.specs.Compile.{first as parsed}
 use Rattle.sqlite_tied.specs.Compute.{everything}
 use Rattle.sqlite.specs.Collation.TheVariants.{Binary}
 use Rattle.sqlite.specs.Listing.{understood, reads_listing}
@@ -25,12 +26,15 @@ use Rattle.bo_schema.specs.Shapes.{over, plainly, equals}
 use Rattle.bo_schema.proofs.Answered.{passes, answered}
 use Rattle.bo_schema.proofs.Keyed.{equals_rowid}
 use Rattle.bo_columns.specs.declared.rows.KeptRow.{KeptRow}
+use Rattle.bo_columns.specs.declared.rows.QuotaItem.{QuotaItem}
+use Rattle.bo_columns.specs.declared.rows.QuotaVariation.{QuotaVariation}
 use Rattle.bo_columns.specs.declared.rows.Token.{Token}
 use Rattle.bo_columns.specs.Cells.{number}
-use Rattle.bo_columns.specs.Rows.{kept_row, token_row}
+use Rattle.bo_columns.specs.Rows.{kept_row, token_row, quota_item_row, quota_variation_row}
 use Rattle.bo_columns.specs.Tables.{Tables, Holds}
-use Rattle.bo_loads.specs.Lookups.{is_under, has_digest}
-use Rattle.bo_loads.proofs.Back.{alike, kept_in, kept_back, token_in, token_back}
+use Rattle.bo_loads.specs.Lookups.{is_under, has_digest, is_item_of, is_variation_of}
+use Rattle.bo_loads.proofs.Back.{alike, kept_in, kept_back, token_in, token_back, quota_item_in, quota_item_back, quota_variation_in, quota_variation_back}
+use Rattle.bo_loads.proofs.Queries.{is_query}
 
 truth_back : (b : Bool) → is_true (from_truth (Some b)) ≡ b
 truth_back true = refl
@@ -136,3 +140,61 @@ finds_token digest old new known all h t held =
     let read = reads_as token_text params old new schema known _ token_is.0 token_is.1 token_is.2 (map token_row all) h in
     let came = answered old.now 22 digest_test (col 1 0 ∷ col 1 2 ∷ []) [] params (map token_row all) read in
     looked_up token_row token_in token_back (shown schema 22) (passes digest_test params) (has_digest digest) (passes_digest digest) (old.now.trees 22) t.tokens all held.1.1.1.1.1.1.1.1.1.1.1.1.1.1.1.0 came
+
+-- ---- members by their quota
+
+abbrev owner_test : List Term
+owner_test = equals (col 1 1) (col 0 0) ∷ []
+
+abbrev link_columns : List Term
+link_columns = col 1 0 ∷ col 1 1 ∷ col 1 2 ∷ []
+
+passes_owner : (owner n : ℕ) (r : Row) → column r 1 ≡ number n → passes owner_test (number owner ∷ []) r ≡ (n == owner)
+passes_owner owner n r is =
+    stays_true _ ∙ ap (λ v. is_true (binary (Compare Eq Binary) v (number owner))) is ∙ equals_rowid (number n) (pos owner) ∙ ap is_eq (value_cmp-Int (pos n) (pos owner)) ∙ same_number n owner
+
+abbrev pub items_text : List ℕ
+items_text = codes "SELECT rowid, quota_id, item_id FROM quota_items WHERE quota_id = ?1"
+
+items_is : (command_of (understood schema items_text) ≡ Select (plainly (over 4 owner_test link_columns [])) (codes "rowid" ∷ codes "quota_id" ∷ codes "item_id" ∷ [])) × IsPlain (understood schema items_text) × (reads_listing schema items_text ≡ false)
+unfolding understood everything
+items_is = (refl, (refl, refl), refl)
+
+pub items_plain : IsPlain (understood schema items_text)
+items_plain = items_is.1
+
+pub asks_items : is_query (parsed items_text) ≡ true
+unfolding everything
+asks_items = refl
+
+pub finds_items : (quota : ℕ) (old new : State) → old.now.schema ≡ schema → (all : List QuotaItem) → Shown items_text (number quota ∷ []) old new (map quota_item_row all)
+    → (t : Tables) → Holds old.now.trees t → IsPermutation all (filter (is_item_of quota) t.quota_items)
+finds_items quota old new known all h t held =
+    let params = number quota ∷ [] in
+    let read = reads_as items_text params old new schema known _ items_is.0 items_is.1 items_is.2 (map quota_item_row all) h in
+    let came = answered old.now 4 owner_test link_columns [] params (map quota_item_row all) read in
+    looked_up quota_item_row quota_item_in quota_item_back (shown schema 4) (passes owner_test params) (is_item_of quota) (λ r (w : QuotaItem) e. passes_owner quota w.quota r (ap (λ (x : Row). column x 1) e))
+    (old.now.trees 4) t.quota_items all held.1.1.1.1.0 came
+
+abbrev pub variations_text : List ℕ
+variations_text = codes "SELECT rowid, quota_id, variation_id FROM quota_variations WHERE quota_id = ?1"
+
+variations_is : (command_of (understood schema variations_text) ≡ Select (plainly (over 6 owner_test link_columns [])) (codes "rowid" ∷ codes "quota_id" ∷ codes "variation_id" ∷ [])) × IsPlain (understood schema variations_text) × (reads_listing schema variations_text ≡ false)
+unfolding understood everything
+variations_is = (refl, (refl, refl), refl)
+
+pub variations_plain : IsPlain (understood schema variations_text)
+variations_plain = variations_is.1
+
+pub asks_variations : is_query (parsed variations_text) ≡ true
+unfolding everything
+asks_variations = refl
+
+pub finds_variations : (quota : ℕ) (old new : State) → old.now.schema ≡ schema → (all : List QuotaVariation) → Shown variations_text (number quota ∷ []) old new (map quota_variation_row all)
+    → (t : Tables) → Holds old.now.trees t → IsPermutation all (filter (is_variation_of quota) t.quota_variations)
+finds_variations quota old new known all h t held =
+    let params = number quota ∷ [] in
+    let read = reads_as variations_text params old new schema known _ variations_is.0 variations_is.1 variations_is.2 (map quota_variation_row all) h in
+    let came = answered old.now 6 owner_test link_columns [] params (map quota_variation_row all) read in
+    looked_up quota_variation_row quota_variation_in quota_variation_back (shown schema 6) (passes owner_test params) (is_variation_of quota) (λ r (w : QuotaVariation) e. passes_owner quota w.quota r (ap (λ (x : Row). column x 1) e))
+    (old.now.trees 6) t.quota_variations all held.1.1.1.1.1.0 came

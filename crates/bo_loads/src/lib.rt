@@ -23,4 +23,4 @@ pub mod vouchers;
 pub mod waiting;
 
 pub use loaded::Loaded;
-pub use lookups::{find_kept, find_token};
+pub use lookups::{find_kept, find_token, items_of, variations_of};

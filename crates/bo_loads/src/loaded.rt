@@ -59,6 +59,7 @@ pub(crate) fn rows_of<S: Alter, T: Loaded + Drop>(
     ensures limits { IfOk result (λ all. All T.Loaded.fits all.items) }
     ensures refused { HasCleanDisk (state S.Store tx.new.conn.now) → IsForReading (state S.Store tx.old.conn.now).now.schema sql.now → IfErr result (IsFor (HasNoMeaning (state S.Store tx.old.conn.now).now.schema sql.now) ((rows : List Shown) × Shows sql.now (bound params.now) (state S.Store tx.old.conn.now) (state S.Store tx.new.conn.now) rows × IsDamaged T.Loaded.as_row T.Loaded.fits rows)) }
     ensures kept { HasCleanDisk (state S.Store tx.new.conn.now) → (state S.Store tx.old.conn.now).in_transaction ≡ true → KeepsCommit (state S.Store tx.old.conn.now) (state S.Store tx.new.conn.now) }
+    ensures kept_reading { HasCleanDisk (state S.Store tx.new.conn.now) → IsForReading (state S.Store tx.old.conn.now).now.schema sql.now → KeepsCommit (state S.Store tx.old.conn.now) (state S.Store tx.new.conn.now) }
     ensures crash { Survives (state S.Store tx.old.conn.now) (state S.Store tx.new.conn.now) (λ _. ⊥) }
 {
     match tx.query_all(sql, params) {

@@ -6,5 +6,6 @@ pub mod Changed
 pub mod Told
 pub mod Counting
 pub mod Follow
+pub mod Just
 pub mod Made
 pub mod Carried

@@ -3,7 +3,7 @@ use Rattle.std.proofs.Common.{◌≡◌, ℕ, ◌+◌, ◌==◌, ◌<◌, Bool, 
 use Rattle.std.specs.List.{list_any, AllByRecursion}
 use Rattle.std.specs.List.Sorted.{IsPermutation}
 use Rattle.std.proofs.lemmas.Bool.Decides.{nat_tests}
-use Rattle.std.proofs.lemmas.List.Sorted.{IsPermutation-refl, IsPermutation-sym, IsPermutation-trans, IsPermutation-cons, IsPermutation-middle}
+use Rattle.std.proofs.lemmas.List.Sorted.{IsPermutation-refl, IsPermutation-sym, IsPermutation-trans, IsPermutation-cons, IsPermutation-map, IsPermutation-middle, IsPermutation-append_left, IsPermutation-filter_both}
 use Rattle.sqlite_trees.proofs.ListLemmas.{filter-map, IsPermutation-same}
 use Rattle.bo_catalogue.specs.declared.rows.Quota.{Quota}
 use Rattle.bo_lists.specs.declared.rows.CheckinList.{CheckinList}
@@ -15,14 +15,15 @@ use Rattle.bo_columns.specs.declared.rows.ListItem.{ListItem}
 use Rattle.bo_columns.specs.declared.rows.VoucherRow.{VoucherRow}
 use Rattle.bo_columns.specs.Tables.{Tables}
 use Rattle.bo_stand.specs.Free.{AreApart, AreBelow, IsFree}
-use Rattle.bo_stand.specs.Links.{Link, links, links_but}
-use Rattle.bo_stand.specs.Made.{made_by, next_by, made, next_after, numbered}
+use Rattle.bo_stand.specs.Links.{Link, links, links_but, are_just}
+use Rattle.bo_stand.specs.Made.{made_by, next_by, made, next_after, numbered, put_links}
 use Rattle.bo_stand.specs.Rows.{rows_of, redeemed_in}
 use Rattle.bo_stand.specs.RowsAfter.{rows_after, redeemed_of}
 use Rattle.bo_stand.specs.Stands.{AreSameRows}
 use Rattle.bo_stand.specs.Turned.{IsTurned, AreTurned}
 use Rattle.bo_stand.proofs.EachRow.{set_quota_items, set_quota_variations, set_list_items, set_vouchers}
 use Rattle.bo_stand.proofs.Follow.{same_rows}
+use Rattle.bo_stand.proofs.Just.{just_same}
 
 -- ---- row numbers
 
@@ -83,8 +84,14 @@ free_later n m t le h = record {
 
 -- ---- links, one after another
 
+abbrev link_to : ℕ → ℕ → Link
+link_to owner id = record { owner = owner; member = id }
+
 abbrev of_owner : ℕ → List ℕ → List Link
-of_owner owner ids = map (λ id. record { owner = owner; member = id }) ids
+of_owner owner ids = map (link_to owner) ids
+
+same_number : (a b : ℕ) → (a == b) ≡ true → a ≡ b
+same_number a b e = grind (arith, nat_tests)
 
 module _ {R : Type 0} (row : ℕ → ℕ → R) (rowid : R → ℕ) (link : R → Link) (owner : ℕ) (named : (n id : ℕ) → rowid (row n id) ≡ n) (owned : (n id : ℕ) → link (row n id) ≡ record { owner = owner; member = id }) where
   linked : (from : ℕ) (ids : List ℕ) (rows : List R) → IsPermutation (map link (numbered row from ids rows)) (of_owner owner ids ++ map link rows)
@@ -104,25 +111,64 @@ module _ {R : Type 0} (row : ℕ → ℕ → R) (rowid : R → ℕ) (link : R �
   relinked : (from : ℕ) (ids : List ℕ) (p : R → Bool) (rows : List R) → map link (filter p rows) ≡ links_but owner (map link rows) → IsPermutation (map link (numbered row from ids (filter p rows))) (of_owner owner ids ++ links_but owner (map link rows))
   relinked from ids p rows is = subst (λ l. IsPermutation (map link (numbered row from ids (filter p rows))) (of_owner owner ids ++ l)) is (linked from ids (filter p rows))
 
+-- links that stay where they are just an owner's members, and else are its members anew
+module _ {R : Type 0} (owner_of member_of rowid : R → ℕ) (row : ℕ → ℕ → R) (owner : ℕ) (named : (n id : ℕ) → rowid (row n id) ≡ n) (owned : (n id : ℕ) → link_to (owner_of (row n id)) (member_of (row n id)) ≡ link_to owner id) where
+  abbrev link : R → Link
+  link r = link_to (owner_of r) (member_of r)
+
+  abbrev own : List R → List R
+  own rows = filter (λ r. owner_of r == owner) rows
+
+  abbrev others : List R → List R
+  others rows = filter (λ r. not (owner_of r == owner)) rows
+
+  own_links : (rows : List R) → map link (own rows) ≡ of_owner owner (map member_of (own rows))
+  own_links [] = refl
+  own_links (r ∷ rows) =
+      elim (owner_of r == owner) as (λ b. (owner_of r == owner) ≡ b → map link (cond b (r ∷ own rows) (own rows)) ≡ of_owner owner (map member_of (cond b (r ∷ own rows) (own rows)))) [
+        | true ↦ λ e. let is = same_number (owner_of r) owner e in ap₂ (λ (l : Link) ls. l ∷ ls) (ap (λ n. link_to n (member_of r)) is) (own_links rows)
+        | false ↦ λ e. own_links rows
+      ] refl
+
+  links_stay : (ids : List ℕ) (rows : List R) → are_just ids (map member_of (own rows)) ≡ true → IsPermutation (map link rows) (of_owner owner ids ++ links_but owner (map link rows))
+  links_stay ids rows just =
+      let left = links_but owner (map link rows) in
+      let both : IsPermutation (map link rows) (filter (λ (l : Link). l.owner == owner) (map link rows) ++ left) =
+      IsPermutation-filter_both (λ (l : Link). l.owner == owner) (λ (l : Link). not (l.owner == owner)) (λ l. refl) (map link rows) in
+      let first : filter (λ (l : Link). l.owner == owner) (map link rows) ≡ of_owner owner (map member_of (own rows)) = filter-map (λ (l : Link). l.owner == owner) link rows ∙ own_links rows in
+      let same : IsPermutation (of_owner owner (map member_of (own rows))) (of_owner owner ids) = IsPermutation-map (link_to owner) (map member_of (own rows)) ids (just_same ids (map member_of (own rows)) just) in
+      IsPermutation-trans _ _ _ (subst (λ l. IsPermutation (map link rows) (l ++ left)) first both) (IsPermutation-append_left left (of_owner owner (map member_of (own rows))) (of_owner owner ids) same)
+
+  told_either : (from : ℕ) (ids : List ℕ) (rows : List R) (just : Bool) → are_just ids (map member_of (own rows)) ≡ just
+      → IsPermutation (map link (cond just rows (numbered row from ids (others rows)))) (of_owner owner ids ++ links_but owner (map link rows))
+  told_either from ids rows true is = links_stay ids rows is
+  told_either from ids rows false is = relinked row rowid link owner named owned from ids (λ r. not (owner_of r == owner)) rows (sym (filter-map (λ (l : Link). not (l.owner == owner)) link rows))
+
+  told : (from : ℕ) (ids : List ℕ) (rows : List R) → IsPermutation (map link (put_links owner_of member_of row owner from ids rows)) (of_owner owner ids ++ links_but owner (map link rows))
+  told from ids rows = told_either from ids rows (are_just ids (map member_of (own rows))) refl
+
+  below_either : (from : ℕ) (ids : List ℕ) (rows : List R) (just : Bool) → AreBelow from (map rowid rows) → AreBelow (from + length ids) (map rowid (cond just rows (numbered row from ids (others rows))))
+  below_either from ids rows true h = below_later from (from + length ids) (map rowid rows) (omega arith) h
+  below_either from ids rows false h = below_all row rowid link owner named owned from ids (others rows) (below_fewer rowid from (λ r. not (owner_of r == owner)) rows h)
+
+  put_below : (from : ℕ) (ids : List ℕ) (rows : List R) → AreBelow from (map rowid rows) → AreBelow (from + length ids) (map rowid (put_links owner_of member_of row owner from ids rows))
+  put_below from ids rows h = below_either from ids rows (are_just ids (map member_of (own rows))) h
+
 -- ---- one change
 
 pub one_turned : (change : Change) (from : ℕ) (t : Tables) → IsFree from t → IsTurned change (next_by change from) t (made_by change from t)
 one_turned (PutItem w) from t h = record { rows = same_rows (rows_after (PutItem w) (rows_of t)); redeemed = IsPermutation-refl _; shop = refl; counts = refl; tokens = refl; kept = refl; free = record { quota_items = h.quota_items; quota_variations = h.quota_variations; list_items = h.list_items; kept = h.kept } }
 one_turned (PutVariation w) from t h = record { rows = same_rows (rows_after (PutVariation w) (rows_of t)); redeemed = IsPermutation-refl _; shop = refl; counts = refl; tokens = refl; kept = refl; free = record { quota_items = h.quota_items; quota_variations = h.quota_variations; list_items = h.list_items; kept = h.kept } }
 one_turned (PutQuota w) from t h =
-    let p : QuotaItem → Bool = λ r. not (r.quota == w.id) in
-    let q : QuotaVariation → Bool = λ r. not (r.quota == w.id) in
+    let item : ℕ → ℕ → QuotaItem = λ n id. record { rowid = n; quota = w.id; item = id } in
+    let variation : ℕ → ℕ → QuotaVariation = λ n id. record { rowid = n; quota = w.id; variation = id } in
     let mid = from + length w.items in
-    let items = below_fewer (λ (r : QuotaItem). r.rowid) from p t.quota_items h.quota_items in
-    let variations = below_later from mid (map (λ (r : QuotaVariation). r.rowid) (filter q t.quota_variations)) (omega arith) (below_fewer (λ (r : QuotaVariation). r.rowid) from q t.quota_variations h.quota_variations) in
     record {
       rows =
           set_quota_variations
           (set_quota_items (same_rows (rows_after (PutQuota w) (rows_of t)))
-          (relinked (λ n id. record { rowid = n; quota = w.id; item = id }) (λ (r : QuotaItem). r.rowid) (λ (r : QuotaItem). record { owner = r.quota; member = r.item }) w.id (λ n id. refl) (λ n id. refl) from w.items p t.quota_items
-          (sym (filter-map (λ (l : Link). not (l.owner == w.id)) (λ (r : QuotaItem). record { owner = r.quota; member = r.item }) t.quota_items))))
-          (relinked (λ n id. record { rowid = n; quota = w.id; variation = id }) (λ (r : QuotaVariation). r.rowid) (λ (r : QuotaVariation). record { owner = r.quota; member = r.variation }) w.id (λ n id. refl) (λ n id. refl) mid w.variations q t.quota_variations
-          (sym (filter-map (λ (l : Link). not (l.owner == w.id)) (λ (r : QuotaVariation). record { owner = r.quota; member = r.variation }) t.quota_variations)));
+          (told (λ (r : QuotaItem). r.quota) (λ (r : QuotaItem). r.item) (λ (r : QuotaItem). r.rowid) item w.id (λ n id. refl) (λ n id. refl) from w.items t.quota_items))
+          (told (λ (r : QuotaVariation). r.quota) (λ (r : QuotaVariation). r.variation) (λ (r : QuotaVariation). r.rowid) variation w.id (λ n id. refl) (λ n id. refl) mid w.variations t.quota_variations);
       redeemed = IsPermutation-refl _;
       shop = refl;
       counts = refl;
@@ -130,9 +176,10 @@ one_turned (PutQuota w) from t h =
       kept = refl;
       free = record {
         quota_items = below_later mid (mid + length w.variations) _ (omega arith)
-            (below_all (λ n id. record { rowid = n; quota = w.id; item = id }) (λ (r : QuotaItem). r.rowid) (λ (r : QuotaItem). record { owner = r.quota; member = r.item }) w.id (λ n id. refl) (λ n id. refl) from w.items (filter p t.quota_items) items);
+            (put_below (λ (r : QuotaItem). r.quota) (λ (r : QuotaItem). r.item) (λ (r : QuotaItem). r.rowid) item w.id (λ n id. refl) (λ n id. refl) from w.items t.quota_items h.quota_items);
         quota_variations =
-            below_all (λ n id. record { rowid = n; quota = w.id; variation = id }) (λ (r : QuotaVariation). r.rowid) (λ (r : QuotaVariation). record { owner = r.quota; member = r.variation }) w.id (λ n id. refl) (λ n id. refl) mid w.variations (filter q t.quota_variations) variations;
+            put_below (λ (r : QuotaVariation). r.quota) (λ (r : QuotaVariation). r.variation) (λ (r : QuotaVariation). r.rowid) variation w.id (λ n id. refl) (λ n id. refl) mid w.variations t.quota_variations
+            (below_later from mid _ (omega arith) h.quota_variations);
         list_items = below_later from (mid + length w.variations) _ (omega arith) h.list_items;
         kept = below_later from (mid + length w.variations) _ (omega arith) h.kept;
       };

@@ -1,5 +1,6 @@
 -- The members of rows, as a table of their own has them.
-use Rattle.std.specs.Prelude.{ℕ, not, ◌==◌, List, map, filter, flat_map}
+use Rattle.std.specs.Prelude.{ℕ, Bool, not, ◌==◌, ◌&&◌, List, map, filter, flat_map, length, bytes_eq}
+use Rattle.bo_sorted.specs.Rising.{rising}
 
 -- a member, and the row that it is of
 pub record Link : Type 0 where
@@ -17,3 +18,7 @@ all_links key members rows = flat_map (links key members) rows
 -- those of all rows but one
 abbrev pub links_but : ℕ → List Link → List Link
 links_but owner rows = filter (λ l. not (l.owner == owner)) rows
+
+-- the ids that were found are, in whatever order, just these, which rise
+abbrev pub are_just : List ℕ → List ℕ → Bool
+are_just ids found = (length found == length ids) && bytes_eq (rising found) ids

@@ -13,6 +13,7 @@ use Rattle.bo_kept.specs.KeptAnswers.{lasts}
 use Rattle.bo_columns.specs.declared.rows.ShopRow.{ShopRow}
 use Rattle.bo_columns.specs.Changes.{with_shop, without_shop, with_item, without_item, with_variation, without_variation, with_quota, without_quota, with_cart, without_cart, with_order, without_order, with_position, without_position, with_waiting, without_waiting, with_list, without_list, with_checkin, without_checkin, with_count, without_count, with_kept}
 use Rattle.bo_columns.specs.Tables.{Tables}
+use Rattle.bo_stand.specs.Links.{are_just}
 use Rattle.bo_stand.specs.Rows.{redeemed_in}
 use Rattle.bo_stand.specs.RowsAfter.{redeemed_of}
 
@@ -33,24 +34,25 @@ abbrev pub numbered : {R : Type 0} → (ℕ → ℕ → R) → ℕ → List ℕ 
 numbered row from [] rows = rows
 numbered row from (id ∷ ids) rows = numbered row (from + 1) ids (row from id ∷ rows)
 
-abbrev pub with_items : ℕ → ℕ → List ℕ → Tables → Tables
-with_items quota from ids t = record t { quota_items = numbered (λ n id. record { rowid = n; quota = quota; item = id }) from ids t.quota_items }
-
-abbrev pub with_variations : ℕ → ℕ → List ℕ → Tables → Tables
-with_variations quota from ids t = record t { quota_variations = numbered (λ n id. record { rowid = n; quota = quota; variation = id }) from ids t.quota_variations }
-
 abbrev pub with_limits : ℕ → ℕ → List ℕ → Tables → Tables
 with_limits list from ids t = record t { list_items = numbered (λ n id. record { rowid = n; list = list; item = id }) from ids t.list_items }
-
-abbrev pub without_members : ℕ → Tables → Tables
-without_members quota t = record t { quota_items = filter (λ r. not (r.quota == quota)) t.quota_items; quota_variations = filter (λ r. not (r.quota == quota)) t.quota_variations }
 
 abbrev pub without_limits : ℕ → Tables → Tables
 without_limits list t = record t { list_items = filter (λ r. not (r.list == list)) t.list_items }
 
+-- the links of an owner stay where they are just its members; else they go, and new ones come
+abbrev pub put_links : {R : Type 0} → (owner member : R → ℕ) → (ℕ → ℕ → R) → ℕ → ℕ → List ℕ → List R → List R
+put_links owner member row id from ids rows = if are_just ids (map member (filter (λ r. owner r == id) rows)) then rows else numbered row from ids (filter (λ r. not (owner r == id)) rows)
+
+abbrev pub put_items : ℕ → ℕ → List ℕ → Tables → Tables
+put_items quota from ids t = record t { quota_items = put_links (λ r. r.quota) (λ r. r.item) (λ n id. record { rowid = n; quota = quota; item = id }) quota from ids t.quota_items }
+
+abbrev pub put_variations : ℕ → ℕ → List ℕ → Tables → Tables
+put_variations quota from ids t = record t { quota_variations = put_links (λ r. r.quota) (λ r. r.variation) (λ n id. record { rowid = n; quota = quota; variation = id }) quota from ids t.quota_variations }
+
 -- a quota with its members in the place of those that it had
 abbrev pub put_quota : Quota → ℕ → Tables → Tables
-put_quota w from t = with_variations w.id (from + length w.items) w.variations (with_items w.id from w.items (without_members w.id (with_quota w (without_quota w.id t))))
+put_quota w from t = put_variations w.id (from + length w.items) w.variations (put_items w.id from w.items (with_quota w (without_quota w.id t)))
 
 abbrev pub put_list : CheckinList → ℕ → Tables → Tables
 put_list w from t = with_limits w.id from w.limit_products (without_limits w.id (with_list w (without_list w.id t)))
@@ -72,7 +74,7 @@ made_by (DropWaiting id) from t = without_waiting id t
 made_by (PutCheckinList w) from t = put_list w from t
 made_by (PutCheckin w) from t = with_checkin w (without_checkin w.id t)
 
--- the row number that is free after a change
+-- the row number that is free after a change; where a quota's links stay, the numbers that new ones would take are skipped
 abbrev pub next_by : Change → ℕ → ℕ
 next_by (PutQuota w) from = from + length w.items + length w.variations
 next_by (PutCheckinList w) from = from + length w.limit_products

@@ -14,11 +14,13 @@ use bo_schema::RowError;
 use bo_transaction::Writing;
 use bo_writes::write_all;
 use sqlite::{Alter, Transaction};
+use std::alloc::Global;
 
 /// What one commit writes: the shop's row, changes and the counts that they change, and at a moment an answer to keep. Rows
 /// without an id of their own are numbered on from a number.
 #[derive(Drop)]
 pub(crate) struct Commit<'a> {
+    pub(crate) alloc: Global,
     pub(crate) shop: &'a ShopRow,
     pub(crate) changes: &'a [Change],
     pub(crate) counts: &'a CountRows,
@@ -34,6 +36,7 @@ impl Writing<u64> for Commit<'_> {
 
     fn write<S: Alter>(&self, tx: &mut Transaction<'_, S>) -> Result<u64, RowError> {
         write_all(
+            self.alloc,
             tx,
             self.shop,
             self.changes,

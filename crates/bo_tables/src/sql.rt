@@ -122,6 +122,7 @@ impl<S: Alter> Tables for SqlTables<S> {
         self.head.moment = at;
         self.head.next = changes.next();
         let what = Commit {
+            alloc: self.alloc,
             shop: &self.head,
             changes: changes.as_slice(),
             counts,

@@ -9,17 +9,23 @@ use crate::writable::Writable;
 use bo_lists::{CartPos, Change, Waiting};
 use bo_schema::RowError;
 use sqlite::{Alter, Transaction};
+use std::alloc::Global;
 
 impl Writable for Change {
     ghost made = { made_by };
 
     ghost next = { next_by };
 
-    fn write<S: Alter>(&self, tx: &mut Transaction<'_, S>, from: u64) -> Result<u64, RowError> {
+    fn write<S: Alter>(
+        &self,
+        alloc: Global,
+        tx: &mut Transaction<'_, S>,
+        from: u64,
+    ) -> Result<u64, RowError> {
         match self {
             Change::PutItem(row) => put_row(tx, row, from),
             Change::PutVariation(row) => put_row(tx, row, from),
-            Change::PutQuota(row) => write_quota(tx, row, from),
+            Change::PutQuota(row) => write_quota(alloc, tx, row, from),
             Change::PutVoucher(row) => put_voucher_row(tx, row, from),
             Change::PutCart(row) => put_row(tx, row, from),
             Change::PutOrder(row) => put_row(tx, row, from),

@@ -13,13 +13,19 @@ use crate::writable::{Writable, write_each};
 use bo_lists::{CountRows, QuotaCount, VoucherCount};
 use bo_schema::RowError;
 use sqlite::{Alter, Transaction};
+use std::alloc::Global;
 
 impl Writable for QuotaCount {
     ghost made = { λ count from. put_count count };
 
     ghost next = { λ count from. from };
 
-    fn write<S: Alter>(&self, tx: &mut Transaction<'_, S>, from: u64) -> Result<u64, RowError> {
+    fn write<S: Alter>(
+        &self,
+        _: Global,
+        tx: &mut Transaction<'_, S>,
+        from: u64,
+    ) -> Result<u64, RowError> {
         put_row(tx, self, from)
     }
 
@@ -31,7 +37,12 @@ impl Writable for VoucherCount {
 
     ghost next = { λ count from. from };
 
-    fn write<S: Alter>(&self, tx: &mut Transaction<'_, S>, from: u64) -> Result<u64, RowError> {
+    fn write<S: Alter>(
+        &self,
+        _: Global,
+        tx: &mut Transaction<'_, S>,
+        from: u64,
+    ) -> Result<u64, RowError> {
         bo_rows::put_redeemed(tx, *self)?;
         Ok(from)
     }
@@ -41,6 +52,7 @@ impl Writable for VoucherCount {
 
 /// Puts the counts that changed. Refusal: 63 where a voucher that is counted isn't there.
 pub(crate) fn write_counts<S: Alter>(
+    alloc: Global,
     tx: &mut Transaction<'_, S>,
     counts: &CountRows,
     from: u64,
@@ -50,7 +62,7 @@ pub(crate) fn write_counts<S: Alter>(
     ensures kept { HasCleanDisk (state S.Store tx.new.conn.now) → KeepsCommit (state S.Store tx.old.conn.now) (state S.Store tx.new.conn.now) }
     ensures crash { Survives (state S.Store tx.old.conn.now) (state S.Store tx.new.conn.now) (λ _. ⊥) }
 {
-    let free = write_each(tx, counts.vouchers(), from)?;
-    write_each(tx, counts.quotas(), free)?;
+    let free = write_each(alloc, tx, counts.vouchers(), from)?;
+    write_each(alloc, tx, counts.quotas(), free)?;
     Ok(())
 }

@@ -17,11 +17,13 @@ use bo_kept::Kept;
 use bo_lists::{Change, CountRows};
 use bo_schema::RowError;
 use sqlite::{Alter, Transaction};
+use std::alloc::Global;
 
 /// Writes all that a commit writes, inside a transaction: the shop's row, the changes, the counts that they change, and at a
 /// moment the answer to keep; the answers that are past then go. Rows without an id of their own are numbered on from a
 /// number that is free. Gives the number that is free afterwards. Refusals: 6, 60 where the file has no such table, 63.
 pub fn write_all<S: Alter>(
+    alloc: Global,
     tx: &mut Transaction<'_, S>,
     shop: &ShopRow,
     changes: &[Change],
@@ -37,8 +39,8 @@ pub fn write_all<S: Alter>(
     ensures crash { Survives (state S.Store tx.old.conn.now) (state S.Store tx.new.conn.now) (λ _. ⊥) }
 {
     bo_rows::put(tx, shop)?;
-    let number = write_each(tx, changes, from)?;
-    write_counts(tx, counts, number)?;
+    let number = write_each(alloc, tx, changes, from)?;
+    write_counts(alloc, tx, counts, number)?;
     write_answer(tx, number, kept, at)?;
     match number.checked_add(1) {
         Some(free) => Ok(free),

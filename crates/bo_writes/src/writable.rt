@@ -10,6 +10,7 @@ ghost use Rattle.bo_writes.specs.Steps.{made_each, next_each};
 
 use bo_schema::RowError;
 use sqlite::{Alter, Transaction};
+use std::alloc::Global;
 
 /// What a commit writes. Members of quotas and of check-in lists have no id of their own: their rows are numbered on from a
 /// number that is free.
@@ -21,7 +22,12 @@ pub trait Writable {
     ghost next: { Self → ℕ → ℕ };
 
     /// Writes it, and says which number is free afterwards. Refusals: 6, 60 where the file has no such table, 63.
-    fn write<S: Alter>(&self, tx: &mut Transaction<'_, S>, from: u64) -> Result<u64, RowError>
+    fn write<S: Alter>(
+        &self,
+        alloc: Global,
+        tx: &mut Transaction<'_, S>,
+        from: u64,
+    ) -> Result<u64, RowError>
         ensures same { tx.new.conn.ghost_name ≡ tx.old.conn.ghost_name }
         ensures written { HasCleanDisk (state S.Store tx.new.conn.now) → IsInside (state S.Store tx.old.conn.now) → IfOk result (λ free. (free ≡ next self.now from) × ChangesFit (IsFree from) (made self.now from) (state S.Store tx.old.conn.now) (state S.Store tx.new.conn.now)) }
         ensures kept { HasCleanDisk (state S.Store tx.new.conn.now) → KeepsCommit (state S.Store tx.old.conn.now) (state S.Store tx.new.conn.now) }
@@ -32,6 +38,7 @@ pub trait Writable {
 
 /// Writes one after another, and says which number is free afterwards.
 pub(crate) fn write_each<S: Alter, T: Writable>(
+    alloc: Global,
     tx: &mut Transaction<'_, S>,
     things: &[T],
     from: u64,
@@ -44,7 +51,7 @@ pub(crate) fn write_each<S: Alter, T: Writable>(
 {
     let mut free = from;
     'things: for thing in things {
-        free = thing.write(tx, free)?;
+        free = thing.write(alloc, tx, free)?;
     }
     Ok(free)
 }

@@ -2,7 +2,7 @@ use Rattle.std.proofs.Common.{sym, subst}
 use Rattle.sqlite.specs.Held.{state}
 use Rattle.bo_loads.specs.Damage.{IsDamaged, IsFor}
 use Rattle.bo_loads.proofs.Causes.{if_err, unread_for, failed}
-use Rattle.bo_loads.proofs.Loads.{shown_keeps, failed_keeps}
+use Rattle.bo_loads.proofs.Loads.{shown_keeps, reading_keeps, failed_keeps}
 use Rattle.bo_loads.proofs.loaded.rows_of.Goals as goal
 
 pub returns-in-Ok-clause-refused : goal.returns-in-Ok-clause-refused
@@ -20,4 +20,12 @@ returns-in-Ok-clause-kept g c clean inside =
 
 pub returns-in-Err-clause-kept : goal.returns-in-Err-clause-kept
 returns-in-Err-clause-kept g c clean inside =
+    failed_keeps (state g.S.Store c.args.tx.now.conn.now) (state g.S.Store c.query_all.new.self.conn.now) _ _ _ (c.in-Err.ensures.err clean)
+
+pub returns-in-Ok-clause-kept_reading : goal.returns-in-Ok-clause-kept_reading
+returns-in-Ok-clause-kept_reading g c clean reads =
+    reading_keeps (state g.S.Store c.args.tx.now.conn.now) (state g.S.Store c.query_all.new.self.conn.now) _ _ _ reads (c.in-Ok.ensures.ok clean)
+
+pub returns-in-Err-clause-kept_reading : goal.returns-in-Err-clause-kept_reading
+returns-in-Err-clause-kept_reading g c clean reads =
     failed_keeps (state g.S.Store c.args.tx.now.conn.now) (state g.S.Store c.query_all.new.self.conn.now) _ _ _ (c.in-Err.ensures.err clean)
