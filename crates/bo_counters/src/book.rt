@@ -117,10 +117,6 @@ impl Book for Counters {
         self.store().dead_carts(alloc, at)
     }
 
-    fn came_due(&self, at: Moment) -> u64 {
-        self.store().came_due(at)
-    }
-
     fn vouchers(&self) -> &[Voucher] {
         self.store().vouchers().as_slice()
     }

@@ -1,8 +1,8 @@
 -- Each count after changes, by the count before and by what the touched rows added and add.
-use Rattle.std.proofs.Common.{◌≡◌, ℕ, ◌+◌, ◌-◌, Bool, true, false, ◌&&◌, not, List, [], ◌∷◌, map, Option, Some, None, refl, sym, ap, ◌∙◌, sum_by, count_by, arith}
+use Rattle.std.proofs.Common.{◌≡◌, ℕ, ◌+◌, ◌-◌, Bool, false, ◌&&◌, not, List, [], ◌∷◌, Option, Some, None, refl, sym, ap, ◌∙◌, sum_by, count_by, arith}
 use Rattle.std.specs.Prelude.{if◌then◌else◌}
 use Rattle.std.proofs.lemmas.List.Sums.{sum_by-cons}
-use Rattle.bo_sorted.specs.Tables.{has, row_at, sum_at}
+use Rattle.bo_sorted.specs.Tables.{has, sum_at}
 use Rattle.bo_catalogue.specs.declared.rows.Quota.{Quota}
 use Rattle.bo_catalogue.specs.Member.{is_in}
 use Rattle.bo_lists.specs.declared.rows.Status.{Status}
@@ -10,16 +10,15 @@ use Rattle.bo_lists.specs.declared.rows.Order.{Order}
 use Rattle.bo_lists.specs.declared.rows.OrderPos.{OrderPos}
 use Rattle.bo_lists.specs.declared.rows.CartPos.{CartPos}
 use Rattle.bo_lists.specs.declared.rows.Voucher.{Voucher}
-use Rattle.bo_lists.specs.declared.count_rows.VoucherCount.{VoucherCount}
 use Rattle.bo_lists.specs.Conditions.{is_paid, is_pending, is_in_force, is_live_cart, blocks, names}
-use Rattle.bo_lists.specs.Lists.{Lists, voucher_at, cart_at, order_at, position_at, waiting_at}
-use Rattle.bo_lists.specs.Usage.{stands_as, position_counts, uses, redeemed, blocked_by, blocks_if, is_covered_by, cart_counts, waits_for}
+use Rattle.bo_lists.specs.Lists.{Lists, voucher_at, cart_at, position_at}
+use Rattle.bo_lists.specs.Usage.{stands_as, position_counts, uses, redeemed, blocked_by, is_covered_by, cart_counts, waits_for}
 use Rattle.bo_lists.proofs.EachRow.{key-row_at}
 use Rattle.bo_usage.specs.Shares.{status_share, cart_share, waiting_share, blocked_share}
 use Rattle.bo_counts.specs.Touched.{ArePositions, AreVouchers, AreCarts, AreEntries, AreOrdered}
 use Rattle.bo_counts.specs.Shares.{share, use_of, blocked_as}
 use Rattle.bo_counts.specs.Told.{redeemed_each}
-use Rattle.bo_counts.specs.declared.shares.Kind.TheVariants.{Paid, Pending, Carts, Waiting}
+use Rattle.bo_counts.specs.declared.shares.PlaceCount.TheVariants.{Paid, Pending, Carts, Waiting}
 use Rattle.bo_counts.proofs.Shifted.{shifted, value}
 
 abbrev once : Bool → ℕ
@@ -69,7 +68,7 @@ module _ (before after : Lists) (b : AreOrdered before) (a : AreOrdered after) w
     module _ (ids : List ℕ) (is : AreCarts before after ids) where
       same_cover : (id : ℕ) (c : CartPos) → has id ids ≡ false → cart_at id before ≡ Some c → (name : Option ℕ) → c.voucher ≡ name → is_covered_by before at q name ≡ is_covered_by after at q name
       same_cover id c absent found None name = refl
-      same_cover id c absent found (Some v) name = ap (blocks_if at q) (sym (is.covers id c v absent found name))
+      same_cover id c absent found (Some v) name = sym (is.covers id c v absent found name at q)
 
       same_carts : (id : ℕ) → has id ids ≡ false → (o : Option CartPos) → cart_at id before ≡ o → sum_at (λ c. once (cart_counts before at q c)) o ≡ sum_at (λ c. once (cart_counts after at q c)) o
       same_carts id absent None found = refl

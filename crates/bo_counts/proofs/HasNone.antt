@@ -16,9 +16,9 @@ use Rattle.bo_lists.specs.Conditions.{is_paid, is_pending, is_live_cart, is_live
 use Rattle.bo_lists.specs.Lists.{Lists, voucher_at, cart_at, order_at, position_at, waiting_at}
 use Rattle.bo_lists.specs.Usage.{stands_as, position_counts, is_covered, cart_counts, has_none, waits_for, redeemed}
 use Rattle.bo_usage.specs.Shares.{status_share, cart_share, waiting_share, blocked_share}
-use Rattle.bo_counts.specs.declared.shares.Kind.{Kind}
-use Rattle.bo_counts.specs.declared.shares.Kind.TheVariants.{Paid, Pending, Carts, Waiting}
-use Rattle.bo_counts.specs.declared.touched.Touched.{Touched}
+use Rattle.bo_counts.specs.declared.shares.PlaceCount.{PlaceCount}
+use Rattle.bo_counts.specs.declared.shares.PlaceCount.TheVariants.{Paid, Pending, Carts, Waiting}
+use Rattle.bo_counts.specs.declared.touched.TouchedRows.{TouchedRows}
 use Rattle.bo_counts.specs.Shares.{share, blocked_as}
 use Rattle.bo_counts.specs.Told.{told_if, redeemed_each}
 use Rattle.bo_counts.specs.Reached.{quotas_with, hit_by, hit_by_name, hit_by_product, quotas_hit, reached}
@@ -37,7 +37,7 @@ module _ (k : ℕ) (f : ℕ → ℕ) (reach : ℕ → List ℕ) (each : (id : �
       omega (arith, sum_by-cons f id ids, each id both.0, no_sum ids both.1)
 
 -- the touched rows neither add to a count of the quota nor block places of it
-pub record HasNone (q : Quota) (lists : Lists) (at : ℕ) (rows : Touched) : Type 0 where
+pub record HasNone (q : Quota) (lists : Lists) (at : ℕ) (rows : TouchedRows) : Type 0 where
   pub paid : sum_by (share Paid lists at q) rows.positions ≡ 0
   pub pending : sum_by (share Pending lists at q) rows.positions ≡ 0
   pub carts : sum_by (share Carts lists at q) rows.carts ≡ 0
@@ -64,7 +64,7 @@ module _ (q : Quota) (cat : CatalogueLists) (stands : quota_at q.id cat ≡ Some
     no_entry None absent = refl
     no_entry (Some w) absent = ap {B = ℕ} (λ b. if b then 1 else 0) (ap (λ b. has_none w.voucher && b) (not_in w.product absent) ∙ and_false (has_none w.voucher))
 
-    no_share : (kind : Kind) (id : ℕ) → has q.id (quotas_with kind cat lists id) ≡ false → share kind lists at q id ≡ 0
+    no_share : (kind : PlaceCount) (id : ℕ) → has q.id (quotas_with kind cat lists id) ≡ false → share kind lists at q id ≡ 0
     unfolding status_share cart_share waiting_share
     no_share Paid id absent = no_position is_paid (position_at id lists) absent
     no_share Pending id absent = no_position is_pending (position_at id lists) absent
@@ -90,7 +90,7 @@ module _ (q : Quota) (cat : CatalogueLists) (stands : quota_at q.id cat ≡ Some
         let both = absent_both q.id (quotas_hit cat lists id) (flat_map (quotas_hit cat lists) ids) absent in
         omega (arith, sum_by-cons (blocked_as lists at q) (record { voucher = id; redeemed = redeemed id lists }) (redeemed_each lists ids), no_places (redeemed id lists) (voucher_at id lists) both.0, no_blocked ids both.1)
 
-    pub has_none_of : (rows : Touched) → has q.id (reached cat lists rows) ≡ false → HasNone q lists at rows
+    pub has_none_of : (rows : TouchedRows) → has q.id (reached cat lists rows) ≡ false → HasNone q lists at rows
     has_none_of rows absent =
         let four = absent_both q.id (flat_map (quotas_with Paid cat lists) rows.positions ++ flat_map (quotas_with Carts cat lists) rows.carts ++ flat_map (quotas_with Waiting cat lists) rows.entries) (flat_map (quotas_hit cat lists) rows.vouchers) absent in
         let three = absent_both q.id (flat_map (quotas_with Paid cat lists) rows.positions ++ flat_map (quotas_with Carts cat lists) rows.carts) (flat_map (quotas_with Waiting cat lists) rows.entries) four.0 in

@@ -1,6 +1,8 @@
 pub mod Shifted
 pub mod Picked
 pub mod FiveCounts
+pub mod UsedNames
+pub mod TurnedUses
 pub mod Untouched
 pub mod Ordered
 pub mod Usages

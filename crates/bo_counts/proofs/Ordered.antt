@@ -1,5 +1,5 @@
 -- Ids rise after changes as they did before.
-use Rattle.std.proofs.Common.{ℕ, List, [], ◌∷◌, arith}
+use Rattle.std.proofs.Common.{List, [], ◌∷◌, arith}
 use Rattle.bo_sorted.proofs.Places.{with_row_in_order, without_row_in_order}
 use Rattle.bo_lists.specs.declared.changes.Change.{Change}
 use Rattle.bo_lists.specs.declared.changes.Change.TheVariants.{PutQuota, PutVoucher, PutCart, PutPosition, PutWaiting, DropVoucher, DropCart, DropWaiting}

@@ -1,9 +1,9 @@
 -- What is made of rows one by one is made of those of the ids that matter.
-use Rattle.std.proofs.Common.{◌≡◌, ◌≢◌, ℕ, suc, ◌+◌, ◌<◌, ◌≤◌, ◌⊎◌, inl, inr, Bool, true, false, cond, eqb, leb, not, ◌&&◌, List, [], ◌∷◌, ◌++◌, map, filter, Option, Some, None, refl, sym, ap, ap₂, ◌∙◌, subst, arith}
+use Rattle.std.proofs.Common.{◌≡◌, ◌≢◌, ℕ, suc, ◌+◌, ◌<◌, ◌≤◌, ◌⊎◌, inl, inr, Bool, true, false, cond, eqb, ◌&&◌, List, [], ◌∷◌, ◌++◌, map, filter, Option, Some, None, refl, sym, ap, ap₂, ◌∙◌, arith}
 use Rattle.std.specs.Prelude.{◌||◌, if◌then◌else◌, flat_map, nat_lt}
 use Rattle.std.specs.List.{AllByRecursion, list_any}
 use Rattle.std.proofs.lemmas.Bool.Decides.{nat_tests, eqb_tells, leb_tells}
-use Rattle.bo_sorted.specs.Tables.{has, row_at, InOrderFrom, AreInOrder}
+use Rattle.bo_sorted.specs.Tables.{has, row_at, InOrderFrom}
 use Rattle.bo_sorted.proofs.Edits.{row_at_above}
 use Rattle.bo_sorted.proofs.Places.{order_weaker}
 use Rattle.bo_lists.proofs.EachRow.{all_weaker}

@@ -23,7 +23,7 @@ use Rattle.bo_lists.specs.Lists.{Lists, State, voucher_at}
 use Rattle.bo_lists.specs.Usage.{usage_of, redeemed}
 use Rattle.bo_lists.proofs.EachRow.{all_weaker, key-row_at}
 use Rattle.bo_lists.proofs.Found.{each_found}
-use Rattle.bo_counts.specs.declared.touched.Touched.{Touched}
+use Rattle.bo_counts.specs.declared.touched.TouchedRows.{TouchedRows}
 use Rattle.bo_counts.specs.Told.{Passage, IsPassage, has_count, has_voucher, told_unless, told_if, quota_told, voucher_told, voucher_told_as, gone_told, redeemed_each}
 use Rattle.bo_counts.proofs.Picked.{filter_is, picked, passes_if, one_passes, any_mapped}
 use Rattle.bo_counts.proofs.Shifted.{own_id}
@@ -67,7 +67,7 @@ module _ (p : Passage) where
       ∙ picked (λ (q : Quota). q.id) (quota_told p) ids 0 0 p.after.lists.catalogue.quotas rise order
       (all_weaker (λ (q : Quota). quota_at q.id p.after.lists.catalogue ≡ Some q) (λ q. has q.id ids ≡ false → quota_told p q ≡ []) others p.after.lists.catalogue.quotas (each_found (λ (q : Quota). q.id) 0 p.after.lists.catalogue.quotas order)))
 
-  module _ (rows : Touched) (olds news : List VoucherCount) (is : IsPassage p rows olds news) where
+  module _ (rows : TouchedRows) (olds news : List VoucherCount) (is : IsPassage p rows olds news) where
     each_told : (ids : List ℕ) → flat_map (voucher_told_as p) (redeemed_each p.after.lists ids) ≡ flat_map (λ id. told_if (voucher_told p) (voucher_at id p.after.lists)) ids
     each_told [] = refl
     each_told (id ∷ ids) = ap₂ (λ (a b : List VoucherCount). a ++ b) (one (voucher_at id p.after.lists) refl) (each_told ids)

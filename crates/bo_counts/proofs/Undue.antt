@@ -16,8 +16,8 @@ use Rattle.bo_lists.specs.Conditions.{has_not_ended, is_live_cart, hits, blocks,
 use Rattle.bo_lists.specs.Lists.{Lists, voucher_at, cart_at}
 use Rattle.bo_lists.specs.Usage.{redeemed, blocked_by, blocks_if, is_covered_by, cart_counts, usage_of}
 use Rattle.bo_usage.specs.Shares.{cart_share}
-use Rattle.bo_counts.specs.declared.shares.Kind.TheVariants.{Carts}
-use Rattle.bo_counts.specs.declared.touched.Touched.{Touched}
+use Rattle.bo_counts.specs.declared.shares.PlaceCount.TheVariants.{Carts}
+use Rattle.bo_counts.specs.declared.touched.TouchedRows.{TouchedRows}
 use Rattle.bo_counts.specs.Due.{ids_naming, due_rows}
 use Rattle.bo_counts.specs.Reached.{reached}
 use Rattle.bo_counts.specs.Shares.{share}
@@ -51,7 +51,7 @@ module _ (from to : ℕ) (later : from ≤ to) where
   same_blocks q v stays = ap (λ b. v.block_quota && b && hits q v) (same_life v.valid_until stays)
 
   module _ (lists : Lists) (order : AreOrdered lists) where
-    abbrev due : Touched
+    abbrev due : TouchedRows
     due = due_rows from to lists
 
     -- a voucher that isn't among those that came due

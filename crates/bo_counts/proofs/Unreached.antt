@@ -13,7 +13,7 @@ use Rattle.bo_lists.specs.Change.{after_all}
 use Rattle.bo_lists.specs.CountRows.{same_usage, quota_count}
 use Rattle.bo_lists.specs.Lists.{Lists}
 use Rattle.bo_lists.specs.Usage.{usage_of}
-use Rattle.bo_counts.specs.declared.touched.Touched.{Touched}
+use Rattle.bo_counts.specs.declared.touched.TouchedRows.{TouchedRows}
 use Rattle.bo_counts.specs.Due.{due_rows}
 use Rattle.bo_counts.specs.Shares.{blocked_as}
 use Rattle.bo_counts.specs.Touched.{quotas_by}
@@ -29,7 +29,7 @@ use Rattle.bo_counts.proofs.ToldRows.{had_some, quota_stood, rises}
 same_self : (u : Usage) → same_usage u u ≡ true
 same_self u = rw (own_id u.paid, own_id u.pending, own_id u.blocked, own_id u.carts, own_id u.waiting) refl
 
-module _ (p : Passage) (rows : Touched) (was now : List VoucherCount) (is : IsPassage p rows was now) where
+module _ (p : Passage) (rows : TouchedRows) (was now : List VoucherCount) (is : IsPassage p rows was now) where
   abbrev before : Lists
   before = p.before.lists
 
@@ -49,7 +49,7 @@ module _ (p : Passage) (rows : Touched) (was now : List VoucherCount) (is : IsPa
 
   module _ (cat : CatalogueLists) (same : before.catalogue ≡ cat) (changes : List Change) (after_is : after ≡ after_all changes before) where
     -- those that changes put, or that are reached
-    abbrev asked : Touched → List ℕ
+    abbrev asked : TouchedRows → List ℕ
     asked due = flat_map quotas_by changes ++ reached cat before rows ++ reached cat after rows ++ reached cat before due
 
     untold : (q : Quota) → quota_at q.id after.catalogue ≡ Some q → has q.id (asked (due_rows p.before.moment p.after.moment before)) ≡ false → quota_told p q ≡ []
@@ -67,8 +67,8 @@ module _ (p : Passage) (rows : Touched) (was now : List VoucherCount) (is : IsPa
         (sym (ap (λ u. same_usage u (usage_of before p.before.moment q)) used ∙ same_self (usage_of before p.before.moment q))) in
         ap (λ b. told_unless b (quota_count p.after q)) (sym known)
 
-    pub asked_reached : (due : Touched) → due ≡ due_rows p.before.moment p.after.moment before → (ids : List ℕ) → ids ≡ rising (flat_map quotas_by changes ++ reached cat before rows ++ reached cat after rows ++ reached cat before due) → AreAsked p ids
+    pub asked_reached : (due : TouchedRows) → due ≡ due_rows p.before.moment p.after.moment before → (ids : List ℕ) → ids ≡ rising (flat_map quotas_by changes ++ reached cat before rows ++ reached cat after rows ++ reached cat before due) → AreAsked p ids
     asked_reached due due_is ids given = record {
       order = rises ids (asked due) given;
-      others = λ q found absent. untold q found (ap (λ (d : Touched). has q.id (asked d)) (sym due_is) ∙ sym (has-rising q.id (asked due)) ∙ ap (has q.id) (sym given) ∙ absent);
+      others = λ q found absent. untold q found (ap (λ (d : TouchedRows). has q.id (asked d)) (sym due_is) ∙ sym (has-rising q.id (asked due)) ∙ ap (has q.id) (sym given) ∙ absent);
     }

@@ -1,27 +1,27 @@
 -- What changes don't touch is as it was.
-use Rattle.std.proofs.Common.{◌≡◌, ◌≢◌, ℕ, ◌+◌, ◌⊎◌, inl, inr, Bool, true, false, cond, eqb, ◌&&◌, List, [], ◌∷◌, ◌++◌, map, filter, Option, Some, None, refl, sym, ap, ◌∙◌, subst, sum_by, arith}
+use Rattle.std.proofs.Common.{◌≡◌, ◌≢◌, ℕ, ◌+◌, Bool, true, false, cond, eqb, ◌&&◌, List, [], ◌∷◌, ◌++◌, map, filter, Option, Some, None, refl, sym, ap, ◌∙◌, subst, sum_by, arith}
 use Rattle.std.specs.Prelude.{◌||◌, if◌then◌else◌, flat_map}
 use Rattle.std.specs.Option.{option_to_list}
-use Rattle.std.proofs.lemmas.Bool.Decides.{nat_tests, eqb_tells}
+use Rattle.std.proofs.lemmas.Bool.Decides.{nat_tests}
 use Rattle.std.proofs.lemmas.Bool.{false≢true}
 use Rattle.std.proofs.lemmas.List.Sums.{sum_by-cons}
 use Rattle.bo_sorted.specs.Tables.{has, row_at, AreInOrder}
 use Rattle.bo_sorted.specs.Rising.{rising}
 use Rattle.bo_sorted.proofs.Edits.{row_at-with_row, row_at-without_row}
 use Rattle.bo_sorted.proofs.RisingLemmas.{has-rising, rising_in_order}
+use Rattle.bo_catalogue.specs.declared.rows.Quota.{Quota}
 use Rattle.bo_lists.specs.declared.changes.Change.{Change}
 use Rattle.bo_lists.specs.declared.changes.Change.TheVariants.{PutVoucher, PutCart, PutOrder, PutPosition, PutWaiting, DropVoucher, DropCart, DropWaiting}
 use Rattle.bo_lists.specs.declared.rows.Voucher.{Voucher}
 use Rattle.bo_lists.specs.declared.rows.CartPos.{CartPos}
-use Rattle.bo_lists.specs.declared.rows.Order.{Order}
 use Rattle.bo_lists.specs.declared.rows.OrderPos.{OrderPos}
-use Rattle.bo_lists.specs.declared.rows.Waiting.{Waiting}
 use Rattle.bo_lists.specs.Change.{after_change, after_all}
-use Rattle.bo_lists.specs.Conditions.{is_in_force, names}
-use Rattle.bo_lists.specs.Lists.{Lists, voucher_at, cart_at, order_at, position_at, positions_of, waiting_at}
+use Rattle.bo_lists.specs.Conditions.{is_in_force, names, blocks}
+use Rattle.bo_lists.specs.Lists.{Lists, voucher_at, cart_at, order_at, position_at, waiting_at}
 use Rattle.bo_lists.specs.Named.{carts_naming}
-use Rattle.bo_lists.specs.Usage.{stands_as, redeemed}
-use Rattle.bo_counts.specs.Touched.{positions_by, vouchers_by, carts_by, entries_by, name_of, names_in, ArePositions, AreVouchers, AreCarts, AreEntries, AreTouched, AreOrdered}
+use Rattle.bo_lists.specs.Usage.{stands_as, redeemed, blocks_if}
+use Rattle.bo_usage.proofs.CoverLemmas.{same_blocks}
+use Rattle.bo_counts.specs.Touched.{positions_by, vouchers_by, carts_by, entries_by, name_of, names_in, stands_alike, ArePositions, AreVouchers, AreCarts, AreEntries, AreTouched, AreOrdered}
 use Rattle.bo_counts.specs.Shares.{use_of}
 use Rattle.bo_counts.proofs.FiveCounts.{redeemed_shifted}
 use Rattle.bo_counts.proofs.Ordered.{ordered_after}
@@ -48,6 +48,14 @@ module _ {A : Type 0} (look : Lists → A) (by : Change → List ℕ) (id : ℕ)
   unaltered (c ∷ cs) lists absent =
       let both = absent_both id (by c) (flat_map by cs) absent in
       unaltered cs (after_change c lists) both.1 ∙ step c lists both.0
+
+-- the same of what a change alters only where the look before it was another one
+module _ {A : Type 0} (look : Lists → A) (by : Change → List ℕ) (id : ℕ) (base : Lists) (step : (change : Change) (lists : Lists) → look lists ≡ look base → has id (by change) ≡ false → look (after_change change lists) ≡ look base) where
+  pub unaltered_from : (changes : List Change) (lists : Lists) → look lists ≡ look base → has id (flat_map by changes) ≡ false → look (after_all changes lists) ≡ look base
+  unaltered_from [] lists so_far absent = so_far
+  unaltered_from (c ∷ cs) lists so_far absent =
+      let both = absent_both id (by c) (flat_map by cs) absent in
+      unaltered_from cs (after_change c lists) (step c lists so_far both.0) both.1
 
 -- a row that passes is listed
 listed : {T : Type 0} (key : T → ℕ) (test : T → Bool) (id : ℕ) (row : T) (rows : List T) → row_at key id rows ≡ Some row → test row ≡ true → has id (map key (filter test rows)) ≡ true
@@ -98,10 +106,27 @@ module _ (base : Lists) (id : ℕ) where
   unnamed : (c : CartPos) (v k : ℕ) → cart_at id base ≡ Some c → c.voucher ≡ Some v → has id (map (λ c. c.id) (carts_naming k base)) ≡ false → eqb k v ≡ false
   unnamed c v k found name absent = flip k v ∙ ap (names k) (sym name) ∙ absent_fails (λ (d : CartPos). d.id) (λ d. names k d.voucher) id c base.carts found absent
 
-  cover_step : (c : CartPos) (v : ℕ) → cart_at id base ≡ Some c → c.voucher ≡ Some v → (change : Change) (lists : Lists) → has id (carts_by base change) ≡ false → voucher_at v (after_change change lists) ≡ voucher_at v lists
-  cover_step c v found name (PutVoucher row) lists absent = row_at-with_row (λ r. r.id) v row lists.vouchers ∙ ap (λ b. if b then Some row else voucher_at v lists) (unnamed c v row.id found name absent)
-  cover_step c v found name (DropVoucher gone) lists absent = row_at-without_row (λ r. r.id) v gone lists.vouchers ∙ ap (λ b. if b then None else voucher_at v lists) (unnamed c v gone found name absent)
-  cover_step c v found name _ lists absent = refl
+  module _ (c : CartPos) (v : ℕ) (found : cart_at id base ≡ Some c) (name : c.voucher ≡ Some v) (at : ℕ) (q : Quota) where
+    -- what the voucher that the cart position names covers
+    abbrev cover : Lists → Bool
+    cover lists = blocks_if at q (voucher_at v lists)
+
+    -- a voucher that covers what the one in its place does
+    put_alike : (row : Voucher) (old : Option Voucher) → voucher_at row.id base ≡ old → stands_alike row old ≡ true → eqb row.id v ≡ true → blocks at q row ≡ cover base
+    put_alike row None stood alike own = absurd (false≢true alike)
+    put_alike row (Some old) stood alike own =
+        let same : row.id ≡ v = grind (arith, nat_tests, own) in
+        same_blocks row old alike at q ∙ ap (blocks_if at q) (sym stood) ∙ ap (λ k. blocks_if at q (voucher_at k base)) same
+
+    put_step : (row : Voucher) (lists : Lists) → cover lists ≡ cover base → (alike : Bool) → stands_alike row (voucher_at row.id base) ≡ alike → has id (if alike then [] else map (λ c. c.id) (carts_naming row.id base)) ≡ false → (own : Bool) → eqb row.id v ≡ own → blocks_if at q (if own then Some row else voucher_at v lists) ≡ cover base
+    put_step row lists so_far alike is absent false own = so_far
+    put_step row lists so_far true is absent true own = put_alike row (voucher_at row.id base) refl is own
+    put_step row lists so_far false is absent true own = absurd (false≢true (sym (unnamed c v row.id found name absent) ∙ own))
+
+    cover_step : (change : Change) (lists : Lists) → cover lists ≡ cover base → has id (carts_by base change) ≡ false → cover (after_change change lists) ≡ cover base
+    cover_step (PutVoucher row) lists so_far absent = ap (blocks_if at q) (row_at-with_row (λ r. r.id) v row lists.vouchers) ∙ put_step row lists so_far (stands_alike row (voucher_at row.id base)) refl absent (eqb row.id v) refl
+    cover_step (DropVoucher gone) lists so_far absent = ap (blocks_if at q) (row_at-without_row (λ r. r.id) v gone lists.vouchers ∙ ap (λ b. if b then None else voucher_at v lists) (unnamed c v gone found name absent)) ∙ so_far
+    cover_step _ lists so_far absent = so_far
 
   entry_step : (change : Change) (lists : Lists) → has id (entries_by change) ≡ false → waiting_at id (after_change change lists) ≡ waiting_at id lists
   entry_step (PutWaiting row) lists absent = row_at-with_row (λ r. r.id) id row lists.waiting ∙ ap (λ b. if b then Some row else waiting_at id lists) (alone row.id id absent)
@@ -161,7 +186,7 @@ module _ (before : Lists) (changes : List Change) where
   carts_are ids is = record {
     order = ordered ids (flat_map (carts_by before) changes) is;
     carts = λ id absent. unaltered (cart_at id) (carts_by before) id (cart_step before id) changes before (given id ids (flat_map (carts_by before) changes) is absent);
-    covers = λ id c v absent found name. unaltered (voucher_at v) (carts_by before) id (cover_step before id c v found name) changes before (given id ids (flat_map (carts_by before) changes) is absent);
+    covers = λ id c v absent found name at q. unaltered_from (λ lists. blocks_if at q (voucher_at v lists)) (carts_by before) id before (cover_step before id c v found name at q) changes before refl (given id ids (flat_map (carts_by before) changes) is absent);
   }
 
   pub entries_are : (ids : List ℕ) → ids ≡ rising (flat_map entries_by changes) → AreEntries before after ids

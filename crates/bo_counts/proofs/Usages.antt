@@ -1,8 +1,8 @@
 -- What is used of a quota after changes, and what all rows add up to.
-use Rattle.std.proofs.Common.{◌≡◌, ℕ, ◌+◌, Bool, true, false, eqb, List, [], ◌∷◌, map, Option, Some, None, refl, sym, ap, ◌∙◌, subst, sum_by, count_by, arith}
-use Rattle.std.specs.Prelude.{◌||◌, if◌then◌else◌}
+use Rattle.std.proofs.Common.{◌≡◌, ℕ, ◌+◌, false, eqb, List, [], ◌∷◌, map, Some, refl, ap, ◌∙◌, subst, sum_by, count_by, arith}
+use Rattle.std.specs.Prelude.{if◌then◌else◌}
 use Rattle.std.proofs.lemmas.List.Sums.{sum_by-cons}
-use Rattle.bo_sorted.specs.Tables.{has, row_at, sum_at, InOrderFrom, AreInOrder, AreKept}
+use Rattle.bo_sorted.specs.Tables.{has, InOrderFrom, AreInOrder, AreKept}
 use Rattle.bo_catalogue.specs.declared.rows.Quota.{Quota}
 use Rattle.bo_catalogue.specs.CatalogueLists.{CatalogueLists, quota_at}
 use Rattle.bo_lists.proofs.EachRow.{key-row_at}
@@ -20,8 +20,8 @@ use Rattle.bo_usage.specs.Shares.{status_share, cart_share, waiting_share}
 use Rattle.bo_counts.specs.Touched.{AreOrdered}
 use Rattle.bo_counts.specs.Shares.{share, blocked_as}
 use Rattle.bo_counts.specs.Told.{redeemed_each, Passage, IsPassage}
-use Rattle.bo_counts.specs.declared.touched.Touched.{Touched}
-use Rattle.bo_counts.specs.declared.shares.Kind.TheVariants.{Paid, Pending, Carts, Waiting}
+use Rattle.bo_counts.specs.declared.touched.TouchedRows.{TouchedRows}
+use Rattle.bo_counts.specs.declared.shares.PlaceCount.TheVariants.{Paid, Pending, Carts, Waiting}
 use Rattle.bo_counts.proofs.Shifted.{shifted, value}
 use Rattle.bo_counts.proofs.Untouched.{neither}
 use Rattle.bo_counts.proofs.FiveCounts.{paid_shifted, pending_shifted, blocked_shifted, carts_shifted, waiting_shifted, blocked_each}
@@ -88,7 +88,7 @@ like_usage lists at a b id items variations =
 pub as_stood : (lists : Lists) (at : ℕ) (old quota : Quota) (usage : Usage) → quota_at quota.id lists.catalogue ≡ Some old → usage ≡ usage_of lists at old → old.items ≡ quota.items → old.variations ≡ quota.variations → usage ≡ usage_of lists at quota
 as_stood lists at old quota usage found used items variations = used ∙ like_usage lists at old quota (key-row_at (λ (r : Quota). r.id) quota.id lists.catalogue.quotas old found) items variations
 
-module _ (both : Passage) (rows : Touched) (was now : List VoucherCount) (is : IsPassage both rows was now) (at : ℕ) (q : Quota) where
+module _ (both : Passage) (rows : TouchedRows) (was now : List VoucherCount) (is : IsPassage both rows was now) (at : ℕ) (q : Quota) where
   abbrev before : Lists
   before = both.before.lists
 

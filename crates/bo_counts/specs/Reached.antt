@@ -6,20 +6,20 @@ use Rattle.bo_catalogue.specs.declared.rows.Quota.{Quota}
 use Rattle.bo_catalogue.specs.CatalogueLists.{CatalogueLists, quota_at, quotas_of}
 use Rattle.bo_lists.specs.declared.rows.Voucher.{Voucher}
 use Rattle.bo_lists.specs.Lists.{Lists, voucher_at, cart_at, position_at, waiting_at}
-use Rattle.bo_counts.specs.declared.shares.Kind.{Kind}
-use Rattle.bo_counts.specs.declared.shares.Kind.TheVariants.{Paid, Pending, Carts, Waiting}
-use Rattle.bo_counts.specs.declared.touched.Touched.{Touched}
+use Rattle.bo_counts.specs.declared.shares.PlaceCount.{PlaceCount}
+use Rattle.bo_counts.specs.declared.shares.PlaceCount.TheVariants.{Paid, Pending, Carts, Waiting}
+use Rattle.bo_counts.specs.declared.touched.TouchedRows.{TouchedRows}
 use Rattle.bo_counts.specs.Told.{Passage, told_if, quota_told}
 
 -- the product of the row of an id that may add to a count
-abbrev pub product_in : Kind → Lists → ℕ → Option Product
+abbrev pub product_in : PlaceCount → Lists → ℕ → Option Product
 product_in Paid lists id = option_map (λ p. p.product) (position_at id lists)
 product_in Pending lists id = option_map (λ p. p.product) (position_at id lists)
 product_in Carts lists id = option_map (λ c. c.product) (cart_at id lists)
 product_in Waiting lists id = option_map (λ w. w.product) (waiting_at id lists)
 
 -- the quotas that such a row reaches
-abbrev pub quotas_with : Kind → CatalogueLists → Lists → ℕ → List ℕ
+abbrev pub quotas_with : PlaceCount → CatalogueLists → Lists → ℕ → List ℕ
 quotas_with kind catalogue lists id = told_if (λ product. quotas_of product catalogue) (product_in kind lists id)
 
 -- the quotas that an item has, or a variation of it
@@ -40,7 +40,7 @@ abbrev pub quotas_hit : CatalogueLists → Lists → ℕ → List ℕ
 quotas_hit catalogue lists id = told_if (hit_by catalogue) (voucher_at id lists)
 
 -- all that touched rows reach
-abbrev pub reached : CatalogueLists → Lists → Touched → List ℕ
+abbrev pub reached : CatalogueLists → Lists → TouchedRows → List ℕ
 reached catalogue lists rows = flat_map (quotas_with Paid catalogue lists) rows.positions ++ flat_map (quotas_with Carts catalogue lists) rows.carts ++ flat_map (quotas_with Waiting catalogue lists) rows.entries ++ flat_map (quotas_hit catalogue lists) rows.vouchers
 
 -- nothing is told of any other quota than these, each of which is asked once

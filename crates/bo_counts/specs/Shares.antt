@@ -7,11 +7,11 @@ use Rattle.bo_lists.specs.Conditions.{is_paid, is_pending}
 use Rattle.bo_lists.specs.Lists.{Lists, voucher_at, cart_at, position_at, waiting_at}
 use Rattle.bo_lists.specs.Usage.{uses}
 use Rattle.bo_usage.specs.Shares.{status_share, cart_share, waiting_share, blocked_share}
-use Rattle.bo_counts.specs.declared.shares.Kind.{Kind}
-use Rattle.bo_counts.specs.declared.shares.Kind.TheVariants.{Paid, Pending, Carts, Waiting}
+use Rattle.bo_counts.specs.declared.shares.PlaceCount.{PlaceCount}
+use Rattle.bo_counts.specs.declared.shares.PlaceCount.TheVariants.{Paid, Pending, Carts, Waiting}
 
 -- what the row adds to that count of the quota: 1 where it passes, and 0 where it doesn't or there is none
-abbrev pub share : Kind → Lists → ℕ → Quota → ℕ → ℕ
+abbrev pub share : PlaceCount → Lists → ℕ → Quota → ℕ → ℕ
 share Paid lists at quota id = status_share is_paid lists quota (position_at id lists)
 share Pending lists at quota id = status_share is_pending lists quota (position_at id lists)
 share Carts lists at quota id = cart_share lists at quota (cart_at id lists)

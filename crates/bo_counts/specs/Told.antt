@@ -9,7 +9,7 @@ use Rattle.bo_lists.specs.declared.count_rows.VoucherCount.{VoucherCount}
 use Rattle.bo_lists.specs.Lists.{Lists, State, voucher_at}
 use Rattle.bo_lists.specs.Usage.{redeemed}
 use Rattle.bo_lists.specs.CountRows.{quota_count, quota_counts, same_quota_count, voucher_count, voucher_counts, same_voucher_count}
-use Rattle.bo_counts.specs.declared.touched.Touched.{Touched}
+use Rattle.bo_counts.specs.declared.touched.TouchedRows.{TouchedRows}
 use Rattle.bo_counts.specs.Touched.{AreTouched, AreOrdered}
 
 -- how often the vouchers of these ids are redeemed, whether they stand or not
@@ -54,7 +54,7 @@ abbrev pub voucher_told_as : Passage → VoucherCount → List VoucherCount
 voucher_told_as both count = told_if (λ v. told_unless (has_voucher both.before count) count) (voucher_at count.voucher both.after.lists)
 
 -- what is known of an office before changes and after them
-pub record IsPassage (both : Passage) (rows : Touched) (olds news : List VoucherCount) : Type 0 where
+pub record IsPassage (both : Passage) (rows : TouchedRows) (olds news : List VoucherCount) : Type 0 where
   pub past : both.before.moment ≤ both.after.moment
   pub touched : AreTouched both.before.lists both.after.lists rows
   pub ordered_before : AreOrdered both.before.lists

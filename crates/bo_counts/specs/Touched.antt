@@ -1,14 +1,17 @@
 -- The rows that changes touch, and what is as it was of all others.
-use Rattle.std.specs.Prelude.{◌≡◌, ℕ, false, List, [], ◌∷◌, ◌++◌, map, flat_map, Option, Some, None}
+use Rattle.std.specs.Prelude.{◌≡◌, ℕ, Bool, false, List, [], ◌∷◌, ◌++◌, map, flat_map, if◌then◌else◌, Option, Some, None}
 use Rattle.std.specs.Option.{option_to_list}
 use Rattle.bo_sorted.specs.Tables.{has, AreInOrder}
+use Rattle.bo_catalogue.specs.declared.rows.Quota.{Quota}
 use Rattle.bo_lists.specs.declared.changes.Change.{Change}
 use Rattle.bo_lists.specs.declared.changes.Change.TheVariants.{PutQuota, PutVoucher, PutCart, PutOrder, PutPosition, PutWaiting, DropVoucher, DropCart, DropWaiting}
 use Rattle.bo_lists.specs.declared.rows.OrderPos.{OrderPos}
 use Rattle.bo_lists.specs.Lists.{Lists, voucher_at, cart_at, order_at, position_at, positions_of, waiting_at}
 use Rattle.bo_lists.specs.declared.rows.CartPos.{CartPos}
-use Rattle.bo_lists.specs.Usage.{redeemed}
-use Rattle.bo_counts.specs.declared.touched.Touched.{Touched}
+use Rattle.bo_lists.specs.declared.rows.Voucher.{Voucher}
+use Rattle.bo_lists.specs.Usage.{redeemed, blocks_if}
+use Rattle.bo_usage.specs.Covers.{cover_alike}
+use Rattle.bo_counts.specs.declared.touched.TouchedRows.{TouchedRows}
 use Rattle.bo_lists.specs.Named.{carts_naming}
 
 -- the order position that a change puts, and those of an order that it puts
@@ -28,11 +31,16 @@ vouchers_by (PutVoucher row) = row.id ∷ []
 vouchers_by (DropVoucher id) = id ∷ []
 vouchers_by _ = []
 
--- the cart position that a change puts or drops, and those that name a voucher that it puts or drops
+-- a voucher stands in the place of the id, and covers the same
+abbrev pub stands_alike : Voucher → Option Voucher → Bool
+stands_alike row None = false
+stands_alike row (Some old) = cover_alike row old
+
+-- the cart position that a change puts or drops, and those that name a voucher that it drops, or puts so that it covers others
 abbrev pub carts_by : Lists → Change → List ℕ
 carts_by lists (PutCart row) = row.id ∷ []
 carts_by lists (DropCart id) = id ∷ []
-carts_by lists (PutVoucher row) = map (λ c. c.id) (carts_naming row.id lists)
+carts_by lists (PutVoucher row) = if stands_alike row (voucher_at row.id lists) then [] else map (λ c. c.id) (carts_naming row.id lists)
 carts_by lists (DropVoucher id) = map (λ c. c.id) (carts_naming id lists)
 carts_by lists _ = []
 
@@ -63,11 +71,11 @@ pub record AreVouchers (before after : Lists) (ids : List ℕ) : Type 0 where
   pub vouchers : (id : ℕ) → has id ids ≡ false → voucher_at id after ≡ voucher_at id before
   pub redeemed : (id : ℕ) → has id ids ≡ false → redeemed id after ≡ redeemed id before
 
--- all other cart positions, and the vouchers that they name, are as they were
+-- all other cart positions are as they were, and the vouchers that they name cover what they did
 pub record AreCarts (before after : Lists) (ids : List ℕ) : Type 0 where
   pub order : AreInOrder (λ n. n) ids
   pub carts : (id : ℕ) → has id ids ≡ false → cart_at id after ≡ cart_at id before
-  pub covers : (id : ℕ) (c : CartPos) (v : ℕ) → has id ids ≡ false → cart_at id before ≡ Some c → c.voucher ≡ Some v → voucher_at v after ≡ voucher_at v before
+  pub covers : (id : ℕ) (c : CartPos) (v : ℕ) → has id ids ≡ false → cart_at id before ≡ Some c → c.voucher ≡ Some v → (at : ℕ) (q : Quota) → blocks_if at q (voucher_at v after) ≡ blocks_if at q (voucher_at v before)
 
 -- all other waiting entries are as they were
 pub record AreEntries (before after : Lists) (ids : List ℕ) : Type 0 where
@@ -75,7 +83,7 @@ pub record AreEntries (before after : Lists) (ids : List ℕ) : Type 0 where
   pub entries : (id : ℕ) → has id ids ≡ false → waiting_at id after ≡ waiting_at id before
 
 -- all rows that differ, or that count otherwise, are among these
-pub record AreTouched (before after : Lists) (touched : Touched) : Type 0 where
+pub record AreTouched (before after : Lists) (touched : TouchedRows) : Type 0 where
   pub positions : ArePositions before after touched.positions
   pub vouchers : AreVouchers before after touched.vouchers
   pub carts : AreCarts before after touched.carts

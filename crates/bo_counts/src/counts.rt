@@ -9,7 +9,7 @@ ghost use Rattle.bo_counts.specs.Reached.{reached, AreAsked};
 
 use crate::copies::log_of;
 use crate::sides::Sides;
-use crate::touched::Touched;
+use crate::touched::TouchedRows;
 use crate::view::View;
 use bo_base::Moment;
 use bo_dues::Dues;
@@ -73,7 +73,7 @@ impl<'s, B: Dues> Sides<'s, B> {
         requires { self.now.after.lists ≡ after_all changes.now self.now.before.lists }
         ensures { IfOk result (λ ids. AreAsked self.now ids) }
     {
-        let due = Touched::due(self.book, alloc, self.at)?;
+        let due = TouchedRows::due(self.book, alloc, self.at)?;
         let ids = reached_ids(
             self.book,
             alloc,
@@ -95,8 +95,8 @@ fn reached_ids<B: Book>(
     changes: &[Change],
     before: &View<'_, B>,
     after: &View<'_, B>,
-    touched: &Touched,
-    due: &Touched,
+    touched: &TouchedRows,
+    due: &TouchedRows,
 ) -> Result<Ids, AllocError>
     ensures { IfOk result (λ ids. ids ≡ rising (flat_map quotas_by changes.now ++ reached (B.state book.now).lists.catalogue before.now touched.now ++ reached (B.state book.now).lists.catalogue after.now touched.now ++ reached (B.state book.now).lists.catalogue before.now due.now)) }
 {

@@ -3,14 +3,14 @@
 ghost use Rattle.std.specs.Prelude.{◌≡◌, ◌≤◌, ◌++◌, IfOk, OnOk, flat_map};
 ghost use Rattle.bo_counts.specs.Due.{ids_naming, due_rows};
 
-use crate::touched::Touched;
+use crate::touched::TouchedRows;
 use bo_base::Moment;
 use bo_dues::Dues;
 use bo_sorted::Ids;
 use bo_usage::Book;
 use std::alloc::{AllocError, Global};
 
-impl Touched {
+impl TouchedRows {
     /// What came due of a book since its moment, and before this one: the cart positions and the vouchers, and the cart
     /// positions that name one of these vouchers, since it covers them no longer.
     pub fn due<B: Dues>(book: &B, alloc: Global, at: Moment) -> Result<Self, AllocError>
@@ -20,7 +20,7 @@ impl Touched {
         let vouchers = book.due_vouchers(alloc, at)?;
         let mut carts = book.due_carts(alloc, at)?;
         add_naming_each(book, alloc, &vouchers, &mut carts)?;
-        Ok(Touched {
+        Ok(TouchedRows {
             positions: Ids::sorted(Vec::new(alloc)),
             vouchers: Ids::sorted(vouchers),
             carts: Ids::sorted(carts),

@@ -9,6 +9,7 @@ mod shares;
 mod sides;
 mod told;
 mod touched;
+mod turned;
 mod view;
 
 pub use counts::counts_after;

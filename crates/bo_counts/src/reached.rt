@@ -5,8 +5,8 @@ ghost use Rattle.bo_catalogue.specs.CatalogueLists.{quotas_of};
 ghost use Rattle.bo_counts.specs.Told.{told_if};
 ghost use Rattle.bo_counts.specs.Reached.{product_in, quotas_with, hit_by, quotas_hit, reached};
 
-use crate::shares::Kind;
-use crate::touched::Touched;
+use crate::shares::PlaceCount;
+use crate::touched::TouchedRows;
 use crate::view::View;
 use bo_catalogue::{Catalogue, Product};
 use bo_lists::Voucher;
@@ -19,7 +19,7 @@ impl<'v, B: Book> View<'v, B> {
         &self,
         alloc: Global,
         catalogue: &Catalogue,
-        touched: &Touched,
+        touched: &TouchedRows,
         quotas: &mut Vec<u64>,
     ) -> Result<(), AllocError>
         ensures { OnOk result (quotas.new.items ≡ quotas.old.items ++ reached catalogue.now.lists self.now touched.now) }
@@ -28,9 +28,9 @@ impl<'v, B: Book> View<'v, B> {
         let carts = touched.carts.as_slice();
         let entries = touched.entries.as_slice();
         let vouchers = touched.vouchers.as_slice();
-        self.add_quotas_with(alloc, catalogue, Kind::Paid, positions, quotas)?;
-        self.add_quotas_with(alloc, catalogue, Kind::Carts, carts, quotas)?;
-        self.add_quotas_with(alloc, catalogue, Kind::Waiting, entries, quotas)?;
+        self.add_quotas_with(alloc, catalogue, PlaceCount::Paid, positions, quotas)?;
+        self.add_quotas_with(alloc, catalogue, PlaceCount::Carts, carts, quotas)?;
+        self.add_quotas_with(alloc, catalogue, PlaceCount::Waiting, entries, quotas)?;
         self.add_quotas_hit(alloc, catalogue, vouchers, quotas)
     }
 
@@ -39,7 +39,7 @@ impl<'v, B: Book> View<'v, B> {
         &self,
         alloc: Global,
         catalogue: &Catalogue,
-        kind: Kind,
+        kind: PlaceCount,
         ids: &[u64],
         quotas: &mut Vec<u64>,
     ) -> Result<(), AllocError>
@@ -52,14 +52,14 @@ impl<'v, B: Book> View<'v, B> {
     }
 
     // The product of the row of an id.
-    fn product_in(&self, kind: Kind, id: u64) -> Option<Product>
+    fn product_in(&self, kind: PlaceCount, id: u64) -> Option<Product>
         ensures { result ≡ product_in kind self.now id }
     {
         match kind {
-            Kind::Paid => self.position(id).map(|row| row.product),
-            Kind::Pending => self.position(id).map(|row| row.product),
-            Kind::Carts => self.cart(id).map(|row| row.product),
-            Kind::Waiting => self.entry(id).map(|row| row.product),
+            PlaceCount::Paid => self.position(id).map(|row| row.product),
+            PlaceCount::Pending => self.position(id).map(|row| row.product),
+            PlaceCount::Carts => self.cart(id).map(|row| row.product),
+            PlaceCount::Waiting => self.entry(id).map(|row| row.product),
         }
     }
 

@@ -1,19 +1,19 @@
 //! What single rows add to counts.
 
 ghost use Rattle.std.specs.Prelude.{◌≡◌, ◌+◌, IfOk, sum_by};
-ghost use Rattle.bo_counts.specs.Shares.{share, use_of, blocked_as};
+ghost use Rattle.bo_counts.specs.Shares.{share, blocked_as};
 
 use crate::view::View;
 use bo_base::Moment;
 use bo_catalogue::Quota;
 use bo_lists::VoucherCount;
-use bo_usage::rules::{blocked_share, cart_share, paid_share, pending_share, uses, waiting_share};
+use bo_usage::rules::{blocked_share, cart_share, paid_share, pending_share, waiting_share};
 use bo_usage::{Book, LookUps};
 use std::alloc::AllocError;
 
 /// The counts of a quota to which each row adds one place or none.
 #[derive(Clone, Copy, Debug, PartialEq, Eq)]
-pub enum Kind {
+pub enum PlaceCount {
     Paid,
     Pending,
     Carts,
@@ -45,7 +45,7 @@ impl<'v, B: Book> View<'v, B> {
     /// What the rows of these ids add to a count of a quota.
     pub fn shares(
         &self,
-        kind: Kind,
+        kind: PlaceCount,
         at: Moment,
         quota: &Quota,
         ids: &[u64],
@@ -60,34 +60,14 @@ impl<'v, B: Book> View<'v, B> {
     }
 
     // What the row of an id adds to it.
-    fn share(&self, kind: Kind, at: Moment, quota: &Quota, id: u64) -> u64
+    fn share(&self, kind: PlaceCount, at: Moment, quota: &Quota, id: u64) -> u64
         ensures { result ≡ share kind self.now at quota.now id }
     {
         match kind {
-            Kind::Paid => paid_share(self, quota, self.position(id)),
-            Kind::Pending => pending_share(self, quota, self.position(id)),
-            Kind::Carts => cart_share(self, at, quota, self.cart(id)),
-            Kind::Waiting => waiting_share(quota, self.entry(id)),
-        }
-    }
-
-    /// How often these order positions use the voucher.
-    pub fn uses(&self, voucher: u64, ids: &[u64]) -> Result<u64, AllocError>
-        ensures { IfOk result (λ n. n ≡ sum_by (use_of voucher self.now) ids.now) }
-    {
-        let mut sum = 0;
-        for id in ids {
-            sum = add(sum, self.use_of(voucher, *id))?;
-        }
-        Ok(sum)
-    }
-
-    fn use_of(&self, voucher: u64, id: u64) -> u64
-        ensures { result ≡ use_of voucher self.now id }
-    {
-        match self.position(id) {
-            None => 0,
-            Some(row) => u64::from(uses(self, voucher, row)),
+            PlaceCount::Paid => paid_share(self, quota, self.position(id)),
+            PlaceCount::Pending => pending_share(self, quota, self.position(id)),
+            PlaceCount::Carts => cart_share(self, at, quota, self.cart(id)),
+            PlaceCount::Waiting => waiting_share(quota, self.entry(id)),
         }
     }
 

@@ -4,19 +4,22 @@ ghost use Rattle.std.specs.Prelude.{◌≡◌, ◌≤◌, ◌<◌, ◌+◌, [], 
 ghost use Rattle.std.specs.Bool.{Decides};
 ghost use Rattle.bo_catalogue.specs.CatalogueLists.{quota_at};
 ghost use Rattle.bo_lists.specs.Change.{after_all};
-ghost use Rattle.bo_lists.specs.Usage.{usage_of, redeemed};
+ghost use Rattle.bo_lists.specs.Usage.{usage_of};
 ghost use Rattle.bo_counts.specs.Shares.{share, blocked_as};
 ghost use Rattle.bo_counts.specs.Told.{redeemed_each};
-ghost use Rattle.bo_counts.specs.Touched.{ArePositions, AreTouched, AreOrdered};
+ghost use Rattle.bo_counts.specs.Touched.{AreTouched, AreOrdered};
+ghost use Rattle.bo_counts.specs.Turned.{recounted, recounted_each};
 
-use crate::shares::{Kind, moved};
-use crate::touched::Touched;
+use crate::shares::{PlaceCount, moved};
+use crate::touched::TouchedRows;
+use crate::turned::turned;
 use crate::view::View;
 use bo_base::{Moment, Steps};
 use bo_catalogue::Quota;
 use bo_lists::{Usage, VoucherCount};
 use bo_log::ChangeLog;
 use bo_sorted::Row;
+use bo_tally::Tally;
 use bo_usage::Book;
 use std::alloc::{AllocError, Global};
 use std::marker::{Brand, Model};
@@ -29,7 +32,7 @@ pub struct Sides<'s, B: Book> {
     pub(crate) before: View<'s, B>,
     pub(crate) after: View<'s, B>,
     pub(crate) at: Moment,
-    pub(crate) touched: Touched,
+    pub(crate) touched: TouchedRows,
     redeemed_before: Vec<VoucherCount>,
     pub(crate) redeemed_after: Vec<VoucherCount>,
 }
@@ -70,7 +73,7 @@ impl<'s, B: Book> Sides<'s, B> {
         book.catalogue().known();
         let before = View::new(book, none);
         let after = View::new(book, log);
-        let touched = Touched::by(book, alloc, log.as_slice(), &before, &after)?;
+        let touched = TouchedRows::by(book, alloc, log.as_slice(), &before, &after)?;
         let old = redeemed_before(book, alloc, touched.vouchers.as_slice())?;
         let counts = redeemed_after(book, alloc, &before, &after, &touched)?;
         Ok(Sides {
@@ -92,11 +95,11 @@ impl<'s, B: Book> Sides<'s, B> {
         let positions = self.touched.positions.as_slice();
         let carts = self.touched.carts.as_slice();
         let entries = self.touched.entries.as_slice();
-        let paid = self.changed(old.paid, Kind::Paid, quota, positions)?;
-        let pending = self.changed(old.pending, Kind::Pending, quota, positions)?;
+        let paid = self.changed(old.paid, PlaceCount::Paid, quota, positions)?;
+        let pending = self.changed(old.pending, PlaceCount::Pending, quota, positions)?;
         let blocked = self.blocked(old.blocked, quota)?;
-        let carts = self.changed(old.carts, Kind::Carts, quota, carts)?;
-        let waiting = self.changed(old.waiting, Kind::Waiting, quota, entries)?;
+        let carts = self.changed(old.carts, PlaceCount::Carts, quota, carts)?;
+        let waiting = self.changed(old.waiting, PlaceCount::Waiting, quota, entries)?;
         Ok(Usage {
             paid,
             pending,
@@ -114,7 +117,13 @@ impl<'s, B: Book> Sides<'s, B> {
     }
 
     // A count of a quota, without what the rows of these ids added before, and with what they add now.
-    fn changed(&self, count: u64, kind: Kind, quota: &Quota, ids: &[u64]) -> Result<u64, AllocError>
+    fn changed(
+        &self,
+        count: u64,
+        kind: PlaceCount,
+        quota: &Quota,
+        ids: &[u64],
+    ) -> Result<u64, AllocError>
         ensures { IfOk result (λ n. n + sum_by (share kind self.now.before.lists self.now.after.moment quota.now) ids.now ≡ count + sum_by (share kind self.now.after.lists self.now.after.moment quota.now) ids.now) }
     {
         let gone = self.before.shares(kind, self.at, quota, ids)?;
@@ -224,11 +233,11 @@ fn fresh<B: Book>(
 {
     book.known();
     let positions = book.positions();
-    let paid = all_shares(rows, alloc, Kind::Paid, at, quota, positions)?;
-    let pending = all_shares(rows, alloc, Kind::Pending, at, quota, positions)?;
+    let paid = all_shares(rows, alloc, PlaceCount::Paid, at, quota, positions)?;
+    let pending = all_shares(rows, alloc, PlaceCount::Pending, at, quota, positions)?;
     let blocked = all_blocked(book, alloc, rows, at, quota)?;
-    let carts = all_shares(rows, alloc, Kind::Carts, at, quota, book.carts())?;
-    let waiting = all_shares(rows, alloc, Kind::Waiting, at, quota, book.waiting())?;
+    let carts = all_shares(rows, alloc, PlaceCount::Carts, at, quota, book.carts())?;
+    let waiting = all_shares(rows, alloc, PlaceCount::Waiting, at, quota, book.waiting())?;
     Ok(Usage {
         paid,
         pending,
@@ -242,7 +251,7 @@ fn fresh<B: Book>(
 fn all_shares<B: Book, T: Row>(
     rows: &View<'_, B>,
     alloc: Global,
-    kind: Kind,
+    kind: PlaceCount,
     at: Moment,
     quota: &Quota,
     table: &[T],
@@ -299,7 +308,7 @@ fn redeemed_after<B: Book>(
     alloc: Global,
     before: &View<'_, B>,
     after: &View<'_, B>,
-    touched: &Touched,
+    touched: &TouchedRows,
 ) -> Result<Vec<VoucherCount>, AllocError>
     requires before { before.now ≡ (B.state book.now).lists }
     requires touched { AreTouched before.now after.now touched.now }
@@ -307,34 +316,36 @@ fn redeemed_after<B: Book>(
     requires ordered_after { AreOrdered after.now }
     ensures { IfOk result (λ counts. counts.items ≡ redeemed_each after.now touched.now.vouchers) }
 {
-    let positions = touched.positions.as_slice();
+    let uses = turned(alloc, before, after, touched.positions.as_slice())?;
     let vouchers = touched.vouchers.as_slice();
+    let counts = recounted_each(book, alloc, &uses, vouchers)?;
+    Ok(counts)
+}
+
+// How often these vouchers are, where so many of their uses went and came.
+fn recounted_each<B: Book>(
+    book: &B,
+    alloc: Global,
+    uses: &Tally,
+    vouchers: &[u64],
+) -> Result<Vec<VoucherCount>, AllocError>
+    ensures { IfOk result (λ counts. counts.items ≡ recounted_each (B.state book.now).lists uses.now vouchers.now) }
+{
     let mut counts = Vec::new(alloc);
     for id in vouchers {
         counts.push(VoucherCount {
             voucher: *id,
-            redeemed: recounted(book, before, after, positions, *id)?,
+            redeemed: recounted(book, uses, *id)?,
         })?;
     }
     Ok(counts)
 }
 
-// How often one of them is, by those order positions.
-fn recounted<B: Book>(
-    book: &B,
-    before: &View<'_, B>,
-    after: &View<'_, B>,
-    positions: &[u64],
-    voucher: u64,
-) -> Result<u64, AllocError>
-    requires before { before.now ≡ (B.state book.now).lists }
-    requires touched { ArePositions before.now after.now positions.now }
-    requires ordered_before { AreOrdered before.now }
-    requires ordered_after { AreOrdered after.now }
-    ensures { IfOk result (λ n. n ≡ redeemed voucher after.now) }
+// How often one of them is.
+fn recounted<B: Book>(book: &B, uses: &Tally, voucher: u64) -> Result<u64, AllocError>
+    ensures { IfOk result (λ n. n ≡ recounted (B.state book.now).lists uses.now voucher) }
 {
-    let gone = before.uses(voucher, positions)?;
-    let come = after.uses(voucher, positions)?;
-    let left = moved(book.redeemed(voucher), gone, come)?;
+    let count = uses.of(voucher);
+    let left = moved(book.redeemed(voucher), count.gone, count.come)?;
     Ok(left)
 }

@@ -4,24 +4,26 @@ ghost use Rattle.std.specs.Prelude.{◌≡◌, ◌++◌, IfOk, OnOk, flat_map};
 ghost use Rattle.std.specs.Option.{option_copied};
 ghost use Rattle.bo_sorted.specs.Rising.{rising};
 ghost use Rattle.bo_lists.specs.Change.{after_all};
-ghost use Rattle.bo_counts.specs.Touched.{positions_by, vouchers_by, carts_by, entries_by, names_in, name_of, AreTouched, AreOrdered};
+ghost use Rattle.bo_lists.specs.declared.changes.Change.TheVariants.{PutVoucher};
+ghost use Rattle.bo_counts.specs.Touched.{positions_by, vouchers_by, carts_by, entries_by, names_in, name_of, stands_alike, AreTouched, AreOrdered};
 
 use crate::view::View;
-use bo_lists::{Change, OrderPos};
+use bo_lists::{Change, OrderPos, Voucher};
 use bo_sorted::Ids;
+use bo_usage::rules::cover_alike;
 use bo_usage::{Book, LookUps};
 use std::alloc::{AllocError, Global};
 
 /// The ids of the rows that differ after changes, or that count otherwise, by table.
 #[derive(Drop)]
-pub struct Touched {
+pub struct TouchedRows {
     pub positions: Ids,
     pub vouchers: Ids,
     pub carts: Ids,
     pub entries: Ids,
 }
 
-impl Touched {
+impl TouchedRows {
     /// Those that these changes of a book touch.
     pub fn by<B: Book>(
         book: &B,
@@ -37,7 +39,7 @@ impl Touched {
     {
         let positions = positions(book, alloc, changes)?;
         let vouchers = vouchers(alloc, changes, before, after, positions.as_slice())?;
-        Ok(Touched {
+        Ok(TouchedRows {
             positions,
             vouchers,
             carts: carts(book, alloc, changes)?,
@@ -155,15 +157,38 @@ fn add_carts<B: Book>(
     match change {
         Change::PutCart(row) => Ok(ids.push(row.id)?),
         Change::DropCart(id) => Ok(ids.push(*id)?),
-        Change::PutVoucher(row) => {
-            let more = book.carts_naming(alloc, row.id)?;
-            Ok(ids.extend_from_slice(&more)?)
-        }
+        Change::PutVoucher(row) => add_covered(book, alloc, row, ids),
         Change::DropVoucher(id) => {
             let more = book.carts_naming(alloc, *id)?;
             Ok(ids.extend_from_slice(&more)?)
         }
         _ => Ok(()),
+    }
+}
+
+// Adds those that name a voucher that is put, unless it covers what the one in its place does.
+fn add_covered<B: Book>(
+    book: &B,
+    alloc: Global,
+    row: &Voucher,
+    ids: &mut Vec<u64>,
+) -> Result<(), AllocError>
+    ensures { OnOk result (ids.new.items ≡ ids.old.items ++ carts_by (B.state book.now).lists (PutVoucher row.now)) }
+{
+    if stands_alike(row, book.voucher(row.id)) {
+        return Ok(());
+    }
+    let more = book.carts_naming(alloc, row.id)?;
+    Ok(ids.extend_from_slice(&more)?)
+}
+
+// Whether a voucher stands there, and covers the same.
+fn stands_alike(row: &Voucher, old: Option<&Voucher>) -> bool
+    ensures { result ≡ stands_alike row.now (option_copied old.entry) }
+{
+    match old {
+        None => false,
+        Some(old) => cover_alike(row, old),
     }
 }
 

@@ -8,18 +8,19 @@ use crate::indexed::Indexed;
 use crate::keyed::Keyed;
 use bo_base::Steps;
 use bo_index::Found;
-use std::marker::Model;
+use std::marker::{Model, PhantomData};
 use std::sync::ledger::Ledger;
 
-/// Rows of some ids, shown one at a time: each that is looked at is a step. Contracts see all rows of the table, and
-/// these ids.
+/// Rows of some ids, shown one at a time: each that is looked at is a step of the walk's ledger, so that no count of
+/// another ledger can be handed in for it. Contracts see all rows of the table, and these ids.
 #[derive(Drop)]
-pub struct Walk<'a, T: Keyed> {
+pub struct Walk<'a, T: Keyed, L: Ledger> {
     rows: &'a Indexed<T>,
     ids: Found<'a>,
+    ledger: PhantomData<L>,
 }
 
-impl<'a, T: Keyed> Model for Walk<'a, T> {
+impl<'a, T: Keyed, L: Ledger> Model for Walk<'a, T, L> {
     ghost use Rattle.bo_indexed.specs.Indexes.{Walked};
 
     ghost Value = { Walked T };
@@ -27,13 +28,17 @@ impl<'a, T: Keyed> Model for Walk<'a, T> {
     ghost view = { λ w. record { rows = w.rows.now.rows; ids = w.ids } };
 }
 
-impl<'a, T: Keyed> Walk<'a, T> {
+impl<'a, T: Keyed, L: Ledger> Walk<'a, T, L> {
     /// A walk over the rows of these ids.
     pub fn over(rows: &'a Indexed<T>, ids: Found<'a>) -> Self
         ensures rows { result.rows ≡ rows.now.rows }
         ensures ids { result.ids ≡ ids.entry }
     {
-        Walk { rows, ids }
+        Walk {
+            rows,
+            ids,
+            ledger: PhantomData,
+        }
     }
 
     /// How many rows it shows.
@@ -44,7 +49,7 @@ impl<'a, T: Keyed> Walk<'a, T> {
     }
 
     /// The row at a place. It takes a step.
-    pub fn at<L: Ledger>(&self, place: usize, steps: &mut Steps<L>) -> Option<&'a T>
+    pub fn at(&self, place: usize, steps: &mut Steps<L>) -> Option<&'a T>
         requires { place < length self.now.ids }
         ensures row { (d : ℕ) → option_copied result ≡ row_at T.key (slice_index_or self.now.ids place d) self.now.rows }
         ensures cost { steps.new ≡ steps.old + 1 }

@@ -1,14 +1,15 @@
 -- What changes that touch no row of some tables leave as it is.
-use Rattle.std.proofs.Common.{◌≡◌, ℕ, zero, suc, Bool, true, false, ◌||◌, List, [], ◌∷◌, take, refl, sym, ◌∙◌, count_by, arith}
+use Rattle.std.proofs.Common.{◌≡◌, ◌≤◌, ℕ, zero, suc, Bool, true, false, ◌&&◌, ◌||◌, List, [], ◌∷◌, take, refl, sym, ap, ◌∙◌, count_by, arith}
 use Rattle.std.specs.Prelude.{if◌then◌else◌}
 use Rattle.std.proofs.lemmas.List.Sums.{sum_by-cons}
 use mathlib.Core.Bool.{false≢true}
 use Rattle.bo_lists.specs.declared.rows.OrderPos.{OrderPos}
 use Rattle.bo_lists.specs.declared.changes.Change.{Change}
 use Rattle.bo_lists.specs.declared.changes.Change.TheVariants.{PutCart, PutOrder, PutPosition, PutWaiting, DropCart, DropWaiting}
-use Rattle.bo_lists.specs.Lists.{Lists}
+use Rattle.bo_lists.specs.Conditions.{is_in_force, names}
+use Rattle.bo_lists.specs.Lists.{Lists, order_at}
 use Rattle.bo_lists.specs.Change.{after_change, after_all}
-use Rattle.bo_lists.specs.Usage.{redeemed}
+use Rattle.bo_lists.specs.Usage.{redeemed, stands_as, uses}
 use Rattle.bo_lists.proofs.Time.{one}
 use Rattle.bo_usage.specs.Naming.{naming}
 use Rattle.bo_log.specs.Places.{is_of, touches_table}
@@ -74,6 +75,30 @@ redeemed_still id changes lists is =
         let orders = none_behind 5 c cs a in
         let positions = none_behind 6 c cs b in
         still cs (after_change c lists) orders.1 positions.1 ∙ redeemed_step id c lists orders.0 positions.0
+
+-- a voucher is redeemed by no more order positions than name it
+redeemed_few : (id : ℕ) (lists : Lists) (rows : List OrderPos) → count_by (uses id lists) rows ≤ count_by (λ p. names id p.voucher) rows
+redeemed_few id lists [] = omega arith
+redeemed_few id lists (p ∷ ps) =
+    omega (
+      arith,
+      redeemed_few id lists ps,
+      sum_by-cons (λ q. if uses id lists q then 1 else 0) p ps,
+      sum_by-cons (λ q. if names id q.voucher then 1 else 0) p ps,
+      at_most (names id p.voucher) (stands_as is_in_force (order_at p.order lists)),
+    )
+  where
+    at_most : (named stands : Bool) → one (named && stands) ≤ one named
+    at_most true true = omega arith
+    at_most true false = omega arith
+    at_most false stands = omega arith
+
+-- so one that no row names is never redeemed, whatever becomes of the orders
+pub unnamed_still : (id : ℕ) (changes : List Change) (lists : Lists) → touches_table 6 changes ≡ false → naming id lists ≡ 0 → redeemed id (after_all changes lists) ≡ redeemed id lists
+unnamed_still id changes lists is none =
+    let new : Lists = after_all changes lists in
+    let named : count_by (λ p. names id p.voucher) lists.positions ≡ 0 = omega (arith, none) in
+    omega (arith, redeemed_few id lists lists.positions, redeemed_few id new new.positions, ap (count_by (λ p. names id p.voucher)) (positions_still changes lists is), named)
 
 -- how many rows name a voucher: cart positions, order positions and waiting entries
 naming_step : (id : ℕ) (change : Change) (lists : Lists) → is_of 4 change ≡ false → is_of 6 change ≡ false → is_of 7 change ≡ false → naming id (after_change change lists) ≡ naming id lists

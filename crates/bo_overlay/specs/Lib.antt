@@ -1,5 +1,5 @@
 pub mod Logs
-pub mod Tickets
+pub mod Purchases
 pub mod Names
 pub mod Coded
 pub mod Overlays

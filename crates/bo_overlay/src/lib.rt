@@ -3,8 +3,8 @@
 
 mod cart_conditions;
 mod overlay;
+mod purchases;
 mod row_names;
-mod tickets;
 
 pub use overlay::{Overlay, count_if};
-pub use tickets::Ticket;
+pub use purchases::Purchase;

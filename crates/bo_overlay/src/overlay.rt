@@ -1,6 +1,6 @@
 //! The rows of a book, with changes.
 
-ghost use Rattle.std.specs.Prelude.{◌≡◌, ◌++◌, [], ◌∷◌, IfOk, OnOk, OnErr, length, take, ◌≤◌, ◌<◌, ◌+◌, ◌-◌, ◌^◌, ◌==◌, ◌&&◌, ◌||◌, count_by, if◌then◌else◌, find, option_map, is_none};
+ghost use Rattle.std.specs.Prelude.{◌≡◌, ◌++◌, [], ◌∷◌, IfOk, OnOk, OnErr, length, take, ◌≤◌, ◌<◌, ◌+◌, ◌-◌, ◌^◌, ◌==◌, ◌&&◌, ◌||◌, count_by, if◌then◌else◌, find, option_map, is_none, false};
 ghost use Rattle.std.specs.Option.{option_copied};
 ghost use Rattle.bo_lists.specs.Lists.{cart_at, order_at, waiting_at, checkin_list_at, checkin_at};
 ghost use Rattle.bo_lists.specs.Named.{voucher_of, is_used};
@@ -15,13 +15,13 @@ ghost use Rattle.bo_lists.specs.Headroom.{held, held_in};
 ghost use Rattle.bo_overlay.specs.Logs.{Log, rows_of, rows_at, IsSale, AreSales};
 ghost use Rattle.bo_lists.specs.Conditions.{is_in_force, names};
 ghost use Rattle.bo_usage.specs.OfOrder.{count_ordered};
-ghost use Rattle.bo_overlay.specs.Tickets.{AreTicketsOf};
+ghost use Rattle.bo_overlay.specs.Purchases.{ArePurchasesOf};
 ghost use Rattle.bo_lists.specs.Usage.{stands_as, uses, redeemed};
 ghost use Rattle.bo_log.specs.Puts.{puts};
 
 use crate::cart_conditions::{CartCondition, Holds, HoldsIn};
+use crate::purchases::{Purchase, copy_purchases, put_purchases};
 use crate::row_names::{cart_name, entry_name, is_name, name_put};
-use crate::tickets::{Ticket, copy_tickets, put_tickets};
 use bo_base::Moment;
 use bo_catalogue::{Catalogue, Quota};
 use bo_lists::{CartPos, Change, Checkin, CheckinList, Order, OrderPos, Voucher, Waiting};
@@ -256,13 +256,26 @@ impl<'a, B: Book> Overlay<'a, B> {
         ensures few { result ≤ 8589934592 }
     {
         let mut count = self.book.redeemed(voucher);
-        if !self.puts_orders() {
+        if !self.may_turn(voucher) {
             return count;
         }
         for i in 0..self.log.len() {
             count = self.redeemed_after(i, voucher, count);
         }
         count
+    }
+
+    // Whether changes may turn uses of the voucher: they put an order whose positions may name it, or an order position.
+    fn may_turn(&self, voucher: u64) -> bool
+        ensures { result ≡ false → redeemed voucher (rows_of self.now) ≡ redeemed voucher self.now.base }
+    {
+        if !self.puts_orders() {
+            return false;
+        }
+        if self.puts_positions() {
+            return true;
+        }
+        self.book.naming(voucher) != 0
     }
 
     // Whether a change puts an order or an order position: no other one makes a voucher redeemed more or less often.
@@ -336,18 +349,18 @@ impl<'a, B: Book> Overlay<'a, B> {
         kept + self.count_put(i, order, test)
     }
 
-    /// The tickets of an order: as many as it has positions, in whatever order.
-    pub fn tickets_of(&self, alloc: Global, order: u64) -> Result<Vec<Ticket>, AllocError>
-        ensures { IfOk result (λ tickets. AreTicketsOf order (rows_of self.now) tickets.items) }
+    /// The purchases of an order: as many as it has positions, in whatever order.
+    pub fn purchases_of(&self, alloc: Global, order: u64) -> Result<Vec<Purchase>, AllocError>
+        ensures { IfOk result (λ purchases. ArePurchasesOf order (rows_of self.now) purchases.items) }
     {
         self.book.known();
         let rows = self.book.positions_of(alloc, order)?;
-        let mut tickets = copy_tickets(alloc, rows.as_slice())?;
+        let mut purchases = copy_purchases(alloc, rows.as_slice())?;
         if !self.puts_positions() {
-            return Ok(tickets);
+            return Ok(purchases);
         }
-        put_tickets(&mut tickets, order, self.log.as_slice())?;
-        Ok(tickets)
+        put_purchases(&mut purchases, order, self.log.as_slice())?;
+        Ok(purchases)
     }
 
     // How many positions of the order that pass the test the first `i` changes put.

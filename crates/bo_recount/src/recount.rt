@@ -381,15 +381,6 @@ impl Book for Recount {
             .collect(alloc)
     }
 
-    fn came_due(&self, at: Moment) -> u64 {
-        let carts = self.carts.as_slice();
-        let vouchers = self.vouchers.as_slice();
-        let from = self.moment;
-        let carts = carts.iter().filter(|c| c.ends_between(from, at)).count();
-        let vouchers = vouchers.iter().filter(|v| v.ends_between(from, at)).count();
-        carts as u64 + vouchers as u64
-    }
-
     fn vouchers(&self) -> &[Voucher] {
         self.vouchers.as_slice()
     }

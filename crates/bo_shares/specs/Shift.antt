@@ -14,10 +14,10 @@ use Rattle.bo_lists.specs.Conditions.{is_in_force}
 use Rattle.bo_lists.specs.Lists.{Lists, voucher_at, cart_at, order_at, waiting_at}
 use Rattle.bo_lists.specs.Usage.{redeemed, stands_as, position_counts, blocks_if, is_covered_by}
 use Rattle.bo_lists.specs.Headroom.{held_in}
-use Rattle.bo_overlay.specs.declared.tickets.Ticket.{Ticket}
+use Rattle.bo_overlay.specs.declared.purchases.Purchase.{Purchase}
 use Rattle.bo_usage.specs.OfOrder.{count_ordered}
 use Rattle.bo_usage.specs.Shares.{cart_share, waiting_share}
-use Rattle.bo_overlay.specs.Tickets.{AreTicketsOf}
+use Rattle.bo_overlay.specs.Purchases.{ArePurchasesOf}
 
 -- one, where it is so
 abbrev pub once : Bool → ℕ
@@ -64,10 +64,10 @@ order_gone lists at row quota =
     if beq (is_in_force row.status) (stands_as is_in_force (order_at row.id lists)) then 0
     else turned_order (is_in_force row.status) (ordered_covered lists at quota row.id) (ordered_in lists quota row.id)
 
--- the tickets are those of the order that a change brings into force or ends
-abbrev pub AreTurned : Change → Lists → List Ticket → Type 0
-AreTurned (PutOrder row) lists tickets = beq (is_in_force row.status) (stands_as is_in_force (order_at row.id lists)) ≡ false → AreTicketsOf row.id lists tickets
-AreTurned _ lists tickets = Unit {0}
+-- the purchases are those of the order that a change brings into force or ends
+abbrev pub AreTurned : Change → Lists → List Purchase → Type 0
+AreTurned (PutOrder row) lists purchases = beq (is_in_force row.status) (stands_as is_in_force (order_at row.id lists)) ≡ false → ArePurchasesOf row.id lists purchases
+AreTurned _ lists purchases = Unit {0}
 
 -- a new order position takes a place, where its order is in force
 abbrev pub sale_come : Lists → OrderPos → Quota → ℕ

@@ -21,7 +21,7 @@ use crate::touched::{touch_product, touch_voucher};
 use bo_base::Moment;
 use bo_catalogue::{Catalogue, Product, Quota};
 use bo_lists::{CartPos, Change, Order, OrderPos, Voucher, Waiting};
-use bo_overlay::{Overlay, Ticket, count_if};
+use bo_overlay::{Overlay, Purchase, count_if};
 use bo_tally::Tally;
 use bo_usage::rules::{self, blocks, is_in_force};
 use bo_usage::{Book, LookUps};
@@ -37,9 +37,9 @@ pub fn count_change<B: Book>(
     catalogue: &Catalogue,
     counts: &mut Tally,
     change: &Change,
-    tickets: &[Ticket],
+    purchases: &[Purchase],
 ) -> Result<(), AllocError>
-    requires turned { AreTurned change.now (rows_of overlay.now) tickets.now }
+    requires turned { AreTurned change.now (rows_of overlay.now) purchases.now }
     ensures more { OnOk result (IsMore (come_of (rows_of overlay.now) at change.now) (gone_of (rows_of overlay.now) at change.now) catalogue.now.lists.quotas counts.old counts.new) }
     ensures err { OnErr result (counts.new ≡ counts.old) }
 {
@@ -66,7 +66,7 @@ pub fn count_change<B: Book>(
             Some(row),
         ),
         Change::DropWaiting(id) => with_waiting(overlay, alloc, at, catalogue, counts, *id, None),
-        Change::PutOrder(row) => with_order(overlay, alloc, at, catalogue, counts, row, tickets),
+        Change::PutOrder(row) => with_order(overlay, alloc, at, catalogue, counts, row, purchases),
         Change::PutPosition(row) => with_position(overlay, alloc, at, catalogue, counts, row),
         _ => Ok(()),
     }
@@ -485,29 +485,29 @@ fn count_covered(at: Moment, quota: &Quota, spots: &[Spot<'_>]) -> u64
         .count() as u64
 }
 
-// The place of a ticket, with its voucher.
-fn spot_of<'o, B: Book>(overlay: &'o Overlay<'_, B>, ticket: &Ticket) -> Spot<'o>
-    ensures product { result.product ≡ ticket.now.product }
-    ensures covered { (q : Quota) → (at : ℕ) → blocks_if at q (option_copied result.voucher) ≡ is_covered_by (rows_of overlay.now) at q ticket.now.voucher }
+// The place of a purchase, with its voucher.
+fn spot_of<'o, B: Book>(overlay: &'o Overlay<'_, B>, purchase: &Purchase) -> Spot<'o>
+    ensures product { result.product ≡ purchase.now.product }
+    ensures covered { (q : Quota) → (at : ℕ) → blocks_if at q (option_copied result.voucher) ≡ is_covered_by (rows_of overlay.now) at q purchase.now.voucher }
 {
     Spot {
-        product: ticket.product,
-        voucher: voucher_of(overlay, ticket.voucher),
+        product: purchase.product,
+        voucher: voucher_of(overlay, purchase.voucher),
     }
 }
 
-// The places of these tickets, with their vouchers.
+// The places of these purchases, with their vouchers.
 fn spots_of<'o, B: Book>(
     overlay: &'o Overlay<'_, B>,
     alloc: Global,
-    tickets: &[Ticket],
+    purchases: &[Purchase],
 ) -> Result<Vec<Spot<'o>>, AllocError>
-    ensures here { IfOk result (λ spots. (q : Quota) → count_by (λ s. is_in q s.product) spots.items ≡ count_by (λ t. is_in q t.product) tickets.now) }
-    ensures covered { IfOk result (λ spots. (q : Quota) → (at : ℕ) → count_by (λ s. blocks_if at q (option_copied s.voucher)) spots.items ≡ count_by (λ t. is_covered_by (rows_of overlay.now) at q t.voucher) tickets.now) }
+    ensures here { IfOk result (λ spots. (q : Quota) → count_by (λ s. is_in q s.product) spots.items ≡ count_by (λ t. is_in q t.product) purchases.now) }
+    ensures covered { IfOk result (λ spots. (q : Quota) → (at : ℕ) → count_by (λ s. blocks_if at q (option_copied s.voucher)) spots.items ≡ count_by (λ t. is_covered_by (rows_of overlay.now) at q t.voucher) purchases.now) }
 {
     let mut spots = Vec::new(alloc);
-    for ticket in tickets {
-        spots.push(spot_of(overlay, ticket))?;
+    for purchase in purchases {
+        spots.push(spot_of(overlay, purchase))?;
     }
     Ok(spots)
 }
@@ -520,9 +520,9 @@ fn with_order<B: Book>(
     catalogue: &Catalogue,
     counts: &mut Tally,
     row: &Order,
-    tickets: &[Ticket],
+    purchases: &[Purchase],
 ) -> Result<(), AllocError>
-    requires turned { AreTurned (PutOrder row.now) (rows_of overlay.now) tickets.now }
+    requires turned { AreTurned (PutOrder row.now) (rows_of overlay.now) purchases.now }
     ensures more { OnOk result (IsMore (order_come (rows_of overlay.now) at row.now) (order_gone (rows_of overlay.now) at row.now) catalogue.now.lists.quotas counts.old counts.new) }
     ensures err { OnErr result (counts.new ≡ counts.old) }
 {
@@ -530,39 +530,39 @@ fn with_order<B: Book>(
     if comes == is_in_force(overlay.order(row.id)) {
         return Ok(());
     }
-    if tickets.is_empty() {
+    if purchases.is_empty() {
         return Ok(());
     }
-    let spots = spots_of(overlay, alloc, tickets)?;
+    let spots = spots_of(overlay, alloc, purchases)?;
     count_each(counts, alloc, catalogue, &OrderTurn { at, comes, spots })
 }
 
-/// The tickets of an order that a change brings into force or ends.
-pub fn turned_tickets<B: Book>(
+/// The purchases of an order that a change brings into force or ends.
+pub fn turned_purchases<B: Book>(
     overlay: &Overlay<'_, B>,
     alloc: Global,
     change: &Change,
-) -> Result<Vec<Ticket>, AllocError>
-    ensures { IfOk result (λ tickets. AreTurned change.now (rows_of overlay.now) tickets.items) }
+) -> Result<Vec<Purchase>, AllocError>
+    ensures { IfOk result (λ purchases. AreTurned change.now (rows_of overlay.now) purchases.items) }
 {
     match change {
-        Change::PutOrder(row) => order_tickets(overlay, alloc, row),
+        Change::PutOrder(row) => order_purchases(overlay, alloc, row),
         _ => Ok(Vec::new(alloc)),
     }
 }
 
-// The tickets of an order that comes into force or ends where it stands in the place of its id.
-fn order_tickets<B: Book>(
+// The purchases of an order that comes into force or ends where it stands in the place of its id.
+fn order_purchases<B: Book>(
     overlay: &Overlay<'_, B>,
     alloc: Global,
     row: &Order,
-) -> Result<Vec<Ticket>, AllocError>
-    ensures { IfOk result (λ tickets. AreTurned (PutOrder row.now) (rows_of overlay.now) tickets.items) }
+) -> Result<Vec<Purchase>, AllocError>
+    ensures { IfOk result (λ purchases. AreTurned (PutOrder row.now) (rows_of overlay.now) purchases.items) }
 {
     if row.status.is_in_force() == is_in_force(overlay.order(row.id)) {
         return Ok(Vec::new(alloc));
     }
-    overlay.tickets_of(alloc, row.id)
+    overlay.purchases_of(alloc, row.id)
 }
 
 /// The number of cart positions after one more change, by the number before it.

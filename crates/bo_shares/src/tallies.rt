@@ -11,13 +11,13 @@ ghost use Rattle.bo_shares.specs.Tallied.{IsNext, reach_now, reach_at, tallied_a
 ghost use Rattle.bo_shares.specs.Uses.{CountsMore};
 ghost use Rattle.bo_tally.specs.Counts.{came, went, GoesOn};
 
-use crate::shift::{carts_after, count_change, turned_tickets, vouchers_after};
+use crate::shift::{carts_after, count_change, turned_purchases, vouchers_after};
 use crate::use_shift::{UseShift, use_shift};
 use crate::uses::count_uses;
 use bo_base::Moment;
 use bo_catalogue::Catalogue;
 use bo_lists::Change;
-use bo_overlay::{Overlay, Ticket};
+use bo_overlay::{Overlay, Purchase};
 use bo_tally::{Count, Tally};
 use bo_usage::Book;
 use std::alloc::{AllocError, Global};
@@ -134,8 +134,8 @@ impl Tallies {
     {
         let here = self.here;
         let reach = self.reach_now();
-        let tickets = turned_tickets(overlay, alloc, change)?;
-        let shift = use_shift(overlay, at, change, &tickets);
+        let purchases = turned_purchases(overlay, alloc, change)?;
+        let shift = use_shift(overlay, at, change, &purchases);
         let known = stay_known(here.known, &shift);
         let carts = carts_after(overlay, here.carts, change);
         let vouchers = vouchers_after(overlay, here.vouchers, change);
@@ -148,7 +148,7 @@ impl Tallies {
             &mut self.counts,
             &mut self.uses,
             change,
-            &tickets,
+            &purchases,
             shift,
         )?;
         self.reached.push(reach)?;
@@ -188,10 +188,10 @@ fn count_both<B: Book>(
     counts: &mut Tally,
     uses: &mut Tally,
     change: &Change,
-    tickets: &[Ticket],
+    purchases: &[Purchase],
     shift: Option<UseShift>,
 ) -> Result<(), AllocError>
-    requires turned { AreTurned change.now (rows_of overlay.now) tickets.now }
+    requires turned { AreTurned change.now (rows_of overlay.now) purchases.now }
     ensures more { OnOk result (IsMore (come_of (rows_of overlay.now) at change.now) (gone_of (rows_of overlay.now) at change.now) catalogue.now.lists.quotas counts.old counts.new) }
     ensures shifted { OnOk result (IfSome shift (λ s. CountsMore s.come s.gone uses.old uses.new)) }
     ensures unknown { shift ≡ None → uses.new ≡ uses.old }
@@ -200,7 +200,7 @@ fn count_both<B: Book>(
     ensures err_uses { OnErr result (uses.new ≡ uses.old) }
 {
     let start = counts.len();
-    count_change(overlay, alloc, at, catalogue, counts, change, tickets)?;
+    count_change(overlay, alloc, at, catalogue, counts, change, purchases)?;
     if count_uses(uses, shift).is_err() {
         counts.truncate(start);
         return Err(AllocError);

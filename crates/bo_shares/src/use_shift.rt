@@ -11,7 +11,7 @@ ghost use Rattle.bo_shares.specs.Uses.{IsShift, Turns, TurnsUses};
 
 use bo_base::Moment;
 use bo_lists::{Change, Order};
-use bo_overlay::{Overlay, Ticket};
+use bo_overlay::{Overlay, Purchase};
 use bo_usage::rules::{held_name, is_in_force, used_name};
 use bo_usage::{Book, LookUps};
 
@@ -32,10 +32,10 @@ pub fn use_shift<B: Book>(
     overlay: &Overlay<'_, B>,
     at: Moment,
     change: &Change,
-    tickets: &[Ticket],
+    purchases: &[Purchase],
 ) -> Option<UseShift>
     requires sale { IsSale change.now (rows_of overlay.now) }
-    requires turned { AreTurned change.now (rows_of overlay.now) tickets.now }
+    requires turned { AreTurned change.now (rows_of overlay.now) purchases.now }
     ensures shift { IfSome result (IsShift at change.now (rows_of overlay.now)) }
     ensures none { result ≡ None → TurnsUses change.now (rows_of overlay.now) }
 {
@@ -54,7 +54,7 @@ pub fn use_shift<B: Book>(
             gone: None,
         }),
         Change::PutOrder(row) => {
-            if keeps_uses(overlay, row, tickets) {
+            if keeps_uses(overlay, row, purchases) {
                 Some(NOTHING)
             } else {
                 None
@@ -65,10 +65,10 @@ pub fn use_shift<B: Book>(
 }
 
 // Whether an order is in force as it was before, or has no positions, so that it turns no uses.
-fn keeps_uses<B: Book>(overlay: &Overlay<'_, B>, row: &Order, tickets: &[Ticket]) -> bool
-    requires { AreTurned (PutOrder row.now) (rows_of overlay.now) tickets.now }
+fn keeps_uses<B: Book>(overlay: &Overlay<'_, B>, row: &Order, purchases: &[Purchase]) -> bool
+    requires { AreTurned (PutOrder row.now) (rows_of overlay.now) purchases.now }
     ensures turns { result ≡ false → Turns row.now (rows_of overlay.now) }
     ensures keeps { result ≡ true → (v : ℕ) → redeemed v (after_change (PutOrder row.now) (rows_of overlay.now)) ≡ redeemed v (rows_of overlay.now) }
 {
-    is_in_force(Some(row)) == is_in_force(overlay.order(row.id)) || tickets.is_empty()
+    is_in_force(Some(row)) == is_in_force(overlay.order(row.id)) || purchases.is_empty()
 }

@@ -1,10 +1,9 @@
 //! The uses of vouchers that come and go with a change.
 
-ghost use Rattle.std.specs.Prelude.{◌≡◌, ℕ, ◌+◌, None, OnOk, OnErr, if◌then◌else◌};
+ghost use Rattle.std.specs.Prelude.{◌≡◌, None, OnOk, OnErr};
 ghost use Rattle.std.specs.Option.{IfSome};
-ghost use Rattle.bo_lists.specs.Conditions.{names};
 ghost use Rattle.bo_shares.specs.Uses.{CountsMore};
-ghost use Rattle.bo_tally.specs.Counts.{came, went, GoesOn};
+ghost use Rattle.bo_tally.specs.Counts.{GoesOn};
 
 use crate::use_shift::UseShift;
 use bo_tally::Tally;
@@ -30,23 +29,10 @@ fn count_shift(uses: &mut Tally, come: Option<u64>, gone: Option<u64>) -> Result
     ensures err { OnErr result (uses.new ≡ uses.old) }
 {
     let start = uses.len();
-    add_named(uses, come, 1, 0)?;
-    if add_named(uses, gone, 0, 1).is_err() {
+    uses.add_named(come, 1, 0)?;
+    if uses.add_named(gone, 0, 1).is_err() {
         uses.truncate(start);
         return Err(AllocError);
     }
     Ok(())
-}
-
-// Adds to the counts of a voucher, if one is named.
-fn add_named(uses: &mut Tally, voucher: Option<u64>, come: u64, gone: u64) -> Result<(), AllocError>
-    ensures comes { OnOk result ((v : ℕ) → came v uses.new ≡ came v uses.old + (if names v voucher then come else 0)) }
-    ensures goes { OnOk result ((v : ℕ) → went v uses.new ≡ went v uses.old + (if names v voucher then gone else 0)) }
-    ensures on { OnOk result (GoesOn uses.old uses.new) }
-    ensures err { OnErr result (uses.new ≡ uses.old) }
-{
-    match voucher {
-        None => Ok(()),
-        Some(voucher) => uses.add(voucher, come, gone),
-    }
 }

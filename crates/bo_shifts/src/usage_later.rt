@@ -28,7 +28,7 @@ pub struct Release {
 }
 
 // How often a voucher that stands is redeemed.
-fn redeemed_of(ended: &Ended<'_>, redeems: &[u64], voucher: u64) -> u64
+fn redeemed_of<L: Ledger>(ended: &Ended<'_, L>, redeems: &[u64], voucher: u64) -> u64
     requires redeems { redeems.now ≡ map (λ v. redeemed v.id ended.now.state.lists) ended.now.state.lists.vouchers }
     requires stands { is_some (voucher_at voucher ended.now.state.lists) ≡ true }
     ensures { result ≡ redeemed voucher ended.now.state.lists }
@@ -42,7 +42,7 @@ fn redeemed_of(ended: &Ended<'_>, redeems: &[u64], voucher: u64) -> u64
 // What a voucher blocked, and how many live cart positions it covered.
 #[tactic(auto, unfolding(crate::specs::Later::release_if, crate::specs::Later::free_if, crate::specs::Later::naming_if))]
 fn release_of<L: Ledger>(
-    ended: &Ended<'_>,
+    ended: &Ended<'_, L>,
     redeems: &[u64],
     quota: &Quota,
     at: Moment,
@@ -92,7 +92,7 @@ fn hold_if(at: Moment, quota: &Quota, cart: Option<&CartPos>) -> u64
 
 // How many cart positions that are live at a moment name the voucher and are for a product of the quota.
 fn freed_by<L: Ledger>(
-    ended: &Ended<'_>,
+    ended: &Ended<'_, L>,
     voucher: u64,
     quota: &Quota,
     at: Moment,
@@ -113,7 +113,12 @@ fn freed_by<L: Ledger>(
 
 // 1 where a cart position counts in the quota.
 #[tactic(auto, unfolding(bo_store::specs::Walks::one_if))]
-fn count_if(ended: &Ended<'_>, at: Moment, quota: &Quota, cart: Option<&CartPos>) -> u64
+fn count_if<L: Ledger>(
+    ended: &Ended<'_, L>,
+    at: Moment,
+    quota: &Quota,
+    cart: Option<&CartPos>,
+) -> u64
     ensures value { result ≡ one_if (cart_counts ended.now.state.lists at quota.now) (option_copied cart.entry) }
     ensures small { result ≤ 1 }
 {
@@ -124,7 +129,7 @@ fn count_if(ended: &Ended<'_>, at: Moment, quota: &Quota, cart: Option<&CartPos>
 }
 
 // How many cart positions counted in the quota at the moment of the store, and have ended since.
-fn lapsed<L: Ledger>(ended: &Ended<'_>, quota: &Quota, at: Moment, steps: &mut Steps<L>) -> u64
+fn lapsed<L: Ledger>(ended: &Ended<'_, L>, quota: &Quota, at: Moment, steps: &mut Steps<L>) -> u64
     requires { ended.now.state.moment ≤ at }
     ensures value { result ≡ count_by (λ c. is_due_cart ended.now.state.moment at c && cart_counts ended.now.state.lists ended.now.state.moment quota.now c) ended.now.state.lists.carts }
     ensures few { result ≤ 4294967296 }
@@ -160,7 +165,7 @@ pub struct Releases {
 
 // What the vouchers that have ended since the moment of the store blocked, and how many live cart positions they covered.
 fn released<L: Ledger>(
-    ended: &Ended<'_>,
+    ended: &Ended<'_, L>,
     redeems: &[u64],
     quota: &Quota,
     at: Moment,
@@ -187,7 +192,7 @@ fn released<L: Ledger>(
 
 /// The usage of a quota at a moment, by that at the moment of the store.
 pub fn later<L: Ledger>(
-    ended: &Ended<'_>,
+    ended: &Ended<'_, L>,
     redeems: &[u64],
     quota: &Quota,
     usage: Usage,

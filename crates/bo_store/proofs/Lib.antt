@@ -1,4 +1,4 @@
 pub mod Counted
 pub mod Listed
 pub mod Waits
-pub mod Dues
+pub mod EachCart

@@ -15,16 +15,18 @@ use bo_indexed::Walk;
 use bo_lists::{CartPos, Voucher};
 use bo_sorted::place_of;
 use bo_usage::rules::cart_counts;
-use std::marker::Model;
+use std::marker::{Model, PhantomData};
+use std::sync::ledger::Ledger;
 
-/// What ended in a store since the moment of its last changes, and what names that, by walks whose steps are counted.
-/// No other row is shown, and no table as a whole.
+/// What ended in a store since the moment of its last changes, and what names that, by walks whose steps are counted in one
+/// ledger. No other row is shown, and no table as a whole.
 #[derive(Drop)]
-pub struct Ended<'s> {
+pub struct Ended<'s, L: Ledger> {
     store: &'s Store,
+    ledger: PhantomData<L>,
 }
 
-impl<'s> Model for Ended<'s> {
+impl<'s, L: Ledger> Model for Ended<'s, L> {
     ghost use Rattle.bo_usage.specs.BookView.{BookView};
 
     ghost Value = { BookView };
@@ -32,12 +34,15 @@ impl<'s> Model for Ended<'s> {
     ghost view = { λ e. e.store.now };
 }
 
-impl<'s> Ended<'s> {
+impl<'s, L: Ledger> Ended<'s, L> {
     /// What ended in this store.
     pub fn of(store: &'s Store) -> Self
         ensures { result ≡ store.now }
     {
-        Ended { store }
+        Ended {
+            store,
+            ledger: PhantomData,
+        }
     }
 
     /// Ids rise in each list of sales and of the door, and none of these lists is longer than 2^32.
@@ -55,7 +60,7 @@ impl<'s> Ended<'s> {
     }
 
     /// The cart positions that ended since then, and before a moment.
-    pub fn carts(&self, to: Moment) -> Walk<'s, CartPos>
+    pub fn carts(&self, to: Moment) -> Walk<'s, CartPos, L>
         requires { self.now.state.moment ≤ to }
         ensures rows { result.rows ≡ self.now.state.lists.carts }
         ensures finds { Finds (λ r. r.id) (is_due_cart self.now.state.moment to) self.now.state.lists.carts result.ids }
@@ -66,7 +71,7 @@ impl<'s> Ended<'s> {
     }
 
     /// The vouchers that ended since then, and before a moment.
-    pub fn vouchers(&self, to: Moment) -> Walk<'s, Voucher>
+    pub fn vouchers(&self, to: Moment) -> Walk<'s, Voucher, L>
         requires { self.now.state.moment ≤ to }
         ensures rows { result.rows ≡ self.now.state.lists.vouchers }
         ensures finds { Finds (λ r. r.id) (is_due_voucher self.now.state.moment to) self.now.state.lists.vouchers result.ids }
@@ -77,7 +82,7 @@ impl<'s> Ended<'s> {
     }
 
     /// The cart positions that name a voucher, dead ones too.
-    pub fn naming(&self, voucher: u64) -> Walk<'s, CartPos>
+    pub fn naming(&self, voucher: u64) -> Walk<'s, CartPos, L>
         ensures rows { result.rows ≡ self.now.state.lists.carts }
         ensures finds { Finds (λ r. r.id) (λ c. names voucher c.voucher) self.now.state.lists.carts result.ids }
         ensures few { length result.ids ≤ 4294967296 }

@@ -5,7 +5,7 @@ ghost use Rattle.std.specs.Option.{option_copied};
 ghost use Rattle.bo_base.specs.Texts.{same_text};
 ghost use Rattle.bo_lists.specs.Lists.{voucher_at};
 ghost use Rattle.bo_lists.specs.Named.{voucher_of};
-ghost use Rattle.bo_lists.specs.CameDue.{is_due_cart, is_due_voucher, came_due};
+ghost use Rattle.bo_lists.specs.CameDue.{is_due_cart, is_due_voucher};
 ghost use Rattle.bo_indexed.specs.Indexes.{Finds};
 ghost use Rattle.bo_store.specs.Walks.{passing};
 
@@ -56,19 +56,5 @@ impl Store {
         ensures few { length result ≤ 4294967296 }
     {
         self.carts().ending(from.get(), to.get())
-    }
-
-    /// How many cart positions and vouchers ended, or end, at the moment of the last changes or later, and before this
-    /// one. Nothing is walked for it.
-    pub fn came_due(&self, at: Moment) -> u64
-        ensures { result ≡ came_due self.now.state.moment at self.now.state.lists }
-    {
-        let from = self.moment();
-        if at.is_before(from) {
-            return 0;
-        }
-        let carts = self.carts_due(from, at).len() as u64;
-        let vouchers = self.vouchers_due(from, at).len() as u64;
-        carts + vouchers
     }
 }

@@ -2,6 +2,7 @@
 
 ghost use Rattle.std.specs.Prelude.{◌≡◌, ◌≤◌, ◌<◌, ◌+◌, ◌++◌, ◌==◌, [], ◌∷◌, ℕ, length, take, IfOk, OnOk, OnErr, slice_index_or, if◌then◌else◌};
 ghost use Rattle.std.specs.Option.{IfSome};
+ghost use Rattle.bo_lists.specs.Conditions.{names};
 ghost use Rattle.bo_tally.specs.Counts.{newest, part_at, came, went, GoesOn};
 
 use bo_log::KeyLog;
@@ -109,6 +110,19 @@ impl Tally {
                 gone,
             })?,
         )
+    }
+
+    /// Adds to the counts of a key, if one is named. `Err` where there is no memory; they are then as they were.
+    pub fn add_named(&mut self, key: Option<u64>, come: u64, gone: u64) -> Result<(), AllocError>
+        ensures comes { OnOk result ((k : ℕ) → came k self.new ≡ came k self.old + (if names k key then come else 0)) }
+        ensures goes { OnOk result ((k : ℕ) → went k self.new ≡ went k self.old + (if names k key then gone else 0)) }
+        ensures on { OnOk result (GoesOn self.old self.new) }
+        ensures err { OnErr result (self.new ≡ self.old) }
+    {
+        match key {
+            None => Ok(()),
+            Some(key) => self.add(key, come, gone),
+        }
     }
 
     /// Undoes all additions after a mark. It takes no memory.

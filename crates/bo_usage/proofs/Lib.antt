@@ -1,3 +1,4 @@
 pub mod OrderSums
 pub mod Redeemed
 pub mod VoucherCounts
+pub mod CoverLemmas

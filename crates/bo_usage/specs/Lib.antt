@@ -1,4 +1,5 @@
 pub mod BookView
 pub mod Naming
+pub mod Covers
 pub mod OfOrder
 pub mod Shares

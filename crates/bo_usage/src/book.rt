@@ -142,10 +142,6 @@ pub trait Book {
     fn dead_carts(&self, alloc: Global, at: Moment) -> Result<Vec<u64>, AllocError>
         ensures { IfOk result (λ ids. ids.items ≡ dead_carts at (state self.now).lists) };
 
-    /// How many cart positions and vouchers ended, or end, at the book's moment or later, and before this one.
-    fn came_due(&self, at: Moment) -> u64
-        ensures { result ≡ came_due (state self.now).moment at (state self.now).lists };
-
     /// All vouchers, by id.
     fn vouchers(&self) -> &[Voucher]
         ensures { result.now ≡ (state self.now).lists.vouchers };

@@ -2,9 +2,10 @@
 
 ghost use Rattle.std.specs.Prelude.{◌≡◌, ◌≤◌, ◌-◌};
 ghost use Rattle.std.specs.Option.{option_copied};
-ghost use Rattle.bo_lists.specs.Conditions.{is_paid, is_pending, is_in_force};
+ghost use Rattle.bo_lists.specs.Conditions.{is_paid, is_pending, is_in_force, same_id};
 ghost use Rattle.bo_lists.specs.Over.{ignores};
 ghost use Rattle.bo_lists.specs.Usage.{stands_as, position_counts, uses, blocks_if, is_covered_by, cart_counts};
+ghost use Rattle.bo_usage.specs.Covers.{cover_alike};
 ghost use Rattle.bo_usage.specs.Shares.{status_share, cart_share, waiting_share, blocked_share, held_name, used_name};
 
 use crate::look_ups::LookUps;
@@ -79,6 +80,38 @@ pub fn covers<R: LookUps>(rows: &R, at: Moment, quota: &Quota, voucher: Option<u
         None => false,
         Some(id) => blocks(at, quota, rows.voucher(id)),
     }
+}
+
+/// Whether both are none, or both are this id.
+pub fn same_id(a: Option<u64>, b: Option<u64>) -> bool
+    ensures { result ≡ same_id a b }
+{
+    a == b
+}
+
+// Whether both are none, or both are this moment.
+fn same_end(a: Option<Moment>, b: Option<Moment>) -> bool
+    ensures { result ≡ same_id a b }
+{
+    match a {
+        None => b.is_none(),
+        Some(end) => match b {
+            None => false,
+            Some(other) => end.get() == other.get(),
+        },
+    }
+}
+
+/// Whether two vouchers cover the same cart positions at each moment: both block places or neither does, until the same
+/// moment, and they name the same quota, item and variation.
+pub fn cover_alike(a: &Voucher, b: &Voucher) -> bool
+    ensures { result ≡ cover_alike a.now b.now }
+{
+    a.block_quota == b.block_quota
+        && same_end(a.valid_until, b.valid_until)
+        && same_id(a.quota, b.quota)
+        && same_id(a.item, b.item)
+        && same_id(a.variation, b.variation)
 }
 
 /// Whether the voucher that a row names stands and ignores quotas.

@@ -6,9 +6,9 @@ use Rattle.bo_lists.specs.Usage.{is_covered_by, blocks_if}
 use Rattle.bo_overlay.specs.Logs.{rows_of}
 use Rattle.bo_shares.proofs.shift.spots_of.Given as goal
 
--- the tickets that were reached have their places
-abbrev pub invariant-loop-ticket : goal.invariant-loop-ticket
-invariant-loop-ticket g l = record {
-  here : (q : Quota) → count_by (λ s. is_in q s.product) l.spots.items ≡ count_by (λ t. is_in q t.product) (take l.ticket-index l.tickets);
-  covered : (q : Quota) → (at : ℕ) → count_by (λ s. blocks_if at q (option_copied s.voucher)) l.spots.items ≡ count_by (λ t. is_covered_by (rows_of l.overlay) at q t.voucher) (take l.ticket-index l.tickets);
+-- the purchases that were reached have their places
+abbrev pub invariant-loop-purchase : goal.invariant-loop-purchase
+invariant-loop-purchase g l = record {
+  here : (q : Quota) → count_by (λ s. is_in q s.product) l.spots.items ≡ count_by (λ t. is_in q t.product) (take l.purchase-index l.purchases);
+  covered : (q : Quota) → (at : ℕ) → count_by (λ s. blocks_if at q (option_copied s.voucher)) l.spots.items ≡ count_by (λ t. is_covered_by (rows_of l.overlay) at q t.voucher) (take l.purchase-index l.purchases);
 }

@@ -9,7 +9,7 @@ use Rattle.bo_catalogue.specs.Member.{is_in}
 use Rattle.bo_lists.specs.Lists.{order_at}
 use Rattle.bo_lists.specs.Conditions.{is_in_force}
 use Rattle.bo_lists.specs.Usage.{stands_as, is_covered_by}
-use Rattle.bo_overlay.specs.declared.tickets.Ticket.{Ticket}
+use Rattle.bo_overlay.specs.declared.purchases.Purchase.{Purchase}
 use Rattle.bo_overlay.specs.Logs.{rows_of}
 use Rattle.bo_shares.specs.Shift.{turned_order, ordered_in, ordered_covered}
 use Rattle.bo_shares.proofs.Turned.{turned_none}
@@ -37,10 +37,10 @@ returns-then-is_empty-clause-more g c =
     let new = is_in_force c.args.row.now.status in
     let is : c.is_in_force.result ≡ old = c.is_in_force.ensures ∙ ap (stands_as is_in_force) c.order.ensures in
     let same : beq new old ≡ false = sym (ap (λ (b : Bool). beq b old) c.is_in_force-comes.ensures) ∙ sym (ap (beq c.is_in_force-comes.result) is) ∙ c.if-comes-is_in_force.false in
-    let few : length c.args.tickets.now ≡ 0 = grind (arith, nat_tests) in
-    let none : c.args.tickets.now ≡ [] = nil_from_length c.args.tickets.now few in
-    let here : (q : Quota) → ordered_in lists q id ≡ 0 = λ q. sym (c.requires.turned same (λ t. is_in q t.product)) ∙ ap (count_by (λ (t : Ticket). is_in q t.product)) none in
-    let covered : (q : Quota) → ordered_covered lists at q id ≡ 0 = λ q. sym (c.requires.turned same (λ t. is_covered_by lists at q t.voucher)) ∙ ap (count_by (λ (t : Ticket). is_covered_by lists at q t.voucher)) none in
+    let few : length c.args.purchases.now ≡ 0 = grind (arith, nat_tests) in
+    let none : c.args.purchases.now ≡ [] = nil_from_length c.args.purchases.now few in
+    let here : (q : Quota) → ordered_in lists q id ≡ 0 = λ q. sym (c.requires.turned same (λ t. is_in q t.product)) ∙ ap (count_by (λ (t : Purchase). is_in q t.product)) none in
+    let covered : (q : Quota) → ordered_covered lists at q id ≡ 0 = λ q. sym (c.requires.turned same (λ t. is_covered_by lists at q t.voucher)) ∙ ap (count_by (λ (t : Purchase). is_covered_by lists at q t.voucher)) none in
     more_same _ _ _ _ c.args.catalogue.now.lists.quotas c.args.counts.now c.args.counts.now
     (λ q. sym (ap (λ (b : Bool). if b then 0 else turned_order new (ordered_in lists q id) (ordered_covered lists at q id)) same ∙ ap₂ (turned_order new) (here q) (covered q) ∙ turned_none new))
     (λ q. sym (ap (λ (b : Bool). if b then 0 else turned_order new (ordered_covered lists at q id) (ordered_in lists q id)) same ∙ ap₂ (turned_order new) (covered q) (here q) ∙ turned_none new))

@@ -18,8 +18,8 @@ returns-else-is_in_force-clause-keeps g c none =
     let new = is_in_force c.args.row.now.status in
     let is : c.is_in_force-2.result ≡ old = c.is_in_force-2.ensures ∙ ap (stands_as is_in_force) c.order.ensures in
     let turns : beq new old ≡ false = ap (λ (b : Bool). beq b old) (sym c.is_in_force.ensures) ∙ ap (beq c.is_in_force.result) (sym is) ∙ c.if-is_in_force.false in
-    let few : length c.args.tickets.now ≡ 0 = grind (arith, nat_tests, none) in
-    no_positions lists c.args.row.now (sym (c.requires turns (λ t. true)) ∙ all_pass c.args.tickets.now ∙ few)
+    let few : length c.args.purchases.now ≡ 0 = grind (arith, nat_tests, none) in
+    no_positions lists c.args.row.now (sym (c.requires turns (λ t. true)) ∙ all_pass c.args.purchases.now ∙ few)
 
 pub returns-else-is_in_force-clause-turns : goal.returns-else-is_in_force-clause-turns
 returns-else-is_in_force-clause-turns g c some =
@@ -29,6 +29,6 @@ returns-else-is_in_force-clause-turns g c some =
     let is : c.is_in_force-2.result ≡ old = c.is_in_force-2.ensures ∙ ap (stands_as is_in_force) c.order.ensures in
     let turns : beq new old ≡ false = ap (λ (b : Bool). beq b old) (sym c.is_in_force.ensures) ∙ ap (beq c.is_in_force.result) (sym is) ∙ c.if-is_in_force.false in
     let count = c.requires turns (λ t. true) in
-    let all = all_pass c.args.tickets.now in
-    let many : 0 < length c.args.tickets.now = grind (arith, nat_tests, some) in
+    let all = all_pass c.args.purchases.now in
+    let many : 0 < length c.args.purchases.now = grind (arith, nat_tests, some) in
     record { turns = unequal new old turns; some = omega (arith, count, all, many) }

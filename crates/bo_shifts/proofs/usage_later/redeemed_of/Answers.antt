@@ -5,11 +5,11 @@ use Rattle.bo_shifts.proofs.Later.{none_stands}
 use Rattle.bo_shifts.proofs.usage_later.redeemed_of.Goals as goal
 
 pub returns-in-Ok : goal.returns-in-Ok
-returns-in-Ok c =
+returns-in-Ok g c =
     let lists = c.args.ended.now.state.lists in
     kept_at (λ v. v.id) (λ id. redeemed id lists) lists.vouchers c.args.redeems.now c.args.voucher c.in-Ok.at 0 c.requires.redeems c.in-Ok.ensures.found
 
 pub returns-in-Err : goal.returns-in-Err
-returns-in-Err c =
+returns-in-Err g c =
     let lists = c.args.ended.now.state.lists in
     absurd (none_stands _ (row_at_gap (λ v. v.id) lists.vouchers c.args.voucher _ c.in-Err.ensures.absent) c.requires.stands)

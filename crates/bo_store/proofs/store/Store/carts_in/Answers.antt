@@ -1,6 +1,6 @@
 use Rattle.std.proofs.Common.{ap, ◌∙◌}
 use Rattle.bo_sorted.specs.Rising.{rising}
-use Rattle.bo_store.proofs.Dues.{next_cart, no_cart, each_sorted}
+use Rattle.bo_store.proofs.EachCart.{next_cart, no_cart, each_sorted}
 use Rattle.bo_store.proofs.store.Store.carts_in.Goals as goal
 
 pub loop-cart-preserved : goal.loop-cart-preserved

@@ -1,5 +1,5 @@
 use Rattle.std.proofs.Common.{◌≡◌, ◌++◌, drop}
-use Rattle.bo_store.proofs.Dues.{each_cart}
+use Rattle.bo_store.proofs.EachCart.{each_cart}
 use Rattle.bo_store.proofs.store.Store.carts_in.Given as goal
 
 -- the ids so far and those of the carts that are left

@@ -1,8 +1,7 @@
--- What came due, and what is in some carts.
-use Rattle.std.proofs.Common.{◌≡◌, ℕ, ◌+◌, ◌<◌, Bool, true, false, List, [], ◌∷◌, ◌++◌, Option, Some, None, map, length, get_or, drop, append_assoc, ◌≤◌, refl, sym, ap, ◌∙◌, count_by, cond, arith}
-use Rattle.std.specs.Prelude.{if◌then◌else◌, filter, ◌||◌}
+-- What is in some carts.
+use Rattle.std.proofs.Common.{◌≡◌, ℕ, ◌+◌, ◌<◌, Bool, true, false, List, [], ◌∷◌, ◌++◌, map, length, get_or, drop, append_assoc, ◌≤◌, refl, sym, ap, ◌∙◌, cond, arith}
+use Rattle.std.specs.Prelude.{filter, ◌||◌}
 use Rattle.std.proofs.lemmas.Bool.Decides.{nat_tests}
-use Rattle.std.proofs.lemmas.List.Sums.{sum_by-cons}
 use Rattle.bo_sorted.specs.Rising.{rising}
 use Rattle.bo_sorted.specs.Tables.{has, AreInOrder}
 use Rattle.bo_base.specs.Texts.{same_text}
@@ -10,25 +9,8 @@ use Rattle.bo_sorted.proofs.RisingLemmas.{has-rising, rising_in_order}
 use Rattle.bo_index.proofs.Sorted.{same_ids}
 use Rattle.bo_indexed.proofs.Selected.{selected_in_order}
 use Rattle.bo_lists.specs.declared.rows.CartPos.{CartPos}
-use Rattle.bo_lists.specs.CameDue.{ends_between, is_due_cart, is_due_voucher, came_due}
 use Rattle.bo_lists.specs.Consumed.{is_consumed}
-use Rattle.bo_lists.specs.Lists.{Lists}
 use Rattle.bo_store.proofs.Listed.{drop_next, drop_end, nothing_behind}
-
-abbrev one : Bool → ℕ
-one b = if b then 1 else 0
-
-none_counted : {T : Type 0} (test : T → Bool) (rows : List T) → ((r : T) → test r ≡ false) → count_by test rows ≡ 0
-none_counted test [] none = refl
-none_counted test (r ∷ rs) none = omega (arith, none_counted test rs none, ap one (none r), sum_by-cons (λ s. if test s then 1 else 0) r rs)
-
--- nothing ends between a moment and an earlier one
-pub none_due : (from to : ℕ) (lists : Lists) → to < from → came_due from to lists ≡ 0
-none_due from to lists lt = omega (arith, none_counted (is_due_cart from to) lists.carts (λ c. never (Some c.expires)), none_counted (is_due_voucher from to) lists.vouchers (λ v. never v.valid_until))
-  where
-    never : (o : Option ℕ) → ends_between from to o ≡ false
-    never None = refl
-    never (Some end) = grind (arith, nat_tests, lt)
 
 -- the ids of what is in each of some carts
 abbrev pub each_cart : List (List ℕ) → List CartPos → List ℕ

@@ -1,6 +1,6 @@
 use Rattle.std.proofs.Common.{sym, ◌∙◌}
 use Rattle.bo_counts.proofs.Untouched.{touched_are}
-use Rattle.bo_counts.proofs.touched.Touched.by.Goals as goal
+use Rattle.bo_counts.proofs.touched.TouchedRows.by.Goals as goal
 
 pub returns : goal.returns
 returns g c =
