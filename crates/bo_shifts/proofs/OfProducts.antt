@@ -1,6 +1,7 @@
 -- What a row that comes or goes does to the quotas that have its product, and to no other.
-use Rattle.std.proofs.Common.{◌≡◌, ℕ, ◌-◌, Bool, true, false, not, ◌&&◌, List, length, Option, Some, None, refl, sym, ap, arith}
+use Rattle.std.proofs.Common.{◌≡◌, ℕ, ◌-◌, Bool, true, false, not, ◌&&◌, ◌==◌, List, length, Option, Some, None, refl, sym, ap, ◌∙◌, arith}
 use Rattle.std.specs.Prelude.{if◌then◌else◌}
+use Rattle.std.proofs.lemmas.Bool.{and_parts}
 use Rattle.bo_catalogue.specs.declared.rows.Quota.{Quota}
 use Rattle.bo_catalogue.specs.Member.{is_in}
 use Rattle.bo_lists.specs.declared.rows.CartPos.{CartPos}
@@ -12,10 +13,12 @@ use Rattle.bo_lists.specs.declared.rows.Voucher.{Voucher}
 use Rattle.bo_lists.specs.Conditions.{is_live_cart, is_live_voucher, is_paid, is_pending, hits}
 use Rattle.bo_lists.specs.Headroom.{held_in}
 use Rattle.bo_lists.specs.Lists.{Lists, order_at}
-use Rattle.bo_lists.specs.Usage.{is_covered, has_none, stands_as}
+use Rattle.bo_lists.specs.Usage.{blocks_if, is_covered, has_none, stands_as}
+use Rattle.bo_usage.specs.Covers.{cover_alike}
+use Rattle.bo_usage.proofs.CoverLemmas.{same_blocks}
 use Rattle.bo_usage.specs.Shares.{blocked_share, cart_share, status_share, waiting_share}
 use Rattle.bo_shifts.specs.Turns.{position_shift, turn_shift}
-use Rattle.bo_shifts.specs.Shifts.{map_beside, only, moved, cart_shift, waiting_shift, covered_share, leave_shift, enter_shift}
+use Rattle.bo_shifts.specs.Shifts.{map_beside, only, moved, cart_shift, waiting_shift, covered_share, covers_as, block_shift, leave_shift, enter_shift, voucher_shift}
 use Rattle.bo_shifts.proofs.TouchedLemmas.{beside_beside, beside_alike, beside_same}
 
 pub stays : (n : ℕ) → moved n 0 0 ≡ n
@@ -210,3 +213,42 @@ module _ (lists : Lists) (quotas : List Quota) (us : List Usage) where
 
   pub enter_none : (at spent : ℕ) → length us ≡ length quotas → us ≡ map_beside (enter_shift lists at spent None) quotas us
   enter_none at spent len = sym (beside_same (enter_shift lists at spent None) quotas us len (λ q u. enter_still at spent None q u (no_block at q spent) (nothing_covered lists at at q)))
+
+-- the one blocks places where the other does
+pub alike_blocks : (at : ℕ) (quota : Quota) (come gone : Option Voucher) → covers_as come gone ≡ true → blocks_if at quota come ≡ blocks_if at quota gone
+alike_blocks at quota None _ alike = absurd (cc alike)
+alike_blocks at quota (Some come) None alike = absurd (cc alike)
+alike_blocks at quota (Some come) (Some gone) alike = same_blocks come gone (and_parts (come.id == gone.id) (cover_alike come gone) alike).1 at quota
+
+-- of two that cover the same, where the one that comes hits no quota, the other blocks nothing
+both_none : (at : ℕ) (quota : Quota) (spent : ℕ) (come : Voucher) (gone : Option Voucher) → covers_as (Some come) gone ≡ true → hits quota come ≡ false → blocked_share at quota spent gone ≡ 0
+unfolding blocked_share
+both_none at quota spent come None alike none = refl
+both_none at quota spent come (Some gone) alike none =
+    ap (λ b. if b then gone.max_usages - spent else 0) (sym (alike_blocks at quota (Some come) (Some gone) alike)) ∙ by_tests come.block_quota (is_live_voucher at come) (hits quota come) none
+  where
+    by_tests : (a b d : Bool) → d ≡ false → ◌≡◌ {A = ℕ} (if a && b && d then gone.max_usages - spent else 0) 0
+    by_tests true true true h = absurd (cc h)
+    by_tests true true false h = refl
+    by_tests true false d h = refl
+    by_tests false b d h = refl
+
+module _ (quotas : List Quota) (us : List Usage) where
+  pub block_hits : (at spent : ℕ) (come : Voucher) (gone : Option Voucher) → covers_as (Some come) gone ≡ true → map_beside (only (λ q. hits q come) (block_shift at spent (Some come) gone)) quotas us ≡ map_beside (block_shift at spent (Some come) gone) quotas us
+  block_hits at spent come gone alike = beside_alike (only (λ q. hits q come) (block_shift at spent (Some come) gone)) (block_shift at spent (Some come) gone) quotas us (λ q u. either (hits q come) (block_shift at spent (Some come) gone q u) u (still q u))
+    where
+      still : (q : Quota) (u : Usage) → hits q come ≡ false → block_shift at spent (Some come) gone q u ≡ u
+      still q u none =
+          let same : moved u.blocked (blocked_share at q spent (Some come)) (blocked_share at q spent gone) ≡ u.blocked = omega (arith, blocked_none at q spent come none, both_none at q spent come gone alike none) in
+          ap (λ (n : ℕ). record u { blocked = n }) same
+
+-- what a voucher that comes in the place of another does, by whether it covers the same
+module _ (lists : Lists) (at spent : ℕ) (come gone : Option Voucher) (quotas : List Quota) (us : List Usage) where
+  abbrev apart : Quota → Usage → Usage
+  apart q u = enter_shift lists at spent come q (leave_shift lists at at spent gone q u)
+
+  pub same_covered : covers_as come gone ≡ true → map_beside (block_shift at spent come gone) quotas us ≡ map_beside (voucher_shift lists at spent come gone) quotas us
+  same_covered alike = beside_alike (block_shift at spent come gone) (voucher_shift lists at spent come gone) quotas us (λ q u. ap (λ b. if b then block_shift at spent come gone q u else apart q u) (sym alike))
+
+  pub others_covered : covers_as come gone ≡ false → map_beside (enter_shift lists at spent come) quotas (map_beside (leave_shift lists at at spent gone) quotas us) ≡ map_beside (voucher_shift lists at spent come gone) quotas us
+  others_covered apart_is = beside_beside (leave_shift lists at at spent gone) (enter_shift lists at spent come) (voucher_shift lists at spent come gone) quotas us (λ q u. ap (λ b. if b then block_shift at spent come gone q u else apart q u) (sym apart_is))

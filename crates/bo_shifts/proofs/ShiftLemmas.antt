@@ -8,6 +8,7 @@ use Rattle.bo_sorted.proofs.Places.{row_at_place}
 use Rattle.bo_indexed.proofs.EntryLemmas.{map_at}
 use Rattle.bo_usage.specs.Shares.{blocked_share, cart_share, waiting_share}
 use Rattle.bo_shifts.proofs.Later.{time_is}
+use Rattle.bo_shifts.proofs.OfProducts.{alike_blocks}
 use Rattle.bo_sorted.proofs.Edits.{sum_by-with_row, sum_by-without_row}
 use Rattle.bo_catalogue.specs.declared.rows.Quota.{Quota}
 use Rattle.bo_lists.specs.declared.rows.CartPos.{CartPos}
@@ -27,7 +28,7 @@ use Rattle.bo_lists.specs.Headroom.{held_in}
 use Rattle.bo_lists.specs.Change.{after_change}
 use Rattle.bo_lists.specs.Usage.{usage_of, cart_counts, blocked_by, waits_for, redeemed}
 use Rattle.bo_shifts.specs.Later.{IsCounted}
-use Rattle.bo_shifts.specs.Shifts.{map_beside, moved, cart_shift, waiting_shift, covered_share, voucher_shift, time_shift}
+use Rattle.bo_shifts.specs.Shifts.{map_beside, moved, cart_shift, waiting_shift, covered_share, covers_as, voucher_shift, time_shift}
 
 module _ {X Y : Type 0} (f : X → Y → Y) where
   pub map_beside_map : (a b : X → Y) (xs : List X) → ((x : X) → f x (a x) ≡ b x) → map_beside f xs (map a xs) ≡ map b xs
@@ -163,16 +164,27 @@ module _ (lists : Lists) (at : ℕ) (kept : IsKept 4294967296 lists) (small : Al
   pub voucher_put : (row : Voucher) (spent : ℕ) → row.max_usages ≤ 4294967295 → spent ≡ redeemed row.id lists → voucher_shift lists at spent (Some row) (voucher_at row.id lists) quota (usage_of lists at quota) ≡ usage_of (after_change (PutVoucher row) lists) at quota
   voucher_put row spent most is =
       let vouchers = with_row (λ r. r.id) row lists.vouchers in
+      let gone = voucher_at row.id lists in
       let after = after_change (PutVoucher row) lists in
-      let own = λ (v : Voucher) (same : voucher_at row.id lists ≡ Some v). key-row_at (λ r. r.id) row.id lists.vouchers v same in
+      let own = λ (v : Voucher) (same : gone ≡ Some v). key-row_at (λ r. r.id) row.id lists.vouchers v same in
       let new = λ (v : Voucher) (same : Some row ≡ Some v). ap (λ (o : Option Voucher). id_or row.id o) (sym same) in
       let come = share_is lists at quota row.id spent is (Some row) new in
-      let left = share_is lists at quota row.id spent is (voucher_at row.id lists) own in
-      let b : moved (moved (usage_of lists at quota).blocked 0 (blocked_share at quota spent (voucher_at row.id lists))) (blocked_share at quota spent (Some row)) 0 ≡ (usage_of after at quota).blocked =
-      omega (arith, come, left, sum_by-with_row (λ r. r.id) (blocked_by lists at quota) 0 row lists.vouchers kept.vouchers.in_order, sum_by-without_row (λ r. r.id) (blocked_by lists at quota) 0 row.id lists.vouchers kept.vouchers.in_order, blocked_with lists at quota lists.vouchers, blocked_with lists at quota vouchers, blocked_few lists at quota lists.vouchers small, one_few lists at quota row most, kept.vouchers.few) in
-      let n : moved (moved (usage_of lists at quota).carts (covered_share lists at at quota (voucher_at row.id lists)) 0) 0 (covered_share lists at at quota (Some row)) ≡ (usage_of after at quota).carts =
-      omega (arith, carts_with lists at quota row.id (Some row) vouchers (λ x. row_at-with_row (λ r. r.id) x row lists.vouchers), carts_of lists at quota, carts_of after at quota, count_by-le-length (cart_counts lists at quota) lists.carts, kept.carts.few, held_few lists at quota row.id, covered_is lists at quota row.id (Some row) new, covered_is lists at quota row.id (voucher_at row.id lists) own) in
-      with_vouchers lists at quota vouchers _ _ b n
+      let left = share_is lists at quota row.id spent is gone own in
+      let sums : (usage_of after at quota).blocked + blocked_share at quota spent gone ≡ (usage_of lists at quota).blocked + blocked_share at quota spent (Some row) = omega (arith, come, left, sum_by-with_row (λ r. r.id) (blocked_by lists at quota) 0 row lists.vouchers kept.vouchers.in_order, blocked_with lists at quota lists.vouchers, blocked_with lists at quota vouchers) in
+      let placed : blocked_share at quota spent gone ≤ (usage_of lists at quota).blocked = omega (arith, left, sum_by-without_row (λ r. r.id) (blocked_by lists at quota) 0 row.id lists.vouchers kept.vouchers.in_order, blocked_with lists at quota lists.vouchers) in
+      let few : (usage_of lists at quota).blocked + blocked_share at quota spent (Some row) ≤ 18446744073709551615 = omega (arith, come, blocked_with lists at quota lists.vouchers, blocked_few lists at quota lists.vouchers small, one_few lists at quota row most, kept.vouchers.few) in
+      let counts = carts_with lists at quota row.id (Some row) vouchers (λ x. row_at-with_row (λ r. r.id) x row lists.vouchers) in
+      let together : moved (usage_of lists at quota).blocked (blocked_share at quota spent (Some row)) (blocked_share at quota spent gone) ≡ (usage_of after at quota).blocked = moves (usage_of lists at quota).blocked (usage_of after at quota).blocked (blocked_share at quota spent (Some row)) (blocked_share at quota spent gone) sums few in
+      let apart : moved (moved (usage_of lists at quota).blocked 0 (blocked_share at quota spent gone)) (blocked_share at quota spent (Some row)) 0 ≡ (usage_of after at quota).blocked = omega (arith, sums, placed, few) in
+      let uncovered : covers_as (Some row) gone ≡ true → (if blocks_if at quota (Some row) then 0 else held_in at quota row.id lists) ≡ (if blocks_if at quota gone then 0 else held_in at quota row.id lists) = λ alike. ap (λ b. if b then 0 else held_in at quota row.id lists) (alike_blocks at quota (Some row) gone alike) in
+      let carts_stay : covers_as (Some row) gone ≡ true → (usage_of lists at quota).carts ≡ (usage_of after at quota).carts = λ alike. omega (arith, counts, uncovered alike, carts_of lists at quota, carts_of after at quota) in
+      let carts_move : moved (moved (usage_of lists at quota).carts (covered_share lists at at quota gone) 0) 0 (covered_share lists at at quota (Some row)) ≡ (usage_of after at quota).carts =
+      omega (arith, counts, carts_of lists at quota, carts_of after at quota, count_by-le-length (cart_counts lists at quota) lists.carts, kept.carts.few, held_few lists at quota row.id, covered_is lists at quota row.id (Some row) new, covered_is lists at quota row.id gone own) in
+      by_case (covers_as (Some row) gone) (λ alike. with_vouchers lists at quota vouchers _ _ together (carts_stay alike)) (with_vouchers lists at quota vouchers _ _ apart carts_move)
+    where
+      by_case : {X : Type 0} {a b c : X} (t : Bool) → (t ≡ true → a ≡ c) → b ≡ c → (if t then a else b) ≡ c
+      by_case true h e = h refl
+      by_case false h e = e
 
   pub voucher_drop : (id spent : ℕ) → spent ≡ redeemed id lists → voucher_shift lists at spent None (voucher_at id lists) quota (usage_of lists at quota) ≡ usage_of (after_change (DropVoucher id) lists) at quota
   voucher_drop id spent is =

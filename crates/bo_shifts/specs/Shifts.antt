@@ -1,5 +1,5 @@
 -- What a change adds to the usage of a quota, and takes from it.
-use Rattle.std.specs.Prelude.{ℕ, ◌+◌, ◌-◌, min, max, Bool, ◌&&◌, List, [], ◌∷◌, Option, Some, count_by, sum_by, if◌then◌else◌}
+use Rattle.std.specs.Prelude.{ℕ, ◌+◌, ◌-◌, min, max, Bool, false, ◌&&◌, ◌==◌, List, [], ◌∷◌, Option, Some, None, count_by, sum_by, if◌then◌else◌}
 use Rattle.bo_sorted.specs.Tables.{sum_at}
 use Rattle.bo_catalogue.specs.declared.rows.Quota.{Quota}
 use Rattle.bo_lists.specs.declared.rows.CartPos.{CartPos}
@@ -11,6 +11,7 @@ use Rattle.bo_lists.specs.Conditions.{blocks}
 use Rattle.bo_lists.specs.Headroom.{held_in}
 use Rattle.bo_lists.specs.Usage.{blocked_by, cart_counts}
 use Rattle.bo_lists.specs.CameDue.{is_due_cart, is_due_voucher}
+use Rattle.bo_usage.specs.Covers.{cover_alike}
 use Rattle.bo_usage.specs.Shares.{blocked_share, cart_share, waiting_share}
 use Rattle.bo_shifts.specs.Later.{release_if, free_if}
 
@@ -81,9 +82,21 @@ enter_shift lists at spent voucher quota usage = record usage {
   carts = moved usage.carts 0 (covered_share lists at at quota voucher);
 }
 
--- one comes in the place of another
+-- one comes in the place of another of its id, and covers the same cart positions at each moment
+abbrev pub covers_as : Option Voucher → Option Voucher → Bool
+covers_as None _ = false
+covers_as (Some come) None = false
+covers_as (Some come) (Some gone) = come.id == gone.id && cover_alike come gone
+
+-- what one blocks that is redeemed so often comes, and what another blocks goes
+abbrev pub block_shift : ℕ → ℕ → Option Voucher → Option Voucher → Quota → Usage → Usage
+block_shift at spent come gone quota usage = record usage { blocked = moved usage.blocked (blocked_share at quota spent come) (blocked_share at quota spent gone) }
+
+-- one comes in the place of another: where it covers the same, the cart positions count as they did
 abbrev pub voucher_shift : Lists → ℕ → ℕ → Option Voucher → Option Voucher → Quota → Usage → Usage
-voucher_shift lists at spent come gone quota usage = enter_shift lists at spent come quota (leave_shift lists at at spent gone quota usage)
+voucher_shift lists at spent come gone quota usage =
+    if covers_as come gone then block_shift at spent come gone quota usage
+    else enter_shift lists at spent come quota (leave_shift lists at at spent gone quota usage)
 
 -- the vouchers of these ids have ended
 abbrev pub end_shift : Lists → ℕ → ℕ → List ℕ → Quota → Usage → Usage

@@ -1,9 +1,9 @@
 //! How vouchers that come and go change the usages of quotas: by what they block, and by the cart positions that they
 //! cover.
 
-ghost use Rattle.std.specs.Prelude.{◌≡◌, length, vec_capacity, Some};
+ghost use Rattle.std.specs.Prelude.{◌≡◌, length, vec_capacity, Some, true};
 ghost use Rattle.std.specs.Option.{option_copied};
-ghost use Rattle.bo_shifts.specs.Shifts.{map_beside, covered_share, leave_shift, enter_shift, voucher_shift};
+ghost use Rattle.bo_shifts.specs.Shifts.{map_beside, covered_share, covers_as, block_shift, leave_shift, enter_shift, voucher_shift};
 
 use crate::shift::{Shift, moved};
 use crate::touched::shift_hit;
@@ -11,7 +11,7 @@ use bo_base::Moment;
 use bo_catalogue::Quota;
 use bo_lists::{Usage, Voucher};
 use bo_store::Store;
-use bo_usage::rules::blocked_share;
+use bo_usage::rules::{blocked_share, cover_alike};
 
 // The cart positions that a voucher covers at one moment, as far as they are live at another.
 #[tactic(auto, unfolding(crate::specs::Shifts::covered_share))]
@@ -146,6 +146,74 @@ fn voucher_enters<'s>(
     }
 }
 
+// What one voucher blocks that is redeemed so often comes, and what another blocks goes.
+#[derive(Drop)]
+struct BlockShift<'s> {
+    at: Moment,
+    spent: u64,
+    come: Option<&'s Voucher>,
+    gone: Option<&'s Voucher>,
+}
+
+impl<'s> Shift for BlockShift<'s> {
+    ghost shift = { λ s. block_shift s.at s.spent (option_copied s.come) (option_copied s.gone) };
+
+    ghost ready = { λ s. Unit {0} };
+
+    fn shifted(&self, quota: &Quota, usage: Usage) -> Usage {
+        Usage {
+            blocked: moved(
+                usage.blocked,
+                blocked_share(self.at, quota, self.spent, self.come),
+                blocked_share(self.at, quota, self.spent, self.gone),
+            ),
+            ..usage
+        }
+    }
+}
+
+// Whether a voucher comes in the place of another of its id, and covers the same cart positions at each moment.
+fn covers_as(come: Option<&Voucher>, gone: Option<&Voucher>) -> bool
+    ensures { result ≡ covers_as (option_copied come.entry) (option_copied gone.entry) }
+{
+    match come {
+        None => false,
+        Some(come) => match gone {
+            None => false,
+            Some(gone) => come.id == gone.id && cover_alike(come, gone),
+        },
+    }
+}
+
+// The usages where a voucher comes in the place of one that covers the same: what they block moves in the quotas that both
+// hit, and no cart position is looked at.
+fn block_moves<'s>(
+    store: &'s Store,
+    usages: &mut Vec<Usage>,
+    spent: u64,
+    come: Option<&'s Voucher>,
+    gone: Option<&'s Voucher>,
+)
+    requires alike { covers_as (option_copied come) (option_copied gone) ≡ true }
+    requires same { length usages.old.items ≡ length store.now.state.lists.catalogue.quotas }
+    ensures items { usages.new.items ≡ map_beside (block_shift store.now.state.moment spent (option_copied come.entry) (option_copied gone.entry)) store.now.state.lists.catalogue.quotas usages.old.items }
+    ensures room { vec_capacity usages.new ≡ vec_capacity usages.old }
+    ensures same { length usages.new.items ≡ length usages.old.items }
+{
+    match come {
+        None => {}
+        Some(voucher) => {
+            let shift = BlockShift {
+                at: store.moment(),
+                spent,
+                come,
+                gone,
+            };
+            shift_hit(store.catalogue(), usages, voucher, &shift);
+        }
+    }
+}
+
 /// The usages where a voucher comes and one goes, both redeemed so often: those of the quotas that one of them hits.
 pub fn shift_voucher<'s>(
     store: &'s Store,
@@ -159,7 +227,11 @@ pub fn shift_voucher<'s>(
     ensures room { vec_capacity usages.new ≡ vec_capacity usages.old }
     ensures same { length usages.new.items ≡ length usages.old.items }
 {
-    let at = store.moment();
-    voucher_leaves(store, usages, at, at, spent, gone);
-    voucher_enters(store, usages, at, spent, come);
+    if covers_as(come, gone) {
+        block_moves(store, usages, spent, come, gone);
+    } else {
+        let at = store.moment();
+        voucher_leaves(store, usages, at, at, spent, gone);
+        voucher_enters(store, usages, at, spent, come);
+    }
 }
