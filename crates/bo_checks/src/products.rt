@@ -1,6 +1,6 @@
 //! The tests of what rows name in the catalogue.
 
-ghost use Rattle.std.specs.Prelude.{◌≡◌, ◌↔◌, IsTrue};
+ghost use Rattle.std.specs.Prelude.{◌≡◌, ◌↔◌, true, IsTrue};
 ghost use Rattle.std.specs.List.{AllByRecursion};
 ghost use Rattle.bo_sound.specs.Sent.{voucher_stands, AllSent};
 ghost use Rattle.bo_sound.specs.Targets.{is_of_item, variation_stands};
@@ -79,10 +79,12 @@ fn is_product(catalogue: &Catalogue, product: Product) -> bool
 fn carts_have_products<B: Book>(book: &B) -> bool
     ensures { IsTrue result ↔ AllByRecursion (λ c. IsProduct (B.state book.now).lists.catalogue c.product) (B.state book.now).lists.carts }
 {
-    let catalogue = book.catalogue();
-    book.carts()
-        .iter()
-        .all(|row| is_product(catalogue, row.product))
+    for row in book.carts().iter() {
+        if !is_product(book.catalogue(), row.product) {
+            return false;
+        }
+    }
+    true
 }
 
 // Whether it is so of the product of each order position.
@@ -99,10 +101,12 @@ fn positions_have_products<B: Book>(book: &B) -> bool
 fn entries_have_products<B: Book>(book: &B) -> bool
     ensures { IsTrue result ↔ AllByRecursion (λ w. IsProduct (B.state book.now).lists.catalogue w.product) (B.state book.now).lists.waiting }
 {
-    let catalogue = book.catalogue();
-    book.waiting()
-        .iter()
-        .all(|row| is_product(catalogue, row.product))
+    for row in book.waiting().iter() {
+        if !is_product(book.catalogue(), row.product) {
+            return false;
+        }
+    }
+    true
 }
 
 /// Whether the product of each cart position, order position and waiting entry is one: its item stands, and it names a
@@ -127,9 +131,12 @@ fn voucher_stands<B: Book>(book: &B, voucher: Option<u64>) -> bool
 pub fn all_sent<B: Book>(book: &B) -> bool
     ensures { IsTrue result ↔ AllSent (B.state book.now).lists }
 {
-    book.waiting()
-        .iter()
-        .all(|row| voucher_stands(book, row.voucher))
+    for row in book.waiting().iter() {
+        if !voucher_stands(book, row.voucher) {
+            return false;
+        }
+    }
+    true
 }
 
 // Whether a row names no voucher, or one that stands and is for the row's product.
@@ -145,13 +152,23 @@ fn is_fit<B: Book>(book: &B, product: Product, voucher: Option<u64>) -> bool
     }
 }
 
+// Whether it is so of each cart position.
+fn carts_fit<B: Book>(book: &B) -> bool
+    ensures { IsTrue result ↔ AllByRecursion (λ c. is_fit (B.state book.now).lists c.product c.voucher ≡ true) (B.state book.now).lists.carts }
+{
+    for row in book.carts().iter() {
+        if !is_fit(book, row.product, row.voucher) {
+            return false;
+        }
+    }
+    true
+}
+
 /// Whether each cart position and each order position names no voucher, or one that stands and is for its product.
 pub fn all_fit<B: Book>(book: &B) -> bool
     ensures { IsTrue result ↔ AllFit (B.state book.now).lists }
 {
-    book.carts()
-        .iter()
-        .all(|row| is_fit(book, row.product, row.voucher))
+    carts_fit(book)
         && book
             .positions()
             .iter()

@@ -11,6 +11,7 @@ use bo_catalogue::{Catalogue, Product, Quota};
 use bo_lists::{
     CartPos, Changes, Checkin, CheckinList, NextIds, Order, OrderPos, Usage, Voucher, Waiting,
 };
+use bo_sparse::Sparse;
 use bo_usage::{Book, LookUps, PositionTest};
 use std::alloc::{AllocError, Global};
 use std::sync::ledger::Ledger;
@@ -118,19 +119,19 @@ impl Book for Counters {
     }
 
     fn vouchers(&self) -> &[Voucher] {
-        self.store().vouchers().as_slice()
+        self.store().vouchers().rows().as_slice()
     }
 
-    fn carts(&self) -> &[CartPos] {
-        self.store().carts().as_slice()
+    fn carts(&self) -> &Sparse<CartPos> {
+        self.store().carts().rows()
     }
 
     fn orders(&self) -> &[Order] {
-        self.store().orders().as_slice()
+        self.store().orders().rows().as_slice()
     }
 
     fn positions(&self) -> &[OrderPos] {
-        self.store().positions().as_slice()
+        self.store().positions().rows().as_slice()
     }
 
     fn checkin_lists(&self) -> &[CheckinList] {
@@ -138,11 +139,11 @@ impl Book for Counters {
     }
 
     fn checkins(&self) -> &[Checkin] {
-        self.store().checkins().as_slice()
+        self.store().checkins().rows().as_slice()
     }
 
-    fn waiting(&self) -> &[Waiting] {
-        self.store().waiting().as_slice()
+    fn waiting(&self) -> &Sparse<Waiting> {
+        self.store().waiting().rows()
     }
 
     fn usage_at<L: Ledger>(&self, quota: &Quota, at: Moment, steps: &mut Steps<L>) -> Usage

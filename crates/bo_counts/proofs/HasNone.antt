@@ -1,5 +1,5 @@
 -- Rows that don't reach a quota neither add to a count of it nor block places of it.
-use Rattle.std.proofs.Common.{◌≡◌, ℕ, ◌+◌, ◌-◌, Bool, true, false, not, ◌&&◌, List, [], ◌∷◌, ◌++◌, Option, Some, None, refl, ap, ◌∙◌, sum_by, arith}
+use Rattle.std.proofs.Common.{◌≡◌, ℕ, ◌-◌, Bool, true, false, not, ◌&&◌, List, [], ◌∷◌, ◌++◌, Option, Some, None, refl, ap, ◌∙◌, sum_by, arith}
 use Rattle.std.specs.Prelude.{if◌then◌else◌, flat_map, option_map}
 use Rattle.std.proofs.lemmas.List.Sums.{sum_by-cons}
 use Rattle.bo_sorted.specs.Tables.{has, sum_at}

@@ -1,5 +1,5 @@
 -- What changes don't touch is as it was.
-use Rattle.std.proofs.Common.{◌≡◌, ◌≢◌, ℕ, ◌+◌, Bool, true, false, cond, eqb, ◌&&◌, List, [], ◌∷◌, ◌++◌, map, filter, Option, Some, None, refl, sym, ap, ◌∙◌, subst, sum_by, arith}
+use Rattle.std.proofs.Common.{◌≡◌, ℕ, Bool, true, false, cond, eqb, ◌&&◌, List, [], ◌∷◌, ◌++◌, map, filter, Option, Some, None, refl, sym, ap, ◌∙◌, subst, sum_by, arith}
 use Rattle.std.specs.Prelude.{◌||◌, if◌then◌else◌, flat_map}
 use Rattle.std.specs.Option.{option_to_list}
 use Rattle.std.proofs.lemmas.Bool.Decides.{nat_tests}
@@ -19,7 +19,7 @@ use Rattle.bo_lists.specs.Change.{after_change, after_all}
 use Rattle.bo_lists.specs.Conditions.{is_in_force, names, blocks}
 use Rattle.bo_lists.specs.Lists.{Lists, voucher_at, cart_at, order_at, position_at, waiting_at}
 use Rattle.bo_lists.specs.Named.{carts_naming}
-use Rattle.bo_lists.specs.Usage.{stands_as, redeemed, blocks_if}
+use Rattle.bo_lists.specs.Usage.{stands_as, blocks_if}
 use Rattle.bo_usage.proofs.CoverLemmas.{same_blocks}
 use Rattle.bo_counts.specs.Touched.{positions_by, vouchers_by, carts_by, entries_by, name_of, names_in, stands_alike, ArePositions, AreVouchers, AreCarts, AreEntries, AreTouched, AreOrdered}
 use Rattle.bo_counts.specs.Shares.{use_of}

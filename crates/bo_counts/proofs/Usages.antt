@@ -60,21 +60,21 @@ module _ {T : Type 0} (key : T → ℕ) (f : T → ℕ) where
   all_values rows h = omega (arith, shifted key f f (map key rows) 0 rows [] (ids_rise 0 rows h) h tt (λ id absent. absent_none id rows absent), no_values (map key rows))
 
 -- counted over all rows
-pub fresh_is : (lists rows : Lists) (at : ℕ) (q : Quota) (positions : List OrderPos) (carts : List CartPos) (entries : List Entry) (paid pending blocked inside waiting : ℕ) → rows ≡ lists → (n : ℕ) → IsKept n lists → positions ≡ lists.positions → carts ≡ lists.carts → entries ≡ lists.waiting
-    → paid ≡ sum_by (share Paid rows at q) (map (λ p. p.id) positions)
-    → pending ≡ sum_by (share Pending rows at q) (map (λ p. p.id) positions)
+pub fresh_is : (lists rows : Lists) (at : ℕ) (q : Quota) (positions carts entries : List ℕ) (paid pending blocked inside waiting : ℕ) → rows ≡ lists → (n : ℕ) → IsKept n lists → positions ≡ map (λ p. p.id) lists.positions → carts ≡ map (λ c. c.id) lists.carts → entries ≡ map (λ w. w.id) lists.waiting
+    → paid ≡ sum_by (share Paid rows at q) positions
+    → pending ≡ sum_by (share Pending rows at q) positions
     → blocked ≡ sum_by (blocked_as rows at q) (redeemed_each lists (map (λ v. v.id) lists.vouchers))
-    → inside ≡ sum_by (share Carts rows at q) (map (λ c. c.id) carts)
-    → waiting ≡ sum_by (share Waiting rows at q) (map (λ w. w.id) entries)
+    → inside ≡ sum_by (share Carts rows at q) carts
+    → waiting ≡ sum_by (share Waiting rows at q) entries
     → record { paid = paid; pending = pending; blocked = blocked; carts = inside; waiting = waiting } ≡ usage_of lists at q
 unfolding usage_of status_share cart_share waiting_share
 fresh_is lists rows at q positions carts entries paid pending blocked inside waiting same n k ps cs es a b c d e =
     five paid pending blocked inside waiting (count_by (position_counts is_paid lists q) lists.positions) (count_by (position_counts is_pending lists q) lists.positions) (sum_by (blocked_by lists at q) lists.vouchers) (count_by (cart_counts lists at q) lists.carts) (count_by (waits_for q) lists.waiting)
-    (a ∙ ap (λ (l : Lists). sum_by (share Paid l at q) (map (λ p. p.id) positions)) same ∙ ap (λ (l : List OrderPos). sum_by (share Paid lists at q) (map (λ p. p.id) l)) ps ∙ all_values (λ (p : OrderPos). p.id) (λ p. if position_counts is_paid lists q p then 1 else 0) lists.positions k.positions.in_order)
-    (b ∙ ap (λ (l : Lists). sum_by (share Pending l at q) (map (λ p. p.id) positions)) same ∙ ap (λ (l : List OrderPos). sum_by (share Pending lists at q) (map (λ p. p.id) l)) ps ∙ all_values (λ (p : OrderPos). p.id) (λ p. if position_counts is_pending lists q p then 1 else 0) lists.positions k.positions.in_order)
+    (a ∙ ap (λ (l : Lists). sum_by (share Paid l at q) positions) same ∙ ap (λ (l : List ℕ). sum_by (share Paid lists at q) l) ps ∙ all_values (λ (p : OrderPos). p.id) (λ p. if position_counts is_paid lists q p then 1 else 0) lists.positions k.positions.in_order)
+    (b ∙ ap (λ (l : Lists). sum_by (share Pending l at q) positions) same ∙ ap (λ (l : List ℕ). sum_by (share Pending lists at q) l) ps ∙ all_values (λ (p : OrderPos). p.id) (λ p. if position_counts is_pending lists q p then 1 else 0) lists.positions k.positions.in_order)
     (c ∙ ap (λ (l : Lists). sum_by (blocked_as l at q) (redeemed_each lists (map (λ v. v.id) lists.vouchers))) same ∙ blocked_each lists at q (map (λ (v : Voucher). v.id) lists.vouchers) ∙ all_values (λ (v : Voucher). v.id) (blocked_by lists at q) lists.vouchers k.vouchers.in_order)
-    (d ∙ ap (λ (l : Lists). sum_by (share Carts l at q) (map (λ c. c.id) carts)) same ∙ ap (λ (l : List CartPos). sum_by (share Carts lists at q) (map (λ c. c.id) l)) cs ∙ all_values (λ (c : CartPos). c.id) (λ c. if cart_counts lists at q c then 1 else 0) lists.carts k.carts.in_order)
-    (e ∙ ap (λ (l : Lists). sum_by (share Waiting l at q) (map (λ w. w.id) entries)) same ∙ ap (λ (l : List Entry). sum_by (share Waiting lists at q) (map (λ w. w.id) l)) es ∙ all_values (λ (w : Entry). w.id) (λ w. if waits_for q w then 1 else 0) lists.waiting k.waiting.in_order)
+    (d ∙ ap (λ (l : Lists). sum_by (share Carts l at q) carts) same ∙ ap (λ (l : List ℕ). sum_by (share Carts lists at q) l) cs ∙ all_values (λ (c : CartPos). c.id) (λ c. if cart_counts lists at q c then 1 else 0) lists.carts k.carts.in_order)
+    (e ∙ ap (λ (l : Lists). sum_by (share Waiting l at q) entries) same ∙ ap (λ (l : List ℕ). sum_by (share Waiting lists at q) l) es ∙ all_values (λ (w : Entry). w.id) (λ w. if waits_for q w then 1 else 0) lists.waiting k.waiting.in_order)
 
 -- a quota of other name and size uses the same
 pub like_usage : (lists : Lists) (at : ℕ) (a b : Quota) → a.id ≡ b.id → a.items ≡ b.items → a.variations ≡ b.variations → usage_of lists at a ≡ usage_of lists at b

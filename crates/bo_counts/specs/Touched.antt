@@ -1,5 +1,5 @@
 -- The rows that changes touch, and what is as it was of all others.
-use Rattle.std.specs.Prelude.{◌≡◌, ℕ, Bool, false, List, [], ◌∷◌, ◌++◌, map, flat_map, if◌then◌else◌, Option, Some, None}
+use Rattle.std.specs.Prelude.{◌≡◌, ℕ, Bool, false, List, [], ◌∷◌, map, flat_map, if◌then◌else◌, Option, Some, None}
 use Rattle.std.specs.Option.{option_to_list}
 use Rattle.bo_sorted.specs.Tables.{has, AreInOrder}
 use Rattle.bo_catalogue.specs.declared.rows.Quota.{Quota}

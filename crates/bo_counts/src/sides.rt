@@ -232,12 +232,14 @@ fn fresh<B: Book>(
     ensures { IfOk result (λ usage. usage ≡ usage_of (B.state book.now).lists at quota.now) }
 {
     book.known();
-    let positions = book.positions();
-    let paid = all_shares(rows, alloc, PlaceCount::Paid, at, quota, positions)?;
-    let pending = all_shares(rows, alloc, PlaceCount::Pending, at, quota, positions)?;
+    let position_ids = ids_of(alloc, book.positions())?;
+    let paid = rows.shares(PlaceCount::Paid, at, quota, &position_ids)?;
+    let pending = rows.shares(PlaceCount::Pending, at, quota, &position_ids)?;
     let blocked = all_blocked(book, alloc, rows, at, quota)?;
-    let carts = all_shares(rows, alloc, PlaceCount::Carts, at, quota, book.carts())?;
-    let waiting = all_shares(rows, alloc, PlaceCount::Waiting, at, quota, book.waiting())?;
+    let cart_ids = book.carts().ids(alloc)?;
+    let carts = rows.shares(PlaceCount::Carts, at, quota, &cart_ids)?;
+    let waiting_ids = book.waiting().ids(alloc)?;
+    let waiting = rows.shares(PlaceCount::Waiting, at, quota, &waiting_ids)?;
     Ok(Usage {
         paid,
         pending,
@@ -245,22 +247,6 @@ fn fresh<B: Book>(
         carts,
         waiting,
     })
-}
-
-// What all rows of a table add to a count of a quota.
-fn all_shares<B: Book, T: Row>(
-    rows: &View<'_, B>,
-    alloc: Global,
-    kind: PlaceCount,
-    at: Moment,
-    quota: &Quota,
-    table: &[T],
-) -> Result<u64, AllocError>
-    ensures { IfOk result (λ n. n ≡ sum_by (share kind rows.now at quota.now) (map T.key table.now)) }
-{
-    let ids = ids_of(alloc, table)?;
-    let sum = rows.shares(kind, at, quota, &ids)?;
-    Ok(sum)
 }
 
 // The places of a quota that all vouchers block.

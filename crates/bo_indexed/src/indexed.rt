@@ -12,41 +12,44 @@ ghost use Rattle.bo_indexed.specs.Indexes.{AreIndexed, Finds, with_entry, withou
 
 use crate::keyed::Keyed;
 use crate::keys::Keys;
+use crate::ordered::OrderedRows;
 use bo_index::{Found, Index};
 use bo_sorted::{Rows, id_at};
 use std::alloc::{AllocError, Global};
-use std::marker::Model;
+use std::marker::{Model, PhantomData};
 
 /// Rows in order of id, and which of them have a key. Contracts see the list, and the number of rows that can be put
 /// without taking memory.
 #[derive(Drop)]
-pub struct Indexed<T: Keyed> {
-    rows: Rows<T>,
+pub struct Indexed<T: Keyed + Drop, R: OrderedRows<T> = Rows<T>> {
+    rows: R,
+    row: PhantomData<T>,
     by_until: Index,
     by_voucher: Index,
     by_text: Index,
     by_group: Index,
 }
 
-impl<T: Keyed> Model for Indexed<T> {
+impl<T: Keyed + Drop, R: OrderedRows<T>> Model for Indexed<T, R> {
     ghost use Rattle.std.specs.Prelude.{min};
     ghost use Rattle.bo_sorted.specs.Tables.{Table};
     ghost use Rattle.bo_indexed.specs.Indexes.{AreIndexed};
 
     ghost Value = { Table T };
 
-    ghost view = { λ t. record { rows = t.rows.rows; room = min t.rows.room (min (min t.by_until.room t.by_voucher.room) (min t.by_text.room t.by_group.room)) } };
+    ghost view = { λ t. record { rows = (R.table t.rows).rows; room = min (R.table t.rows).room (min (min t.by_until.room t.by_voucher.room) (min t.by_text.room t.by_group.room)) } };
 
-    ghost invariant = { λ t. AreIndexed T.key T.keys t.rows.rows t.by_until.rows t.by_voucher.rows t.by_text.rows t.by_group.rows };
+    ghost invariant = { λ t. AreIndexed T.key T.keys (R.table t.rows).rows t.by_until.rows t.by_voucher.rows t.by_text.rows t.by_group.rows };
 }
 
-impl<T: Keyed> Indexed<T> {
+impl<T: Keyed + Drop, R: OrderedRows<T>> Indexed<T, R> {
     /// No rows.
     pub fn new(alloc: Global) -> Self
         ensures { result.rows ≡ [] }
     {
         Indexed {
-            rows: Rows::new(alloc),
+            rows: R::new(alloc),
+            row: PhantomData,
             by_until: Index::new(alloc),
             by_voucher: Index::new(alloc),
             by_text: Index::new(alloc),
@@ -61,12 +64,11 @@ impl<T: Keyed> Indexed<T> {
         self.rows.known();
     }
 
-    /// The rows in order of id.
-    pub fn as_slice(&self) -> &[T]
-        ensures all { result.now ≡ self.now.rows }
-        ensures few { length self.now.rows ≤ 4294967296 }
+    /// What keeps the rows.
+    pub fn rows(&self) -> &R
+        ensures { (R.table result.now).rows ≡ self.now.rows }
     {
-        self.rows.as_slice()
+        &self.rows
     }
 
     /// The row of an id.
@@ -154,7 +156,7 @@ impl<T: Keyed> Indexed<T> {
     }
 }
 
-impl<T: Keyed + Drop> Indexed<T> {
+impl<T: Keyed + Drop, R: OrderedRows<T>> Indexed<T, R> {
     /// Puts a row in the place of its id, instead of the row that stood there.
     /// There has to be room for one row, also where it replaces one.
     pub fn put(&mut self, row: T)
@@ -206,8 +208,8 @@ impl<T: Keyed + Drop> Indexed<T> {
 }
 
 // The keys of the row of an id.
-fn keys_in<T: Keyed>(rows: &Rows<T>, id: u64) -> Keys
-    ensures { result ≡ keys_if T.keys (row_at T.key id rows.now.rows) }
+fn keys_in<T: Keyed + Drop, R: OrderedRows<T>>(rows: &R, id: u64) -> Keys
+    ensures { result ≡ keys_if T.keys (row_at T.key id (R.table rows.now).rows) }
 {
     match rows.get(id) {
         None => Keys::none(),
@@ -216,15 +218,15 @@ fn keys_in<T: Keyed>(rows: &Rows<T>, id: u64) -> Keys
 }
 
 // Removes the entries of the row of an id.
-fn unlist<T: Keyed>(
-    rows: &Rows<T>,
+fn unlist<T: Keyed + Drop, R: OrderedRows<T>>(
+    rows: &R,
     id: u64,
     until: &mut Index,
     voucher: &mut Index,
     text: &mut Index,
     group: &mut Index,
 )
-    ensures listed { (kept : List T) → AreInOrder T.key kept → row_at T.key id kept ≡ row_at T.key id rows.now.rows → AreIndexed T.key T.keys kept until.old.rows voucher.old.rows text.old.rows group.old.rows → AreIndexed T.key T.keys (without_row T.key id kept) until.new.rows voucher.new.rows text.new.rows group.new.rows }
+    ensures listed { (kept : List T) → AreInOrder T.key kept → row_at T.key id kept ≡ row_at T.key id (R.table rows.now).rows → AreIndexed T.key T.keys kept until.old.rows voucher.old.rows text.old.rows group.old.rows → AreIndexed T.key T.keys (without_row T.key id kept) until.new.rows voucher.new.rows text.new.rows group.new.rows }
     ensures until_room { until.old.room ≤ until.new.room }
     ensures voucher_room { voucher.old.room ≤ voucher.new.room }
     ensures text_room { text.old.room ≤ text.new.room }
@@ -238,8 +240,8 @@ fn unlist<T: Keyed>(
 }
 
 // Removes the entries of the rows of these ids, which rise.
-fn unlist_all<T: Keyed>(
-    rows: &Rows<T>,
+fn unlist_all<T: Keyed + Drop, R: OrderedRows<T>>(
+    rows: &R,
     ids: &[u64],
     until: &mut Index,
     voucher: &mut Index,
@@ -247,8 +249,8 @@ fn unlist_all<T: Keyed>(
     group: &mut Index,
 )
     requires rising { AreInOrder (λ n. n) ids.now }
-    requires listed { AreIndexed T.key T.keys rows.now.rows until.old.rows voucher.old.rows text.old.rows group.old.rows }
-    ensures listed { AreIndexed T.key T.keys (without_rows T.key ids.now rows.now.rows) until.new.rows voucher.new.rows text.new.rows group.new.rows }
+    requires listed { AreIndexed T.key T.keys (R.table rows.now).rows until.old.rows voucher.old.rows text.old.rows group.old.rows }
+    ensures listed { AreIndexed T.key T.keys (without_rows T.key ids.now (R.table rows.now).rows) until.new.rows voucher.new.rows text.new.rows group.new.rows }
     ensures until_room { until.old.room ≤ until.new.room }
     ensures voucher_room { voucher.old.room ≤ voucher.new.room }
     ensures text_room { text.old.room ≤ text.new.room }

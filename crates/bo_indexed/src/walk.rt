@@ -6,6 +6,7 @@ ghost use Rattle.bo_sorted.specs.Tables.{row_at};
 
 use crate::indexed::Indexed;
 use crate::keyed::Keyed;
+use crate::ordered::OrderedRows;
 use bo_base::Steps;
 use bo_index::Found;
 use std::marker::{Model, PhantomData};
@@ -14,13 +15,13 @@ use std::sync::ledger::Ledger;
 /// Rows of some ids, shown one at a time: each that is looked at is a step of the walk's ledger, so that no count of
 /// another ledger can be handed in for it. Contracts see all rows of the table, and these ids.
 #[derive(Drop)]
-pub struct Walk<'a, T: Keyed, L: Ledger> {
-    rows: &'a Indexed<T>,
+pub struct Walk<'a, T: Keyed + Drop, R: OrderedRows<T>, L: Ledger> {
+    rows: &'a Indexed<T, R>,
     ids: Found<'a>,
     ledger: PhantomData<L>,
 }
 
-impl<'a, T: Keyed, L: Ledger> Model for Walk<'a, T, L> {
+impl<'a, T: Keyed + Drop, R: OrderedRows<T>, L: Ledger> Model for Walk<'a, T, R, L> {
     ghost use Rattle.bo_indexed.specs.Indexes.{Walked};
 
     ghost Value = { Walked T };
@@ -28,9 +29,9 @@ impl<'a, T: Keyed, L: Ledger> Model for Walk<'a, T, L> {
     ghost view = { λ w. record { rows = w.rows.now.rows; ids = w.ids } };
 }
 
-impl<'a, T: Keyed, L: Ledger> Walk<'a, T, L> {
+impl<'a, T: Keyed + Drop, R: OrderedRows<T>, L: Ledger> Walk<'a, T, R, L> {
     /// A walk over the rows of these ids.
-    pub fn over(rows: &'a Indexed<T>, ids: Found<'a>) -> Self
+    pub fn over(rows: &'a Indexed<T, R>, ids: Found<'a>) -> Self
         ensures rows { result.rows ≡ rows.now.rows }
         ensures ids { result.ids ≡ ids.entry }
     {

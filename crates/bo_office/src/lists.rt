@@ -5,10 +5,12 @@ ghost use Rattle.bo_office.specs.Answer.{list_of};
 ghost use Rattle.bo_office.specs.Pages.{listed};
 
 use crate::office::Office;
-use crate::pages::{is_page, page_rows};
+use crate::pages::{is_page, page_rows, references, sparse_page_rows};
 use crate::shown_rows::ShownRow;
 use bo_base::List;
 use bo_commands::{Kind, Page, Refusal, Reply, Resource, Shown};
+use bo_sorted::Row;
+use bo_sparse::Sparse;
 use bo_usage::Book;
 use std::alloc::{AllocError, Global};
 
@@ -27,9 +29,9 @@ impl<B: Book> Office<B> {
             Resource::Items => self.page(alloc, resource, number, book.catalogue().items()),
             Resource::Quotas => self.page(alloc, resource, number, book.catalogue().quotas()),
             Resource::Vouchers => self.page(alloc, resource, number, book.vouchers()),
-            Resource::Carts => self.page(alloc, resource, number, book.carts()),
+            Resource::Carts => self.sparse_page(alloc, resource, number, book.carts()),
             Resource::Orders => self.page(alloc, resource, number, book.orders()),
-            Resource::WaitingEntries => self.page(alloc, resource, number, book.waiting()),
+            Resource::WaitingEntries => self.sparse_page(alloc, resource, number, book.waiting()),
             Resource::CheckinLists => self.page(alloc, resource, number, book.checkin_lists()),
             Resource::Tickets(list) => self.tickets_page(alloc, list, number),
         }
@@ -45,21 +47,55 @@ impl<B: Book> Office<B> {
     ) -> Result<Reply, AllocError>
         ensures { IfOk result (λ reply. reply ≡ listed resource (R.show self.now.state.lists) number rows.now) }
     {
-        if !is_page(number, rows.len()) {
+        let count = rows.len();
+        if !is_page(number, count) {
             return Ok(no_page());
         }
-        let shown = self.shown_rows(alloc, page_rows(rows, number))?;
+        let page = references(alloc, page_rows(rows, number))?;
+        self.shown_page(alloc, resource, number, count, &page)
+    }
+
+    // The same of rows that come and go: those before the page are passed one after another.
+    fn sparse_page<R: ShownRow + Row + Drop>(
+        &self,
+        alloc: Global,
+        resource: Resource,
+        number: u64,
+        rows: &Sparse<R>,
+    ) -> Result<Reply, AllocError>
+        ensures { IfOk result (λ reply. reply ≡ listed resource (R.show self.now.state.lists) number rows.now.rows) }
+    {
+        let count = rows.len();
+        if !is_page(number, count) {
+            return Ok(no_page());
+        }
+        let page = sparse_page_rows(alloc, rows, number)?;
+        self.shown_page(alloc, resource, number, count, &page)
+    }
+
+    // The page of that number with these rows, of so many.
+    fn shown_page<R: ShownRow>(
+        &self,
+        alloc: Global,
+        resource: Resource,
+        number: u64,
+        count: usize,
+        rows: &[&R],
+    ) -> Result<Reply, AllocError>
+        ensures { IfOk result (λ reply. reply ≡ Reply.Listed (record { resource = resource; number = number; count = count; rows = map (R.show self.now.state.lists) (map (λ r. r.now) rows.now) })) }
+    {
+        let rows = self.shown_rows(alloc, rows)?;
         Ok(Reply::Listed(Page {
             resource,
             number,
-            count: rows.len() as u64,
-            rows: shown,
+            count: count as u64,
+            rows,
         }))
     }
 
     // Each of these rows as it is shown.
-    fn shown_rows<R: ShownRow>(&self, alloc: Global, rows: &[R]) -> Result<List<Shown>, AllocError>
-        ensures { IfOk result (λ shown. shown ≡ map (R.show self.now.state.lists) rows.now) }
+    fn shown_rows<R: ShownRow>(&self, alloc: Global, rows: &[&R]) -> Result<List<Shown>, AllocError>
+        ensures { IfOk result (λ shown. shown ≡ map (R.show self.now.state.lists) (map (λ r. r.now) rows.now)) }
     {
         let mut shown = Vec::new(alloc);
         for row in rows {

@@ -1,7 +1,11 @@
 //! Pages of lists: 50 rows each, and pages count from 1.
 
-ghost use Rattle.std.specs.Prelude.{◌≡◌, ◌-◌, ◌*◌, length, IsTrue};
+ghost use Rattle.std.specs.Prelude.{◌≡◌, ◌-◌, ◌*◌, length, map, IfOk, IsTrue};
 ghost use Rattle.bo_office.specs.Pages.{is_page, page_rows};
+
+use bo_sorted::Row;
+use bo_sparse::Sparse;
+use std::alloc::{AllocError, Global};
 
 /// Whether a list with so many rows has a page of this number. An empty list has page 1 alone.
 pub(crate) fn is_page(number: u64, count: usize) -> bool
@@ -26,4 +30,26 @@ pub(crate) fn page_rows<T>(rows: &[T], number: u64) -> &[T]
 {
     let rest = &rows[(number as usize - 1) * 50..];
     &rest[..rest.len().min(50)]
+}
+
+/// The same of rows that come and go. Those before the page are passed one after another.
+pub(crate) fn sparse_page_rows<'r, R: Row + Drop>(
+    alloc: Global,
+    rows: &'r Sparse<R>,
+    number: u64,
+) -> Result<Vec<&'r R>, AllocError>
+    requires { IsTrue (is_page number (length rows.now.rows)) }
+    ensures { IfOk result (λ page. map (λ r. r.now) page.items ≡ page_rows number rows.now.rows) }
+{
+    rows.iter()
+        .skip((number as usize - 1) * 50)
+        .take(50)
+        .collect(alloc)
+}
+
+/// Each of these rows, by reference.
+pub(crate) fn references<'r, R>(alloc: Global, rows: &'r [R]) -> Result<Vec<&'r R>, AllocError>
+    ensures { IfOk result (λ refs. map (λ r. r.now) refs.items ≡ rows.now) }
+{
+    rows.iter().collect(alloc)
 }

@@ -15,6 +15,7 @@ use bo_lists::{
     Waiting,
 };
 use bo_sorted::Rows;
+use bo_sparse::Sparse;
 use bo_usage::rules::{cart_counts, is_paid_in, is_pending_in, left_of, uses};
 use bo_usage::{Book, LookUps, PositionTest};
 use std::alloc::{AllocError, Global};
@@ -26,10 +27,10 @@ use std::sync::ledger::Ledger;
 pub struct Recount {
     catalogue: Catalogue,
     vouchers: Rows<Voucher>,
-    carts: Rows<CartPos>,
+    carts: Sparse<CartPos>,
     orders: Rows<Order>,
     positions: Rows<OrderPos>,
-    waiting: Rows<Waiting>,
+    waiting: Sparse<Waiting>,
     checkin_lists: Rows<CheckinList>,
     checkins: Rows<Checkin>,
     next: NextIds,
@@ -69,10 +70,10 @@ impl Recount {
         Recount {
             catalogue: Catalogue::new(alloc),
             vouchers: Rows::new(alloc),
-            carts: Rows::new(alloc),
+            carts: Sparse::new(alloc),
             orders: Rows::new(alloc),
             positions: Rows::new(alloc),
-            waiting: Rows::new(alloc),
+            waiting: Sparse::new(alloc),
             checkin_lists: Rows::new(alloc),
             checkins: Rows::new(alloc),
             next: NextIds::first(),
@@ -137,8 +138,7 @@ impl Recount {
     fn count_carts(&self, at: Moment, quota: &Quota) -> u64
         ensures { result ≡ count_by (cart_counts self.now.state.lists at quota.now) self.now.state.lists.carts }
     {
-        let carts = self.carts.as_slice();
-        carts
+        self.carts
             .iter()
             .filter(|c| cart_counts(self, at, quota, c))
             .count() as u64
@@ -181,8 +181,10 @@ impl Recount {
         ensures value { result ≡ count_by (λ c. names voucher c.voucher) self.now.state.lists.carts }
         ensures few { result ≤ 4294967296 }
     {
-        let carts = self.carts.as_slice();
-        carts.iter().filter(|c| c.voucher == Some(voucher)).count() as u64
+        self.carts
+            .iter()
+            .filter(|c| c.voucher == Some(voucher))
+            .count() as u64
     }
 
     // How many waiting entries name it.
@@ -190,8 +192,7 @@ impl Recount {
         ensures value { result ≡ count_by (λ w. names voucher w.voucher) self.now.state.lists.waiting }
         ensures few { result ≤ 4294967296 }
     {
-        let entries = self.waiting.as_slice();
-        entries
+        self.waiting
             .iter()
             .filter(|e| e.voucher == Some(voucher))
             .count() as u64
@@ -200,8 +201,7 @@ impl Recount {
     fn waiting_in(&self, quota: &Quota) -> u64
         ensures { result ≡ count_by (waits_for quota.now) self.now.state.lists.waiting }
     {
-        let entries = self.waiting.as_slice();
-        entries.iter().filter(|e| e.waits_for(quota)).count() as u64
+        self.waiting.iter().filter(|e| e.waits_for(quota)).count() as u64
     }
 }
 
@@ -316,7 +316,6 @@ impl Book for Recount {
 
     fn carts_in(&self, alloc: Global, carts: &[Text]) -> Result<Vec<u64>, AllocError> {
         self.carts
-            .as_slice()
             .iter()
             .filter(|row| row.is_in_one_of(carts))
             .map(|row| row.id)
@@ -325,7 +324,6 @@ impl Book for Recount {
 
     fn carts_naming(&self, alloc: Global, voucher: u64) -> Result<Vec<u64>, AllocError> {
         self.carts
-            .as_slice()
             .iter()
             .filter(|row| row.voucher == Some(voucher))
             .map(|row| row.id)
@@ -348,19 +346,17 @@ impl Book for Recount {
     }
 
     fn waiters(&self, alloc: Global) -> Result<Vec<u64>, AllocError> {
-        self.waiting
-            .as_slice()
-            .iter()
-            .filter(|row| row.voucher.is_none())
-            .map(|row| row.id)
-            .collect(alloc)
+        let mut ids = Vec::new(alloc);
+        for row in self.waiting.iter() {
+            if row.voucher.is_none() {
+                ids.push(row.id)?;
+            }
+        }
+        Ok(ids)
     }
 
     fn is_waiting(&self, email: &str, product: Product) -> bool {
-        self.waiting
-            .as_slice()
-            .iter()
-            .any(|row| row.waits_as(email, product))
+        self.waiting.iter().any(|row| row.waits_as(email, product))
     }
 
     fn due_orders(&self, alloc: Global, at: Moment) -> Result<Vec<u64>, AllocError> {
@@ -374,7 +370,6 @@ impl Book for Recount {
 
     fn dead_carts(&self, alloc: Global, at: Moment) -> Result<Vec<u64>, AllocError> {
         self.carts
-            .as_slice()
             .iter()
             .filter(|row| !row.is_live(at))
             .map(|row| row.id)
@@ -385,8 +380,8 @@ impl Book for Recount {
         self.vouchers.as_slice()
     }
 
-    fn carts(&self) -> &[CartPos] {
-        self.carts.as_slice()
+    fn carts(&self) -> &Sparse<CartPos> {
+        &self.carts
     }
 
     fn orders(&self) -> &[Order] {
@@ -397,8 +392,8 @@ impl Book for Recount {
         self.positions.as_slice()
     }
 
-    fn waiting(&self) -> &[Waiting] {
-        self.waiting.as_slice()
+    fn waiting(&self) -> &Sparse<Waiting> {
+        &self.waiting
     }
 
     fn checkin_lists(&self) -> &[CheckinList] {
@@ -425,13 +420,11 @@ impl Book for Recount {
     }
 
     fn held(&self, voucher: u64, at: Moment) -> u64 {
-        let carts = self.carts.as_slice();
-        carts.iter().filter(|c| c.holds(at, voucher)).count() as u64
+        self.carts.iter().filter(|c| c.holds(at, voucher)).count() as u64
     }
 
     fn held_in(&self, voucher: u64, quota: &Quota, at: Moment) -> u64 {
-        let carts = self.carts.as_slice();
-        carts
+        self.carts
             .iter()
             .filter(|c| c.holds(at, voucher) && quota.has(c.product))
             .count() as u64

@@ -31,7 +31,7 @@ use bo_usage::rules::{
 pub fn vouchers(store: &Store) -> &[Voucher]
     ensures { result.now ≡ store.now.state.lists.vouchers }
 {
-    store.vouchers().as_slice()
+    store.vouchers().rows().as_slice()
 }
 
 /// How many positions of pending and paid orders name the voucher: as it is kept, or else counted afresh.

@@ -13,7 +13,8 @@ use bo_base::Moment;
 use bo_catalogue::Quota;
 use bo_indexed::Walk;
 use bo_lists::{CartPos, Voucher};
-use bo_sorted::place_of;
+use bo_sorted::{Rows, place_of};
+use bo_sparse::Sparse;
 use bo_usage::rules::cart_counts;
 use std::marker::{Model, PhantomData};
 use std::sync::ledger::Ledger;
@@ -60,7 +61,7 @@ impl<'s, L: Ledger> Ended<'s, L> {
     }
 
     /// The cart positions that ended since then, and before a moment.
-    pub fn carts(&self, to: Moment) -> Walk<'s, CartPos, L>
+    pub fn carts(&self, to: Moment) -> Walk<'s, CartPos, Sparse<CartPos>, L>
         requires { self.now.state.moment ≤ to }
         ensures rows { result.rows ≡ self.now.state.lists.carts }
         ensures finds { Finds (λ r. r.id) (is_due_cart self.now.state.moment to) self.now.state.lists.carts result.ids }
@@ -71,7 +72,7 @@ impl<'s, L: Ledger> Ended<'s, L> {
     }
 
     /// The vouchers that ended since then, and before a moment.
-    pub fn vouchers(&self, to: Moment) -> Walk<'s, Voucher, L>
+    pub fn vouchers(&self, to: Moment) -> Walk<'s, Voucher, Rows<Voucher>, L>
         requires { self.now.state.moment ≤ to }
         ensures rows { result.rows ≡ self.now.state.lists.vouchers }
         ensures finds { Finds (λ r. r.id) (is_due_voucher self.now.state.moment to) self.now.state.lists.vouchers result.ids }
@@ -82,7 +83,7 @@ impl<'s, L: Ledger> Ended<'s, L> {
     }
 
     /// The cart positions that name a voucher, dead ones too.
-    pub fn naming(&self, voucher: u64) -> Walk<'s, CartPos, L>
+    pub fn naming(&self, voucher: u64) -> Walk<'s, CartPos, Sparse<CartPos>, L>
         ensures rows { result.rows ≡ self.now.state.lists.carts }
         ensures finds { Finds (λ r. r.id) (λ c. names voucher c.voucher) self.now.state.lists.carts result.ids }
         ensures few { length result.ids ≤ 4294967296 }
@@ -104,6 +105,6 @@ impl<'s, L: Ledger> Ended<'s, L> {
         ensures absent { IfErr result (IsGap (λ v. v.id) self.now.state.lists.vouchers voucher) }
     {
         self.store.known();
-        place_of(self.store.vouchers().as_slice(), voucher)
+        place_of(self.store.vouchers().rows().as_slice(), voucher)
     }
 }

@@ -35,7 +35,7 @@ impl Store {
         ensures cost { steps.new ≡ steps.old + length self.now.state.lists.positions }
     {
         let mut count = 0;
-        for row in self.positions().as_slice() {
+        for row in self.positions().rows().as_slice() {
             steps.tick();
             count += count_one(is_paid_in(self, quota, row));
         }
@@ -48,7 +48,7 @@ impl Store {
         ensures cost { steps.new ≡ steps.old + length self.now.state.lists.positions }
     {
         let mut count = 0;
-        for row in self.positions().as_slice() {
+        for row in self.positions().rows().as_slice() {
             steps.tick();
             count += count_one(is_pending_in(self, quota, row));
         }
@@ -61,7 +61,7 @@ impl Store {
         ensures cost { steps.new ≡ steps.old + length self.now.state.lists.vouchers }
     {
         let mut blocked = 0;
-        for row in self.vouchers().as_slice() {
+        for row in self.vouchers().rows().as_slice() {
             steps.tick();
             blocked += self.blocked_by(at, quota, row);
         }
@@ -87,7 +87,7 @@ impl Store {
         ensures cost { steps.new ≡ steps.old + length self.now.state.lists.carts }
     {
         let mut count = 0;
-        for row in self.carts().as_slice() {
+        for row in self.carts().rows().iter() {
             steps.tick();
             count += count_one(cart_counts(self, at, quota, row));
         }
@@ -100,7 +100,7 @@ impl Store {
         ensures cost { steps.new ≡ steps.old + length self.now.state.lists.waiting }
     {
         let mut count = 0;
-        for row in self.waiting().as_slice() {
+        for row in self.waiting().rows().iter() {
             steps.tick();
             count += count_one(row.waits_for(quota));
         }

@@ -14,6 +14,7 @@ use bo_catalogue::Catalogue;
 use bo_indexed::Indexed;
 use bo_lists::{CartPos, Change, Checkin, CheckinList, NextIds, Order, OrderPos, Voucher, Waiting};
 use bo_sorted::Rows;
+use bo_sparse::Sparse;
 use bo_usage::LookUps;
 use std::alloc::{AllocError, Global};
 use std::marker::Model;
@@ -24,10 +25,10 @@ use std::marker::Model;
 pub struct Store {
     catalogue: Catalogue,
     vouchers: Indexed<Voucher>,
-    carts: Indexed<CartPos>,
+    carts: Indexed<CartPos, Sparse<CartPos>>,
     orders: Indexed<Order>,
     positions: Indexed<OrderPos>,
-    waiting: Indexed<Waiting>,
+    waiting: Indexed<Waiting, Sparse<Waiting>>,
     checkin_lists: Rows<CheckinList>,
     checkins: Indexed<Checkin>,
     next: NextIds,
@@ -122,7 +123,7 @@ impl Store {
     }
 
     /// The table of cart positions.
-    pub fn carts(&self) -> &Indexed<CartPos>
+    pub fn carts(&self) -> &Indexed<CartPos, Sparse<CartPos>>
         ensures { result.now.rows ≡ self.now.state.lists.carts }
     {
         &self.carts
@@ -143,7 +144,7 @@ impl Store {
     }
 
     /// The waiting list.
-    pub fn waiting(&self) -> &Indexed<Waiting>
+    pub fn waiting(&self) -> &Indexed<Waiting, Sparse<Waiting>>
         ensures { result.now.rows ≡ self.now.state.lists.waiting }
     {
         &self.waiting
@@ -252,7 +253,7 @@ impl Store {
         }
     }
 
-    /// Removes the cart positions of these ids, which rise. Fewer than 64 go one after another, and more in one pass over them.
+    /// Removes the cart positions of these ids, which rise.
     pub fn drop_carts(&mut self, ids: &[u64])
         requires rising { AreInOrder (λ n. n) ids.now }
         ensures lists { self.new.state ≡ record self.old.state { lists = record self.old.state.lists { carts = without_rows (λ c. c.id) ids.now self.old.state.lists.carts } } }

@@ -22,6 +22,7 @@ use bo_catalogue::{Catalogue, Product, Quota};
 use bo_lists::{
     CartPos, Changes, Checkin, CheckinList, NextIds, Order, OrderPos, Usage, Voucher, Waiting,
 };
+use bo_sparse::Sparse;
 use std::alloc::{AllocError, Global};
 use std::sync::ledger::Ledger;
 
@@ -147,8 +148,8 @@ pub trait Book {
         ensures { result.now ≡ (state self.now).lists.vouchers };
 
     /// All cart positions, by id.
-    fn carts(&self) -> &[CartPos]
-        ensures { result.now ≡ (state self.now).lists.carts };
+    fn carts(&self) -> &Sparse<CartPos>
+        ensures { result.now.rows ≡ (state self.now).lists.carts };
 
     /// All orders, by id.
     fn orders(&self) -> &[Order]
@@ -167,8 +168,8 @@ pub trait Book {
         ensures { result.now ≡ (state self.now).lists.checkins };
 
     /// The whole waiting list, by id.
-    fn waiting(&self) -> &[Waiting]
-        ensures { result.now ≡ (state self.now).lists.waiting };
+    fn waiting(&self) -> &Sparse<Waiting>
+        ensures { result.now.rows ≡ (state self.now).lists.waiting };
 
     /// What uses a quota that stands, at a moment that isn't before the book's. It takes at most a step for each cart
     /// position and voucher that came due since the book's moment, one for each cart position that names one of these

@@ -1,4 +1,4 @@
-use Rattle.std.proofs.Common.{◌≡◌, ◌↔◌, length, map, drop}
+use Rattle.std.proofs.Common.{◌≡◌, ◌↔◌, map, drop}
 use Rattle.bo_lists.specs.CountRows.{voucher_count}
 use Rattle.bo_checks.proofs.counters.are_redeemed.Given as goal
 

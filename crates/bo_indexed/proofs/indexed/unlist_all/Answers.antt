@@ -8,7 +8,7 @@ use Rattle.bo_indexed.proofs.indexed.unlist_all.Goals as goal
 
 pub loop-place-init : goal.loop-place-init
 loop-place-init g c = record {
-  listed = subst (λ l. AreIndexed (g.T.Row.key) (g.T.Keyed.keys) l c.args.until.now.rows c.args.voucher.now.rows c.args.text.now.rows c.args.group.now.rows) (sym (without_none (g.T.Row.key) c.args.rows.now.rows)) c.requires.listed;
+  listed = subst (λ l. AreIndexed (g.T.Row.key) (g.T.Keyed.keys) l c.args.until.now.rows c.args.voucher.now.rows c.args.text.now.rows c.args.group.now.rows) (sym (without_none (g.T.Row.key) (g.R.OrderedRows.table c.args.rows.now).rows)) c.requires.listed;
   until_room = omega arith;
   voucher_room = omega arith;
   text_room = omega arith;
@@ -18,7 +18,7 @@ loop-place-init g c = record {
 pub loop-place-preserved : goal.loop-place-preserved
 loop-place-preserved g c =
     let ids = c.args.ids.now in
-    let rows = c.args.rows.now.rows in
+    let rows = (g.R.OrderedRows.table c.args.rows.now).rows in
     let lt = c.loop-place-test.true in
     let order = filter_in_order (g.T.Row.key) (λ r. not (has (g.T.Row.key r) (take c.loop-place.place c.args.ids.now))) 0 rows c.known.ensures.in_order in
     let found = row_at-without_rows (g.T.Row.key) c.id_at.result (take c.loop-place.place c.args.ids.now) rows (not_before ids c.loop-place.place c.id_at.result c.requires.rising lt c.id_at.ensures) in

@@ -6,7 +6,7 @@ use Rattle.bo_indexed.proofs.indexed.unlist_all.Given as goal
 -- the entries are those of the rows that are left
 abbrev pub invariant-loop-place : goal.invariant-loop-place
 invariant-loop-place g l = record {
-  listed : AreIndexed (g.T.Row.key) (g.T.Keyed.keys) (without_rows (g.T.Row.key) (take l.place l.ids) l.rows.rows) l.until.rows l.voucher.rows l.text.rows l.group.rows;
+  listed : AreIndexed (g.T.Row.key) (g.T.Keyed.keys) (without_rows (g.T.Row.key) (take l.place l.ids) (g.R.OrderedRows.table l.rows).rows) l.until.rows l.voucher.rows l.text.rows l.group.rows;
   until_room : l.fn.until.room ≤ l.until.room;
   voucher_room : l.fn.voucher.room ≤ l.voucher.room;
   text_room : l.fn.text.room ≤ l.text.room;
