@@ -14,10 +14,6 @@ use Rattle.bo_catalogue.specs.declared.rows.Product.{Product}
 use Rattle.bo_catalogue.specs.Member.{lists}
 use Rattle.bo_catalogue.specs.Members.{lists_id, AreMembers, AreRelisted}
 
--- nothing is listed by no quotas
-pub none_listed : (members : Quota → List ℕ) (quotas : List Quota) (entries : List ℕ) → quotas ≡ [] → entries ≡ [] → AreMembers members quotas entries
-none_listed members quotas entries a b = rw (a, b) (λ id quota. refl)
-
 -- the index after a quota's members were listed in the place of those that it had
 pub listed : (members : Quota → List ℕ) (row : Quota) (quotas : List Quota) (old new : List ℕ) → AreMembers members quotas old → AreRelisted row.id (members row) old new → AreMembers members (with_row (λ r. r.id) row quotas) new
 listed members row quotas old new are more id other =
@@ -48,14 +44,6 @@ relisted_anew quota ids old left new lt gone is id other =
     by_id true true = refl
     by_id true false = refl
     by_id false c = refl
-
--- a quota that has the same ones already
-pub relisted_same : (quota : ℕ) (ids was old : List ℕ) → was ≡ ids → ((id : ℕ) → has_entry id quota old ≡ has id was) → AreRelisted quota ids old old
-relisted_same quota ids was old same has_was id other = by_id (eqb_tells quota other)
-  where
-    by_id : ((eqb quota other ≡ true) × (quota ≡ other)) ⊎ ((eqb quota other ≡ false) × (quota ≢ other)) → has_entry id other old ≡ (if eqb quota other then has id ids else has_entry id other old)
-    by_id (inl e) = rw e.0 (ap (λ q. has_entry id q old) (sym e.1) ∙ has_was id ∙ ap (has id) same)
-    by_id (inr e) = rw e.0 refl
 
 -- the ids of the quotas that pass, rising
 abbrev ids_that : (Quota → Bool) → List Quota → List ℕ

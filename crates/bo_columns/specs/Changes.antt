@@ -144,6 +144,3 @@ without_token id t = record t { tokens = filter (λ r. not (r.id == id)) t.token
 
 abbrev pub with_kept : KeptRow → Tables → Tables
 with_kept w t = record t { kept = w ∷ t.kept }
-
-abbrev pub without_kept : ℕ → Tables → Tables
-without_kept id t = record t { kept = filter (λ r. not (r.rowid == id)) t.kept }

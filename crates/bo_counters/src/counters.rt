@@ -1,6 +1,6 @@
 //! A book that keeps counters.
 
-ghost use Rattle.std.specs.Prelude.{◌≡◌, ◌≤◌, ◌<◌, ◌+◌, map, reverse, vec_len, Some, OnOk, IsTrue, ◌↔◌, true};
+ghost use Rattle.std.specs.Prelude.{◌≡◌, ◌≤◌, ◌<◌, ◌+◌, map, reverse, Some, OnOk, IsTrue, ◌↔◌, true};
 ghost use Rattle.std.specs.Bool.{Decides};
 ghost use Rattle.bo_catalogue.specs.CatalogueLists.{quota_at};
 ghost use Rattle.bo_lists.specs.Lists.{empty};
@@ -19,9 +19,8 @@ use bo_lists::{
 };
 use bo_shifts::blocking::shift_voucher;
 use bo_shifts::carts::shift_cart;
-use bo_shifts::dropping::gather;
-use bo_shifts::holds::{held_by, hold_at, hold_drop, hold_drops, hold_put};
-use bo_shifts::passing::{count_at, drop_each};
+use bo_shifts::holds::{held_by, hold_at, hold_drop, hold_put};
+use bo_shifts::passing::count_at;
 use bo_shifts::shift::{forget, keep};
 use bo_shifts::turns::{count_order, count_position, redeemed_in, vouchers};
 use bo_shifts::usage_later::later;
@@ -41,8 +40,6 @@ pub struct Counters {
     usages: Vec<Usage>,
     redeems: Vec<u64>,
     holds: Vec<u64>,
-    // The cart positions that are being dropped.
-    gone: Vec<u64>,
 }
 
 impl Model for Counters {
@@ -379,37 +376,6 @@ impl Counters {
         }
     }
 
-    // Takes the changes off the end of a list that drop cart positions whose ids rise, if some do, and makes them all at
-    // once, so that those that stay are moved once.
-    fn drop_run(&mut self, list: &mut Vec<Change>)
-        requires { weight (reverse list.old.items) ≤ self.old.room }
-        ensures rest { after_all (reverse list.new.items) self.new.state.lists ≡ after_all (reverse list.old.items) self.old.state.lists }
-        ensures next { self.new.state.next ≡ self.old.state.next }
-        ensures moment { self.new.state.moment ≡ self.old.state.moment }
-        ensures room { weight (reverse list.new.items) ≤ self.new.room }
-        ensures shorter { vec_len list.new ≤ vec_len list.old }
-    {
-        gather(&mut self.gone, list);
-        self.store.known();
-        let ids = self.gone.as_slice();
-        drop_each(&self.store, &mut self.usages, ids);
-        hold_drops(&self.store, &mut self.holds, ids);
-        self.store.drop_carts(ids);
-    }
-
-    // Makes the last change of a reversed list, and the cart positions dropped behind it.
-    fn apply_last(&mut self, change: Change, list: &mut Vec<Change>)
-        requires { change_weight change + weight (reverse list.old.items) ≤ self.old.room }
-        ensures rest { after_all (reverse list.new.items) self.new.state.lists ≡ after_all (reverse list.old.items) (after_change change self.old.state.lists) }
-        ensures next { self.new.state.next ≡ self.old.state.next }
-        ensures moment { self.new.state.moment ≡ self.old.state.moment }
-        ensures room { weight (reverse list.new.items) ≤ self.new.room }
-        ensures shorter { vec_len list.new ≤ vec_len list.old }
-    {
-        self.apply_one(change);
-        self.drop_run(list);
-    }
-
     // Makes these changes in order.
     fn apply_list(&mut self, mut list: Vec<Change>)
         requires { weight list.items ≤ self.old.room }
@@ -417,7 +383,7 @@ impl Counters {
     {
         list.reverse();
         while let Some(change) = list.pop() {
-            self.apply_last(change, &mut list);
+            self.apply_one(change);
         }
     }
 
@@ -441,7 +407,6 @@ impl Counters {
             usages: Vec::new(alloc),
             redeems: Vec::new(alloc),
             holds: Vec::new(alloc),
-            gone: Vec::new(alloc),
         }
     }
 
@@ -456,8 +421,6 @@ impl Counters {
         self.usages.reserve(count)?;
         self.redeems.reserve(count)?;
         self.holds.reserve(count)?;
-        self.gone.clear();
-        self.gone.reserve(count)?;
         self.store.reserve(count)
     }
 

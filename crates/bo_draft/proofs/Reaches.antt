@@ -76,14 +76,6 @@ module _ (old new : Tallied) (counts : GoesOn old.counts new.counts) (uses : Goe
       (ap (λ (q : Reach). q.here) here)
       (ap (λ (l : List Reach). take count l) reached ∙ take-append-le count old.reached (reach_now old ∷ []) le)
 
-  -- and gone back it is the old one
-  pub tallied_undone : tallied_at (length old.reached) new ≡ old
-  tallied_undone =
-      let n = length old.reached in
-      let here : reach_at n old ≡ reach_now old = get_or_past old.reached n (reach_now old) (omega arith) in
-      tallied_before n (omega arith) (omega (arith, ap (λ (r : Reach). r.counts) here)) (omega (arith, ap (λ (r : Reach). r.uses) here))
-      ∙ tallied_whole n old refl
-
 -- what is counted stays right with one more change
 pub tallied_more : (at : ℕ) (log : Log) (change : Change) (old new : Tallied) → {limit : ℕ} → IsKept limit (rows_of log) → CanCome at log change → IsTallied at log old → IsNext at change (rows_of log) log.base.catalogue.quotas old new → IsTallied at (record log { changes = log.changes ++ change ∷ [] }) new
 tallied_more at log change old new {limit} kept can is next =

@@ -3,7 +3,7 @@ use Rattle.std.proofs.Common.{◌≡◌, ℕ, ◌+◌, ◌<◌, ◌≤◌, List,
 use Rattle.std.specs.List.{AllByRecursion}
 use Rattle.std.proofs.lemmas.Bool.Decides.{nat_tests}
 use Rattle.bo_sorted.specs.Tables.{with_row, InOrderFrom, AreInOrder}
-use Rattle.bo_sorted.specs.Rising.{with_ids, rising}
+use Rattle.bo_sorted.specs.Rising.{with_ids}
 use Rattle.bo_stand.specs.Counts.{with_all}
 
 module _ {T : Type 0} (key : T → ℕ) where
@@ -32,6 +32,3 @@ module _ {T : Type 0} (key : T → ℕ) where
 same_ids : (given ids : List ℕ) → with_ids given ids ≡ with_all (λ n. n) given ids
 same_ids [] ids = refl
 same_ids (id ∷ more) ids = same_ids more (with_row (λ n. n) id ids)
-
-pub rising_is : (ids : List ℕ) → AreInOrder (λ n. n) ids → rising ids ≡ ids
-rising_is ids h = same_ids ids [] ∙ all_put (λ n. n) ids h

@@ -1,9 +1,9 @@
 -- The head of an answer: its parts, and that they fit.
-use Rattle.std.proofs.Common.{◌≡◌, ◌≢◌, ℕ, ◌≤◌, ◌<◌, ◌^◌, Bool, true, false, ◌&&◌, ◌||◌, nat_lt, zero, suc, List, [], ◌∷◌, ◌++◌, length, Option, Some, None, Result, Ok, Err, refl, sym, ap, subst, ◌∙◌, ◌+◌, get_or, take, append-nil, arith, codes, decimal, unwrap_or, length-append}
+use Rattle.std.proofs.Common.{◌≡◌, ℕ, ◌≤◌, ◌<◌, ◌^◌, Bool, true, false, ◌&&◌, ◌||◌, nat_lt, zero, suc, List, [], ◌∷◌, ◌++◌, length, Option, Some, None, Result, Ok, Err, refl, sym, ap, subst, ◌∙◌, ◌+◌, get_or, take, append-nil, arith, codes, decimal, unwrap_or, length-append}
 use Rattle.std.specs.List.{concat, flat_map}
 use Rattle.std.specs.Result.{IsOk, OnOk}
 use Rattle.std.proofs.lemmas.Bool.{ltb-true}
-use Rattle.std.proofs.lemmas.Bool.Decides.{nat_tests, Decides-below_and}
+use Rattle.std.proofs.lemmas.Bool.Decides.{Decides-below_and}
 use Rattle.std.proofs.lemmas.List.{take_more}
 use Rattle.std.proofs.lemmas.List.Folds.{length-flat_map-take}
 use Rattle.std.proofs.lemmas.Grind.{flat_map-append}
@@ -13,12 +13,6 @@ use Rattle.bo_base.specs.declared.answer.Methods.{Methods}
 use Rattle.bo_http.specs.Text.{when, phrase, status_line, has_content, content_fields, challenge, listed, name_if, method_names, allow_field, close_field, head_text}
 
 -- ---- the texts
-
-pub with_content : (status size : ℕ) (digits : List ℕ) → status ≢ 204 → digits ≡ decimal size
-    → concat (codes "Content-Type: application/json\r\nContent-Length: " ∷ digits ∷ codes "\r\n" ∷ []) ≡ content_fields status size
-with_content status size digits other is =
-    let test : has_content status ≡ true = grind (arith, nat_tests, other) in
-    rw (is, test)
 
 -- the names, one after another, with a comma behind those before
 names : (get post patch delete : Bool) → concat (
@@ -41,13 +35,6 @@ names false false true true = refl
 names false false true false = refl
 names false false false true = refl
 names false false false false = refl
-
-pub allow_pieces : (m : Methods) (a b c d e f g : List ℕ)
-    → a ≡ when m.get (codes "GET") → b ≡ when (m.get && m.post) (codes ", ") → c ≡ when m.post (codes "POST")
-    → d ≡ when ((m.get || m.post) && m.patch) (codes ", ") → e ≡ when m.patch (codes "PATCH")
-    → f ≡ when ((m.get || m.post || m.patch) && m.delete) (codes ", ") → g ≡ when m.delete (codes "DELETE")
-    → concat (codes "Allow: " ∷ a ∷ b ∷ c ∷ d ∷ e ∷ f ∷ g ∷ codes "\r\n" ∷ []) ≡ allow_field (Some m)
-allow_pieces m a b c d e f g ea eb ec ed ee ef eg = rw (ea, eb, ec, ed, ee, ef, eg) (ap (λ (t : List ℕ). codes "Allow: " ++ t) (names m.get m.post m.patch m.delete))
 
 -- ---- how long they are
 

@@ -301,9 +301,6 @@ left_in n (x ∷ xs) ys h = (h.0, left_in (x + 1) xs ys h.1)
 pub block_rises : (bs : List (List ℕ)) (b : ℕ) → b < length bs → AreInOrder (λ n. n) (concat bs) → AreInOrder (λ n. n) (get_or bs b [])
 block_rises bs b lt order = left_in 0 (get_or bs b []) (concat (drop (suc b) bs)) (right_in 0 (concat (take b bs)) (get_or bs b [] ++ concat (drop (suc b) bs)) (subst (λ (l : List ℕ). AreInOrder (λ n. n) l) (whole bs b lt) order))
 
-pub gap_none : (rows : List ℕ) (e : ℕ) → length rows ≡ 0 → IsGap (λ n. n) rows e 0
-gap_none rows e none = record { in_range = omega arith; smaller_before = λ j d lt. absurd (omega arith); greater_after = λ j d le lt. absurd (omega arith) }
-
 -- what is known of a result, from what else is known of it
 pub when_ok : (P Q : ℕ → Type 0) (r : Result ℕ ℕ) → ((p : ℕ) → P p → Q p) → IfOk r P → IfOk r Q
 when_ok P Q (Ok p) f h = f p h

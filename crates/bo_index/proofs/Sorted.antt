@@ -1,13 +1,12 @@
 -- Numbers that rise strictly, and what sorting leaves of them.
-use Rattle.std.proofs.Common.{◌≡◌, ℕ, zero, suc, ◌+◌, Bool, true, false, List, [], ◌∷◌, ◌++◌, get_or, eqb, cond, refl, sym, ap, ◌∙◌, subst, arith}
-use Rattle.std.specs.Prelude.{filter}
+use Rattle.std.proofs.Common.{◌≡◌, ℕ, zero, suc, ◌+◌, true, List, [], ◌∷◌, get_or, eqb, sym, ◌∙◌, subst, arith}
 use Rattle.std.specs.List.{Contains}
 use Rattle.std.specs.List.Sorted.{IsStrictlyIncreasing}
 use Rattle.std.proofs.lemmas.Bool.Decides.{nat_tests}
 use Rattle.std.proofs.lemmas.List.Folds.{list_any_at, Any-from_list_any}
-use Rattle.bo_sorted.specs.Tables.{has, with_row, InOrderFrom, AreInOrder}
-use Rattle.bo_sorted.specs.Rising.{with_ids, rising}
-use Rattle.bo_sorted.proofs.Places.{at_least, order_weaker}
+use Rattle.bo_sorted.specs.Tables.{has, InOrderFrom, AreInOrder}
+use Rattle.bo_sorted.specs.Rising.{rising}
+use Rattle.bo_sorted.proofs.Places.{at_least}
 use Rattle.bo_sorted.proofs.RisingLemmas.{is_rising}
 
 increasing : (n : ℕ) (ids : List ℕ) → InOrderFrom (λ n. n) n ids → IsStrictlyIncreasing ids
@@ -36,19 +35,3 @@ pub same_ids : (xs ys : List ℕ) → AreInOrder (λ n. n) xs → AreInOrder (λ
 same_ids xs ys p q same =
     is_rising ys xs (increasing 0 xs p) (λ k c. contains_if_has k xs (same k ∙ has_if_contains k ys c)) (λ k c. contains_if_has k ys (sym (same k) ∙ has_if_contains k xs c))
     ∙ rising_same ys q
-
-with_ids-append : (xs ys ids : List ℕ) → with_ids (xs ++ ys) ids ≡ with_ids ys (with_ids xs ids)
-with_ids-append [] ys ids = refl
-with_ids-append (x ∷ xs) ys ids = with_ids-append xs ys (with_row (λ n. n) x ids)
-
--- more numbers behind some that rise, all sorted
-pub sorted_in : (ids more : List ℕ) → AreInOrder (λ n. n) ids → rising (ids ++ more) ≡ with_ids more ids
-sorted_in ids more h = with_ids-append ids more [] ∙ ap (with_ids more) (rising_same ids h)
-
-pub filter_in_order : (test : ℕ → Bool) (n : ℕ) (ids : List ℕ) → InOrderFrom (λ n. n) n ids → InOrderFrom (λ n. n) n (filter test ids)
-filter_in_order test n [] h = tt
-filter_in_order test n (x ∷ xs) h = by_test (test x) (filter_in_order test (x + 1) xs h.1)
-  where
-    by_test : (b : Bool) → InOrderFrom (λ n. n) (x + 1) (filter test xs) → InOrderFrom (λ n. n) n (cond b (x ∷ filter test xs) (filter test xs))
-    by_test true more = (h.0, more)
-    by_test false more = order_weaker (λ n. n) (x + 1) n (filter test xs) (omega (arith, h.0)) more

@@ -1,8 +1,7 @@
 //! Tables of rows that are found by keys, too.
 
-ghost use Rattle.std.specs.Prelude.{◌≡◌, ◌≤◌, ◌+◌, ℕ, List, [], length, map, filter, take, OnOk};
+ghost use Rattle.std.specs.Prelude.{◌≡◌, ◌≤◌, ◌+◌, [], length, map, filter, OnOk};
 ghost use Rattle.std.specs.Option.{option_copied};
-ghost use Rattle.bo_sorted.specs.Dropped.{without_rows};
 ghost use Rattle.bo_sorted.specs.Rising.{rising};
 ghost use Rattle.bo_sorted.specs.Tables.{row_at, with_row, without_row, AreInOrder, AreKept};
 ghost use Rattle.bo_lists.specs.CameDue.{ends_between};
@@ -14,7 +13,7 @@ use crate::keyed::Keyed;
 use crate::keys::Keys;
 use crate::ordered::OrderedRows;
 use bo_index::{Found, Index};
-use bo_sorted::{Rows, id_at};
+use bo_sorted::Rows;
 use std::alloc::{AllocError, Global};
 use std::marker::{Model, PhantomData};
 
@@ -187,78 +186,6 @@ impl<T: Keyed + Drop, R: OrderedRows<T>> Indexed<T, R> {
         remove(&mut self.by_text, id, old.text);
         remove(&mut self.by_group, id, old.group);
         self.rows.delete(id);
-    }
-
-    /// Removes the rows of these ids, which rise. Fewer than 64 go one after another, and more in one pass over the rows.
-    pub fn delete_all(&mut self, ids: &[u64])
-        requires rising { AreInOrder (λ n. n) ids.now }
-        ensures rows { self.new.rows ≡ without_rows T.key ids.now self.old.rows }
-        ensures room { self.old.room ≤ self.new.room }
-    {
-        unlist_all(
-            &self.rows,
-            ids,
-            &mut self.by_until,
-            &mut self.by_voucher,
-            &mut self.by_text,
-            &mut self.by_group,
-        );
-        self.rows.delete_all(ids);
-    }
-}
-
-// The keys of the row of an id.
-fn keys_in<T: Keyed + Drop, R: OrderedRows<T>>(rows: &R, id: u64) -> Keys
-    ensures { result ≡ keys_if T.keys (row_at T.key id (R.table rows.now).rows) }
-{
-    match rows.get(id) {
-        None => Keys::none(),
-        Some(row) => row.keys(),
-    }
-}
-
-// Removes the entries of the row of an id.
-fn unlist<T: Keyed + Drop, R: OrderedRows<T>>(
-    rows: &R,
-    id: u64,
-    until: &mut Index,
-    voucher: &mut Index,
-    text: &mut Index,
-    group: &mut Index,
-)
-    ensures listed { (kept : List T) → AreInOrder T.key kept → row_at T.key id kept ≡ row_at T.key id (R.table rows.now).rows → AreIndexed T.key T.keys kept until.old.rows voucher.old.rows text.old.rows group.old.rows → AreIndexed T.key T.keys (without_row T.key id kept) until.new.rows voucher.new.rows text.new.rows group.new.rows }
-    ensures until_room { until.old.room ≤ until.new.room }
-    ensures voucher_room { voucher.old.room ≤ voucher.new.room }
-    ensures text_room { text.old.room ≤ text.new.room }
-    ensures group_room { group.old.room ≤ group.new.room }
-{
-    let old = keys_in(rows, id);
-    remove(until, id, old.until);
-    remove(voucher, id, old.voucher);
-    remove(text, id, old.text);
-    remove(group, id, old.group);
-}
-
-// Removes the entries of the rows of these ids, which rise.
-fn unlist_all<T: Keyed + Drop, R: OrderedRows<T>>(
-    rows: &R,
-    ids: &[u64],
-    until: &mut Index,
-    voucher: &mut Index,
-    text: &mut Index,
-    group: &mut Index,
-)
-    requires rising { AreInOrder (λ n. n) ids.now }
-    requires listed { AreIndexed T.key T.keys (R.table rows.now).rows until.old.rows voucher.old.rows text.old.rows group.old.rows }
-    ensures listed { AreIndexed T.key T.keys (without_rows T.key ids.now (R.table rows.now).rows) until.new.rows voucher.new.rows text.new.rows group.new.rows }
-    ensures until_room { until.old.room ≤ until.new.room }
-    ensures voucher_room { voucher.old.room ≤ voucher.new.room }
-    ensures text_room { text.old.room ≤ text.new.room }
-    ensures group_room { group.old.room ≤ group.new.room }
-{
-    rows.known();
-    for place in 0..ids.len() {
-        unlist(rows, id_at(ids, place), until, voucher, text, group);
     }
 }
 

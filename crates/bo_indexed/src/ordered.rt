@@ -2,8 +2,7 @@
 
 ghost use Rattle.std.specs.Prelude.{◌≡◌, ◌≤◌, ◌+◌, [], OnOk};
 ghost use Rattle.std.specs.Option.{option_copied};
-ghost use Rattle.bo_sorted.specs.Dropped.{without_rows};
-ghost use Rattle.bo_sorted.specs.Tables.{Table, row_at, with_row, without_row, AreInOrder, AreKept};
+ghost use Rattle.bo_sorted.specs.Tables.{Table, row_at, with_row, without_row, AreKept};
 
 use bo_sorted::{Row, Rows};
 use bo_sparse::Sparse;
@@ -46,12 +45,6 @@ pub trait OrderedRows<T: Row + Drop> {
     fn delete(&mut self, id: u64)
         ensures rows { (table self.new).rows ≡ without_row T.key id (table self.old).rows }
         ensures room { (table self.old).room ≤ (table self.new).room };
-
-    /// Removes the rows of these ids, which rise.
-    fn delete_all(&mut self, ids: &[u64])
-        requires rising { AreInOrder (λ n. n) ids.now }
-        ensures rows { (table self.new).rows ≡ without_rows T.key ids.now (table self.old).rows }
-        ensures room { (table self.old).room ≤ (table self.new).room };
 }
 
 /// One row beside the other: a row that goes moves all behind it.
@@ -85,10 +78,6 @@ impl<T: Row + Drop> OrderedRows<T> for Rows<T> {
     fn delete(&mut self, id: u64) {
         self.delete(id);
     }
-
-    fn delete_all(&mut self, ids: &[u64]) {
-        self.delete_all(ids);
-    }
 }
 
 /// With places that rows leave behind: a row that goes moves no other.
@@ -121,9 +110,5 @@ impl<T: Row + Drop> OrderedRows<T> for Sparse<T> {
 
     fn delete(&mut self, id: u64) {
         self.delete(id);
-    }
-
-    fn delete_all(&mut self, ids: &[u64]) {
-        self.delete_all(ids);
     }
 }

@@ -1,12 +1,11 @@
 -- When a request takes too much of a quota.
-use Rattle.std.specs.Prelude.{ℕ, ◌-◌, Bool, false, ◌&&◌, nat_lt, List, [], ◌∷◌, if◌then◌else◌, Option, Some, None, count_by, find, option_map}
+use Rattle.std.specs.Prelude.{ℕ, ◌-◌, Bool, false, ◌&&◌, nat_lt, List, Option, Some, None, count_by, find, option_map}
 use Rattle.bo_catalogue.specs.declared.rows.Quota.{Quota}
 use Rattle.bo_lists.specs.declared.rows.Voucher.{Voucher}
 use Rattle.bo_lists.specs.declared.rows.CartPos.{CartPos}
 use Rattle.bo_lists.specs.declared.rows.OrderPos.{OrderPos}
 use Rattle.bo_lists.specs.declared.rows.Own.{Own}
 use Rattle.bo_lists.specs.declared.rows.Own.TheVariants.{Cart, Position}
-use Rattle.bo_lists.specs.declared.rows.Usage.{Usage}
 use Rattle.bo_lists.specs.Conditions.{is_in_force}
 use Rattle.bo_lists.specs.Lists.{Lists, voucher_at, cart_at, position_at}
 use Rattle.bo_lists.specs.Usage.{usage_of, cart_counts, position_counts}
@@ -50,10 +49,3 @@ is_over before after at own quota = is_over_size quota.size (total (usage_of bef
 -- the least such quota
 abbrev pub first_over : Lists → Lists → ℕ → List Own → Option ℕ
 first_over before after at own = option_map (λ quota. quota.id) (find (is_over before after at own) after.catalogue.quotas)
-
--- the first such quota of these, where `before` is the usage before of these very quotas, in their order
-abbrev pub first_over_among : Lists → ℕ → List Own → List Usage → List Quota → Option ℕ
-first_over_among lists at own before [] = None
-first_over_among lists at own [] (quota ∷ quotas) = None
-first_over_among lists at own (usage ∷ before) (quota ∷ quotas) =
-    if is_over_size quota.size (total usage) (weighed lists at quota own) then Some quota.id else first_over_among lists at own before quotas

@@ -30,15 +30,6 @@ still_over old new still over is_open =
     let was = still.same is_open in
     ap (λ (d : Database). d.schema) was.now ∙ over was.was_open
 
-pub still_then : (old mid new : Connected) → IsStill old mid → IsStill mid new → IsStill old new
-still_then old mid new one two = record {
-  same = λ is_open.
-      let late = two.same is_open in
-      let early = one.same late.was_open in
-      record { was_open = early.was_open; now = late.now ∙ early.now; committed = late.committed ∙ early.committed };
-  outside = λ was. two.outside (one.outside was);
-}
-
 pub still_shows : (old new : Connected) → IsStill old new → IsTrue new.is_open → (t : Tables) → Holds old.now.trees t → Holds new.now.trees t
 still_shows old new still is_open t held = subst (λ (d : Database). Holds d.trees t) (sym (still.same is_open).now) held
 

@@ -6,16 +6,12 @@ use Rattle.sqlite.specs.State.{State as Connected}
 use Rattle.bo_base.specs.Slugs.{IsSlug}
 use Rattle.bo_columns.specs.declared.rows.ShopRow.{ShopRow}
 use Rattle.bo_columns.specs.Tables.{Holds}
-use Rattle.bo_transaction.specs.Whole.{IsStill, IsWritten}
+use Rattle.bo_transaction.specs.Whole.{IsWritten}
 use Rattle.bo_begins.specs.Begun.{IsBegun, first_tables}
 use Rattle.bo_begins.proofs.Begins.{begins_empty, begins_free}
 use Rattle.bo_typed.specs.Typed.{IsTypedShop}
 use Rattle.bo_typed.proofs.Typed.{first_typed}
 use Rattle.bo_made.specs.Made.{first_shop, nothing_yet, IsMade}
-
--- where nothing was called, nothing changed
-pub as_it_was : (s : Connected) → IsStill s s
-as_it_was s = record { same = λ is_open. record { was_open = is_open; now = refl; committed = refl }; outside = λ it. it }
 
 module _ (organizer event : List ℕ) (old new : Connected) where
   abbrev first : ShopRow

@@ -1,5 +1,5 @@
 -- The changes of each step can be made one after another, and lead to the rows that it leaves.
-use Rattle.std.proofs.Common.{◌≡◌, ℕ, Bool, true, false, List, [], ◌∷◌, ◌++◌, Result, Ok, Err, refl, sym, ap, ◌∙◌, subst, arith}
+use Rattle.std.proofs.Common.{◌≡◌, ℕ, Bool, true, false, List, [], ◌∷◌, ◌++◌, Result, Ok, Err, refl, sym, ap, subst, arith}
 use Rattle.std.specs.List.{AllByRecursion}
 use Rattle.bo_base.specs.Draws.{IsDraw}
 use Rattle.bo_base.specs.declared.draw.Draw.{Draw}
@@ -28,7 +28,7 @@ use Rattle.bo_lists.specs.declared.rows.Voucher.{Voucher}
 use Rattle.bo_lists.specs.declared.rows.Waiting.{Waiting}
 use Rattle.bo_lists.specs.declared.changes.Change.{Change}
 use Rattle.bo_lists.specs.declared.changes.Change.TheVariants.{PutItem, PutVariation, PutQuota, PutVoucher, PutOrder, PutWaiting, DropVoucher as VoucherGoes, DropCart as CartGoes, DropWaiting as EntryGoes}
-use Rattle.bo_lists.specs.Change.{Changed, changed, after_all}
+use Rattle.bo_lists.specs.Change.{changed, after_all}
 use Rattle.bo_lists.specs.Lists.{Lists, State}
 use Rattle.bo_lists.specs.Numbered.{puts_of, with_item, with_variation, with_quota}
 use Rattle.bo_sound.specs.Changes.{LeadTo}
@@ -78,12 +78,9 @@ use Rattle.bo_commands.specs.declared.doors.DoorRefusal.{DoorRefusal}
 use Rattle.bo_commands.specs.declared.doors.NewCheckinList.{NewCheckinList}
 use Rattle.bo_commands.specs.declared.doors.Scan.{Scan}
 use Rattle.bo_commands.specs.declared.doors.Ticket.{Ticket}
-use Rattle.bo_commands.specs.declared.replies.Refusal.{Refusal}
 use Rattle.bo_commands.specs.declared.replies.Reply.{Reply}
-use Rattle.bo_commands.specs.declared.replies.Reply.TheVariants.{Refused}
 use Rattle.bo_commands.specs.declared.requests.Command.{Command}
 use Rattle.bo_commands.specs.declared.requests.Command.TheVariants.{AddItem, ChangeItem, AddVariation, AddQuota, ResizeQuota, AddVoucher, ChangeVoucher, DropVoucher, AddCart, AddCarts, DropCart, AddOrder, MoveOrder, AddWaiting, ChangeWaiting, DropWaiting, SendVoucher, Periodic, AddCheckinList, Redeem}
-use Rattle.bo_commands.specs.declared.requests.Kind.{Kind}
 use Rattle.bo_commands.specs.declared.vouchers.NewVoucher.{NewVoucher}
 use Rattle.bo_commands.specs.declared.vouchers.VoucherPatch.{VoucherPatch}
 use Rattle.bo_commands.specs.declared.vouchers.VoucherRefusal.{VoucherRefusal}
@@ -94,13 +91,9 @@ use Rattle.bo_office.specs.Changes.{sending_changes, changes_of, MakesItsChanges
 use Rattle.bo_office.specs.PeriodicWork.{ended, periodic_changes}
 use Rattle.bo_office.specs.Runs.{Arrival, IsFitArrival, moment_at, stepped, trace}
 use Rattle.bo_office.specs.ShownRows.{show_voucher}
-use Rattle.bo_office.specs.Step.{no_change, item_step, item_change_step, variation_step, quota_step, resize_step, voucher_step, voucher_change_step, voucher_drop_step, cart_step, cart_drop_step, bulk_step, order_step, move_step, join_step, priority_step, leave_step, send_step, checkin_list_step, redeem_step, step_now}
+use Rattle.bo_office.specs.Step.{item_step, item_change_step, variation_step, quota_step, resize_step, voucher_step, voucher_change_step, voucher_drop_step, cart_step, cart_drop_step, bulk_step, order_step, move_step, join_step, priority_step, leave_step, send_step, checkin_list_step, redeem_step, step_now}
 use Rattle.bo_office.proofs.Catalogue.{variation_sound, quota_sound, resize_sound}
 use Rattle.bo_office.proofs.Runs.{step_sound, sound_at, sound_after}
-
--- a refusal makes no change
-pub refused_changes : (command : Command) (draw : Draw) (state now : State) (kind : Kind) (refusal : Refusal) (made : Changed × Reply) → made ≡ (no_change now, Refused kind refusal) → made.0.list ≡ changes_of command draw state made.1
-refused_changes command draw state now kind refusal made is = ap (λ (m : Changed × Reply). m.0.list) is ∙ ap (changes_of command draw state) (sym (ap (λ (m : Changed × Reply). m.1) is))
 
 -- what a step led to is where its changes lead
 abbrev Leads : Command → Draw → State → State × Reply → Type 0

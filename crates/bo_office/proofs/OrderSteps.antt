@@ -18,7 +18,7 @@ use Rattle.bo_lists.specs.Conditions.{is_in_force}
 use Rattle.bo_commands.specs.FitRequests.{IsFitOrder, IsFitMove}
 use Rattle.bo_commands.specs.declared.orders.Move.{Move}
 use Rattle.bo_commands.specs.declared.orders.Move.TheVariants.{MarkPaid, MarkPending, MarkExpired, MarkCanceled, Extend}
-use Rattle.bo_orders.specs.declared.moves.Turn.{Turn}
+use Rattle.bo_orders.specs.declared.moves.Transition.{Transition}
 use Rattle.bo_commands.specs.declared.orders.NewOrder.{NewOrder}
 use Rattle.bo_orders.specs.Created.{order_created}
 use Rattle.bo_orders.specs.Moves.{turned, order_moved}
@@ -48,23 +48,23 @@ made_fine new draw state after rows h = record {
   lowers = λ takes. absurd (cc);
 }
 
-abbrev force_of : Option Turn → Bool
+abbrev force_of : Option Transition → Bool
 force_of None = false
 force_of (Some turn) = is_in_force turn.status
 
 -- what a move that is possible does to an order that comes back
-came_back : (status : Status) (change : Move) (turn : Turn) → turned status change ≡ Some turn → revives status change ≡ true → (is_in_force turn.status ≡ true) × (is_in_force status ≡ false)
+came_back : (status : Status) (change : Move) (turn : Transition) → turned status change ≡ Some turn → revives status change ≡ true → (is_in_force turn.status ≡ true) × (is_in_force status ≡ false)
 came_back Pending change turn e back = absurd (cc (back))
 came_back Paid change turn e back = absurd (cc (back))
 came_back Cancelled change turn e back = absurd (cc (back))
-came_back Expired MarkPaid turn e back = (ap (λ (o : Option Turn). force_of o) (sym e), refl)
-came_back Expired (Extend end) turn e back = (ap (λ (o : Option Turn). force_of o) (sym e), refl)
+came_back Expired MarkPaid turn e back = (ap (λ (o : Option Transition). force_of o) (sym e), refl)
+came_back Expired (Extend end) turn e back = (ap (λ (o : Option Transition). force_of o) (sym e), refl)
 came_back Expired MarkPending turn e back = absurd (cc (back))
 came_back Expired MarkExpired turn e back = absurd (cc (back))
 came_back Expired MarkCanceled turn e back = absurd (cc (back))
 
 -- and to any other
-stayed : (status : Status) (change : Move) (turn : Turn) → turned status change ≡ Some turn → revives status change ≡ false → (is_in_force status ≡ true) ⊎ (is_in_force turn.status ≡ false)
+stayed : (status : Status) (change : Move) (turn : Transition) → turned status change ≡ Some turn → revives status change ≡ false → (is_in_force status ≡ true) ⊎ (is_in_force turn.status ≡ false)
 stayed Pending change turn e back = inl refl
 stayed Paid change turn e back = inl refl
 stayed Cancelled change turn e back = absurd (cc (e))
@@ -72,7 +72,7 @@ stayed Expired MarkPaid turn e back = absurd (cc (back))
 stayed Expired (Extend end) turn e back = absurd (cc (back))
 stayed Expired MarkPending turn e back = absurd (cc (e))
 stayed Expired MarkExpired turn e back = absurd (cc (e))
-stayed Expired MarkCanceled turn e back = inr (ap (λ (o : Option Turn). force_of o) (sym e))
+stayed Expired MarkCanceled turn e back = inr (ap (λ (o : Option Transition). force_of o) (sym e))
 
 module _ (number : ℕ) (change : Move) (state after : State) (rows : OrderRows) (h : order_moved number change state ≡ Ok (after, rows)) where
   m : IsMoved number change state after rows

@@ -28,7 +28,7 @@ pub(crate) fn page_rows<T>(rows: &[T], number: u64) -> &[T]
     requires { IsTrue (is_page number (length rows.now)) }
     ensures { result.now ≡ page_rows number rows.now }
 {
-    let rest = &rows[(number as usize - 1) * 50..];
+    let rest = &rows[rows_before(number, rows.len())..];
     &rest[..rest.len().min(50)]
 }
 
@@ -42,7 +42,7 @@ pub(crate) fn sparse_page_rows<'r, R: Row + Drop>(
     ensures { IfOk result (λ page. map (λ r. r.now) page.items ≡ page_rows number rows.now.rows) }
 {
     rows.iter()
-        .skip((number as usize - 1) * 50)
+        .skip(rows_before(number, rows.len()))
         .take(50)
         .collect(alloc)
 }

@@ -1,8 +1,8 @@
 -- Why a file isn't opened: one cause for another.
-use Rattle.std.proofs.Common.{◌≡◌, ◌≢◌, ◌⊎◌, inl, inr, ℕ, ℤ, pos, ◌≤◌, List, [], ◌∷◌, length, map, filter, Result, Ok, Err, IfErr, refl, sym, subst, subst₂, ap, ◌∙◌, arith}
+use Rattle.std.proofs.Common.{◌≡◌, ◌⊎◌, inl, inr, ℕ, ℤ, pos, List, [], ◌∷◌, map, filter, Result, Ok, Err, IfErr, refl, sym, subst, subst₂, ap, ◌∙◌}
 use Rattle.std.specs.List.Sorted.{IsPermutation}
 use Rattle.std.proofs.lemmas.List.Sorted.{IsPermutation-sym}
-use Rattle.sqlite_value.specs.declared.value.Value.TheVariants.{Null, Int}
+use Rattle.sqlite_value.specs.declared.value.Value.TheVariants.{Int}
 use Rattle.sqlite_value.specs.Order.{Row, column}
 use Rattle.sqlite_sql.specs.Term.{eval_all}
 use Rattle.sqlite.specs.Effect.{Database, Reads}
@@ -77,12 +77,6 @@ of_second F G K D E Store h = tt
 
 -- ---- the version
 
--- a row that ends before its version
-pub short_row : (r : Row) → length r ≤ 1 → column r 1 ≡ Null
-short_row [] h = refl
-short_row (x ∷ []) h = refl
-short_row (x ∷ (y ∷ r)) h = absurd (omega (arith, h))
-
 pub version_told : (shop : ShopRow) (row : Row) (version : ℤ) → row ≡ shop_row shop → column row 1 ≡ Int version → pos shop.version ≡ version
 version_told shop row version is told = let both = sym (ap (λ (r : Row). column r 1) is) ∙ told in cc
 
@@ -91,9 +85,3 @@ pub one_is_ours : (rows : List Row) → IsOneShop rows → HasNoOtherVersion row
 one_is_ours rows (shop, fit, ids, first, is) version (row, one, told, other) =
     let same : row ≡ shop_row shop = cc in
     other (sym (version_told shop row version same told) ∙ ap pos first)
-
-pub not_one : (rows : List Row) → length rows ≢ 1 → HasNoOtherVersion rows
-not_one rows many version (row, one, told, other) = many (ap length one)
-
-pub other_length : (rows : List Row) → length rows ≢ 1 → IsOneShop rows → ⊥
-other_length rows many (shop, fit, ids, first, is) = many (ap length is)

@@ -16,7 +16,7 @@ use sqlite::{Alter, Connection, Transaction};
 use std::alloc::Global;
 
 /// A row of a table of the file.
-pub trait Table: Drop {
+pub trait StoredRow: Drop {
     // the row as a SELECT of all columns shows it
     ghost as_row: { Self → Shown };
 
@@ -44,7 +44,7 @@ pub trait Table: Drop {
 }
 
 /// The rows of a table, by their numbers. The connection stays as it is. Refusals: 6, 60, 62, 63.
-pub(crate) fn rows_in<S: Alter, T: Table>(
+pub(crate) fn rows_in<S: Alter, T: StoredRow>(
     alloc: Global,
     conn: &mut Connection<S>,
 ) -> Result<Vec<T>, RowError>

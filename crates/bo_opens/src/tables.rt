@@ -5,7 +5,7 @@ ghost use Rattle.bo_columns.specs.Rows.{shop_row, item_row, variation_row, quota
 ghost use Rattle.bo_columns.specs.Fit.{IsFitShop, IsFitItem, IsFitVariation, IsFitQuota, IsFitVoucher, IsFitCart, IsFitOrder, IsFitPosition, IsFitWaiting, IsFitList, IsFitCheckin, IsFitToken, IsFitKept};
 ghost use Rattle.bo_loads.specs.Texts.{shop_text, items_text, variations_text, quotas_text, quota_items_text, quota_variations_text, vouchers_text, carts_text, orders_text, positions_text, waiting_text, checkin_lists_text, list_items_text, checkins_text, counts_text, tokens_text, kept_text};
 
-use crate::table::Table;
+use crate::table::StoredRow;
 use bo_catalogue::{Item, Variation};
 use bo_columns::{
     KeptRow, ListItem, ListRow, QuotaItem, QuotaRow, QuotaVariation, ShopRow, Token, VoucherRow,
@@ -15,7 +15,7 @@ use bo_schema::RowError;
 use sqlite::{Alter, Transaction};
 use std::alloc::Global;
 
-impl Table for ShopRow {
+impl StoredRow for ShopRow {
     ghost as_row = { shop_row };
 
     ghost fits = { IsFitShop };
@@ -32,7 +32,7 @@ impl Table for ShopRow {
     }
 }
 
-impl Table for Item {
+impl StoredRow for Item {
     ghost as_row = { item_row };
 
     ghost fits = { IsFitItem };
@@ -46,7 +46,7 @@ impl Table for Item {
     }
 }
 
-impl Table for Variation {
+impl StoredRow for Variation {
     ghost as_row = { variation_row };
 
     ghost fits = { IsFitVariation };
@@ -63,7 +63,7 @@ impl Table for Variation {
     }
 }
 
-impl Table for QuotaRow {
+impl StoredRow for QuotaRow {
     ghost as_row = { quota_row };
 
     ghost fits = { IsFitQuota };
@@ -80,7 +80,7 @@ impl Table for QuotaRow {
     }
 }
 
-impl Table for QuotaItem {
+impl StoredRow for QuotaItem {
     ghost as_row = { quota_item_row };
 
     ghost fits = { λ w. ⊤ };
@@ -97,7 +97,7 @@ impl Table for QuotaItem {
     }
 }
 
-impl Table for QuotaVariation {
+impl StoredRow for QuotaVariation {
     ghost as_row = { quota_variation_row };
 
     ghost fits = { λ w. ⊤ };
@@ -114,7 +114,7 @@ impl Table for QuotaVariation {
     }
 }
 
-impl Table for VoucherRow {
+impl StoredRow for VoucherRow {
     ghost as_row = { voucher_row };
 
     ghost fits = { IsFitVoucher };
@@ -131,7 +131,7 @@ impl Table for VoucherRow {
     }
 }
 
-impl Table for CartPos {
+impl StoredRow for CartPos {
     ghost as_row = { cart_row };
 
     ghost fits = { IsFitCart };
@@ -148,7 +148,7 @@ impl Table for CartPos {
     }
 }
 
-impl Table for Order {
+impl StoredRow for Order {
     ghost as_row = { order_row };
 
     ghost fits = { IsFitOrder };
@@ -162,7 +162,7 @@ impl Table for Order {
     }
 }
 
-impl Table for OrderPos {
+impl StoredRow for OrderPos {
     ghost as_row = { position_row };
 
     ghost fits = { IsFitPosition };
@@ -179,7 +179,7 @@ impl Table for OrderPos {
     }
 }
 
-impl Table for Waiting {
+impl StoredRow for Waiting {
     ghost as_row = { waiting_row };
 
     ghost fits = { IsFitWaiting };
@@ -196,7 +196,7 @@ impl Table for Waiting {
     }
 }
 
-impl Table for ListRow {
+impl StoredRow for ListRow {
     ghost as_row = { list_row };
 
     ghost fits = { IsFitList };
@@ -213,7 +213,7 @@ impl Table for ListRow {
     }
 }
 
-impl Table for ListItem {
+impl StoredRow for ListItem {
     ghost as_row = { list_item_row };
 
     ghost fits = { λ w. ⊤ };
@@ -230,7 +230,7 @@ impl Table for ListItem {
     }
 }
 
-impl Table for Checkin {
+impl StoredRow for Checkin {
     ghost as_row = { checkin_row };
 
     ghost fits = { IsFitCheckin };
@@ -247,7 +247,7 @@ impl Table for Checkin {
     }
 }
 
-impl Table for QuotaCount {
+impl StoredRow for QuotaCount {
     ghost as_row = { count_row };
 
     ghost fits = { λ w. ⊤ };
@@ -264,7 +264,7 @@ impl Table for QuotaCount {
     }
 }
 
-impl Table for Token {
+impl StoredRow for Token {
     ghost as_row = { token_row };
 
     ghost fits = { IsFitToken };
@@ -278,7 +278,7 @@ impl Table for Token {
     }
 }
 
-impl Table for KeptRow {
+impl StoredRow for KeptRow {
     ghost as_row = { kept_row };
 
     ghost fits = { IsFitKept };

@@ -15,7 +15,7 @@ use Rattle.bo_lists.proofs.OrderHeadroom.{redeemed_order}
 use Rattle.bo_sorted.specs.Tables.{row_at}
 use Rattle.bo_commands.specs.declared.orders.Move.{Move}
 use Rattle.bo_commands.specs.declared.orders.Move.TheVariants.{MarkPaid, MarkPending, MarkExpired, MarkCanceled, Extend}
-use Rattle.bo_orders.specs.declared.moves.Turn.{Turn}
+use Rattle.bo_orders.specs.declared.moves.Transition.{Transition}
 use Rattle.bo_orders.specs.Moves.{to, revived, turned}
 
 -- an order that comes back takes a use for each of its positions that name the voucher
@@ -38,42 +38,23 @@ found_id id (r ∷ rs) order h = by_test (eqb r.id id) refl h (found_id id rs or
         ap (λ (o : Order). o.id) (sym same) ∙ is
     by_test false e h more = more h
 
-some_turn : (a b : Turn) → (let t : Option Turn = Some a in t ≡ Some b) → a ≡ b
+some_turn : (a b : Transition) → (let t : Option Transition = Some a in t ≡ Some b) → a ≡ b
 some_turn a b h = cc
 
-plain : (status : Status) (turn : Turn) → to status ≡ Some turn → turn.revival ≡ false
-plain status turn h = sym (ap (λ (t : Turn). t.revival) (some_turn _ turn h))
+plain : (status : Status) (turn : Transition) → to status ≡ Some turn → turn.revival ≡ false
+plain status turn h = sym (ap (λ (t : Transition). t.revival) (some_turn _ turn h))
 
-same_status : (status : Status) (turn : Turn) → to status ≡ Some turn → is_in_force turn.status ≡ is_in_force status
-same_status status turn h = sym (ap (λ (t : Turn). is_in_force t.status) (some_turn _ turn h))
+same_status : (status : Status) (turn : Transition) → to status ≡ Some turn → is_in_force turn.status ≡ is_in_force status
+same_status status turn h = sym (ap (λ (t : Transition). is_in_force t.status) (some_turn _ turn h))
 
-is_revival : (status : Status) (turn : Turn) → revived status ≡ Some turn → turn.revival ≡ true
-is_revival status turn h = sym (ap (λ (t : Turn). t.revival) (some_turn _ turn h))
+is_revival : (status : Status) (turn : Transition) → revived status ≡ Some turn → turn.revival ≡ true
+is_revival status turn h = sym (ap (λ (t : Transition). t.revival) (some_turn _ turn h))
 
-comes_back : (status : Status) (turn : Turn) → revived status ≡ Some turn → is_in_force turn.status ≡ is_in_force status
-comes_back status turn h = sym (ap (λ (t : Turn). is_in_force t.status) (some_turn _ turn h))
-
--- an order comes back only if it wasn't in force, and is afterwards
-pub revival_back : (status : Status) (change : Move) (turn : Turn) → turned status change ≡ Some turn → turn.revival ≡ true → (is_in_force status ≡ false) × (is_in_force turn.status ≡ true)
-revival_back Pending MarkPaid turn h e = absurd (cc (sym e, plain Paid turn h))
-revival_back Pending MarkExpired turn h e = absurd (cc (sym e, plain Expired turn h))
-revival_back Pending MarkCanceled turn h e = absurd (cc (sym e, plain Cancelled turn h))
-revival_back Pending (Extend end) turn h e = absurd (cc (sym e, plain Pending turn h))
-revival_back Pending MarkPending turn h e = absurd (cc)
-revival_back Paid MarkPending turn h e = absurd (cc (sym e, plain Pending turn h))
-revival_back Paid MarkCanceled turn h e = absurd (cc (sym e, plain Cancelled turn h))
-revival_back Paid MarkPaid turn h e = absurd (cc)
-revival_back Paid MarkExpired turn h e = absurd (cc)
-revival_back Paid (Extend end) turn h e = absurd (cc)
-revival_back Expired MarkPaid turn h e = (refl, comes_back Paid turn h)
-revival_back Expired MarkCanceled turn h e = absurd (cc (sym e, plain Cancelled turn h))
-revival_back Expired (Extend end) turn h e = (refl, comes_back Pending turn h)
-revival_back Expired MarkPending turn h e = absurd (cc)
-revival_back Expired MarkExpired turn h e = absurd (cc)
-revival_back Cancelled change turn h e = absurd (cc)
+comes_back : (status : Status) (turn : Transition) → revived status ≡ Some turn → is_in_force turn.status ≡ is_in_force status
+comes_back status turn h = sym (ap (λ (t : Transition). is_in_force t.status) (some_turn _ turn h))
 
 -- any other move of an order that isn't in force leaves it so
-pub kept_force : (status : Status) (change : Move) (turn : Turn) → turned status change ≡ Some turn → turn.revival ≡ false → is_in_force turn.status ≡ true → is_in_force status ≡ true
+pub kept_force : (status : Status) (change : Move) (turn : Transition) → turned status change ≡ Some turn → turn.revival ≡ false → is_in_force turn.status ≡ true → is_in_force status ≡ true
 kept_force Pending change turn h e force = refl
 kept_force Paid change turn h e force = refl
 kept_force Expired MarkPaid turn h e force = absurd (cc (e, is_revival Paid turn h))

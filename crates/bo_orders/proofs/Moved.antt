@@ -21,7 +21,7 @@ use Rattle.bo_sound.proofs.OrderLowers.{moved_order_lowers}
 use Rattle.bo_sound.proofs.SoundOrders.{sound_changed_order}
 use Rattle.bo_commands.specs.FitRequests.{IsFitMove}
 use Rattle.bo_commands.specs.declared.orders.Move.{Move}
-use Rattle.bo_orders.specs.declared.moves.Turn.{Turn}
+use Rattle.bo_orders.specs.declared.moves.Transition.{Transition}
 use Rattle.bo_commands.specs.declared.orders.OrderRefusal.{OrderRefusal}
 use Rattle.bo_commands.specs.declared.orders.OrderRefusal.TheVariants.{Voucher as OfVoucher}
 use Rattle.bo_commands.specs.declared.vouchers.VoucherRefusal.TheVariants.{SoldOut}
@@ -42,7 +42,7 @@ record IsRevived (row : Order) (before after : State) (rows : OrderRows) : Type 
 -- the order as it stood, what the move makes of it, the tests that it passed if it comes back, and the box office with it
 pub record IsMoved (number : ℕ) (change : Move) (before after : State) (rows : OrderRows) : Type 0 where
   pub old : Order
-  pub turn : Turn
+  pub turn : Transition
   pub stood : order_at number before.lists ≡ Some old
   pub turns : turned old.status change ≡ Some turn
   pub is_row : moved_row old turn.status change ≡ rows.order
@@ -63,10 +63,10 @@ module _ (number : ℕ) (change : Move) (before after : State) (rows : OrderRows
       record { uses = uses; not_over = over; is = gave_it (moved_to row before) (after, rows) h2 }
 
   module _ (old : Order) (stood : order_at number before.lists ≡ Some old) where
-    abbrev asked : Turn → Order
+    abbrev asked : Transition → Order
     asked turn = moved_row old turn.status change
 
-    with_tests : (turn : Turn) → turned old.status change ≡ Some turn → moved_to (asked turn) before ≡ (after, rows) → (turn.revival ≡ true → have_uses_again (asked turn) before ≡ true) → (turn.revival ≡ true → over_again (asked turn) before ≡ None) → IsMoved number change before after rows
+    with_tests : (turn : Transition) → turned old.status change ≡ Some turn → moved_to (asked turn) before ≡ (after, rows) → (turn.revival ≡ true → have_uses_again (asked turn) before ≡ true) → (turn.revival ≡ true → over_again (asked turn) before ≡ None) → IsMoved number change before after rows
     with_tests turn turns is uses not_over =
         let same : order_rows (asked turn) before ≡ rows = ap (λ (x : State × OrderRows). x.1) is in
         let row : asked turn ≡ rows.order = ap (λ (r : OrderRows). r.order) same in
@@ -82,7 +82,7 @@ module _ (number : ℕ) (change : Move) (before after : State) (rows : OrderRows
           not_over = λ e. subst (λ (o : Order). over_again o before ≡ None) row (not_over e);
         }
 
-    by_revival : (turn : Turn) → turned old.status change ≡ Some turn → (back : Bool) → turn.revival ≡ back → Gives (if back then revival (asked turn) before else Ok (moved_to (asked turn) before)) → IsMoved number change before after rows
+    by_revival : (turn : Transition) → turned old.status change ≡ Some turn → (back : Bool) → turn.revival ≡ back → Gives (if back then revival (asked turn) before else Ok (moved_to (asked turn) before)) → IsMoved number change before after rows
     by_revival turn turns true is h =
         let r = revived_is (asked turn) h in
         with_tests turn turns r.is (λ e. r.uses) (λ e. r.not_over)

@@ -30,9 +30,6 @@ use Rattle.bo_orders.proofs.Puts.{put_is}
 pub order_headroom : (row : Order) (ids : List ℕ) (state : State) → row.id ≡ state.next.order → IsSound state → AllHaveHeadroom state.moment (after_change (PutOrder row) (without_carts ids state).lists)
 order_headroom row ids state e h = new_order_headroom (without_carts ids state) row e (sound_drop_carts ids state h)
 
-pub carts_headroom : (ids : List ℕ) (state : State) → IsSound state → AllHaveHeadroom state.moment (without_carts ids state).lists
-carts_headroom ids state h = (sound_drop_carts ids state h).headroom
-
 -- and then a position of the next id
 pub ready_order : (row : Order) (carts : List (List ℕ)) (state : State) → row.id ≡ state.next.order → IsSound state → IsReady state.next.position (with_order_row row carts state)
 ready_order row carts state e h =

@@ -15,18 +15,18 @@ use Rattle.bo_lists.specs.Over.{first_over}
 use Rattle.bo_commands.specs.declared.vouchers.VoucherRefusal.TheVariants.{NoHeadroom, SoldOut}
 use Rattle.bo_commands.specs.declared.orders.Move.{Move}
 use Rattle.bo_commands.specs.declared.orders.Move.TheVariants.{MarkPaid, MarkPending, MarkExpired, MarkCanceled, Extend}
-use Rattle.bo_orders.specs.declared.moves.Turn.{Turn}
+use Rattle.bo_orders.specs.declared.moves.Transition.{Transition}
 use Rattle.bo_commands.specs.declared.orders.OrderRefusal.{OrderRefusal}
 use Rattle.bo_commands.specs.declared.orders.OrderRefusal.TheVariants.{Voucher as OfVoucher, NoOrder, WrongStatus}
 
-abbrev pub to : Status → Option Turn
+abbrev pub to : Status → Option Transition
 to status = Some (record { status = status; revival = false })
 
-abbrev pub revived : Status → Option Turn
+abbrev pub revived : Status → Option Transition
 revived status = Some (record { status = status; revival = true })
 
 -- what each move makes of an order of each status: the status that follows, or none where it isn't possible
-abbrev pub turned : Status → Move → Option Turn
+abbrev pub turned : Status → Move → Option Transition
 turned Pending MarkPaid = to Paid
 turned Pending MarkExpired = to Expired
 turned Pending MarkCanceled = to Cancelled
@@ -73,7 +73,7 @@ revival row state = do
   refuse_some (λ quota. OfVoucher (SoldOut quota)) (over_again row state)
   Ok (moved_to row state)
 
-abbrev pub moved_as : Order → Move → State → Turn → Result (State × OrderRows) OrderRefusal
+abbrev pub moved_as : Order → Move → State → Transition → Result (State × OrderRows) OrderRefusal
 moved_as order change state turn =
     let row = moved_row order turn.status change in
     if turn.revival then revival row state else Ok (moved_to row state)

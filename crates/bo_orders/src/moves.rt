@@ -22,31 +22,31 @@ use std::alloc::{AllocError, Global};
 
 /// The status that follows, and whether an order comes back to life.
 #[derive(Clone, Copy, Debug, PartialEq, Eq)]
-pub struct Turn {
+pub struct Transition {
     pub status: Status,
     pub revival: bool,
 }
 
-fn to(status: Status) -> Option<Turn>
+fn to(status: Status) -> Option<Transition>
     ensures { result ≡ to status }
 {
-    Some(Turn {
+    Some(Transition {
         status,
         revival: false,
     })
 }
 
-fn revived(status: Status) -> Option<Turn>
+fn revived(status: Status) -> Option<Transition>
     ensures { result ≡ revived status }
 {
-    Some(Turn {
+    Some(Transition {
         status,
         revival: true,
     })
 }
 
 /// What a move makes of an order of this status; none where it isn't possible.
-pub fn turned(status: Status, change: Move) -> Option<Turn>
+pub fn turned(status: Status, change: Move) -> Option<Transition>
     ensures { result ≡ turned status change }
 {
     match (status, change) {
@@ -104,7 +104,7 @@ fn order_of<B: Book>(
 }
 
 // The turn of an order of this status, where the move is possible.
-fn turn_of(status: Status, change: &Move) -> Result<Turn, OrderRefusal>
+fn turn_of(status: Status, change: &Move) -> Result<Transition, OrderRefusal>
     ensures done { IfOk result (λ turn. turned status change.now ≡ Some turn) }
     ensures none { IfErr result (λ _. turned status change.now ≡ None) }
     ensures refused { IfErr result (λ e. e ≡ OrderRefusal.WrongStatus status) }
@@ -118,7 +118,7 @@ fn move_as<B: Book>(
     alloc: Global,
     order: Order,
     change: &Move,
-    turn: Turn,
+    turn: Transition,
 ) -> Result<OrderRows, OrderRefusal>
     requires fresh { draft.old.log.changes ≡ [] }
     requires sound { IsSound (now draft.old) }

@@ -76,13 +76,6 @@ pub keys_push : (changes : List Change) (change : Change) → code_keys (changes
 keys_push [] change = refl
 keys_push (c ∷ changes) change = ap (λ (l : List ℕ). code_key c ∷ l) (keys_push changes change)
 
-pub keys_back : (keys : List ℕ) (key count : ℕ) → count ≡ length keys → take count (keys ++ key ∷ []) ≡ keys
-keys_back keys key count is = ap (λ n. take n (keys ++ key ∷ [])) is ∙ all keys
-  where
-    all : (l : List ℕ) → take (length l) (l ++ key ∷ []) ≡ l
-    all [] = refl
-    all (k ∷ l) = ap (λ (r : List ℕ). k ∷ r) (all l)
-
 module _ (code : List ℕ) (log : Log) where
   abbrev has : ℕ → Bool
   has k = eqb k (digest code)

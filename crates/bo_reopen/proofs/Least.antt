@@ -1,5 +1,5 @@
 -- The least rule that is broken.
-use Rattle.std.proofs.Common.{◌≡◌, ◌⊎◌, ◌↔◌, ℕ, ◌<◌, ◌≤◌, Bool, List, IsTrue, inl, inr, subst, sym, arith, Option, Some, None, IfSome, IfNone}
+use Rattle.std.proofs.Common.{◌≡◌, ℕ, ◌<◌, List, inl, inr, subst, sym, arith, IfNone}
 use Rattle.sqlite.specs.Effect.{Database}
 use Rattle.bo_schema.specs.Tables.{schema}
 use Rattle.bo_stand.specs.Rows.{OfficeRows}
@@ -13,7 +13,7 @@ use Rattle.bo_lists.specs.declared.count_rows.VoucherCount.{VoucherCount}
 use Rattle.bo_lists.specs.Lists.{State}
 use Rattle.bo_rules.specs.declared.file_rows.FileRows.{FileRows}
 use Rattle.bo_rules.specs.Told.{state_of, file_of}
-use Rattle.bo_checks.specs.Last.{KeepsFirst, KeepsAll, IsLeastOf, file_with}
+use Rattle.bo_checks.specs.Last.{KeepsFirst, IsLeastOf, file_with}
 use Rattle.bo_columns.specs.declared.rows.ShopRow.{ShopRow}
 use Rattle.bo_columns.specs.declared.rows.Token.{Token}
 use Rattle.bo_columns.specs.Tables.{Holds}
@@ -56,55 +56,9 @@ module _ (shop : ShopRow) (tokens : List Token) (rows : OfficeRows) (file : File
   kept rules.Headroom k = k
   kept rules.Counters k = k
 
-  one_of_two : (rule : Rule) → number rule < 3 → KeepsFirst file → KeepsIn shop tokens rows file rule
-  one_of_two rules.Shop lt k = k.shop
-  one_of_two rules.Limits lt k = k.limits
-  one_of_two rules.Ids lt k = absurd (omega (arith, lt))
-  one_of_two rules.Names lt k = absurd (omega (arith, lt))
-  one_of_two rules.Positions lt k = absurd (omega (arith, lt))
-  one_of_two rules.Headroom lt k = absurd (omega (arith, lt))
-  one_of_two rules.Counters lt k = absurd (omega (arith, lt))
-
-  one_of_three : (rule : Rule) → number rule < 4 → AreBelowNext shop tokens → KeepsFirst file → KeepsIn shop tokens rows file rule
-  one_of_three rules.Shop lt below k = k.shop
-  one_of_three rules.Limits lt below k = k.limits
-  one_of_three rules.Ids lt below k = (below, k.ids)
-  one_of_three rules.Names lt below k = absurd (omega (arith, lt))
-  one_of_three rules.Positions lt below k = absurd (omega (arith, lt))
-  one_of_three rules.Headroom lt below k = absurd (omega (arith, lt))
-  one_of_three rules.Counters lt below k = absurd (omega (arith, lt))
-
-  -- one of the first three
-  pub least_first : (rule : Rule) → number rule ≤ 3 → IsLeastBroken rule file → IsLeastIn shop tokens rows file rule
-  least_first rule le h = record { before = λ other lt. early other (omega (arith, lt, le)) (h.before other lt); broken = λ k. h.broken (kept rule k) }
-
-  -- a token's number, where the first three are kept
-  least_tokens : KeepsFirst file → ¬ AreBelowNext shop tokens → IsLeastIn shop tokens rows file rules.Ids
-  least_tokens first lost = record { before = λ other lt. one_of_two other lt first; broken = λ k. lost k.0 }
-
-  -- a link that tells no member, where these and the tokens' numbers are kept
-  least_links : KeepsFirst file → AreBelowNext shop tokens → ¬ AreRowsOf file.state.lists rows → IsLeastIn shop tokens rows file rules.Names
-  least_links first below lost = record { before = λ other lt. one_of_three other lt below first; broken = λ k. lost k.0 }
-
   -- any other, where each link tells a member
   pub least_later : (rule : Rule) → AreBelowNext shop tokens → AreRowsOf file.state.lists rows → IsLeastBroken rule file → IsLeastIn shop tokens rows file rule
   least_later rule below whole h = record { before = λ other lt. kept_in other below whole (h.before other lt); broken = λ k. h.broken (kept rule k) }
-
--- what stands beside the office is broken
-abbrev pub IsBeside : (numbered whole : Bool) → Rule → Type 0
-IsBeside numbered whole rule = ((rule ≡ rules.Ids) × (¬ IsTrue numbered)) ⊎ ((rule ≡ rules.Names) × IsTrue numbered × (¬ IsTrue whole))
-
-abbrev pub IsToldFor : File → (numbered whole : Bool) → Rule → Type 0
-IsToldFor file numbered whole rule = (shop : ShopRow) (tokens : List Token) (links : OfficeRows) → (IsTrue numbered ↔ AreBelowNext shop tokens) → (AreRowsOf file.state.lists links → IsTrue whole) → IsLeastIn shop tokens links file rule
-
-beside_is : (file : File) (rule : Rule) (numbered whole : Bool) → KeepsFirst file → IsBeside numbered whole rule → IsToldFor file numbered whole rule
-beside_is file rule numbered whole first (inl (is, lost)) = λ shop tokens links is_numbered is_whole. subst (IsLeastIn shop tokens links file) (sym is) (least_tokens shop tokens links file first (λ k. lost (is_numbered.1 k)))
-beside_is file rule numbered whole first (inr (is, below, lost)) = λ shop tokens links is_numbered is_whole.
-    subst (IsLeastIn shop tokens links file) (sym is) (least_links shop tokens links file first (is_numbered.0 below) (λ k. lost (is_whole k)))
-
-pub told_beside : (file : File) (o : Option Rule) (numbered whole : Bool) → Keeps rules.Shop file × Keeps rules.Limits file × Keeps rules.Ids file → IfSome o (IsBeside numbered whole) → IfSome o (IsToldFor file numbered whole)
-told_beside file None numbered whole first h = tt
-told_beside file (Some rule) numbered whole first h = beside_is file rule numbered whole (record { shop = first.0; limits = first.1; ids = first.2 }) h
 
 -- a book that was filled with rows stands for their file
 filled_file : (rows : FileRows) (s : State) (used : List QuotaCount) (redeemed : List VoucherCount) → s ≡ state_of rows → used ≡ rows.used.items → redeemed ≡ rows.redeemed.items → file_with s used redeemed rows.organizer rows.event ≡ file_of rows
@@ -114,11 +68,6 @@ pub broken_of : (rows : FileRows) (s : State) (used : List QuotaCount) (redeemed
 broken_of rows s used redeemed a b d rule first h =
     let is = filled_file rows s used redeemed a b d in
     subst (IsLeastBroken rule) is (h rows.organizer rows.event (subst KeepsFirst (sym is) first))
-
-pub kept_of : (rows : FileRows) (s : State) (used : List QuotaCount) (redeemed : List VoucherCount) → s ≡ state_of rows → used ≡ rows.used.items → redeemed ≡ rows.redeemed.items → KeepsFirst (file_of rows) → KeepsAll (file_with s used redeemed) → (rule : Rule) → Keeps rule (file_of rows)
-kept_of rows s used redeemed a b d first h rule =
-    let is = filled_file rows s used redeemed a b d in
-    subst (Keeps rule) is (h rows.organizer rows.event rule (subst KeepsFirst (sym is) first))
 
 -- why the rows of an office are broken is why the file isn't opened
 pub why : (read : FileTables) (file : File) (e : OpenError) → file ≡ arranged read.shop read.tables → IsInOrder (arranged read.shop read.tables) → AreBelowNext read.shop read.tables.others.tokens.items → AreRowsOf (arranged read.shop read.tables).state.lists (rows_in read.tables) → IsBroken file e → IsWhy read e

@@ -39,9 +39,6 @@ stays_true : (b : Bool) → (b && true) ≡ b
 stays_true true = refl
 stays_true false = refl
 
-by_rowid : Term
-by_rowid = equals (col 1 0) (col 0 0)
-
 pub passes_rowid : (id : ℤ) (more : Row) (r : Row) → passes (equals (col 1 0) (col 0 0) ∷ []) (Int id ∷ more) r ≡ has_rowid id r
 passes_rowid id more r = stays_true _ ∙ equals_rowid (rowid r) id
 

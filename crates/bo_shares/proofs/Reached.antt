@@ -1,10 +1,10 @@
 -- Counting the quotas that a change can touch counts them all.
-use Rattle.std.proofs.Common.{◌≡◌, ◌≢◌, ◌&&◌, not, OnOk, OnErr, Result, Ok, Err, option_copied, ℕ, zero, suc, ◌+◌, ◌<◌, ◌≤◌, ◌⊎◌, inl, inr, Bool, true, false, eqb, List, [], ◌∷◌, ◌++◌, length, take, get_or, count_by, Option, Some, None, refl, sym, ap, ◌∙◌, subst, arith}
+use Rattle.std.proofs.Common.{◌≡◌, ◌≢◌, OnOk, OnErr, Result, Ok, Err, ℕ, zero, suc, ◌+◌, ◌<◌, ◌⊎◌, inl, inr, Bool, true, false, eqb, List, [], ◌∷◌, ◌++◌, length, take, get_or, count_by, Option, Some, None, refl, sym, ap, ◌∙◌, arith}
 use Rattle.std.specs.Prelude.{◌||◌, if◌then◌else◌, map, filter}
 use Rattle.std.specs.List.{AllByRecursion}
 use Rattle.std.specs.Result.{is_err}
 use Rattle.std.proofs.lemmas.Bool.Decides.{nat_tests, eqb_tells}
-use Rattle.std.proofs.lemmas.List.{take_more, take_all}
+use Rattle.std.proofs.lemmas.List.{take_more}
 use Rattle.bo_sorted.specs.Tables.{has, row_at, InOrderFrom, AreInOrder, IsPlace, IsGap}
 use Rattle.bo_sorted.specs.Rising.{rising}
 use Rattle.bo_sorted.proofs.Edits.{row_at_above}
@@ -16,14 +16,11 @@ use Rattle.bo_catalogue.specs.CatalogueLists.{CatalogueLists, quota_at, quotas_o
 use Rattle.bo_catalogue.specs.Member.{is_in}
 use Rattle.bo_lists.proofs.Found.{each_found}
 use Rattle.bo_lists.specs.declared.rows.Voucher.{Voucher}
-use Rattle.bo_lists.specs.Conditions.{hits, hits_by, hits_by_product, blocks}
 use Rattle.bo_lists.specs.Usage.{blocks_if}
-use Rattle.bo_shares.specs.declared.shift.Spot.{Spot}
-use Rattle.bo_shares.specs.Shift.{once, spot_share}
 use Rattle.bo_tally.specs.declared.tally.Count.{Count}
 use Rattle.bo_tally.specs.Counts.{came, went, GoesOn}
 use Rattle.bo_tally.proofs.Newest.{on_same, on_both}
-use Rattle.bo_shares.specs.Counts.{value_at, if_any, IsMore}
+use Rattle.bo_shares.specs.Counts.{value_at, IsMore}
 use Rattle.bo_shares.specs.Touched.{IsOther, NoOther, NoneElse, Keeps, among, at_id}
 use Rattle.bo_shares.proofs.Values.{count_push}
 
@@ -42,9 +39,6 @@ neither false b h = (refl, h)
 
 pub keeps_all : (ids : List ℕ) → Keeps ids ids
 keeps_all ids id h = h
-
-pub keeps_more : (old more new : List ℕ) → new ≡ old ++ more → Keeps old new
-keeps_more old more new is id h = (neither (has id old) (has id more) (sym (ap (has id) is ∙ has-append id old more) ∙ h)).0
 
 pub absent_more : (old more new : List ℕ) → new ≡ old ++ more → (id : ℕ) → has id new ≡ false → has id more ≡ false
 absent_more old more new is id h = (neither (has id old) (has id more) (sym (ap (has id) is ∙ has-append id old more) ∙ h)).1
@@ -81,10 +75,6 @@ no_other_of ids lists product all quota other = listed_at (λ q. is_in q product
 
 -- ---- places
 module _ {T : Type 0} (key : T → ℕ) (f : T → ℕ) (id : ℕ) where
-  -- a row of another id has none
-  at_key : T → ℕ
-  at_key r = if eqb (key r) id then f r else 0
-
   pub value_absent : (rows : List T) (place : ℕ) → row_at key id rows ≡ None → value_at (λ r. if eqb (key r) id then f r else 0) rows place ≡ 0
   value_absent [] place none = refl
   value_absent (r ∷ rs) place none = by_id (eqb (key r) id) refl none place (value_absent rs)
@@ -172,10 +162,6 @@ more_start f g quotas counts = record { comes = λ place. omega (arith, nothing 
     nothing h (r ∷ rs) zero = refl
     nothing h (r ∷ rs) (suc place) = nothing h rs place
 
--- all were reached
-pub more_whole : (f g : Quota → ℕ) (quotas : List Quota) (ids : List ℕ) (i : ℕ) (old new : List Count) → length ids ≤ i → IsMore (among (take i ids) f) (among (take i ids) g) quotas old new → IsMore (among ids f) (among ids g) quotas old new
-more_whole f g quotas ids i old new le is = subst (λ l. IsMore (among l f) (among l g) quotas old new) (take_all i ids le) is
-
 -- no other quota has any of it
 pub more_all : (f g : Quota → ℕ) (lists : CatalogueLists) (given ids : List ℕ) (old new : List Count) → AreInOrder (λ (r : Quota). r.id) lists.quotas → ids ≡ rising given → NoneElse given lists f → NoneElse given lists g → IsMore (among ids f) (among ids g) lists.quotas old new → IsMore f g lists.quotas old new
 more_all f g lists given ids old new order is no_f no_g more = record {
@@ -201,32 +187,9 @@ no_more_pass test spots i d old new lists lt is keeps before here q other =
     ∙ omega (arith, before q (other_before old new lists q keeps other), ap {B = ℕ} (λ b. if b then 1 else 0) (ap (test q) (sym is) ∙ here q other))
 
 -- ---- one place, and one voucher
-pub no_spot : (ids : List ℕ) (lists : CatalogueLists) (spot : Option Spot) → spot ≡ None → (at : ℕ) → NoneElse ids lists (λ q. if_any spot (λ p. spot_share at q p.product (option_copied p.voucher)))
-no_spot ids lists spot is at q other = ap (λ (o : Option Spot). if_any o (λ p. spot_share at q p.product (option_copied p.voucher))) is
-
-pub spot_elsewhere : (ids : List ℕ) (lists : CatalogueLists) (spot : Option Spot) (s : Spot) → spot ≡ Some s → NoOther ids lists (λ q. is_in q s.product) → (at : ℕ) → NoneElse ids lists (λ q. if_any spot (λ p. spot_share at q p.product (option_copied p.voucher)))
-spot_elsewhere ids lists spot s is none at q other =
-    ap (λ (o : Option Spot). if_any o (λ p. spot_share at q p.product (option_copied p.voucher))) is ∙ ap (λ (b : Bool). once (b && not (blocks_if at q (option_copied s.voucher)))) (none q other)
-
-pub named_elsewhere : (old new : List ℕ) (lists : CatalogueLists) (voucher : Voucher) (id : ℕ) → voucher.quota ≡ Some id → new ≡ old ++ id ∷ [] → NoOther new lists (λ q. hits q voucher)
-named_elsewhere old new lists voucher id is more q other =
-    ap (λ (o : Option ℕ). hits_by q o voucher) is ∙ (neither (eqb id q.id) false (absent_more old (id ∷ []) new more q.id other.absent)).0
-
-pub hits_nothing : (ids : List ℕ) (lists : CatalogueLists) (voucher : Voucher) → voucher.quota ≡ None → voucher.item ≡ None → NoOther ids lists (λ q. hits q voucher)
-hits_nothing ids lists voucher is item q other = ap (λ (o : Option ℕ). hits_by q o voucher) is ∙ ap (λ (o : Option ℕ). hits_by_product q o voucher.variation) item
-
-pub product_elsewhere : (ids : List ℕ) (lists : CatalogueLists) (voucher : Voucher) (item : ℕ) → voucher.quota ≡ None → voucher.item ≡ Some item → NoOther ids lists (λ q. is_in q (record { item = item; variation = voucher.variation })) → NoOther ids lists (λ q. hits q voucher)
-product_elsewhere ids lists voucher item is named none q other =
-    ap (λ (o : Option ℕ). hits_by q o voucher) is ∙ ap (λ (o : Option ℕ). hits_by_product q o voucher.variation) named ∙ none q other
 
 pub no_voucher : (ids : List ℕ) (lists : CatalogueLists) (voucher : Option Voucher) → voucher ≡ None → (at : ℕ) → NoOther ids lists (λ q. blocks_if at q voucher)
 no_voucher ids lists voucher is at q other = ap (blocks_if at q) is
-
-pub blocks_elsewhere : (ids : List ℕ) (lists : CatalogueLists) (voucher : Option Voucher) (v : Voucher) → voucher ≡ Some v → NoOther ids lists (λ q. hits q v) → (at : ℕ) → NoOther ids lists (λ q. blocks_if at q voucher)
-blocks_elsewhere ids lists voucher v is none at q other = ap (blocks_if at q) is ∙ unhit v at q (none q other)
-  where
-    unhit : (v : Voucher) (at : ℕ) (q : Quota) → hits q v ≡ false → blocks at q v ≡ false
-    unhit v at q none = grind (arith, nat_tests, none)
 
 pub on_ok_three : {A E : Type 0} {P Q R S : Type 0} (r : Result A E) → (P → Q → R → S) → OnOk r P → OnOk r Q → OnOk r R → OnOk r S
 on_ok_three (Ok x) f p q r = f p q r

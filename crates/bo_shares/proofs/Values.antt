@@ -1,26 +1,12 @@
 -- The values of a list by place.
-use Rattle.std.proofs.Common.{◌≡◌, ℕ, zero, suc, ◌+◌, ◌<◌, Bool, false, eqb, List, [], ◌∷◌, ◌++◌, length, take, get_or, count_by, refl, ap, ◌∙◌, arith, add-one}
+use Rattle.std.proofs.Common.{◌≡◌, ℕ, zero, suc, ◌+◌, ◌<◌, Bool, List, [], ◌∷◌, ◌++◌, length, take, get_or, count_by, refl, ap, ◌∙◌, arith}
 use Rattle.std.specs.Prelude.{if◌then◌else◌}
-use Rattle.std.proofs.lemmas.Bool.Decides.{nat_tests}
 use Rattle.std.proofs.lemmas.List.{take_more}
 use Rattle.std.proofs.lemmas.List.Sums.{sum_by-cons}
 use Rattle.bo_tally.specs.declared.tally.Count.{Count}
-use Rattle.bo_tally.specs.Counts.{came, went, GoesOn}
-use Rattle.bo_tally.proofs.Newest.{on_same, on_both}
+use Rattle.bo_tally.specs.Counts.{came, went}
+use Rattle.bo_tally.proofs.Newest.{on_same}
 use Rattle.bo_shares.specs.Counts.{value_at, IsMore}
-
--- one more row has its value at its own place
-pub value_more : {T : Type 0} (f : T → ℕ) (rows : List T) (i : ℕ) (d : T) (place : ℕ) → i < length rows → value_at f (take (i + 1) rows) place ≡ value_at f (take i rows) place + (if eqb i place then f (get_or rows i d) else 0)
-value_more f [] i d place lt = absurd (omega arith)
-value_more f (r ∷ rs) zero d zero lt = omega arith
-value_more f (r ∷ rs) zero d (suc place) lt = let other : eqb 0 (suc place) ≡ false = grind (arith, nat_tests) in rw other refl
-value_more f (r ∷ rs) (suc i) d zero lt = let other : eqb (suc i) 0 ≡ false = grind (arith, nat_tests) in rw (add-one, other) (omega arith)
-value_more f (r ∷ rs) (suc i) d (suc place) lt =
-    let same : eqb (suc i) (suc place) ≡ eqb i place = grind (arith, nat_tests) in
-    rw (add-one, same) (rw add-one at (value_more f rs i d place (omega arith)))
-
-pub value_none : {T : Type 0} (f : T → ℕ) (place : ℕ) → value_at f [] place ≡ 0
-value_none f place = refl
 
 -- where rows add up, their values do
 pub values_add : {T : Type 0} (f g h k : T → ℕ) (rows : List T) (place : ℕ) → ((r : T) → f r + g r ≡ h r + k r) → value_at f rows place + value_at g rows place ≡ value_at h rows place + value_at k rows place
@@ -56,13 +42,6 @@ more_same f f' g g' rows old new same same' is = record {
     values_same f f' (r ∷ rs) (suc place) same = values_same f f' rs place same
 
 -- one more row of the list is counted
-pub more_step : {T : Type 0} (f g : T → ℕ) (rows : List T) (i : ℕ) (r : T) → i < length rows → r ≡ get_or rows i r → (x y : ℕ) → x ≡ f r → y ≡ g r → (old mid new : List Count) → IsMore f g (take i rows) old mid → ((key : ℕ) → came key new ≡ came key mid + (if eqb i key then x else 0)) → ((key : ℕ) → went key new ≡ went key mid + (if eqb i key then y else 0)) → GoesOn mid new → IsMore f g (take (i + 1) rows) old new
-more_step f g rows i r lt is x y come gone old mid new before comes goes on = record {
-  comes = λ place. omega (arith, comes place, before.comes place, value_more f rows i r place lt, ap (λ n. if eqb i place then n else 0) (come ∙ ap f is));
-  goes = λ place. omega (arith, goes place, before.goes place, value_more g rows i r place lt, ap (λ n. if eqb i place then n else 0) (gone ∙ ap g is));
-  on = on_both old mid new before.on on;
-}
-
 pub count_push : {T : Type 0} (f : T → Bool) (rows : List T) (r : T) → count_by f (rows ++ r ∷ []) ≡ count_by f rows + (if f r then 1 else 0)
 count_push f [] r = sum_by-cons (λ s. if f s then 1 else 0) r [] ∙ omega arith
 count_push f (s ∷ ss) r = omega (arith, count_push f ss r, sum_by-cons (λ t. if f t then 1 else 0) s ss, sum_by-cons (λ t. if f t then 1 else 0) s (ss ++ r ∷ []))

@@ -295,7 +295,7 @@ fn with_position<B: Book>(
 
 // A voucher that comes in the place of an id, and one that goes.
 #[derive(Drop)]
-struct Turn<'o, 'a, B: Book> {
+struct VoucherTurn<'o, 'a, B: Book> {
     overlay: &'o Overlay<'a, B>,
     at: Moment,
     id: u64,
@@ -304,7 +304,7 @@ struct Turn<'o, 'a, B: Book> {
     gone: Option<&'o Voucher>,
 }
 
-impl<'o, 'a, B: Book> Share for Turn<'o, 'a, B> {
+impl<'o, 'a, B: Book> Share for VoucherTurn<'o, 'a, B> {
     ghost come = { λ t q. turned_by (blocks_if t.at q (option_copied t.come)) (blocks_if t.at q (option_copied t.gone)) (left_of t.redeemed (option_copied t.come)) (held_in t.at q t.id (rows_of t.overlay.now)) };
 
     ghost gone = { λ t q. turned_by (blocks_if t.at q (option_copied t.gone)) (blocks_if t.at q (option_copied t.come)) (left_of t.redeemed (option_copied t.gone)) (held_in t.at q t.id (rows_of t.overlay.now)) };
@@ -385,7 +385,7 @@ fn with_voucher<B: Book>(
         counts,
         alloc,
         catalogue,
-        &Turn {
+        &VoucherTurn {
             overlay,
             at,
             id,

@@ -79,10 +79,6 @@ module _ (lists : Lists) (from to x : ℕ) (le : from ≤ to) where
   first_and true b = refl
   first_and false b = refl
 
-  named_use : (o : Option CartPos) → one_use x (named_by o) ≡ sum_at (λ c. one (names x c.voucher)) o
-  named_use None = refl
-  named_use (Some c) = refl
-
   -- those that have ended, one after another
   pub held_ended : (ids : List ℕ) → Finds (λ r. r.id) (is_due_cart from to) lists.carts ids → turn_each false (map (λ i. named_by (cart_at i lists)) ids) (λ n. held from n lists) x ≡ held to x lists
   held_ended ids finds =

@@ -10,5 +10,4 @@ pub mod TurnLemmas
 pub mod Positions
 pub mod Ending
 pub mod HoldLemmas
-pub mod DropLemmas
 pub mod PlaceLemmas

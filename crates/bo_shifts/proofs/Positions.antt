@@ -49,9 +49,6 @@ counted_of lists new at us rs vouchers catalogue small counted = record {
 }
 
 module _ (lists : Lists) (at : ℕ) (kept : IsKept 4294967296 lists) where
-  in_quota : Quota → OrderPos → Bool
-  in_quota quota p = is_in quota p.product
-
   -- a position comes into the counts by status
   position_counts_as : (test : Status → Bool) (quota : Quota) (p : OrderPos) → moved (count_by (position_counts test lists quota) lists.positions) (status_share test lists quota (Some p)) (status_share test lists quota (position_at p.id lists)) ≡ count_by (position_counts test lists quota) (with_row (λ r. r.id) p lists.positions)
   unfolding status_share

@@ -15,11 +15,6 @@ use Rattle.bo_lists.proofs.Time.{eqb_flip}
 use Rattle.bo_shifts.specs.Shifts.{map_beside, only}
 
 module _ {X Y : Type 0} where
-  pub length_after : (f : X → Y → Y) (xs : List X) (ys : List Y) → length ys ≡ length xs → length (map_beside f xs ys) ≡ length ys
-  length_after f [] ys e = refl
-  length_after f (x ∷ xs) [] e = absurd (omega (arith, e))
-  length_after f (x ∷ xs) (y ∷ ys) e = omega (arith, length_after f xs ys (omega (arith, e)))
-
   -- one shift after another
   pub beside_beside : (f g h : X → Y → Y) (xs : List X) (ys : List Y) → ((x : X) (y : Y) → g x (f x y) ≡ h x y) → map_beside g xs (map_beside f xs ys) ≡ map_beside h xs ys
   beside_beside f g h [] ys e = refl

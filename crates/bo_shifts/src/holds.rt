@@ -1,8 +1,6 @@
 //! How many live cart positions name each voucher, kept beside the vouchers.
 
 ghost use Rattle.std.specs.Prelude.{◌≡◌, ◌≤◌, ◌&&◌, ℕ, count_by, length, map, vec_capacity, Some, true, false};
-ghost use Rattle.std.specs.Option.{option_copied};
-ghost use Rattle.bo_sorted.specs.Dropped.{without_rows};
 ghost use Rattle.bo_sorted.specs.Tables.{AreInOrder};
 ghost use Rattle.bo_lists.specs.Change.{after_change};
 ghost use Rattle.bo_lists.specs.CameDue.{is_due_cart};
@@ -17,7 +15,7 @@ ghost use Rattle.bo_shifts.specs.Turns.{turn};
 use crate::turns::{turned, vouchers};
 use bo_base::Moment;
 use bo_lists::{CartPos, Change, Voucher};
-use bo_sorted::{id_at, place_of};
+use bo_sorted::place_of;
 use bo_store::Store;
 use bo_store::ids::count_one;
 use bo_usage::LookUps;
@@ -66,28 +64,6 @@ pub fn hold_drop(store: &Store, holds: &mut Vec<u64>, id: u64)
     store.known();
     let gone = held_name(store.moment(), store.cart(id));
     turn_one(vouchers(store), holds, gone, false);
-}
-
-// The voucher of which the cart position of an id holds a use.
-fn held_at(store: &Store, id: u64) -> Option<u64>
-    ensures { result ≡ held_name store.now.state.moment (cart_at id store.now.state.lists) }
-{
-    held_name(store.moment(), store.cart(id))
-}
-
-/// The numbers where the cart positions of these ids are dropped, which rise.
-pub fn hold_drops(store: &Store, holds: &mut Vec<u64>, ids: &[u64])
-    requires rising { AreInOrder (λ n. n) ids.now }
-    requires held { AreHeld store.now.state.lists store.now.state.moment holds.old.items }
-    ensures held { AreHeld (record store.now.state.lists { carts = without_rows (λ c. c.id) ids.now store.now.state.lists.carts }) store.now.state.moment holds.new.items }
-    ensures room { vec_capacity holds.new ≡ vec_capacity holds.old }
-    ensures same { length holds.new.items ≡ length holds.old.items }
-{
-    store.known();
-    for place in 0..ids.len() {
-        let name = held_at(store, id_at(ids, place));
-        turn_one(vouchers(store), holds, name, false);
-    }
 }
 
 // The voucher that the cart position of an id names.

@@ -3,7 +3,6 @@
 
 pub mod blocking;
 pub mod carts;
-pub mod dropping;
 pub mod holds;
 pub mod passing;
 pub mod shift;

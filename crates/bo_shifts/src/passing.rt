@@ -12,7 +12,6 @@ use crate::turns::redeemed_in;
 use bo_base::Moment;
 use bo_index::Found;
 use bo_lists::Usage;
-use bo_sorted::id_at;
 use bo_store::Store;
 use bo_usage::LookUps;
 
@@ -51,19 +50,6 @@ fn lapse_each(store: &Store, usages: &mut Vec<Usage>, ids: &Found<'_>)
     let from = store.moment();
     for place in 0..ids.len() {
         cart_goes(store, usages, from, store.cart(ids.at(place)));
-    }
-}
-
-/// The usages where the cart positions of these ids are dropped.
-pub fn drop_each(store: &Store, usages: &mut Vec<Usage>, ids: &[u64])
-    requires same { length usages.old.items ≡ length store.now.state.lists.catalogue.quotas }
-    ensures items { usages.new.items ≡ map_beside (lapse_shift store.now.state.lists store.now.state.moment ids.now) store.now.state.lists.catalogue.quotas usages.old.items }
-    ensures room { vec_capacity usages.new ≡ vec_capacity usages.old }
-    ensures same { length usages.new.items ≡ length usages.old.items }
-{
-    let from = store.moment();
-    for place in 0..ids.len() {
-        cart_goes(store, usages, from, store.cart(id_at(ids, place)));
     }
 }
 

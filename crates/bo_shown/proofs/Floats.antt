@@ -4,7 +4,6 @@ use Rattle.serde_json.specs.Data.{object, no_members}
 use Rattle.serde_json.specs.Written.{has_float}
 use Rattle.bo_catalogue.specs.declared.rows.PricedVariation.{PricedVariation}
 use Rattle.bo_catalogue.specs.declared.rows.Quota.{Quota}
-use Rattle.bo_catalogue.specs.declared.rows.Variation.{Variation}
 use Rattle.bo_lists.specs.declared.rows.CartPos.{CartPos}
 use Rattle.bo_lists.specs.declared.rows.Voucher.{Voucher}
 use Rattle.bo_shown.specs.Values.{integer, count_or_null, money_or_null, moment_or_null, text_or_null}
@@ -15,7 +14,7 @@ use Rattle.bo_lists.specs.declared.rows.Checkin.{Checkin}
 use Rattle.bo_shown.specs.OrderRows.{position_body, order_members}
 use Rattle.bo_shown.specs.WaitingRows.{waiting_body}
 use Rattle.bo_shown.specs.DoorRows.{checkin_body, admitted_body}
-use Rattle.bo_shown.specs.Rows.{variation_body, priced_body, quota_members, cart_body, voucher_body}
+use Rattle.bo_shown.specs.Rows.{priced_body, quota_members, cart_body, voucher_body}
 
 number_no_float : (n : Option ℕ) → has_float (count_or_null n) ≡ false
 number_no_float None = refl
@@ -32,9 +31,6 @@ moment_no_float (Some at) = refl
 words_no_float : (text : Option (List ℕ)) → has_float (text_or_null text) ≡ false
 words_no_float None = refl
 words_no_float (Some text) = refl
-
-pub variation_no_float : (price : ℕ) (v : Variation) → has_float (variation_body price v) ≡ false
-variation_no_float price v = rw (money_no_float v.default_price) refl
 
 pub priced_no_float : (p : PricedVariation) → has_float (priced_body p) ≡ false
 priced_no_float p = rw (money_no_float p.row.default_price) refl

@@ -1,4 +1,3 @@
 pub mod Places
 pub mod RisingLemmas
 pub mod Edits
-pub mod Drops

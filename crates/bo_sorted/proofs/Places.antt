@@ -1,5 +1,6 @@
 -- What a search finds among rows in order, and what an edit at that place does.
-use Rattle.std.proofs.Common.{◌≡◌, ℕ, zero, suc, ◌+◌, ◌-◌, ◌<◌, ◌≤◌, ◌≢◌, List, [], ◌∷◌, length, get_or, set, Some, None, Result, Ok, Err, IfOk, IfErr, true, false, eqb, leb, ◌⊎◌, inl, inr, refl, sym, ap, subst, arith}
+use Rattle.std.proofs.Common.{◌≡◌, ℕ, zero, suc, ◌+◌, ◌-◌, ◌<◌, ◌≤◌, ◌≢◌, Bool, cond, List, [], ◌∷◌, length, get_or, set, Some, None, Result, Ok, Err, IfOk, IfErr, true, false, eqb, leb, ◌⊎◌, inl, inr, refl, sym, ap, subst, arith}
+use Rattle.std.specs.Prelude.{filter}
 use Rattle.std.specs.List.{insert, remove}
 use Rattle.std.specs.List.Sorted.{IsSearchInRange, IsBinarySearchResult, IsNonDecreasingBy}
 use Rattle.std.specs.Ordering.{nat_cmp, ordering_index}
@@ -16,6 +17,15 @@ module _ {T : Type 0} (key : T → ℕ) where
   at_least n [] h i d lt = absurd (omega arith)
   at_least n (r ∷ rs) h zero d lt = h.0
   at_least n (r ∷ rs) h (suc i) d lt = omega (arith, h.0, at_least (key r + 1) rs h.1 i d (omega arith))
+
+  -- rows that pass stay in order
+  pub filter_in_order : (test : T → Bool) (n : ℕ) (rows : List T) → InOrderFrom key n rows → InOrderFrom key n (filter test rows)
+  filter_in_order test n [] h = tt
+  filter_in_order test n (r ∷ rs) h = by_test (test r) (filter_in_order test (key r + 1) rs h.1)
+    where
+      by_test : (b : Bool) → InOrderFrom key (key r + 1) (filter test rs) → InOrderFrom key n (cond b (r ∷ filter test rs) (filter test rs))
+      by_test true more = (h.0, more)
+      by_test false more = order_weaker (key r + 1) n (filter test rs) (omega (arith, h.0)) more
 
   rises : (n : ℕ) (rows : List T) → InOrderFrom key n rows → (i j : ℕ) (d : T) → i < j → j < length rows → key (get_or rows i d) < key (get_or rows j d)
   rises n [] h i j d lt in_range = absurd (omega arith)

@@ -1,3 +1,2 @@
 pub mod Tables
-pub mod Dropped
 pub mod Rising

@@ -1,6 +1,6 @@
 //! Lists of ids.
 
-ghost use Rattle.std.specs.Prelude.{◌≡◌, ◌<◌, ℕ, length, slice_index_or, IfOk};
+ghost use Rattle.std.specs.Prelude.{◌≡◌, IfOk};
 ghost use Rattle.bo_sorted.specs.Rising.{rising};
 ghost use Rattle.bo_sorted.specs.Tables.{has};
 
@@ -65,14 +65,6 @@ impl Ids {
     {
         place_of(&self.ids, id).is_ok()
     }
-}
-
-/// The id at a place.
-pub fn id_at(ids: &[u64], place: usize) -> u64
-    requires { place < length ids.now }
-    ensures { (d : ℕ) → slice_index_or ids.now place d ≡ result }
-{
-    ids[place]
 }
 
 impl Row for u64 {

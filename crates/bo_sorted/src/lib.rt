@@ -4,5 +4,5 @@
 pub mod ids;
 pub mod rows;
 
-pub use ids::{Ids, id_at};
+pub use ids::Ids;
 pub use rows::{Row, Rows, place_of};

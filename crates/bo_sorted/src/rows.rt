@@ -1,17 +1,12 @@
 //! Tables of rows in order of id.
 
-ghost use Rattle.std.specs.Prelude.{◌≡◌, ◌≤◌, ◌<◌, ◌+◌, ℕ, [], true, length, IfOk, IfErr, OnOk, OnErr, IsOk, vec_capacity};
+ghost use Rattle.std.specs.Prelude.{◌≡◌, ◌≤◌, ◌<◌, ◌+◌, ℕ, [], true, length, IfOk, IfErr, OnOk, OnErr, vec_capacity};
 ghost use Rattle.std.specs.List.{insert};
 ghost use Rattle.std.specs.Option.{option_copied, IfSome};
-ghost use Rattle.bo_sorted.specs.Dropped.{without_rows};
-ghost use Rattle.bo_sorted.specs.Tables.{Table, has, row_at, with_row, without_row, AreInOrder, AreKept, IsPlace, IsGap};
+ghost use Rattle.bo_sorted.specs.Tables.{Table, row_at, with_row, without_row, AreInOrder, AreKept, IsPlace, IsGap};
 
-use crate::ids::id_at;
 use std::alloc::{AllocError, Global};
 use std::marker::Model;
-
-// So many rows are dropped one after another, and more in one pass.
-const FEW: usize = 64;
 
 /// A row with an id.
 pub trait Row {
@@ -130,46 +125,6 @@ impl<T: Row + Drop> Rows<T> {
             let _ = self.rows.remove(at);
         }
     }
-
-    /// Removes the rows of these ids, which rise. Fewer than 64 go one after another, and each moves the rows behind it;
-    /// more go in one pass over the rows, however many they are.
-    pub fn delete_all(&mut self, ids: &[u64])
-        requires rising { AreInOrder (λ n. n) ids.now }
-        ensures rows { self.new.rows ≡ without_rows T.key ids.now self.old.rows }
-        ensures room { self.old.room ≤ self.new.room }
-    {
-        if ids.len() < FEW {
-            self.delete_each(ids);
-        } else {
-            self.sweep(ids);
-        }
-    }
-
-    // The same, one after another.
-    fn delete_each(&mut self, ids: &[u64])
-        ensures rows { self.new.rows ≡ without_rows T.key ids.now self.old.rows }
-        ensures room { self.old.room ≤ self.new.room }
-    {
-        for place in 0..ids.len() {
-            self.delete(id_at(ids, place));
-        }
-    }
-
-    // The same in one pass.
-    fn sweep(&mut self, ids: &[u64])
-        requires rising { AreInOrder (λ n. n) ids.now }
-        ensures rows { self.new.rows ≡ without_rows T.key ids.now self.old.rows }
-        ensures room { self.old.room ≤ self.new.room }
-    {
-        self.rows.retain(|row| !is_among(ids, row.id()));
-    }
-}
-
-// Whether the id is among these, if they rise.
-fn is_among(ids: &[u64], id: u64) -> bool
-    ensures { AreInOrder (λ n. n) ids.now → result ≡ has id ids.now }
-{
-    ids.binary_search(&id).is_ok()
 }
 
 /// Where the row of an id is in rows in order of id, or where it would go. Where as many rows stand before it as ids, or it goes

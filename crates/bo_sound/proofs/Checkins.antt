@@ -8,7 +8,6 @@ use Rattle.bo_catalogue.specs.declared.rows.Item.{Item}
 use Rattle.bo_lists.specs.declared.rows.OrderPos.{OrderPos}
 use Rattle.bo_lists.specs.declared.rows.CheckinList.{CheckinList}
 use Rattle.bo_lists.specs.declared.rows.Checkin.{Checkin}
-use Rattle.bo_lists.specs.declared.changes.Change.{Change}
 use Rattle.bo_lists.specs.declared.changes.Change.TheVariants.{PutItem, PutPosition, PutCheckinList, PutCheckin}
 use Rattle.bo_lists.specs.Lists.{Lists, State, no_rows}
 use Rattle.bo_lists.specs.Change.{after_change}
@@ -79,20 +78,6 @@ module _ (lists : Lists) (h : IsDoorOf lists) where
     checked = all-with_row (λ r. r.id) (IsCheckedIn lists.checkin_lists lists.positions) row lists.checkins is h.checked;
     nonces = once_put row lists.checkins below new h.nonces;
   }
-
--- what has to hold of a row of the door's tables that is put
-abbrev pub FitsDoor : Change → Lists → Type 0
-FitsDoor (PutCheckinList row) lists = HasItems lists.catalogue.items row
-FitsDoor (PutCheckin row) lists = AllByRecursion (λ c. c.id < row.id) lists.checkins × (IsCheckedIn lists.checkin_lists lists.positions row × (is_repeated row lists.checkins ≡ false))
-FitsDoor _ lists = Unit {0}
-
--- any change
-pub door_after : (change : Change) (lists : Lists) → FitsDoor change lists → IsDoorOf lists → IsDoorOf (after_change change lists)
-door_after (PutItem row) lists fits h = door_put_item lists h row
-door_after (PutPosition row) lists fits h = door_put_position lists h row
-door_after (PutCheckinList row) lists fits h = door_put_list lists h row fits
-door_after (PutCheckin row) lists fits h = door_put_checkin lists h row fits.0 fits.1.0 fits.1.1
-door_after _ lists fits h = h
 
 -- a new check-in, which gets the next id; that ids stay numbered is `numbered_put`, for these tables as for any
 pub door_new_checkin : (state : State) (row : Checkin) → row.id ≡ state.next.checkin → AllByRecursion (λ c. c.id < state.next.checkin) state.lists.checkins → IsCheckedIn state.lists.checkin_lists state.lists.positions row → is_repeated row state.lists.checkins ≡ false → IsDoorOf state.lists → IsDoorOf (with_checkin row state).lists

@@ -1,14 +1,13 @@
 //! Tables of rows in order of id, of which many come and go.
 
-ghost use Rattle.std.specs.Prelude.{◌≡◌, ◌≤◌, ◌<◌, ◌+◌, ◌-◌, ◌*◌, ℕ, [], length, map, take, drop, IfOk, OnOk, OnErr, IsTrue, vec_capacity};
+ghost use Rattle.std.specs.Prelude.{◌≡◌, ◌≤◌, ◌<◌, ◌+◌, ◌-◌, ◌*◌, [], length, map, IfOk, OnOk, OnErr, vec_capacity};
 ghost use Rattle.std.specs.Option.{option_copied};
-ghost use Rattle.bo_sorted.specs.Dropped.{without_rows};
 ghost use Rattle.bo_sorted.specs.Tables.{Table, row_at, with_row, without_row, AreInOrder, AreKept};
 ghost use Rattle.bo_sparse.specs.Slots.{slot_key, rows_in, count_if};
 
 use crate::iter::Iter;
 use crate::slot::Slot;
-use bo_sorted::{Row, id_at, place_of};
+use bo_sorted::{Row, place_of};
 use std::alloc::{AllocError, Global};
 use std::marker::Model;
 
@@ -139,16 +138,6 @@ impl<T: Row + Drop> Sparse<T> {
         leave_slot(&mut self.slots, id);
         close_gaps(&mut self.slots, left);
         self.len = left;
-    }
-
-    /// Removes the rows of these ids.
-    pub fn delete_all(&mut self, ids: &[u64])
-        ensures rows { self.new.rows ≡ without_rows T.key ids.now self.old.rows }
-        ensures room { self.old.room ≤ self.new.room }
-    {
-        for place in 0..ids.len() {
-            self.delete(id_at(ids, place));
-        }
     }
 }
 

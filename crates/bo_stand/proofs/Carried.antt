@@ -30,7 +30,6 @@ use Rattle.bo_stand.specs.RowsAfter.{put_row}
 use Rattle.bo_stand.specs.Stands.{AreRowsOf, AreOrdered, IsRising, Stand}
 use Rattle.bo_stand.proofs.Changed.{row_put}
 use Rattle.bo_stand.proofs.Counting.{counting_starts, quotas_counted, vouchers_counted, of_voucher}
-use Rattle.bo_stand.proofs.Counts.{filter_in_order}
 use Rattle.bo_stand.proofs.EachRow.{set_vouchers}
 use Rattle.bo_stand.specs.Turned.{AreTurned}
 use Rattle.bo_stand.proofs.Follow.{Stays, follows, stays, still_free, counts_follow}

@@ -6,7 +6,8 @@ use Rattle.std.proofs.lemmas.Bool.Decides.{nat_tests}
 use Rattle.bo_sorted.specs.Tables.{row_at, with_row, without_row, InOrderFrom, AreInOrder}
 use Rattle.bo_sorted.proofs.Edits.{row_at-with_row, row_at_above}
 use Rattle.bo_stand.specs.Counts.{with_all}
-use Rattle.bo_stand.proofs.Order.{weaker, put_stays}
+use Rattle.bo_sorted.proofs.Places.{filter_in_order}
+use Rattle.bo_stand.proofs.Order.{put_stays}
 
 -- the row that was found, or else this one
 abbrev pub found_or : {T : Type 0} → Option T → Option T → Option T
@@ -92,13 +93,6 @@ module _ {T : Type 0} (key : T → ℕ) where
           | false ↦ more
         ]
       ] refl
-
-  pub filter_in_order : (p : T → Bool) (n : ℕ) (rows : List T) → InOrderFrom key n rows → InOrderFrom key n (filter p rows)
-  filter_in_order p n [] h = tt
-  filter_in_order p n (r ∷ rows) h = elim (p r) as (λ b. InOrderFrom key n (cond b (r ∷ filter p rows) (filter p rows))) [
-    | true ↦ (h.0, filter_in_order p (key r + 1) rows h.1)
-    | false ↦ weaker key (key r + 1) n (filter p rows) (omega (arith, h.0)) (filter_in_order p (key r + 1) rows h.1)
-  ]
 
 -- counts, of which a test tells whether two are the same
 module _ {T : Type 0} (key : T → ℕ) (same : T → T → Bool) (tells : (a b : T) → same a b ≡ true → a ≡ b) where

@@ -7,7 +7,8 @@ use Rattle.std.proofs.lemmas.List.Sorted.{IsPermutation-refl, IsPermutation-sym,
 use Rattle.sqlite_trees.proofs.ListLemmas.{IsPermutation-filter, IsPermutation-flat_map}
 use Rattle.bo_sorted.specs.Tables.{with_row, without_row, InOrderFrom, AreInOrder}
 use Rattle.bo_stand.specs.Links.{Link, links, all_links, links_but}
-use Rattle.bo_stand.proofs.Order.{put_in, only_first, first_gone, weaker, same_order}
+use Rattle.bo_sorted.proofs.Places.{order_weaker}
+use Rattle.bo_stand.proofs.Order.{put_in, only_first, first_gone, same_order}
 
 pub filter_append : {A : Type 0} (p : A → Bool) (xs ys : List A) → filter p (xs ++ ys) ≡ filter p xs ++ filter p ys
 filter_append p [] ys = refl
@@ -89,4 +90,4 @@ module _ {T : Type 0} (key : T → ℕ) (members : T → List ℕ) where
       let right : links_but (key x) (all_links key members (y ∷ ys)) ≡ all_links key members ys =
       ap (λ n. links_but n (all_links key members (y ∷ ys))) is ∙ but_links (key y) (y ∷ ys) ∙ ap (all_links key members) (first_gone key 0 y ys k) in
       let less : IsPermutation (all_links key members xs) (all_links key members ys) = subst (λ l. IsPermutation l (all_links key members ys)) left (subst (IsPermutation (links_but (key x) (all_links key members (x ∷ xs)))) right cut) in
-      ap₂ ◌∷◌ first (links_tell xs ys rest (weaker key (key x + 1) 0 xs (omega arith) h.1) (weaker key (key y + 1) 0 ys (omega arith) k.1) rises.1 more.1 less)
+      ap₂ ◌∷◌ first (links_tell xs ys rest (order_weaker key (key x + 1) 0 xs (omega arith) h.1) (order_weaker key (key y + 1) 0 ys (omega arith) k.1) rises.1 more.1 less)

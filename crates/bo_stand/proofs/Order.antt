@@ -6,40 +6,15 @@ use Rattle.std.proofs.lemmas.List.Sorted.{IsPermutation-refl, IsPermutation-sym,
 use Rattle.sqlite_trees.proofs.ListLemmas.{IsPermutation-filter}
 use Rattle.sqlite.proofs.Callers.{one_permutation}
 use Rattle.bo_sorted.specs.Tables.{with_row, without_row, InOrderFrom, AreInOrder}
+use Rattle.bo_sorted.proofs.Places.{order_weaker, without_above, with_row_in_order, without_row_in_order}
 
 module _ {T : Type 0} (key : T → ℕ) where
   abbrev pub rows_at : ℕ → List T → List T
   rows_at id = filter (λ r. key r == id)
 
-  pub weaker : (n m : ℕ) (rows : List T) → m ≤ n → InOrderFrom key n rows → InOrderFrom key m rows
-  weaker n m [] le h = tt
-  weaker n m (r ∷ rs) le h = (omega (arith, h.0, le), h.1)
-
-  without_above : (n id : ℕ) (rows : List T) → id < n → InOrderFrom key n rows → without_row key id rows ≡ rows
-  without_above n id [] lt h = refl
-  without_above n id (r ∷ rs) lt h = grind (arith, nat_tests, h.0, without_above (key r + 1) id rs (omega (arith, h.0)) h.1)
-
   pub at_above : (n id : ℕ) (rows : List T) → id < n → InOrderFrom key n rows → rows_at id rows ≡ []
   at_above n id [] lt h = refl
   at_above n id (r ∷ rs) lt h = grind (arith, nat_tests, h.0, at_above (key r + 1) id rs (omega (arith, h.0)) h.1)
-
-  with_row_in_order : (n : ℕ) (row : T) (rows : List T) → n ≤ key row → InOrderFrom key n rows → InOrderFrom key n (with_row key row rows)
-  with_row_in_order n row [] le h = (le, tt)
-  with_row_in_order n row (r ∷ rs) le h =
-      elim (nat_lt (key r) (key row)) as (λ b. nat_lt (key r) (key row) ≡ b → InOrderFrom key n (cond b (r ∷ with_row key row rs) (cond (key r == key row) (row ∷ rs) (row ∷ r ∷ rs)))) [
-        | true ↦ λ e. (h.0, with_row_in_order (key r + 1) row rs (grind (arith, nat_tests)) h.1)
-        | false ↦ λ e. elim (key r == key row) as (λ b. (key r == key row) ≡ b → InOrderFrom key n (cond b (row ∷ rs) (row ∷ r ∷ rs))) [
-          | true ↦ λ f. (le, weaker (key r + 1) (key row + 1) rs (grind (arith, nat_tests)) h.1)
-          | false ↦ λ f. (le, (grind (arith, nat_tests), h.1))
-        ] refl
-      ] refl
-
-  without_row_in_order : (n id : ℕ) (rows : List T) → InOrderFrom key n rows → InOrderFrom key n (without_row key id rows)
-  without_row_in_order n id [] h = tt
-  without_row_in_order n id (r ∷ rs) h = elim (key r == id) as (λ b. InOrderFrom key n (cond (not b) (r ∷ without_row key id rs) (without_row key id rs))) [
-    | true ↦ weaker (key r + 1) n (without_row key id rs) (omega (arith, h.0)) (without_row_in_order (key r + 1) id rs h.1)
-    | false ↦ (h.0, without_row_in_order (key r + 1) id rs h.1)
-  ]
 
   turned : (x y : T) (xs : List T) → IsPermutation (x ∷ y ∷ xs) (y ∷ x ∷ xs)
   turned x y xs = IsPermutation-sym (y ∷ x ∷ xs) (x ∷ y ∷ xs) (IsPermutation-middle (y ∷ []) x xs)
@@ -55,7 +30,7 @@ module _ {T : Type 0} (key : T → ℕ) where
             rw other (IsPermutation-trans (row ∷ r ∷ without_row key (key row) rs) (r ∷ row ∷ without_row key (key row) rs) (r ∷ with_row key row rs) (turned row r (without_row key (key row) rs))
             (IsPermutation-cons r (row ∷ without_row key (key row) rs) (with_row key row rs) (put_in (key r + 1) row rs h.1)))
         | false ↦ λ e.
-            let above : without_row key (key row) rs ≡ rs = without_above (key r + 1) (key row) rs (grind (arith, nat_tests)) h.1 in
+            let above : without_row key (key row) rs ≡ rs = without_above key (key r + 1) rs (key row) (grind (arith, nat_tests)) h.1 in
             elim (key r == key row) as (λ b. IsPermutation (row ∷ cond (not b) (r ∷ without_row key (key row) rs) (without_row key (key row) rs)) (cond b (row ∷ rs) (row ∷ r ∷ rs))) [
               | true ↦ subst (λ l. IsPermutation (row ∷ l) (row ∷ rs)) (sym above) (IsPermutation-refl (row ∷ rs))
               | false ↦ subst (λ l. IsPermutation (row ∷ r ∷ l) (row ∷ r ∷ rs)) (sym above) (IsPermutation-refl (row ∷ r ∷ rs))
@@ -66,7 +41,7 @@ module _ {T : Type 0} (key : T → ℕ) where
   only_first n x xs h = grind (arith, nat_tests, at_above (key x + 1) (key x) xs (omega arith) h.1)
 
   pub first_gone : (n : ℕ) (x : T) (xs : List T) → InOrderFrom key n (x ∷ xs) → without_row key (key x) (x ∷ xs) ≡ xs
-  first_gone n x xs h = grind (arith, nat_tests, without_above (key x + 1) (key x) xs (omega arith) h.1)
+  first_gone n x xs h = grind (arith, nat_tests, without_above key (key x + 1) xs (key x) (omega arith) h.1)
 
   -- where one row of the id stands, the list goes not from above it
   not_below : (n : ℕ) (x : T) (xs ys : List T) → InOrderFrom key 0 (x ∷ xs) → InOrderFrom key n ys → IsPermutation (x ∷ xs) ys → n ≤ key x
@@ -96,11 +71,11 @@ module _ {T : Type 0} (key : T → ℕ) where
       let less : IsPermutation (without_row key (key x) (x ∷ xs)) (without_row key (key x) (y ∷ ys)) = IsPermutation-filter (λ r. not (key r == key x)) (x ∷ xs) (y ∷ ys) same in
       let right : without_row key (key x) (y ∷ ys) ≡ ys = ap (λ r. without_row key (key r) (y ∷ ys)) is ∙ first_gone 0 y ys k in
       let rest : IsPermutation xs ys = subst (λ l. IsPermutation l ys) (first_gone 0 x xs h) (subst (IsPermutation (without_row key (key x) (x ∷ xs))) right less) in
-      let more : xs ≡ ys = same_order xs ys (weaker (key x + 1) 0 xs (omega arith) h.1) (weaker (key y + 1) 0 ys (omega arith) k.1) rest in
+      let more : xs ≡ ys = same_order xs ys (order_weaker key (key x + 1) 0 xs (omega arith) h.1) (order_weaker key (key y + 1) 0 ys (omega arith) k.1) rest in
       ap (λ r. r ∷ xs) is ∙ ap (λ l. y ∷ l) more
 
   pub put_stays : (row : T) (rows : List T) → AreInOrder key rows → AreInOrder key (with_row key row rows)
-  put_stays row rows h = with_row_in_order 0 row rows (omega arith) h
+  put_stays row rows h = with_row_in_order key 0 row rows (omega arith) h
 
   pub drop_stays : (id : ℕ) (rows : List T) → AreInOrder key rows → AreInOrder key (without_row key id rows)
-  drop_stays id rows h = without_row_in_order 0 id rows h
+  drop_stays id rows h = without_row_in_order key 0 id rows h

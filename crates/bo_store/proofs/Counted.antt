@@ -38,10 +38,6 @@ pub counted : {T : Type 0} (id : T → ℕ) (test pass both : T → Bool) (rows 
 unfolding one_if
 counted id test pass both rows ids finds alike = finds (one_if pass) ∙ sums_like (λ r. if test r then one_if pass (Some r) else 0) (λ r. one (both r)) rows (λ r. first_and (test r) (pass r) ∙ ap one (alike r))
 
--- the same ids, by a test that is alike
-pub found_alike : {T : Type 0} (id : T → ℕ) (test other : T → Bool) (rows : List T) (ids : List ℕ) → Finds id test rows ids → ((r : T) → test r ≡ other r) → Finds id other rows ids
-found_alike id test other rows ids finds alike G = finds G ∙ sums_like (λ r. if test r then G (Some r) else 0) (λ r. if other r then G (Some r) else 0) rows (λ r. ap (λ b. if b then G (Some r) else 0) (alike r))
-
 pub and_swap : (a b : Bool) → (a && b) ≡ (b && a)
 and_swap true true = refl
 and_swap true false = refl

@@ -2,8 +2,6 @@
 
 ghost use Rattle.std.specs.Prelude.{◌≡◌, ◌≤◌, ◌+◌, OnOk};
 ghost use Rattle.std.specs.Option.{option_copied};
-ghost use Rattle.bo_sorted.specs.Dropped.{without_rows};
-ghost use Rattle.bo_sorted.specs.Tables.{AreInOrder};
 ghost use Rattle.bo_lists.specs.Lists.{empty, checkin_list_at, checkin_at};
 ghost use Rattle.bo_lists.specs.Change.{after_change};
 ghost use Rattle.bo_lists.specs.Weight.{change_weight};
@@ -251,15 +249,6 @@ impl Store {
             Change::PutCheckinList(row) => self.checkin_lists.put(row),
             Change::PutCheckin(row) => self.checkins.put(row),
         }
-    }
-
-    /// Removes the cart positions of these ids, which rise.
-    pub fn drop_carts(&mut self, ids: &[u64])
-        requires rising { AreInOrder (λ n. n) ids.now }
-        ensures lists { self.new.state ≡ record self.old.state { lists = record self.old.state.lists { carts = without_rows (λ c. c.id) ids.now self.old.state.lists.carts } } }
-        ensures room { self.old.room ≤ self.new.room }
-    {
-        self.carts.delete_all(ids);
     }
 
     /// Sets the ids that new rows get, and the moment.

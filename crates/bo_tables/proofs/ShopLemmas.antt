@@ -22,7 +22,7 @@ use Rattle.bo_stand.proofs.Carried.{carried, free_done, tokens_stay}
 use Rattle.bo_typed.specs.Typed.{IsTypedChange, IsTypedKept, IsTypedShop, IsSameShop}
 use Rattle.bo_typed.proofs.Typed.{committed_typed}
 use Rattle.bo_transaction.specs.Whole.{IsStill, IsWritten, MayBeWritten}
-use Rattle.bo_tables.specs.Held.{KeepsAnswers, KnowsTokens, number_of}
+use Rattle.bo_tables.specs.Held.{KnowsTokens, number_of}
 use Rattle.bo_tables.specs.Committed.{Turns}
 use Rattle.bo_tables.specs.Shops.{Keeps, HoldsWhileOpen, Knows, KnowsWhileOpen, HoldNoOther, Leaves}
 
@@ -55,9 +55,6 @@ leaves_still old new h left l =
       | inl may ↦ record { clean = clean; trees = l.trees; may = may; only = l.only }
       | inr none ↦ absurd none
     ]
-
-pub keeps_answers : (head : ShopRow) (next : ℕ) (c : Connected) (s : State) (ks : List Kept) → Keeps head next c s ks → KeepsAnswers c.now ks
-keeps_answers head next c s ks it = record { known = it.known; tables = it.tables; held = it.held; kept = it.stand.kept }
 
 -- ---- a commit
 

@@ -4,7 +4,7 @@ use Rattle.std.specs.Prelude.{if◌then◌else◌, map}
 use Rattle.std.specs.Option.{IfSome}
 use Rattle.std.proofs.Math.Seq.{get_or-append_seam}
 use Rattle.std.proofs.lemmas.Bool.Decides.{nat_tests}
-use Rattle.std.proofs.lemmas.List.{get_or_append_left, get_or-take, take-append-le, take-take, take_all}
+use Rattle.std.proofs.lemmas.List.{get_or_append_left, get_or-take, take-take, take_all}
 use Rattle.bo_log.specs.Places.{further, last_place}
 use Rattle.bo_log.proofs.LastPlaces.{last_place-more, last_below}
 use Rattle.bo_tally.specs.declared.tally.Count.{Count}
@@ -25,14 +25,6 @@ pub keys-take : (n : ℕ) (journal : List Count) → take n (keys_of journal) �
 keys-take zero journal = refl
 keys-take (suc n) [] = refl
 keys-take (suc n) (c ∷ cs) = ap (λ (ks : List ℕ). c.id ∷ ks) (keys-take n cs)
-
-pub keys-push : (journal : List Count) (c : Count) → keys_of journal ++ c.id ∷ [] ≡ keys_of (journal ++ c ∷ [])
-keys-push [] c = refl
-keys-push (d ∷ ds) c = ap (λ (ks : List ℕ). d.id ∷ ks) (keys-push ds c)
-
-pub keys-length : (journal : List Count) → length (keys_of journal) ≡ length journal
-keys-length [] = refl
-keys-length (c ∷ cs) = ap suc (keys-length cs)
 
 pub keys-get_or : (journal : List Count) (i : ℕ) (d : Count) → get_or (keys_of journal) i d.id ≡ (get_or journal i d).id
 keys-get_or [] i d = refl
@@ -74,9 +66,6 @@ module _ (part : Count → ℕ) (journal : List Count) where
 -- ---- journals that go on
 pub on_same : (journal : List Count) → GoesOn journal journal
 on_same journal = take_all (length journal) journal (omega arith)
-
-pub on_push : (journal : List Count) (more : List Count) → GoesOn journal (journal ++ more)
-on_push journal more = take-append-le (length journal) journal more (omega arith) ∙ on_same journal
 
 pub on_longer : (old new : List Count) → GoesOn old new → length old ≤ length new
 on_longer old new on = omega (arith, ap length on, shorter (length old) new)

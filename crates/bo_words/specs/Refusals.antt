@@ -22,7 +22,7 @@ use Rattle.bo_lists.specs.declared.rows.Status.{Status}
 use Rattle.bo_shown.specs.Values.{count}
 use Rattle.bo_shown.specs.OrderRows.{status_letter}
 use Rattle.bo_words.specs.Responses.{response, empty_body}
-use Rattle.bo_words.specs.Table.{Row, row_of}
+use Rattle.bo_words.specs.Table.{KindRefusals, row_of}
 use Rattle.bo_words.specs.declared.refusals.Manner.{Manner}
 use Rattle.bo_words.specs.declared.refusals.Manner.TheVariants.{Missing, Told, Untold}
 use Rattle.bo_faults.specs.declared.fields.Field.TheVariants as fields
@@ -30,7 +30,7 @@ use Rattle.bo_faults.specs.declared.fields.Problem.TheVariants as problems
 use Rattle.bo_words.specs.Faults.{not_found_body, invalid_page_body, fault_body}
 
 -- how a request is told the refusal of that number, by its row of the table
-abbrev pub manner_by : Row → ℕ → Manner
+abbrev pub manner_by : KindRefusals → ℕ → Manner
 manner_by row number = if has number row.missing then Missing else (if has number row.others then Told else Untold)
 
 abbrev pub manner_of : Kind → Refusal → Manner

@@ -4,11 +4,11 @@ use Rattle.bo_commands.specs.declared.requests.Kind.{Kind}
 use Rattle.bo_commands.specs.declared.requests.Kind.TheVariants as kinds
 
 -- refusals by number: those which say that what the path names isn't there, and the others, in the order of the tests
-pub record Row : Type 0 where
+pub record KindRefusals : Type 0 where
   pub missing : List ℕ
   pub others : List ℕ
 
-abbrev pub numbers : List ℕ → List ℕ → Row
+abbrev pub numbers : List ℕ → List ℕ → KindRefusals
 numbers missing others = record { missing = missing; others = others }
 
 -- The table; what isn't in it is told by no request. 2 is a value too large, 10 no item, 11 no variation, 12 a variation
@@ -19,7 +19,7 @@ numbers missing others = record { missing = missing; others = others }
 -- status that doesn't allow it, 43 no positions, 44 too many, 45 a wrong cart id, 50 no check-in list, 51 no such ticket,
 -- 52 one of an expired or cancelled order, 53 one that isn't on the list, 54 an unpaid one, 55 one that was let in already,
 -- 59 no such page
-abbrev pub row_of : Kind → Row
+abbrev pub row_of : Kind → KindRefusals
 row_of kinds.AddItem = numbers [] (16 ∷ [])
 row_of kinds.ChangeItem = numbers (10 ∷ []) []
 row_of kinds.AddVariation = numbers (10 ∷ []) (17 ∷ 16 ∷ [])

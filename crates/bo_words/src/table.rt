@@ -7,22 +7,22 @@ use bo_commands::Kind;
 
 /// Refusals by number, of one kind of request.
 #[derive(Drop)]
-pub(crate) struct Row {
+pub(crate) struct KindRefusals {
     /// Those which say that what the path names isn't there.
     pub(crate) missing: &'static [u8],
     /// The others, in the order of the tests.
     pub(crate) others: &'static [u8],
 }
 
-fn numbers(missing: &'static [u8], others: &'static [u8]) -> Row
+fn numbers(missing: &'static [u8], others: &'static [u8]) -> KindRefusals
     ensures missing { result.missing.now ≡ missing.now }
     ensures others { result.others.now ≡ others.now }
 {
-    Row { missing, others }
+    KindRefusals { missing, others }
 }
 
 /// The table. What isn't in it is told by no request.
-pub(crate) fn row_of(kind: Kind) -> Row
+pub(crate) fn row_of(kind: Kind) -> KindRefusals
     ensures missing { result.missing.now ≡ (row_of kind).missing }
     ensures others { result.others.now ≡ (row_of kind).others }
 {

@@ -2,7 +2,7 @@ use Rattle.std.proofs.Common.{length, arith, ◌≡◌, subst, sym, ap, ◌∙�
 use Rattle.std.specs.Prelude.{filter}
 use Rattle.std.proofs.lemmas.Fn.{filter_same}
 use Rattle.bo_sorted.specs.Tables.{AreInOrder}
-use Rattle.bo_sorted.proofs.Drops.{filter_in_order}
+use Rattle.bo_sorted.proofs.Places.{filter_in_order}
 use Rattle.bo_sparse.specs.Slots.{slot_key, rows_in, is_full}
 use Rattle.bo_sparse.proofs.SlotLemmas.{closed_is, closed_count}
 use Rattle.bo_sparse.proofs.sparse.close_gaps.Goals as goal

@@ -5,7 +5,7 @@ use Rattle.bo_lists.specs.Headroom.{held_in}
 use Rattle.bo_overlay.specs.Logs.{rows_of}
 use Rattle.bo_shares.specs.Shift.{turned_by, left_of}
 use Rattle.bo_shares.proofs.Reached.{no_other_more}
-use Rattle.bo_shares.proofs.shift.TurnShare.touch.Goals as goal
+use Rattle.bo_shares.proofs.shift.VoucherTurnShare.touch.Goals as goal
 
 pub returns-clause-come : goal.returns-clause-come
 returns-clause-come g c q other =
