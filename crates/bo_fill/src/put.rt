@@ -15,9 +15,16 @@ pub(crate) trait Put: Drop {
     // the change that puts it
     ghost change: { Self → Change };
 
-    /// The changes that put these rows.
-    fn changes(alloc: Global, rows: Vec<Self>) -> Result<Vec<Change>, AllocError>
-        ensures { IfOk result (λ all. all.items ≡ map change rows.items) };
+    /// The change that puts it.
+    fn into_change(self) -> Change
+        ensures { result ≡ change self };
+}
+
+// The changes that put these rows.
+fn changes<T: Put>(alloc: Global, rows: Vec<T>) -> Result<Vec<Change>, AllocError>
+    ensures { IfOk result (λ all. all.items ≡ map T.change rows.items) }
+{
+    rows.into_iter().map(T::into_change).collect(alloc)
 }
 
 /// Puts rows one after another, at a moment that isn't before the book's. Where memory is refused the book stays as it is.
@@ -32,6 +39,6 @@ pub(crate) fn put_rows<B: Book, T: Put>(
     ensures done { OnOk result (B.state book.new ≡ applied (record { list = map T.change rows.items; next = next }) at (B.state book.old)) }
     ensures moment { (B.state book.new).moment ≤ at }
 {
-    let changes = T::changes(alloc, rows)?;
+    let changes = changes(alloc, rows)?;
     put(book, changes, next, at)
 }

@@ -21,7 +21,6 @@ use Rattle.sqlite.specs.declared.error.ErrorCode.TheVariants as code
 use Rattle.sqlite.specs.Effect.{Database, RefusesToRead}
 use Rattle.sqlite.specs.Listing.{understood}
 use Rattle.sqlite.specs.State.{State, Shown, store_error, Fails, IsNoStatement, IsNotRun, FailsToShow, FailsToQuery, IsTooLate}
-use Rattle.sqlite.proofs.Callers.{IsPlain}
 use Rattle.bo_schema.specs.declared.error.RowError.{RowError}
 use Rattle.bo_schema.specs.declared.error.RowError.TheVariants.{Memory, Foreign, Damaged, Store}
 use Rattle.bo_schema.specs.Failures.{failure_of, meaning_of}
@@ -29,7 +28,8 @@ use Rattle.bo_schema.specs.Tables.{schema}
 use Rattle.bo_schema.specs.Parts.{shown}
 use Rattle.bo_columns.specs.Unread.{IsUnread}
 use Rattle.bo_loads.specs.Damage.{IsDamaged, IsFor, HasMeaning, HasNoMeaning, IsForReading}
-use Rattle.bo_loads.proofs.Loads.{IsSelect, loads}
+use Rattle.bo_loads.specs.Select.{IsSelectOf}
+use Rattle.bo_loads.proofs.Loads.{stands, loads}
 
 -- ---- one cause for another
 
@@ -111,28 +111,16 @@ failed old new sql params e D reads (inr h) = told (HasNoMeaning old.now.schema 
 
 -- ---- a table of a shop
 
-plain_reads : (r : Result Compiled CompileError) (c : Compiled) → IsPlain r → r ≡ Ok c → c.returning ≡ None
-plain_reads (Ok d) c plain is = let same : d ≡ c = cc in subst (λ (k : Compiled). k.returning ≡ None) same plain.0
-plain_reads (Err e) c plain is = absurd plain
-
--- a plain statement only reads
-pub reads : (sql : List ℕ) (s : Schema) → IsPlain (understood schema sql) → s ≡ schema → IsForReading s sql
-reads sql s plain known c is = plain_reads (understood schema sql) c plain (ap (λ k. understood k sql) (sym known) ∙ is)
-
-has_meaning : (r : Result Compiled CompileError) → IsPlain r → ((c : Compiled) → r ≡ Ok c → ⊥) → ⊥
-has_meaning (Ok c) plain none = none c refl
-has_meaning (Err e) plain none = absurd plain
-
--- and has a meaning
-pub means : (sql : List ℕ) (s : Schema) → IsPlain (understood schema sql) → s ≡ schema → HasNoMeaning s sql → ⊥
-means sql s plain known none = has_meaning (understood schema sql) plain (λ c is. none c (ap (λ k. understood k sql) known ∙ is))
+-- its SELECT has a meaning
+pub lacks_none : (sql : List ℕ) (tree : ℕ) → IsSelectOf sql tree → (s : Schema) → s ≡ schema → HasNoMeaning s sql → ⊥
+lacks_none sql tree is s known none = let meant = stands sql tree is in none meant.0 (ap (λ k. understood k sql) known ∙ meant.1)
 
 -- rows that are shown are those that stand, so one of these is damaged
-pub refuses : {T : Type 0} (as_row : T → Row) (fits : T → Type 0) (sql : List ℕ) (tree : ℕ) → IsSelect sql tree → (old new : State) → old.now.schema ≡ schema → (e : RowError)
+pub refuses : {T : Type 0} (as_row : T → Row) (fits : T → Type 0) (sql : List ℕ) (tree : ℕ) → IsSelectOf sql tree → (old new : State) → old.now.schema ≡ schema → (e : RowError)
     → IsFor (HasNoMeaning old.now.schema sql) ((rows : List Row) × Shown sql [] old new rows × IsDamaged as_row fits rows) e
     → IsFor ⊥ (IsDamaged as_row fits (map (shown schema tree) (old.now.trees tree))) e
 refuses as_row fits sql tree is old new known e h =
-    for (HasNoMeaning old.now.schema sql) ⊥ _ _ (means sql old.now.schema is.plain known)
+    for (HasNoMeaning old.now.schema sql) ⊥ _ _ (lacks_none sql tree is old.now.schema known)
     (λ (found : (rows : List Row) × Shown sql [] old new rows × IsDamaged as_row fits rows).
     let alike = loads sql tree is old new known found.0 found.1 in
     (found.2.0, Contains-permutation found.0 (map (shown schema tree) (old.now.trees tree)) found.2.0 alike found.2.1, found.2.2)) e h

@@ -3,13 +3,14 @@ use Rattle.std.proofs.Common.{◌≡◌, ◌≢◌, ◌⊎◌, inl, inr, ℕ, ze
 use Rattle.std.specs.List.Sorted.{IsPermutation}
 use Rattle.std.proofs.lemmas.List.Sorted.{IsPermutation-sym}
 use Rattle.sqlite_value.specs.declared.value.Value.{Value}
-use Rattle.sqlite_value.specs.declared.keys.Key.{Key}
 use Rattle.sqlite_value.specs.Order.{Row, column}
-use Rattle.sqlite_sql.specs.Term.{Term, eval_all}
+use Rattle.sqlite_sql.specs.Term.{eval_all}
+use Rattle.sqlite_schema.specs.declared.command.Command.{Command}
 use Rattle.sqlite_schema.specs.declared.command.Command.TheVariants.{Select}
 use Rattle.sqlite_schema.specs.declared.command.Returning.{Returning}
 use Rattle.sqlite_resolve.specs.declared.compiled.Compiled.{Compiled}
-use Rattle.sqlite.specs.Effect.{Database}
+use Rattle.sqlite_resolve.specs.declared.error.CompileError.{CompileError}
+use Rattle.sqlite.specs.Effect.{Database, Reads}
 use Rattle.sqlite.specs.declared.error.Error.{Error}
 use Rattle.sqlite.specs.Listing.{understood, reads_listing}
 use Rattle.sqlite.specs.State.{State, Shown, ShowsRows, KeepsCommit, IsNotRun, FailsToQuery, FailsToShow, IsTooLate}
@@ -20,7 +21,8 @@ use Rattle.bo_schema.specs.Shapes.{over, plainly}
 use Rattle.bo_schema.proofs.Answered.{passes, answered}
 use Rattle.bo_columns.specs.Tables.{Holds}
 use Rattle.bo_columns.specs.Changes.{IsInside, Changes}
-use Rattle.bo_loads.specs.Damage.{IsForReading}
+use Rattle.bo_loads.specs.Damage.{HasMeaning, IsForReading}
+use Rattle.bo_loads.specs.Select.{IsSelectOf, command_in}
 
 -- ---- a row that is read column by column
 
@@ -41,15 +43,16 @@ is_row (y ∷ r) (x ∷ xs) len h = let here : y ≡ x = h.0 in let rest = is_ro
 
 -- ---- all rows of a table
 
--- the text is a SELECT of all columns of the table of this tree
-pub record IsSelect (sql : List ℕ) (tree : ℕ) : Type 0 where
-  pub project : List Term
-  pub order : List (Term × Key)
-  pub names : List (List ℕ)
-  pub command : command_of (understood schema sql) ≡ Select (plainly (over tree [] project order)) names
-  pub plain : IsPlain (understood schema sql)
-  pub unlisted : reads_listing schema sql ≡ false
-  pub shows : (r : Row) → eval_all project ([] ∷ r ∷ []) ≡ shown schema tree r
+by_command : (r : Result Compiled CompileError) (k : Command) → command_in r ≡ Some k → command_of r ≡ k
+by_command (Ok c) k h = cc
+by_command (Err e) k h = absurd (cc)
+
+has_meaning : (r : Result Compiled CompileError) (k : Command) → command_in r ≡ Some k → (c : Compiled) × (r ≡ Ok c)
+has_meaning (Ok c) k h = (c, refl)
+has_meaning (Err e) k h = absurd (cc)
+
+pub stands : (sql : List ℕ) (tree : ℕ) → IsSelectOf sql tree → HasMeaning schema sql
+stands sql tree is = has_meaning (understood schema sql) (Select (plainly (over tree [] is.project is.order)) is.names) is.command
 
 keep_all : (rows : List Row) → filter (passes [] []) rows ≡ rows
 keep_all [] = refl
@@ -59,12 +62,17 @@ map_same : (f g : Row → Row) → ((r : Row) → f r ≡ g r) → (rows : List 
 map_same f g same [] = refl
 map_same f g same (r ∷ rows) = rw (same r, map_same f g same rows)
 
-pub loads : (sql : List ℕ) (tree : ℕ) → IsSelect sql tree → (old new : State) → old.now.schema ≡ schema → (rows : List Row) → Shown sql [] old new rows → IsPermutation rows (map (shown schema tree) (old.now.trees tree))
-loads sql tree is old new known rows h =
-    let read = reads_as sql [] old new schema known (Select (plainly (over tree [] is.project is.order)) is.names) is.command is.plain is.unlisted rows h in
-    let found = answered old.now tree [] is.project is.order [] rows read in
+-- what it reads of a database is what the table shows
+pub shows_all : (sql : List ℕ) (tree : ℕ) (is : IsSelectOf sql tree) (db : Database) (rows : List Row) → Reads (Select (plainly (over tree [] is.project is.order)) is.names) db [] rows → IsPermutation rows (map (shown schema tree) (db.trees tree))
+shows_all sql tree is db rows read =
     IsPermutation-sym _ _ (subst (λ l. IsPermutation l rows)
-    (ap (map (λ (r : Row). eval_all is.project ([] ∷ r ∷ []))) (keep_all (old.now.trees tree)) ∙ map_same (λ (r : Row). eval_all is.project ([] ∷ r ∷ [])) (shown schema tree) is.shows (old.now.trees tree)) found)
+    (ap (map (λ (r : Row). eval_all is.project ([] ∷ r ∷ []))) (keep_all (db.trees tree)) ∙ map_same (λ (r : Row). eval_all is.project ([] ∷ r ∷ [])) (shown schema tree) is.shows (db.trees tree)) (answered db tree [] is.project is.order [] rows read))
+
+pub command_is : (sql : List ℕ) (tree : ℕ) (is : IsSelectOf sql tree) → command_of (understood schema sql) ≡ Select (plainly (over tree [] is.project is.order)) is.names
+command_is sql tree is = by_command (understood schema sql) _ is.command
+
+pub loads : (sql : List ℕ) (tree : ℕ) → IsSelectOf sql tree → (old new : State) → old.now.schema ≡ schema → (rows : List Row) → Shown sql [] old new rows → IsPermutation rows (map (shown schema tree) (old.now.trees tree))
+loads sql tree is old new known rows h = shows_all sql tree is old.now rows (reads_as sql [] old new schema known _ (command_is sql tree is) is.plain is.unlisted rows h)
 
 -- a SELECT changes nothing
 pub unchanged : (sql : List ℕ) (params : Row) (old new : State) → IsPlain (understood schema sql) → old.now.schema ≡ schema → (rows : List Row) → Shown sql params old new rows → new.now ≡ old.now
@@ -74,7 +82,7 @@ unchanged sql params old new plain known rows h =
     let it = subst (ShowsRows old new sql h.0 _ rows) none h.2 in
     it.3.0.now_is
 
-pub still : (sql : List ℕ) (tree : ℕ) → IsSelect sql tree → (old new : State) → old.now.schema ≡ schema → (rows : List Row) → Shown sql [] old new rows → new.now ≡ old.now
+pub still : (sql : List ℕ) (tree : ℕ) → IsSelectOf sql tree → (old new : State) → old.now.schema ≡ schema → (rows : List Row) → Shown sql [] old new rows → new.now ≡ old.now
 still sql tree is old new known rows h = unchanged sql [] old new is.plain known rows h
 
 -- inside a transaction over the schema it leaves all as it is

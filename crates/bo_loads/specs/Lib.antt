@@ -1,3 +1,4 @@
 pub mod Damage
 pub mod Texts
+pub mod Select
 pub mod Lookups

@@ -1,72 +1,43 @@
 //! The table `quota_count`.
 
-ghost use Rattle.std.specs.Prelude.{◌≡◌, ◌≢◌, true, map, IfOk, IfErr, OnOk, IsPermutation, ⊤};
-ghost use Rattle.sqlite.specs.Held.{state};
-ghost use Rattle.sqlite.specs.State.{HasCleanDisk, Survives, KeepsCommit};
-ghost use Rattle.bo_schema.specs.declared.error.RowError.TheVariants.{Foreign};
-ghost use Rattle.bo_schema.specs.Tables.{schema};
-ghost use Rattle.bo_schema.specs.Parts.{shown};
-ghost use Rattle.bo_lists.specs.declared.count_rows.QuotaCount.{QuotaCount};
+ghost use Rattle.std.specs.Prelude.{⊤};
 ghost use Rattle.bo_columns.specs.Rows.{count_row};
-ghost use Rattle.bo_columns.specs.Unread.{IsUnread};
-ghost use Rattle.bo_loads.specs.Damage.{HasMeaning, HasNoMeaning, IsDamaged, IsFor};
 ghost use Rattle.bo_loads.specs.Texts.{counts_text};
 
 use crate::columns::Columns;
-use crate::loaded::{Loaded, rows_of};
+use crate::loaded::Loaded;
 use bo_lists::{QuotaCount, Usage};
 use bo_schema::RowError;
-use sqlite::{Alter, Row, Transaction};
+use sqlite::Row;
 use std::alloc::Global;
-
-fn read_row(alloc: Global, row: &Row) -> Result<QuotaCount, RowError>
-    ensures value { IfOk result (λ w. row.now ≡ count_row w) }
-    ensures refused { IfErr result (IsUnread ((w : QuotaCount) → row.now ≢ count_row w)) }
-{
-    match Columns::read_from(alloc, row, 0) {
-        Ok((quota_id, (paid, (pending, (blocked, (carts, (waiting, ()))))))) => Ok(QuotaCount {
-            quota: quota_id,
-            usage: Usage {
-                paid,
-                pending,
-                blocked,
-                carts,
-                waiting,
-            },
-        }),
-        Err(error) => Err(error),
-    }
-}
 
 impl Loaded for QuotaCount {
     ghost as_row = { count_row };
 
     ghost fits = { λ w. ⊤ };
 
-    fn read(alloc: Global, row: &Row) -> Result<QuotaCount, RowError> {
-        read_row(alloc, row)
-    }
-}
+    ghost text = { counts_text };
 
-/// All rows by id. Nothing changes.
-/// Refusals: 6, 60 where the file has no such table with these columns, 62, 63.
-pub fn load<S: Alter>(
-    alloc: Global,
-    tx: &mut Transaction<'_, S>,
-) -> Result<Vec<QuotaCount>, RowError>
-    ensures same { tx.new.conn.ghost_name ≡ tx.old.conn.ghost_name }
-    ensures loaded { HasCleanDisk (state S.Store tx.new.conn.now) → (state S.Store tx.old.conn.now).now.schema ≡ schema → IfOk result (λ all. IsPermutation (map count_row all.items) (map (shown schema 21) ((state S.Store tx.old.conn.now).now.trees 21))) }
-    ensures refused { HasCleanDisk (state S.Store tx.new.conn.now) → (state S.Store tx.old.conn.now).now.schema ≡ schema → IfErr result (IsFor ⊥ (IsDamaged count_row (λ w. ⊤) (map (shown schema 21) ((state S.Store tx.old.conn.now).now.trees 21)))) }
-    ensures found { HasCleanDisk (state S.Store tx.new.conn.now) → OnOk result (HasMeaning (state S.Store tx.old.conn.now).now.schema counts_text) }
-    ensures lacking { HasCleanDisk (state S.Store tx.new.conn.now) → IfErr result (λ e. e ≡ Foreign → HasNoMeaning (state S.Store tx.old.conn.now).now.schema counts_text) }
-    ensures still { HasCleanDisk (state S.Store tx.new.conn.now) → (state S.Store tx.old.conn.now).now.schema ≡ schema → OnOk result ((state S.Store tx.new.conn.now).now ≡ (state S.Store tx.old.conn.now).now) }
-    ensures kept { HasCleanDisk (state S.Store tx.new.conn.now) → (state S.Store tx.old.conn.now).in_transaction ≡ true → KeepsCommit (state S.Store tx.old.conn.now) (state S.Store tx.new.conn.now) }
-    ensures crash { Survives (state S.Store tx.old.conn.now) (state S.Store tx.new.conn.now) (λ _. ⊥) }
-{
-    rows_of(
-        alloc,
-        tx,
-        "SELECT quota_id, paid, pending, blocked, carts, waiting FROM quota_count ORDER BY quota_id",
-        &[],
-    )
+    ghost tree = { 21 };
+
+    #[tactic(auto, using(crate::proofs::CountsLemmas::select_is))]
+    fn statement() -> &'static str {
+        "SELECT quota_id, paid, pending, blocked, carts, waiting FROM quota_count ORDER BY quota_id"
+    }
+
+    fn read(alloc: Global, row: &Row) -> Result<QuotaCount, RowError> {
+        match Columns::read_from(alloc, row, 0) {
+            Ok((quota_id, (paid, (pending, (blocked, (carts, (waiting, ()))))))) => Ok(QuotaCount {
+                quota: quota_id,
+                usage: Usage {
+                    paid,
+                    pending,
+                    blocked,
+                    carts,
+                    waiting,
+                },
+            }),
+            Err(error) => Err(error),
+        }
+    }
 }

@@ -1,26 +1,26 @@
 //! Rows of the file are read.
 #![tactic(auto)]
 
-pub mod carts;
-pub mod checkin_lists;
-pub mod checkins;
+mod carts;
+mod checkin_lists;
+mod checkins;
 mod columns;
-pub mod counts;
-pub mod items;
-pub mod kept;
-pub mod list_items;
-pub mod loaded;
-pub mod lookups;
-pub mod orders;
-pub mod positions;
-pub mod quota_items;
-pub mod quota_variations;
-pub mod quotas;
-pub mod shop;
-pub mod tokens;
-pub mod variations;
-pub mod vouchers;
-pub mod waiting;
+mod counts;
+mod items;
+mod kept;
+mod list_items;
+mod loaded;
+mod lookups;
+mod orders;
+mod positions;
+mod quota_items;
+mod quota_variations;
+mod quotas;
+mod shop;
+mod tokens;
+mod variations;
+mod vouchers;
+mod waiting;
 
-pub use loaded::Loaded;
+pub use loaded::{Loaded, load};
 pub use lookups::{find_kept, find_token, items_of, variations_of};

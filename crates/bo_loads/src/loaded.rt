@@ -1,12 +1,16 @@
 //! A row that a table of the file shows.
 
-ghost use Rattle.std.specs.Prelude.{◌≡◌, ◌≢◌, map, take, true, List, All, IfOk, IfErr};
+ghost use Rattle.std.specs.Prelude.{◌≡◌, ◌≢◌, ℕ, map, take, true, List, All, IfOk, IfErr, OnOk, IsPermutation};
 ghost use Rattle.sqlite_value.specs.Order.{Row as Shown};
 ghost use Rattle.sqlite.specs.Held.{state};
 ghost use Rattle.sqlite.specs.Values.{bound};
 ghost use Rattle.sqlite.specs.State.{HasCleanDisk, Survives, KeepsCommit, Shown as Shows};
+ghost use Rattle.bo_schema.specs.declared.error.RowError.TheVariants.{Foreign};
+ghost use Rattle.bo_schema.specs.Tables.{schema};
+ghost use Rattle.bo_schema.specs.Parts.{shown};
 ghost use Rattle.bo_columns.specs.Unread.{IsUnread};
-ghost use Rattle.bo_loads.specs.Damage.{IsDamaged, IsFor, IsForReading, HasNoMeaning};
+ghost use Rattle.bo_loads.specs.Damage.{IsDamaged, IsFor, IsForReading, HasMeaning, HasNoMeaning};
+ghost use Rattle.bo_loads.specs.Select.{IsSelectOf};
 
 use bo_schema::RowError;
 use sqlite::{Alter, Row, Transaction};
@@ -14,12 +18,23 @@ use sqlite_value::value::ValueRef;
 use std::alloc::Global;
 
 /// A row that a table of the file shows.
-pub trait Loaded {
+pub trait Loaded: Drop {
     // the row as a SELECT of all columns shows it
     ghost as_row: { Self → Shown };
 
     // its values are within their limits
     ghost fits: { Self → Type 0 };
+
+    // the SELECT of all columns of the table
+    ghost text: { List ℕ };
+
+    // the number of the table's tree
+    ghost tree: { ℕ };
+
+    /// The SELECT of all columns of the table.
+    fn statement() -> &'static str
+        ensures text { result.now ≡ text }
+        ensures select { IsSelectOf text tree };
 
     /// From a row that is shown. Refusals: 62 where it is the row of no such value within its limits, 6.
     fn read(alloc: Global, row: &Row) -> Result<Self, RowError>
@@ -28,7 +43,7 @@ pub trait Loaded {
         ensures refused { IfErr result (IsUnread ((w : Self) → fits w → row.now ≢ as_row w)) };
 }
 
-fn read_rows<T: Loaded + Drop>(alloc: Global, rows: &[Row]) -> Result<Vec<T>, RowError>
+fn read_rows<T: Loaded>(alloc: Global, rows: &[Row]) -> Result<Vec<T>, RowError>
     ensures values { IfOk result (λ all. map T.Loaded.as_row all.items ≡ rows.now) }
     ensures limits { IfOk result (λ all. All T.Loaded.fits all.items) }
     ensures refused { IfErr result (IsUnread (IsDamaged T.Loaded.as_row T.Loaded.fits rows.now)) }
@@ -48,7 +63,7 @@ fn read_rows<T: Loaded + Drop>(alloc: Global, rows: &[Row]) -> Result<Vec<T>, Ro
 }
 
 /// The rows that a SELECT shows.
-pub(crate) fn rows_of<S: Alter, T: Loaded + Drop>(
+pub(crate) fn rows_of<S: Alter, T: Loaded>(
     alloc: Global,
     tx: &mut Transaction<'_, S>,
     sql: &str,
@@ -66,4 +81,23 @@ pub(crate) fn rows_of<S: Alter, T: Loaded + Drop>(
         Ok(rows) => read_rows(alloc, rows.as_slice()),
         Err(error) => Err(RowError::of(error)),
     }
+}
+
+/// All rows of a table, by their numbers. Nothing changes.
+/// Refusals: 6, 60 where the file has no such table with these columns, 62, 63.
+pub fn load<S: Alter, T: Loaded>(
+    alloc: Global,
+    tx: &mut Transaction<'_, S>,
+) -> Result<Vec<T>, RowError>
+    ensures same { tx.new.conn.ghost_name ≡ tx.old.conn.ghost_name }
+    ensures loaded { HasCleanDisk (state S.Store tx.new.conn.now) → (state S.Store tx.old.conn.now).now.schema ≡ schema → IfOk result (λ all. IsPermutation (map T.Loaded.as_row all.items) (map (shown schema T.Loaded.tree) ((state S.Store tx.old.conn.now).now.trees T.Loaded.tree))) }
+    ensures limits { IfOk result (λ all. All T.Loaded.fits all.items) }
+    ensures refused { HasCleanDisk (state S.Store tx.new.conn.now) → (state S.Store tx.old.conn.now).now.schema ≡ schema → IfErr result (IsFor ⊥ (IsDamaged T.Loaded.as_row T.Loaded.fits (map (shown schema T.Loaded.tree) ((state S.Store tx.old.conn.now).now.trees T.Loaded.tree)))) }
+    ensures found { HasCleanDisk (state S.Store tx.new.conn.now) → OnOk result (HasMeaning (state S.Store tx.old.conn.now).now.schema T.Loaded.text) }
+    ensures lacking { HasCleanDisk (state S.Store tx.new.conn.now) → IfErr result (λ e. e ≡ Foreign → HasNoMeaning (state S.Store tx.old.conn.now).now.schema T.Loaded.text) }
+    ensures still { HasCleanDisk (state S.Store tx.new.conn.now) → (state S.Store tx.old.conn.now).now.schema ≡ schema → OnOk result ((state S.Store tx.new.conn.now).now ≡ (state S.Store tx.old.conn.now).now) }
+    ensures kept { HasCleanDisk (state S.Store tx.new.conn.now) → (state S.Store tx.old.conn.now).in_transaction ≡ true → KeepsCommit (state S.Store tx.old.conn.now) (state S.Store tx.new.conn.now) }
+    ensures crash { Survives (state S.Store tx.old.conn.now) (state S.Store tx.new.conn.now) (λ _. ⊥) }
+{
+    rows_of(alloc, tx, T::statement(), &[])
 }

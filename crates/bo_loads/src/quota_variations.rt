@@ -1,67 +1,38 @@
 //! The table `quota_variations`.
 
-ghost use Rattle.std.specs.Prelude.{◌≡◌, ◌≢◌, true, map, IfOk, IfErr, OnOk, IsPermutation, ⊤};
-ghost use Rattle.sqlite.specs.Held.{state};
-ghost use Rattle.sqlite.specs.State.{HasCleanDisk, Survives, KeepsCommit};
-ghost use Rattle.bo_schema.specs.declared.error.RowError.TheVariants.{Foreign};
-ghost use Rattle.bo_schema.specs.Tables.{schema};
-ghost use Rattle.bo_schema.specs.Parts.{shown};
-ghost use Rattle.bo_columns.specs.declared.rows.QuotaVariation.{QuotaVariation};
+ghost use Rattle.std.specs.Prelude.{⊤};
 ghost use Rattle.bo_columns.specs.Rows.{quota_variation_row};
-ghost use Rattle.bo_columns.specs.Unread.{IsUnread};
-ghost use Rattle.bo_loads.specs.Damage.{HasMeaning, HasNoMeaning, IsDamaged, IsFor};
 ghost use Rattle.bo_loads.specs.Texts.{quota_variations_text};
 
 use crate::columns::Columns;
-use crate::loaded::{Loaded, rows_of};
+use crate::loaded::Loaded;
 use bo_columns::QuotaVariation;
 use bo_schema::RowError;
-use sqlite::{Alter, Row, Transaction};
+use sqlite::Row;
 use std::alloc::Global;
-
-fn read_row(alloc: Global, row: &Row) -> Result<QuotaVariation, RowError>
-    ensures value { IfOk result (λ w. row.now ≡ quota_variation_row w) }
-    ensures refused { IfErr result (IsUnread ((w : QuotaVariation) → row.now ≢ quota_variation_row w)) }
-{
-    match Columns::read_from(alloc, row, 0) {
-        Ok((rowid, (quota_id, (variation_id, ())))) => Ok(QuotaVariation {
-            rowid,
-            quota: quota_id,
-            variation: variation_id,
-        }),
-        Err(error) => Err(error),
-    }
-}
 
 impl Loaded for QuotaVariation {
     ghost as_row = { quota_variation_row };
 
     ghost fits = { λ w. ⊤ };
 
-    fn read(alloc: Global, row: &Row) -> Result<QuotaVariation, RowError> {
-        read_row(alloc, row)
-    }
-}
+    ghost text = { quota_variations_text };
 
-/// All rows by number. Nothing changes.
-/// Refusals: 6, 60 where the file has no such table with these columns, 62, 63.
-pub fn load<S: Alter>(
-    alloc: Global,
-    tx: &mut Transaction<'_, S>,
-) -> Result<Vec<QuotaVariation>, RowError>
-    ensures same { tx.new.conn.ghost_name ≡ tx.old.conn.ghost_name }
-    ensures loaded { HasCleanDisk (state S.Store tx.new.conn.now) → (state S.Store tx.old.conn.now).now.schema ≡ schema → IfOk result (λ all. IsPermutation (map quota_variation_row all.items) (map (shown schema 6) ((state S.Store tx.old.conn.now).now.trees 6))) }
-    ensures refused { HasCleanDisk (state S.Store tx.new.conn.now) → (state S.Store tx.old.conn.now).now.schema ≡ schema → IfErr result (IsFor ⊥ (IsDamaged quota_variation_row (λ w. ⊤) (map (shown schema 6) ((state S.Store tx.old.conn.now).now.trees 6)))) }
-    ensures found { HasCleanDisk (state S.Store tx.new.conn.now) → OnOk result (HasMeaning (state S.Store tx.old.conn.now).now.schema quota_variations_text) }
-    ensures lacking { HasCleanDisk (state S.Store tx.new.conn.now) → IfErr result (λ e. e ≡ Foreign → HasNoMeaning (state S.Store tx.old.conn.now).now.schema quota_variations_text) }
-    ensures still { HasCleanDisk (state S.Store tx.new.conn.now) → (state S.Store tx.old.conn.now).now.schema ≡ schema → OnOk result ((state S.Store tx.new.conn.now).now ≡ (state S.Store tx.old.conn.now).now) }
-    ensures kept { HasCleanDisk (state S.Store tx.new.conn.now) → (state S.Store tx.old.conn.now).in_transaction ≡ true → KeepsCommit (state S.Store tx.old.conn.now) (state S.Store tx.new.conn.now) }
-    ensures crash { Survives (state S.Store tx.old.conn.now) (state S.Store tx.new.conn.now) (λ _. ⊥) }
-{
-    rows_of(
-        alloc,
-        tx,
-        "SELECT rowid, quota_id, variation_id FROM quota_variations ORDER BY rowid",
-        &[],
-    )
+    ghost tree = { 6 };
+
+    #[tactic(auto, using(crate::proofs::QuotaVariationsLemmas::select_is))]
+    fn statement() -> &'static str {
+        "SELECT rowid, quota_id, variation_id FROM quota_variations ORDER BY rowid"
+    }
+
+    fn read(alloc: Global, row: &Row) -> Result<QuotaVariation, RowError> {
+        match Columns::read_from(alloc, row, 0) {
+            Ok((rowid, (quota_id, (variation_id, ())))) => Ok(QuotaVariation {
+                rowid,
+                quota: quota_id,
+                variation: variation_id,
+            }),
+            Err(error) => Err(error),
+        }
+    }
 }

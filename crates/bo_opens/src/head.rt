@@ -40,9 +40,7 @@ pub(crate) fn load_shown<S: Alter>(tx: &mut Transaction<'_, S>) -> Result<Vec<Ro
     ensures kept { HasCleanDisk (state S.Store tx.new.conn.now) → (state S.Store tx.old.conn.now).in_transaction ≡ true → KeepsCommit (state S.Store tx.old.conn.now) (state S.Store tx.new.conn.now) }
     ensures crash { Survives (state S.Store tx.old.conn.now) (state S.Store tx.new.conn.now) (λ _. ⊥) }
 {
-    let sql =
-        "SELECT id, version, organizer, event, moment, next_item, next_variation, next_quota, next_voucher, next_cart, next_order, next_position, next_waiting, next_list, next_checkin, next_token FROM shop ORDER BY id";
-    match tx.query_all(sql, &[]) {
+    match tx.query_all(ShopRow::statement(), &[]) {
         Ok(rows) => Ok(rows),
         Err(error) => Err(RowError::of(error)),
     }

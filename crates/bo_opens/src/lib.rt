@@ -9,7 +9,6 @@ pub mod laws;
 pub mod numbers;
 pub mod read;
 pub mod table;
-pub mod tables;
 pub mod whole;
 
 pub use error::OpenError;

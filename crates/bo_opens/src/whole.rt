@@ -11,7 +11,8 @@ ghost use Rattle.bo_schema.specs.Parts.{shown};
 ghost use Rattle.bo_loads.specs.Damage.{HasMeaning, HasNoMeaning, IsDamaged, IsFor};
 ghost use Rattle.bo_opens.specs.Rests.{IsAt, Rests};
 
-use crate::table::{StoredRow, rows_in};
+use crate::table::rows_in;
+use bo_loads::Loaded;
 use bo_schema::RowError;
 use sqlite::{Alter, Connection};
 use std::alloc::Global;
@@ -47,7 +48,7 @@ pub(crate) trait Whole: Drop {
 }
 
 /// One table's rows.
-impl<T: StoredRow> Whole for Vec<T> {
+impl<T: Loaded> Whole for Vec<T> {
     ghost is_in = { λ trees rows. IsPermutation (map T.as_row rows.items) (map (shown schema T.tree) (trees T.tree)) };
 
     ghost fits = { λ rows. All T.fits rows.items };

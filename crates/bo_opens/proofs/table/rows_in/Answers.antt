@@ -17,7 +17,7 @@ returns-clause-loaded g c clean opened db at has =
     let ended : HasCleanDisk (state g.S.Store c.rollback.new.self.0) = subst (λ conn. HasCleanDisk (state g.S.Store conn)) (sym same) clean in
     let mid : HasCleanDisk (state g.S.Store c.load-read.new.tx.conn.now) = omega (arith, ended, c.rollback.ensures.survives.clean) in
     let known : (state g.S.Store begun).now.schema ≡ schema = ap (λ (d : Database). d.schema) was ∙ has in
-    subst (λ (d : Database). IfOk c.load-read.result (λ all. IsPermutation (map g.T.StoredRow.as_row all.items) (map (shown schema g.T.StoredRow.tree) (d.trees g.T.StoredRow.tree)))) was (c.load-read.ensures.loaded mid known)
+    subst (λ (d : Database). IfOk c.load-read.result (λ all. IsPermutation (map g.T.Loaded.as_row all.items) (map (shown schema g.T.Loaded.tree) (d.trees g.T.Loaded.tree)))) was (c.load-read.ensures.loaded mid known)
 
 pub returns-clause-found : goal.returns-clause-found
 returns-clause-found g c clean opened db at =
@@ -26,7 +26,7 @@ returns-clause-found g c clean opened db at =
     let same : c.rollback.new.self.0 ≡ c.conn-1.given.0 = search rules in
     let ended : HasCleanDisk (state g.S.Store c.rollback.new.self.0) = subst (λ conn. HasCleanDisk (state g.S.Store conn)) (sym same) clean in
     let mid : HasCleanDisk (state g.S.Store c.load-read.new.tx.conn.now) = omega (arith, ended, c.rollback.ensures.survives.clean) in
-    subst (λ (d : Database). OnOk c.load-read.result (HasMeaning d.schema g.T.StoredRow.text)) was (c.load-read.ensures.found mid)
+    subst (λ (d : Database). OnOk c.load-read.result (HasMeaning d.schema g.T.Loaded.text)) was (c.load-read.ensures.found mid)
 
 pub returns-clause-refused : goal.returns-clause-refused
 returns-clause-refused g c clean opened db at =
@@ -35,5 +35,5 @@ returns-clause-refused g c clean opened db at =
     let same : c.rollback.new.self.0 ≡ c.conn-1.given.0 = search rules in
     let ended : HasCleanDisk (state g.S.Store c.rollback.new.self.0) = subst (λ conn. HasCleanDisk (state g.S.Store conn)) (sym same) clean in
     let mid : HasCleanDisk (state g.S.Store c.load-read.new.tx.conn.now) = omega (arith, ended, c.rollback.ensures.survives.clean) in
-    subst (λ (d : Database). IfErr c.load-read.result (IsFor (HasNoMeaning d.schema g.T.StoredRow.text) (d.schema ≡ schema → IsDamaged g.T.StoredRow.as_row g.T.StoredRow.fits (map (shown schema g.T.StoredRow.tree) (d.trees g.T.StoredRow.tree))))) was
+    subst (λ (d : Database). IfErr c.load-read.result (IsFor (HasNoMeaning d.schema g.T.Loaded.text) (d.schema ≡ schema → IsDamaged g.T.Loaded.as_row g.T.Loaded.fits (map (shown schema g.T.Loaded.tree) (d.trees g.T.Loaded.tree))))) was
     (joined_err c.load-read.result _ _ _ (c.load-read.ensures.lacking mid) (c.load-read.ensures.refused mid))
