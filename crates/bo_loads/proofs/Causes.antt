@@ -1,5 +1,5 @@
 -- Why rows aren't read: what is known of a query that failed, and of rows that are damaged.
-use Rattle.std.proofs.Common.{◌≡◌, ◌⊎◌, inl, inr, ℕ, zero, suc, ◌<◌, List, [], ◌∷◌, length, map, slice_index_or, Option, Some, None, Result, Ok, Err, IfErr, IfOk, OnOk, IfSome, refl, sym, subst, ap, ◌∙◌, arith}
+use Rattle.std.proofs.Common.{◌≡◌, ◌⊎◌, inl, inr, ℕ, zero, suc, List, [], ◌∷◌, map, Option, Some, None, Result, Ok, Err, IfErr, IfOk, OnOk, IfSome, sym, subst, ap, ◌∙◌, arith}
 use Rattle.std.specs.List.{All, Contains}
 use Rattle.std.specs.List.Sorted.{IsPermutation}
 use Rattle.std.proofs.lemmas.List.Sorted.{Contains-permutation, IsPermutation-sym}
@@ -16,11 +16,10 @@ use Rattle.sqlite_resolve.specs.declared.error.CompileError.{CompileError}
 use Rattle.sqlite_resolve.specs.declared.error.CompileError.TheVariants as compile
 use Rattle.sqlite_syntax.specs.declared.error.ParseError.TheVariants as parse
 use Rattle.sqlite.specs.declared.error.Error.{Error}
-use Rattle.sqlite.specs.declared.error.Error.TheVariants.{SqliteFailure, SqlInputError, MultipleStatement, InvalidParameterCount, InvalidQuery}
-use Rattle.sqlite.specs.declared.error.ErrorCode.TheVariants as code
+use Rattle.sqlite.specs.declared.error.Error.TheVariants.{InvalidQuery}
 use Rattle.sqlite.specs.Effect.{Database, RefusesToRead}
 use Rattle.sqlite.specs.Listing.{understood}
-use Rattle.sqlite.specs.State.{State, Shown, store_error, Fails, IsNoStatement, IsNotRun, FailsToShow, FailsToQuery, IsTooLate}
+use Rattle.sqlite.specs.State.{State, Shown, store_error, IsNoStatement, IsNotRun, FailsToShow, FailsToQuery, IsTooLate}
 use Rattle.bo_schema.specs.declared.error.RowError.{RowError}
 use Rattle.bo_schema.specs.declared.error.RowError.TheVariants.{Memory, Foreign, Damaged, Store}
 use Rattle.bo_schema.specs.Failures.{failure_of, meaning_of}

@@ -1,5 +1,5 @@
 -- A row from a column on.
-use Rattle.std.proofs.Common.{◌≡◌, ℕ, zero, suc, ◌<◌, ◌≤◌, List, [], ◌∷◌, length, drop, refl, arith}
+use Rattle.std.proofs.Common.{◌≡◌, ℕ, zero, suc, ◌<◌, ◌≤◌, [], ◌∷◌, length, drop, refl, arith}
 use Rattle.sqlite_value.specs.Order.{Row, column}
 
 pub split_at : (at : ℕ) (r : Row) → at < length r → drop at r ≡ column r at ∷ drop (suc at) r

@@ -1,5 +1,5 @@
 -- What a SELECT of all columns shows, and that it changes nothing.
-use Rattle.std.proofs.Common.{◌≡◌, ◌≢◌, ◌⊎◌, inl, inr, ℕ, zero, suc, List, [], ◌∷◌, length, map, filter, false, true, cond, Bool, Ok, Err, Result, IfOk, IsTrue, Option, Some, None, refl, ap, sym, subst, ◌∙◌, arith}
+use Rattle.std.proofs.Common.{◌≡◌, ◌⊎◌, inl, inr, ℕ, suc, List, [], ◌∷◌, length, map, filter, true, cond, Ok, Err, Result, IfOk, Option, Some, None, refl, ap, sym, subst, ◌∙◌, arith}
 use Rattle.std.specs.List.Sorted.{IsPermutation}
 use Rattle.std.proofs.lemmas.List.Sorted.{IsPermutation-sym}
 use Rattle.sqlite_value.specs.declared.value.Value.{Value}
@@ -12,7 +12,7 @@ use Rattle.sqlite_resolve.specs.declared.compiled.Compiled.{Compiled}
 use Rattle.sqlite_resolve.specs.declared.error.CompileError.{CompileError}
 use Rattle.sqlite.specs.Effect.{Database, Reads}
 use Rattle.sqlite.specs.declared.error.Error.{Error}
-use Rattle.sqlite.specs.Listing.{understood, reads_listing}
+use Rattle.sqlite.specs.Listing.{understood}
 use Rattle.sqlite.specs.State.{State, Shown, ShowsRows, KeepsCommit, IsNotRun, FailsToQuery, FailsToShow, IsTooLate}
 use Rattle.sqlite.proofs.Callers.{IsPlain, command_of, reads_as}
 use Rattle.bo_schema.specs.Tables.{schema}

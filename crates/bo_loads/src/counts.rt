@@ -27,16 +27,18 @@ impl Loaded for QuotaCount {
 
     fn read(alloc: Global, row: &Row) -> Result<QuotaCount, RowError> {
         match Columns::read_from(alloc, row, 0) {
-            Ok((quota_id, (paid, (pending, (blocked, (carts, (waiting, ()))))))) => Ok(QuotaCount {
-                quota: quota_id,
-                usage: Usage {
-                    paid,
-                    pending,
-                    blocked,
-                    carts,
-                    waiting,
+            Ok((quota_id, (paid, (pending, (blocked, (carts, (waiting, ()))))))) => Ok(
+                QuotaCount {
+                    quota: quota_id,
+                    usage: Usage {
+                        paid,
+                        pending,
+                        blocked,
+                        carts,
+                        waiting,
+                    },
                 },
-            }),
+            ),
             Err(error) => Err(error),
         }
     }

@@ -33,8 +33,10 @@ impl Loaded for ShopRow {
                 if id != 1 {
                     return Err(RowError::Damaged);
                 }
-                let (next_item, (next_variation, (next_quota, (next_voucher, (next_cart, others))))) =
-                    middle;
+                let (
+                    next_item,
+                    (next_variation, (next_quota, (next_voucher, (next_cart, others)))),
+                ) = middle;
                 let (
                     next_order,
                     (next_position, (next_waiting, (next_list, (next_checkin, (next_token, ()))))),

@@ -1,10 +1,8 @@
 -- Why a file isn't opened: one cause for another.
-use Rattle.std.proofs.Common.{◌≡◌, ◌⊎◌, inl, inr, ℕ, ℤ, pos, List, [], ◌∷◌, map, filter, Result, Ok, Err, IfErr, refl, sym, subst, subst₂, ap, ◌∙◌}
+use Rattle.std.proofs.Common.{◌≡◌, ◌⊎◌, inl, inr, ℕ, ℤ, pos, List, [], map, Result, Ok, Err, IfErr, refl, sym, subst, subst₂, ap, ◌∙◌}
 use Rattle.std.specs.List.Sorted.{IsPermutation}
-use Rattle.std.proofs.lemmas.List.Sorted.{IsPermutation-sym}
 use Rattle.sqlite_value.specs.declared.value.Value.TheVariants.{Int}
 use Rattle.sqlite_value.specs.Order.{Row, column}
-use Rattle.sqlite_sql.specs.Term.{eval_all}
 use Rattle.sqlite.specs.Effect.{Database, Reads}
 use Rattle.sqlite.specs.Clock.{timed}
 use Rattle.sqlite.specs.Listing.{understood, reads_listing, IsSourceOf}
@@ -12,7 +10,6 @@ use Rattle.sqlite.specs.State.{State, Shown, ShowsRows}
 use Rattle.sqlite.proofs.Callers.{IsPlain, command_of}
 use Rattle.bo_schema.specs.Tables.{schema}
 use Rattle.bo_schema.specs.Parts.{shown}
-use Rattle.bo_schema.proofs.Answered.{passes, answered}
 use Rattle.bo_schema.specs.declared.error.RowError.{RowError}
 use Rattle.bo_schema.specs.declared.error.RowError.TheVariants.{Memory, Foreign, Damaged, Store}
 use Rattle.bo_columns.specs.declared.rows.ShopRow.{ShopRow}

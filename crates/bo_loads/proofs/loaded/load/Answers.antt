@@ -1,4 +1,4 @@
-use Rattle.std.proofs.Common.{[], map, IfOk, IfErr}
+use Rattle.std.proofs.Common.{[], map, IfOk}
 use Rattle.sqlite.specs.Held.{state}
 use Rattle.sqlite.specs.State.{Shown}
 use Rattle.bo_loads.proofs.Loads.{if_ok, loads, still}

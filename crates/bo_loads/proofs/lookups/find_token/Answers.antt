@@ -5,7 +5,6 @@ use Rattle.sqlite_value.specs.declared.value.Value.TheVariants.{Blob}
 use Rattle.sqlite.specs.Held.{state}
 use Rattle.sqlite.specs.State.{Shown}
 use Rattle.bo_columns.specs.declared.rows.Token.{Token}
-use Rattle.bo_columns.specs.Cells.{number}
 use Rattle.bo_columns.specs.Rows.{token_row}
 use Rattle.bo_loads.proofs.Loads.{if_ok, unchanged}
 use Rattle.bo_loads.proofs.LookupLemmas.{token_text, token_plain, finds_token}
