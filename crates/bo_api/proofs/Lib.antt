@@ -4,6 +4,7 @@ pub mod OrderNames
 pub mod InTable
 pub mod Secrets
 pub mod Seeking
+pub mod Written
 pub mod RoutePaths
 pub mod ShopPaths
 pub mod PagePaths

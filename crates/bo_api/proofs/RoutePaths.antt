@@ -10,13 +10,14 @@ use Rattle.matchit.specs.Seek.{seek, step, first}
 use Rattle.bo_api.specs.declared.routes.Route.{Route}
 use Rattle.bo_api.specs.declared.routes.Route.TheVariants as routes
 use Rattle.bo_bodies.specs.declared.form.MoveName.TheVariants as names
-use Rattle.bo_api.specs.Routes.{Rows, all_routes, catalogue_routes, sale_routes, order_routes, waiting_routes, door_routes, with_route, found, route_of}
+use Rattle.bo_api.specs.Routes.{Rows, all_routes, found, route_of}
 use Rattle.bo_api.specs.Table.{IsName, IsSegment, has, path_with}
+use Rattle.bo_api.proofs.Written.{written, all_written}
 use Rattle.bo_api.proofs.Seeking.{along, behind_id, none_there, others_path, slashed, shorn, steps}
 
 -- the rows behind a front that is bytes alone
 abbrev pub rows_at : List ℕ → Rows
-rows_at front = steps front all_routes
+rows_at front = steps front written
 
 abbrev pub rows_after : List ℕ → Rows
 rows_after front = shorn (step param_token (rows_at front))
@@ -25,33 +26,33 @@ rows_after front = shorn (step param_token (rows_at front))
 with_id : (front rest : List ℕ) (b : ℕ) (id : List ℕ) (route : Route) → has 47 (b ∷ id) ≡ false
     → seek 0 (step b (rows_at front)) (id ++ 47 ∷ rest) ≡ None → step param_token (rows_at front) ≡ slashed (rows_after front) → 0 < length (rows_after front)
     → found (seek 0 (slashed (rows_after front)) (47 ∷ rest)) ≡ Some route
-    → found (first all_routes (front ++ (b ∷ (id ++ 47 ∷ rest)))) ≡ Some route
+    → found (first written (front ++ (b ∷ (id ++ 47 ∷ rest)))) ≡ Some route
 with_id front rest b id route h none wild some is =
-    along front (b ∷ (id ++ 47 ∷ rest)) all_routes route (behind_id b id rest (rows_at front) (rows_after front) route h none wild some is)
+    along front (b ∷ (id ++ 47 ∷ rest)) written route (behind_id b id rest (rows_at front) (rows_after front) route h none wild some is)
 
 -- behind these words no byte stands for itself
 no_byte_item : (b : ℕ) (path : List ℕ) → b < 256 → seek 0 (step b (rows_at (codes "/items/"))) path ≡ None
-unfolding all_routes catalogue_routes sale_routes order_routes waiting_routes door_routes with_route matchit_on_literals
+unfolding matchit_on_literals
 no_byte_item b path h = let m : (256 == b) ≡ false = grind (arith, nat_tests) in rw m (none_there 0 path)
 
 no_byte_quota : (b : ℕ) (path : List ℕ) → b < 256 → seek 0 (step b (rows_at (codes "/quotas/"))) path ≡ None
-unfolding all_routes catalogue_routes sale_routes order_routes waiting_routes door_routes with_route matchit_on_literals
+unfolding matchit_on_literals
 no_byte_quota b path h = let m : (256 == b) ≡ false = grind (arith, nat_tests) in rw m (none_there 0 path)
 
 no_byte_voucher : (b : ℕ) (path : List ℕ) → b < 256 → seek 0 (step b (rows_at (codes "/vouchers/"))) path ≡ None
-unfolding all_routes catalogue_routes sale_routes order_routes waiting_routes door_routes with_route matchit_on_literals
+unfolding matchit_on_literals
 no_byte_voucher b path h = let m : (256 == b) ≡ false = grind (arith, nat_tests) in rw m (none_there 0 path)
 
 no_byte_order : (b : ℕ) (path : List ℕ) → b < 256 → seek 0 (step b (rows_at (codes "/orders/"))) path ≡ None
-unfolding all_routes catalogue_routes sale_routes order_routes waiting_routes door_routes with_route matchit_on_literals
+unfolding matchit_on_literals
 no_byte_order b path h = let m : (256 == b) ≡ false = grind (arith, nat_tests) in rw m (none_there 0 path)
 
 no_byte_waiting : (b : ℕ) (path : List ℕ) → b < 256 → seek 0 (step b (rows_at (codes "/waitinglistentries/"))) path ≡ None
-unfolding all_routes catalogue_routes sale_routes order_routes waiting_routes door_routes with_route matchit_on_literals
+unfolding matchit_on_literals
 no_byte_waiting b path h = let m : (256 == b) ≡ false = grind (arith, nat_tests) in rw m (none_there 0 path)
 
 no_byte_door : (b : ℕ) (path : List ℕ) → b < 256 → seek 0 (step b (rows_at (codes "/checkinlists/"))) path ≡ None
-unfolding all_routes catalogue_routes sale_routes order_routes waiting_routes door_routes with_route matchit_on_literals
+unfolding matchit_on_literals
 no_byte_door b path h = let m : (256 == b) ≡ false = grind (arith, nat_tests) in rw m (none_there 0 path)
 
 -- the rows behind the positions of a check-in list
@@ -59,13 +60,13 @@ abbrev pub ticket_rows : Rows
 ticket_rows = steps (codes "/positions/") (slashed (rows_after (codes "/checkinlists/")))
 
 no_byte_ticket : (b : ℕ) (path : List ℕ) → b < 256 → seek 0 (step b ticket_rows) path ≡ None
-unfolding all_routes catalogue_routes sale_routes order_routes waiting_routes door_routes with_route matchit_on_literals
+unfolding matchit_on_literals
 no_byte_ticket b path h = let m : (256 == b) ≡ false = grind (arith, nat_tests) in rw m (none_there 0 path)
 
 -- behind a check-in list's id, the path of a scan goes on with its ticket
 ticket_sought : (ticket : List ℕ) → IsSegment ticket
     → found (seek 0 (slashed (rows_after (codes "/checkinlists/"))) (codes "/positions/" ++ ticket ++ codes "/redeem/")) ≡ Some routes.Redeem
-unfolding all_routes catalogue_routes sale_routes order_routes waiting_routes door_routes with_route matchit_on_literals
+unfolding matchit_on_literals
 ticket_sought (b ∷ ticket) n =
     along (codes "/positions/") (b ∷ (ticket ++ codes "/redeem/")) (slashed (rows_after (codes "/checkinlists/"))) routes.Redeem
     (behind_id b ticket (codes "redeem/") ticket_rows (shorn (step param_token ticket_rows)) routes.Redeem n.slash
@@ -74,7 +75,7 @@ ticket_sought [] n = let some : 0 < 0 = n.some in absurd (omega arith)
 
 -- behind this word the bytes of one word stand for themselves
 no_byte_cart : (b : ℕ) (id : List ℕ) → b < 256 → (b ∷ id) ≢ codes "bulk_create" → seek 0 (step b (rows_at (codes "/cartpositions/"))) (id ++ 47 ∷ []) ≡ None
-unfolding all_routes catalogue_routes sale_routes order_routes waiting_routes door_routes with_route matchit_on_literals
+unfolding matchit_on_literals
 no_byte_cart b id h other = by (98 == b) refl
   where
     by : (v : Bool) → (98 == b) ≡ v → seek 0 (step b (rows_at (codes "/cartpositions/"))) (id ++ 47 ∷ []) ≡ None
@@ -86,53 +87,53 @@ no_byte_cart b id h other = by (98 == b) refl
     by false e = let m : (256 == b) ≡ false = grind (arith, nat_tests) in rw (m, e) (none_there 0 (id ++ 47 ∷ []))
 
 -- what is found at a path is found at the same path in other words
-at_path : (route : Route) (path other : List ℕ) → path ≡ other → found (first all_routes other) ≡ Some route → found (first all_routes path) ≡ Some route
+at_path : (route : Route) (path other : List ℕ) → path ≡ other → found (first written other) ≡ Some route → found (first written path) ≡ Some route
 at_path route path other e h = rw e h
 
-entry_sought : (id ticket : List ℕ) → IsName id → IsSegment ticket → found (first all_routes (path_with id ticket routes.WaitingEntry)) ≡ Some routes.WaitingEntry
-unfolding all_routes catalogue_routes sale_routes order_routes waiting_routes door_routes with_route matchit_on_literals
+entry_sought : (id ticket : List ℕ) → IsName id → IsSegment ticket → found (first written (path_with id ticket routes.WaitingEntry)) ≡ Some routes.WaitingEntry
+unfolding matchit_on_literals
 entry_sought (b ∷ id) ticket n s =
     at_path routes.WaitingEntry (path_with (b ∷ id) ticket routes.WaitingEntry) (codes "/waitinglistentries/" ++ (b ∷ (id ++ 47 ∷ []))) refl
     (with_id (codes "/waitinglistentries/") [] b id routes.WaitingEntry n.segment.slash (no_byte_waiting b (id ++ 47 ∷ []) n.segment.bytes.0) refl (lit< tt) refl)
 entry_sought [] ticket n s = let some : 0 < 0 = n.segment.some in absurd (omega arith)
 
-sending_sought : (id ticket : List ℕ) → IsName id → IsSegment ticket → found (first all_routes (path_with id ticket routes.SendVoucher)) ≡ Some routes.SendVoucher
-unfolding all_routes catalogue_routes sale_routes order_routes waiting_routes door_routes with_route matchit_on_literals
+sending_sought : (id ticket : List ℕ) → IsName id → IsSegment ticket → found (first written (path_with id ticket routes.SendVoucher)) ≡ Some routes.SendVoucher
+unfolding matchit_on_literals
 sending_sought (b ∷ id) ticket n s =
     at_path routes.SendVoucher (path_with (b ∷ id) ticket routes.SendVoucher) (codes "/waitinglistentries/" ++ (b ∷ (id ++ 47 ∷ (codes "send_voucher/")))) refl
     (with_id (codes "/waitinglistentries/") (codes "send_voucher/") b id routes.SendVoucher n.segment.slash (no_byte_waiting b (id ++ 47 ∷ (codes "send_voucher/")) n.segment.bytes.0) refl (lit< tt) refl)
 sending_sought [] ticket n s = let some : 0 < 0 = n.segment.some in absurd (omega arith)
 
-list_sought : (id ticket : List ℕ) → IsName id → IsSegment ticket → found (first all_routes (path_with id ticket routes.CheckinList)) ≡ Some routes.CheckinList
-unfolding all_routes catalogue_routes sale_routes order_routes waiting_routes door_routes with_route matchit_on_literals
+list_sought : (id ticket : List ℕ) → IsName id → IsSegment ticket → found (first written (path_with id ticket routes.CheckinList)) ≡ Some routes.CheckinList
+unfolding matchit_on_literals
 list_sought (b ∷ id) ticket n s =
     at_path routes.CheckinList (path_with (b ∷ id) ticket routes.CheckinList) (codes "/checkinlists/" ++ (b ∷ (id ++ 47 ∷ []))) refl
     (with_id (codes "/checkinlists/") [] b id routes.CheckinList n.segment.slash (no_byte_door b (id ++ 47 ∷ []) n.segment.bytes.0) refl (lit< tt) refl)
 list_sought [] ticket n s = let some : 0 < 0 = n.segment.some in absurd (omega arith)
 
-status_sought : (id ticket : List ℕ) → IsName id → IsSegment ticket → found (first all_routes (path_with id ticket routes.Status)) ≡ Some routes.Status
-unfolding all_routes catalogue_routes sale_routes order_routes waiting_routes door_routes with_route matchit_on_literals
+status_sought : (id ticket : List ℕ) → IsName id → IsSegment ticket → found (first written (path_with id ticket routes.Status)) ≡ Some routes.Status
+unfolding matchit_on_literals
 status_sought (b ∷ id) ticket n s =
     at_path routes.Status (path_with (b ∷ id) ticket routes.Status) (codes "/checkinlists/" ++ (b ∷ (id ++ 47 ∷ (codes "status/")))) refl
     (with_id (codes "/checkinlists/") (codes "status/") b id routes.Status n.segment.slash (no_byte_door b (id ++ 47 ∷ (codes "status/")) n.segment.bytes.0) refl (lit< tt) refl)
 status_sought [] ticket n s = let some : 0 < 0 = n.segment.some in absurd (omega arith)
 
-tickets_sought : (id ticket : List ℕ) → IsName id → IsSegment ticket → found (first all_routes (path_with id ticket routes.Tickets)) ≡ Some routes.Tickets
-unfolding all_routes catalogue_routes sale_routes order_routes waiting_routes door_routes with_route matchit_on_literals
+tickets_sought : (id ticket : List ℕ) → IsName id → IsSegment ticket → found (first written (path_with id ticket routes.Tickets)) ≡ Some routes.Tickets
+unfolding matchit_on_literals
 tickets_sought (b ∷ id) ticket n s =
     at_path routes.Tickets (path_with (b ∷ id) ticket routes.Tickets) (codes "/checkinlists/" ++ (b ∷ (id ++ 47 ∷ (codes "positions/")))) refl
     (with_id (codes "/checkinlists/") (codes "positions/") b id routes.Tickets n.segment.slash (no_byte_door b (id ++ 47 ∷ (codes "positions/")) n.segment.bytes.0) refl (lit< tt) refl)
 tickets_sought [] ticket n s = let some : 0 < 0 = n.segment.some in absurd (omega arith)
 
-scan_sought : (id ticket : List ℕ) → IsName id → IsSegment ticket → found (first all_routes (path_with id ticket routes.Redeem)) ≡ Some routes.Redeem
-unfolding all_routes catalogue_routes sale_routes order_routes waiting_routes door_routes with_route matchit_on_literals
+scan_sought : (id ticket : List ℕ) → IsName id → IsSegment ticket → found (first written (path_with id ticket routes.Redeem)) ≡ Some routes.Redeem
+unfolding matchit_on_literals
 scan_sought (b ∷ id) ticket n s =
     at_path routes.Redeem (path_with (b ∷ id) ticket routes.Redeem) (codes "/checkinlists/" ++ (b ∷ (id ++ 47 ∷ (codes "positions/" ++ ticket ++ codes "/redeem/")))) refl
     (with_id (codes "/checkinlists/") (codes "positions/" ++ ticket ++ codes "/redeem/") b id routes.Redeem n.segment.slash (no_byte_door b (id ++ 47 ∷ (codes "positions/" ++ ticket ++ codes "/redeem/")) n.segment.bytes.0) refl (lit< tt) (ticket_sought ticket s))
 scan_sought [] ticket n s = let some : 0 < 0 = n.segment.some in absurd (omega arith)
 
-pub sought : (route : Route) (id ticket : List ℕ) → IsName id → IsSegment ticket → found (first all_routes (path_with id ticket route)) ≡ Some route
-unfolding all_routes catalogue_routes sale_routes order_routes waiting_routes door_routes with_route matchit_on_literals
+pub sought : (route : Route) (id ticket : List ℕ) → IsName id → IsSegment ticket → found (first written (path_with id ticket route)) ≡ Some route
+unfolding matchit_on_literals
 sought routes.Items id ticket n s = refl
 sought routes.Quotas id ticket n s = refl
 sought routes.Vouchers id ticket n s = refl
@@ -226,9 +227,9 @@ pub path_route : (route : Route) (id ticket : List ℕ) → IsName id → IsSegm
 unfolding route_of
 path_route route id ticket n s =
     let u : is_utf8 (path_with id ticket route) ≡ true = is_utf8-from_IsUtf8 (path_with id ticket route) (end_utf8 route id ticket n.segment.utf8 s.utf8) in
-    rw u (sought route id ticket n s)
+    rw (u, all_written) (sought route id ticket n s)
 
 -- a path that isn't found has no route
-pub none_sought : (path : List ℕ) → found (first all_routes path) ≡ None → route_of path ≡ None
+pub none_sought : (path : List ℕ) → found (first written path) ≡ None → route_of path ≡ None
 unfolding route_of
-none_sought path e = elim (is_utf8 path) as (λ b. cond b (found (first all_routes path)) None ≡ None) [ true ↦ e | false ↦ refl ]
+none_sought path e = elim (is_utf8 path) as (λ b. cond b (found (first all_routes path)) None ≡ None) [ true ↦ rw all_written e | false ↦ refl ]

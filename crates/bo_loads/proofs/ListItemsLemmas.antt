@@ -4,12 +4,11 @@ use Rattle.sqlite_schema.specs.declared.command.Command.TheVariants.{Select}
 use Rattle.sqlite_resolve.specs.Compile.{first}
 use Rattle.sqlite_tied.specs.Compute.{everything}
 use Rattle.sqlite.specs.Listing.{understood, reads_listing}
-use Rattle.sqlite.specs.Given.{IsPlain}
 use Rattle.bo_schema.specs.Tables.{schema}
-use Rattle.bo_schema.specs.Shapes.{over, plainly, id_order}
+use Rattle.bo_schema.specs.Shapes.{AsksFor, over, plainly, id_order}
 use Rattle.sqlite_sql.specs.Term.{Term, col}
 use Rattle.bo_loads.specs.Texts.{list_items_text}
-use Rattle.bo_loads.specs.Select.{IsSelectOf, command_in}
+use Rattle.bo_loads.specs.Select.{IsSelectOf}
 use Rattle.bo_loads.proofs.Queries.{is_query, query_reads}
 
 abbrev pub select_text : List ℕ
@@ -18,13 +17,13 @@ select_text = list_items_text
 abbrev project : List Term
 project = col 1 0 ∷ col 1 1 ∷ col 1 2 ∷ []
 
-select_reads : (command_in (understood schema select_text) ≡ Some (Select (plainly (over 17 [] project id_order)) (codes "rowid" ∷ codes "list_id" ∷ codes "item_id" ∷ []))) × IsPlain (understood schema select_text) × (reads_listing schema select_text ≡ false)
+select_reads : AsksFor (Select (plainly (over 17 [] project id_order)) (codes "rowid" ∷ codes "list_id" ∷ codes "item_id" ∷ [])) select_text × (reads_listing schema select_text ≡ false)
 unfolding understood everything
-select_reads = (refl, (refl, refl), refl)
+select_reads = ((refl, (refl, refl)), refl)
 
 asks : is_query (first select_text) ≡ true
 unfolding everything
 asks = refl
 
 pub select_is : IsSelectOf select_text 17
-select_is = record { project = project; order = id_order; names = codes "rowid" ∷ codes "list_id" ∷ codes "item_id" ∷ []; command = select_reads.0; plain = select_reads.1; unlisted = select_reads.2; shows = λ r. refl; reads = query_reads select_text asks }
+select_is = record { project = project; order = id_order; names = codes "rowid" ∷ codes "list_id" ∷ codes "item_id" ∷ []; asks = select_reads.0; unlisted = select_reads.1; shows = λ r. refl; reads = query_reads select_text asks }

@@ -17,12 +17,13 @@ use Rattle.sqlite.specs.State.{State, Shown, ShowsRows, KeepsCommit, IsNotRun, F
 use Rattle.sqlite.proofs.Callers.{IsPlain, command_of, reads_as}
 use Rattle.bo_schema.specs.Tables.{schema}
 use Rattle.bo_schema.specs.Parts.{shown}
-use Rattle.bo_schema.specs.Shapes.{over, plainly}
+use Rattle.bo_schema.specs.Shapes.{command_in, over, plainly}
 use Rattle.bo_schema.proofs.Answered.{passes, answered}
+use Rattle.bo_schema.proofs.Generic.{asked}
 use Rattle.bo_columns.specs.Tables.{Holds}
 use Rattle.bo_columns.specs.Changes.{IsInside, Changes}
 use Rattle.bo_loads.specs.Damage.{HasMeaning, IsForReading}
-use Rattle.bo_loads.specs.Select.{IsSelectOf, command_in}
+use Rattle.bo_loads.specs.Select.{IsSelectOf}
 
 -- ---- a row that is read column by column
 
@@ -43,16 +44,12 @@ is_row (y ∷ r) (x ∷ xs) len h = let here : y ≡ x = h.0 in let rest = is_ro
 
 -- ---- all rows of a table
 
-by_command : (r : Result Compiled CompileError) (k : Command) → command_in r ≡ Some k → command_of r ≡ k
-by_command (Ok c) k h = cc
-by_command (Err e) k h = absurd (cc)
-
 has_meaning : (r : Result Compiled CompileError) (k : Command) → command_in r ≡ Some k → (c : Compiled) × (r ≡ Ok c)
 has_meaning (Ok c) k h = (c, refl)
 has_meaning (Err e) k h = absurd (cc)
 
 pub stands : (sql : List ℕ) (tree : ℕ) → IsSelectOf sql tree → HasMeaning schema sql
-stands sql tree is = has_meaning (understood schema sql) (Select (plainly (over tree [] is.project is.order)) is.names) is.command
+stands sql tree is = has_meaning (understood schema sql) (Select (plainly (over tree [] is.project is.order)) is.names) is.asks.0
 
 keep_all : (rows : List Row) → filter (passes [] []) rows ≡ rows
 keep_all [] = refl
@@ -69,10 +66,10 @@ shows_all sql tree is db rows read =
     (ap (map (λ (r : Row). eval_all is.project ([] ∷ r ∷ []))) (keep_all (db.trees tree)) ∙ map_same (λ (r : Row). eval_all is.project ([] ∷ r ∷ [])) (shown schema tree) is.shows (db.trees tree)) (answered db tree [] is.project is.order [] rows read))
 
 pub command_is : (sql : List ℕ) (tree : ℕ) (is : IsSelectOf sql tree) → command_of (understood schema sql) ≡ Select (plainly (over tree [] is.project is.order)) is.names
-command_is sql tree is = by_command (understood schema sql) _ is.command
+command_is sql tree is = asked (understood schema sql) _ is.asks.0
 
 pub loads : (sql : List ℕ) (tree : ℕ) → IsSelectOf sql tree → (old new : State) → old.now.schema ≡ schema → (rows : List Row) → Shown sql [] old new rows → IsPermutation rows (map (shown schema tree) (old.now.trees tree))
-loads sql tree is old new known rows h = shows_all sql tree is old.now rows (reads_as sql [] old new schema known _ (command_is sql tree is) is.plain is.unlisted rows h)
+loads sql tree is old new known rows h = shows_all sql tree is old.now rows (reads_as sql [] old new schema known _ (command_is sql tree is) is.asks.1 is.unlisted rows h)
 
 -- a SELECT changes nothing
 pub unchanged : (sql : List ℕ) (params : Row) (old new : State) → IsPlain (understood schema sql) → old.now.schema ≡ schema → (rows : List Row) → Shown sql params old new rows → new.now ≡ old.now
@@ -83,7 +80,7 @@ unchanged sql params old new plain known rows h =
     it.3.0.now_is
 
 pub still : (sql : List ℕ) (tree : ℕ) → IsSelectOf sql tree → (old new : State) → old.now.schema ≡ schema → (rows : List Row) → Shown sql [] old new rows → new.now ≡ old.now
-still sql tree is old new known rows h = unchanged sql [] old new is.plain known rows h
+still sql tree is old new known rows h = unchanged sql [] old new is.asks.1 known rows h
 
 -- inside a transaction over the schema it leaves all as it is
 pub still_inside : (sql : List ℕ) (params : Row) (old new : State) → IsPlain (understood schema sql) → IsInside old → (rows : List Row) → Shown sql params old new rows → Changes (λ t. t) old new

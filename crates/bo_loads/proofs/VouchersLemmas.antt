@@ -4,12 +4,11 @@ use Rattle.sqlite_schema.specs.declared.command.Command.TheVariants.{Select}
 use Rattle.sqlite_resolve.specs.Compile.{first}
 use Rattle.sqlite_tied.specs.Compute.{everything}
 use Rattle.sqlite.specs.Listing.{understood, reads_listing}
-use Rattle.sqlite.specs.Given.{IsPlain}
 use Rattle.bo_schema.specs.Tables.{schema}
-use Rattle.bo_schema.specs.Shapes.{over, plainly, id_order}
+use Rattle.bo_schema.specs.Shapes.{AsksFor, over, plainly, id_order}
 use Rattle.sqlite_sql.specs.Term.{Term, col}
 use Rattle.bo_loads.specs.Texts.{vouchers_text}
-use Rattle.bo_loads.specs.Select.{IsSelectOf, command_in}
+use Rattle.bo_loads.specs.Select.{IsSelectOf}
 use Rattle.bo_loads.proofs.Queries.{is_query, query_reads}
 
 abbrev pub select_text : List ℕ
@@ -18,13 +17,13 @@ select_text = vouchers_text
 abbrev project : List Term
 project = col 1 0 ∷ col 1 2 ∷ col 1 3 ∷ col 1 4 ∷ col 1 5 ∷ col 1 6 ∷ col 1 7 ∷ col 1 8 ∷ col 1 9 ∷ col 1 10 ∷ col 1 11 ∷ col 1 12 ∷ col 1 13 ∷ col 1 14 ∷ []
 
-select_reads : (command_in (understood schema select_text) ≡ Some (Select (plainly (over 8 [] project id_order)) (codes "id" ∷ codes "code" ∷ codes "max_usages" ∷ codes "valid_until" ∷ codes "block_quota" ∷ codes "allow_ignore_quota" ∷ codes "price_mode" ∷ codes "amount" ∷ codes "item_id" ∷ codes "variation_id" ∷ codes "quota_id" ∷ codes "tag" ∷ codes "comment" ∷ codes "redeemed" ∷ []))) × IsPlain (understood schema select_text) × (reads_listing schema select_text ≡ false)
+select_reads : AsksFor (Select (plainly (over 8 [] project id_order)) (codes "id" ∷ codes "code" ∷ codes "max_usages" ∷ codes "valid_until" ∷ codes "block_quota" ∷ codes "allow_ignore_quota" ∷ codes "price_mode" ∷ codes "amount" ∷ codes "item_id" ∷ codes "variation_id" ∷ codes "quota_id" ∷ codes "tag" ∷ codes "comment" ∷ codes "redeemed" ∷ [])) select_text × (reads_listing schema select_text ≡ false)
 unfolding understood everything
-select_reads = (refl, (refl, refl), refl)
+select_reads = ((refl, (refl, refl)), refl)
 
 asks : is_query (first select_text) ≡ true
 unfolding everything
 asks = refl
 
 pub select_is : IsSelectOf select_text 8
-select_is = record { project = project; order = id_order; names = codes "id" ∷ codes "code" ∷ codes "max_usages" ∷ codes "valid_until" ∷ codes "block_quota" ∷ codes "allow_ignore_quota" ∷ codes "price_mode" ∷ codes "amount" ∷ codes "item_id" ∷ codes "variation_id" ∷ codes "quota_id" ∷ codes "tag" ∷ codes "comment" ∷ codes "redeemed" ∷ []; command = select_reads.0; plain = select_reads.1; unlisted = select_reads.2; shows = λ r. refl; reads = query_reads select_text asks }
+select_is = record { project = project; order = id_order; names = codes "id" ∷ codes "code" ∷ codes "max_usages" ∷ codes "valid_until" ∷ codes "block_quota" ∷ codes "allow_ignore_quota" ∷ codes "price_mode" ∷ codes "amount" ∷ codes "item_id" ∷ codes "variation_id" ∷ codes "quota_id" ∷ codes "tag" ∷ codes "comment" ∷ codes "redeemed" ∷ []; asks = select_reads.0; unlisted = select_reads.1; shows = λ r. refl; reads = query_reads select_text asks }

@@ -43,7 +43,7 @@ shown_by sql old new rows reads h =
 pub shows_rows : (sql : List ℕ) (tree : ℕ) → IsSelectOf sql tree → (db : Database) → db.schema ≡ schema → (rows : List Row) → ShowsBy sql db rows → IsPermutation rows (map (shown schema tree) (db.trees tree))
 shows_rows sql tree is db has rows h =
     let known = sym h.1 ∙ ap (λ s. understood s sql) has in
-    let bare = subst IsPlain (sym known) is.plain in
+    let bare = subst IsPlain (sym known) is.asks.1 in
     let source : h.2 ≡ db = subst (λ b. IsSourceOf b db h.2) (ap (λ s. reads_listing s sql) has ∙ is.unlisted) h.3 in
     let plainly_read : Reads h.0.command h.2 [] rows = rw bare.1 at h.5 in
     let read = subst₂ (λ k d. Reads k d [] rows) (ap command_of known ∙ command_is sql tree is) source plainly_read in

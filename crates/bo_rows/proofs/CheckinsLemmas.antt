@@ -1,71 +1,67 @@
--- What the statements on `checkins` do.
-use Rattle.std.proofs.Common.{◌≡◌, List, [], ◌∷◌, ℕ, codes, Ok, refl, subst, pos}
-use Rattle.sqlite_value.specs.declared.value.Value.TheVariants.{Null, Text}
+-- The statements on `checkins`.
+use Rattle.std.proofs.Common.{◌≡◌, List, ◌∷◌, ℕ, codes, drop, map, refl}
+use Rattle.sqlite_value.specs.declared.value.Value.TheVariants.{Null}
 use Rattle.sqlite_value.specs.Order.{Row}
 use Rattle.sqlite_rules.specs.Cast.{cast_row}
 use Rattle.sqlite_tied.specs.Compute.{everything}
-use Rattle.sqlite.specs.Values.{or_null}
 use Rattle.sqlite.specs.Listing.{understood}
-use Rattle.sqlite.specs.State.{State, Executes}
-use Rattle.sqlite.proofs.Callers.{IsPlain, command_of}
-use Rattle.bo_schema.specs.Tables.{schema, checkins_table}
-use Rattle.bo_schema.specs.Shapes.{insert_keyed, update_keyed, delete_keyed}
-use Rattle.bo_schema.proofs.Generic.{IsPlainTable}
+use Rattle.bo_schema.specs.Tables.{checkins_table}
+use Rattle.bo_schema.specs.Shapes.{AsksFor, insert_keyed, update_keyed, delete_keyed}
+use Rattle.bo_schema.proofs.Parts.{all_numbered, rows_without}
 use Rattle.bo_schema.proofs.Casts.{cast_null, cast_int}
 use Rattle.bo_lists.specs.declared.rows.Checkin.{Checkin}
-use Rattle.bo_columns.specs.Cells.{number, kind}
+use Rattle.bo_columns.specs.Cells.{number}
 use Rattle.bo_columns.specs.Rows.{checkin_row}
-use Rattle.bo_columns.specs.Changes.{IsInside, Changes, with_checkin, without_checkin}
+use Rattle.bo_columns.specs.Changes.{with_checkin, without_checkin}
 use Rattle.bo_rows.proofs.CastLemmas.{cast_text_or_null, cast_kind}
-use Rattle.bo_rows.proofs.Rows.{adds_row, puts_row, misses_row, removes_row}
+use Rattle.bo_rows.specs.Statements.{AreStatementsOf}
 
-abbrev pub insert_text : List ℕ
+abbrev insert_text : List ℕ
 insert_text = codes "INSERT INTO checkins (id, list_id, position_id, kind, at, nonce) VALUES (?1, ?2, ?3, ?4, ?5, ?6)"
 
-abbrev pub update_text : List ℕ
+abbrev update_text : List ℕ
 update_text = codes "UPDATE checkins SET list_id = ?2, position_id = ?3, kind = ?4, at = ?5, nonce = ?6 WHERE id = ?1"
 
-abbrev pub delete_text : List ℕ
+abbrev delete_text : List ℕ
 delete_text = codes "DELETE FROM checkins WHERE id = ?1"
 
-insert_is : (command_of (understood schema insert_text) ≡ insert_keyed 13 5) × IsPlain (understood schema insert_text)
+inserts : AsksFor (insert_keyed 13 5) insert_text
 unfolding understood everything
-insert_is = (refl, (refl, refl))
+inserts = (refl, (refl, refl))
 
-update_is : (command_of (understood schema update_text) ≡ update_keyed 13 19 5) × IsPlain (understood schema update_text)
+updates : AsksFor (update_keyed 13 19 5) update_text
 unfolding understood everything
-update_is = (refl, (refl, refl))
+updates = (refl, (refl, refl))
 
-delete_is : (command_of (understood schema delete_text) ≡ delete_keyed 13 19) × IsPlain (understood schema delete_text)
+removes : AsksFor (delete_keyed 13 19) delete_text
 unfolding understood everything
-delete_is = (refl, (refl, refl))
+removes = (refl, (refl, refl))
 
-table_is : IsPlainTable schema 13 checkins_table
-table_is = record { placed = refl; uncounted = refl; unstamped = refl; restricts = refl }
+-- the columns behind the number, as they are stored
+abbrev behind : Checkin → Row
+behind w = Null ∷ drop 1 (checkin_row w)
 
--- the row as it is stored
-abbrev stored : Checkin → Row
-stored w = number w.id ∷ Null ∷ number w.list ∷ number w.position ∷ kind w.kind ∷ number w.datetime ∷ or_null Text w.nonce ∷ []
+stays : (w : Checkin) → cast_row checkins_table (number w.id ∷ behind w) ≡ number w.id ∷ behind w
+stays w = simp (cast_int, cast_null, cast_text_or_null, cast_kind)
 
-casts : (w : Checkin) → cast_row checkins_table (stored w) ≡ stored w
-casts w = simp (cast_int, cast_null, cast_text_or_null, cast_kind)
-
-module _ (old new : State) (at : IsInside old) (limit : new.step_limit ≡ old.step_limit) where
-  pub adds : (w : Checkin) (count : ℕ) → Executes insert_text (checkin_row w) old new (Ok count) → Changes (with_checkin w) old new
-  adds w count h =
-      adds_row 13 checkins_table table_is insert_text insert_is.1 old new at limit _ 7 insert_is.0 (checkin_row w) (stored w) refl (pos w.id) _ (casts w) (checkin_row w) refl (with_checkin w) (λ t. refl) (λ t. refl) count h
-
-  pub puts : (w : Checkin) (count : ℕ) → count ≡ 1 → Executes update_text (checkin_row w) old new (Ok count) → Changes (λ t. with_checkin w (without_checkin w.id t)) old new
-  puts w count one h =
-      puts_row 13 checkins_table table_is update_text update_is.1 old new at limit checkin_row (λ w. w.id) (λ w. refl) (λ t. t.checkins) (λ t h. h.1.1.1.1.1.1.1.1.1.1.1.1.1.0) (λ t. refl) _ update_is.0
-      w _ refl _ _ (λ r. refl) (casts w) refl (subst (λ n. Executes update_text (checkin_row w) old new (Ok n)) one h) (λ t. with_checkin w (without_checkin w.id t)) (λ t e. rw e)
-
-  pub misses : (w : Checkin) (count : ℕ) → count ≡ 0 → Executes update_text (checkin_row w) old new (Ok count) → Changes (without_checkin w.id) old new
-  misses w count none h =
-      misses_row 13 checkins_table table_is update_text update_is.1 old new at limit checkin_row (λ w. w.id) (λ w. refl) (λ t. t.checkins) (λ t h. h.1.1.1.1.1.1.1.1.1.1.1.1.1.0) (λ t. refl) _ update_is.0
-      w.id _ (subst (λ n. Executes update_text (checkin_row w) old new (Ok n)) none h) (without_checkin w.id) (λ t e. rw e)
-
-  pub removes : (id count : ℕ) → Executes delete_text (number id ∷ []) old new (Ok count) → Changes (without_checkin id) old new
-  removes id count h =
-      removes_row 13 checkins_table table_is delete_text delete_is.1 old new at limit checkin_row (λ w. w.id) (λ w. refl) (λ t. t.checkins) (λ t h. h.1.1.1.1.1.1.1.1.1.1.1.1.1.0) (λ t. refl)
-      delete_is.0 id count h (without_checkin id) (λ t e. rw e)
+pub statements_are : AreStatementsOf checkin_row (λ w. w.id) with_checkin without_checkin insert_text update_text delete_text
+statements_are = record {
+  at = 13;
+  table = checkins_table;
+  rows = λ t. map checkin_row t.checkins;
+  is = record { placed = refl; uncounted = refl; unstamped = refl; holds = λ db t h. h.1.1.1.1.1.1.1.1.1.1.1.1.1.0; numbered = λ t. all_numbered checkin_row (λ w. w.id) (λ w. refl) t.checkins };
+  adds = λ w t. refl;
+  takes = λ id t. rw (rows_without checkin_row (λ w. w.id) (λ w. refl) id t.checkins);
+  behind = behind;
+  begins = λ w. (_, refl);
+  stays = stays;
+  shows = λ w. refl;
+  terms = _;
+  width = 7;
+  inserts = inserts;
+  fills = λ w. refl;
+  project = _;
+  updates = updates;
+  sets = λ w r. refl;
+  removes = removes;
+}

@@ -38,4 +38,4 @@ casts w = simp (cast_int, cast_methods)
 module _ (old new : State) (at : IsInside old) (limit : new.step_limit ≡ old.step_limit) where
   pub adds : (w : KeptRow) (count : ℕ) → Executes insert_text (kept_row w) old new (Ok count) → Changes (with_kept w) old new
   adds w count h =
-      adds_row 16 kept_table table_is insert_text insert_is.1 old new at limit _ 7 insert_is.0 (kept_row w) (stored w) refl (pos w.rowid) _ (casts w) (kept_row w) refl (with_kept w) (λ t. refl) (λ t. refl) count h
+      adds_row 16 kept_table table_is insert_text insert_is.1 old new at limit _ 7 insert_is.0 (kept_row w) (stored w) refl (pos w.rowid) _ (casts w) (kept_row w) refl (with_kept w) (λ t. refl) count h

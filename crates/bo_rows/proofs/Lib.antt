@@ -1,5 +1,7 @@
 pub mod CastLemmas
+pub mod BoundLemmas
 pub mod Rows
+pub mod StatementLemmas
 pub mod ShopLemmas
 pub mod ItemsLemmas
 pub mod VariationsLemmas

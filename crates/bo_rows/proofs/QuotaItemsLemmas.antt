@@ -1,68 +1,65 @@
--- What the statements on `quota_items` do.
-use Rattle.std.proofs.Common.{◌≡◌, List, [], ◌∷◌, ℕ, codes, Ok, refl, subst, pos}
+-- The statements on `quota_items`.
+use Rattle.std.proofs.Common.{◌≡◌, List, ◌∷◌, ℕ, codes, drop, map, refl}
 use Rattle.sqlite_value.specs.Order.{Row}
 use Rattle.sqlite_rules.specs.Cast.{cast_row}
 use Rattle.sqlite_tied.specs.Compute.{everything}
 use Rattle.sqlite.specs.Listing.{understood}
-use Rattle.sqlite.specs.State.{State, Executes}
-use Rattle.sqlite.proofs.Callers.{IsPlain, command_of}
-use Rattle.bo_schema.specs.Tables.{schema, quota_items_table}
-use Rattle.bo_schema.specs.Shapes.{insert_rowid, update_rowid, delete_keyed}
-use Rattle.bo_schema.proofs.Generic.{IsPlainTable}
+use Rattle.bo_schema.specs.Tables.{quota_items_table}
+use Rattle.bo_schema.specs.Shapes.{AsksFor, insert_rowid, update_rowid, delete_keyed}
+use Rattle.bo_schema.proofs.Parts.{all_numbered, rows_without}
 use Rattle.bo_schema.proofs.Casts.{cast_int}
 use Rattle.bo_columns.specs.declared.rows.QuotaItem.{QuotaItem}
 use Rattle.bo_columns.specs.Cells.{number}
 use Rattle.bo_columns.specs.Rows.{quota_item_row}
-use Rattle.bo_columns.specs.Changes.{IsInside, Changes, with_quota_item, without_quota_item}
-use Rattle.bo_rows.proofs.Rows.{adds_row, puts_row, misses_row, removes_row}
+use Rattle.bo_columns.specs.Changes.{with_quota_item, without_quota_item}
+use Rattle.bo_rows.specs.Statements.{AreStatementsOf}
 
-abbrev pub insert_text : List ℕ
+abbrev insert_text : List ℕ
 insert_text = codes "INSERT INTO quota_items (rowid, quota_id, item_id) VALUES (?1, ?2, ?3)"
 
-abbrev pub update_text : List ℕ
+abbrev update_text : List ℕ
 update_text = codes "UPDATE quota_items SET quota_id = ?2, item_id = ?3 WHERE rowid = ?1"
 
-abbrev pub delete_text : List ℕ
+abbrev delete_text : List ℕ
 delete_text = codes "DELETE FROM quota_items WHERE rowid = ?1"
 
-insert_is : (command_of (understood schema insert_text) ≡ insert_rowid 4 2) × IsPlain (understood schema insert_text)
+inserts : AsksFor (insert_rowid 4 2) insert_text
 unfolding understood everything
-insert_is = (refl, (refl, refl))
+inserts = (refl, (refl, refl))
 
-update_is : (command_of (understood schema update_text) ≡ update_rowid 4 4 2) × IsPlain (understood schema update_text)
+updates : AsksFor (update_rowid 4 4 2) update_text
 unfolding understood everything
-update_is = (refl, (refl, refl))
+updates = (refl, (refl, refl))
 
-delete_is : (command_of (understood schema delete_text) ≡ delete_keyed 4 4) × IsPlain (understood schema delete_text)
+removes : AsksFor (delete_keyed 4 4) delete_text
 unfolding understood everything
-delete_is = (refl, (refl, refl))
+removes = (refl, (refl, refl))
 
-table_is : IsPlainTable schema 4 quota_items_table
-table_is = record { placed = refl; uncounted = refl; unstamped = refl; restricts = refl }
+-- the columns behind the number, as they are stored
+abbrev behind : QuotaItem → Row
+behind w = drop 1 (quota_item_row w)
 
--- the row as it is stored
-abbrev stored : QuotaItem → Row
-stored w = number w.rowid ∷ number w.quota ∷ number w.item ∷ []
+stays : (w : QuotaItem) → cast_row quota_items_table (number w.rowid ∷ behind w) ≡ number w.rowid ∷ behind w
+stays w = simp (cast_int)
 
-casts : (w : QuotaItem) → cast_row quota_items_table (stored w) ≡ stored w
-casts w = simp (cast_int)
-
-module _ (old new : State) (at : IsInside old) (limit : new.step_limit ≡ old.step_limit) where
-  pub adds : (w : QuotaItem) (count : ℕ) → Executes insert_text (quota_item_row w) old new (Ok count) → Changes (with_quota_item w) old new
-  adds w count h =
-      adds_row 4 quota_items_table table_is insert_text insert_is.1 old new at limit _ 3 insert_is.0 (quota_item_row w) (stored w) refl (pos w.rowid) _ (casts w) (quota_item_row w) refl (with_quota_item w) (λ t. refl) (λ t. refl) count h
-
-  pub puts : (w : QuotaItem) (count : ℕ) → count ≡ 1 → Executes update_text (quota_item_row w) old new (Ok count) → Changes (λ t. with_quota_item w (without_quota_item w.rowid t)) old new
-  puts w count one h =
-      puts_row 4 quota_items_table table_is update_text update_is.1 old new at limit quota_item_row (λ w. w.rowid) (λ w. refl) (λ t. t.quota_items) (λ t h. h.1.1.1.1.0) (λ t. refl) _ update_is.0
-      w _ refl _ _ (λ r. refl) (casts w) refl (subst (λ n. Executes update_text (quota_item_row w) old new (Ok n)) one h) (λ t. with_quota_item w (without_quota_item w.rowid t)) (λ t e. rw e)
-
-  pub misses : (w : QuotaItem) (count : ℕ) → count ≡ 0 → Executes update_text (quota_item_row w) old new (Ok count) → Changes (without_quota_item w.rowid) old new
-  misses w count none h =
-      misses_row 4 quota_items_table table_is update_text update_is.1 old new at limit quota_item_row (λ w. w.rowid) (λ w. refl) (λ t. t.quota_items) (λ t h. h.1.1.1.1.0) (λ t. refl) _ update_is.0
-      w.rowid _ (subst (λ n. Executes update_text (quota_item_row w) old new (Ok n)) none h) (without_quota_item w.rowid) (λ t e. rw e)
-
-  pub removes : (id count : ℕ) → Executes delete_text (number id ∷ []) old new (Ok count) → Changes (without_quota_item id) old new
-  removes id count h =
-      removes_row 4 quota_items_table table_is delete_text delete_is.1 old new at limit quota_item_row (λ w. w.rowid) (λ w. refl) (λ t. t.quota_items) (λ t h. h.1.1.1.1.0) (λ t. refl)
-      delete_is.0 id count h (without_quota_item id) (λ t e. rw e)
+pub statements_are : AreStatementsOf quota_item_row (λ w. w.rowid) with_quota_item without_quota_item insert_text update_text delete_text
+statements_are = record {
+  at = 4;
+  table = quota_items_table;
+  rows = λ t. map quota_item_row t.quota_items;
+  is = record { placed = refl; uncounted = refl; unstamped = refl; holds = λ db t h. h.1.1.1.1.0; numbered = λ t. all_numbered quota_item_row (λ w. w.rowid) (λ w. refl) t.quota_items };
+  adds = λ w t. refl;
+  takes = λ id t. rw (rows_without quota_item_row (λ w. w.rowid) (λ w. refl) id t.quota_items);
+  behind = behind;
+  begins = λ w. (_, refl);
+  stays = stays;
+  shows = λ w. refl;
+  terms = _;
+  width = 3;
+  inserts = inserts;
+  fills = λ w. refl;
+  project = _;
+  updates = updates;
+  sets = λ w r. refl;
+  removes = removes;
+}

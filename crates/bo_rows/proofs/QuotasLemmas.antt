@@ -1,71 +1,66 @@
--- What the statements on `quotas` do.
-use Rattle.std.proofs.Common.{◌≡◌, List, [], ◌∷◌, ℕ, codes, Ok, refl, subst, pos}
-use Rattle.sqlite_value.specs.declared.value.Value.TheVariants.{Null, Text}
+-- The statements on `quotas`.
+use Rattle.std.proofs.Common.{◌≡◌, List, ◌∷◌, ℕ, codes, drop, map, pos, refl}
+use Rattle.sqlite_value.specs.declared.value.Value.TheVariants.{Null}
 use Rattle.sqlite_value.specs.Order.{Row}
 use Rattle.sqlite_rules.specs.Cast.{cast_row}
 use Rattle.sqlite_tied.specs.Compute.{everything}
-use Rattle.sqlite.specs.Values.{or_null}
 use Rattle.sqlite.specs.Listing.{understood}
-use Rattle.sqlite.specs.State.{State, Executes}
-use Rattle.sqlite.proofs.Callers.{IsPlain, command_of}
-use Rattle.bo_schema.specs.Tables.{schema, quotas_table}
-use Rattle.bo_schema.specs.Shapes.{insert_keyed, update_keyed, delete_keyed}
-use Rattle.bo_schema.proofs.Generic.{IsPlainTable}
+use Rattle.bo_schema.specs.Tables.{quotas_table}
+use Rattle.bo_schema.specs.Shapes.{AsksFor, insert_keyed, update_keyed, delete_keyed}
+use Rattle.bo_schema.proofs.Parts.{all_numbered, rows_without}
 use Rattle.bo_schema.proofs.Casts.{cast_null, cast_int, cast_int_or_null}
-use Rattle.bo_columns.specs.declared.rows.QuotaRow.{QuotaRow}
 use Rattle.bo_catalogue.specs.declared.rows.Quota.{Quota}
 use Rattle.bo_columns.specs.Cells.{number}
 use Rattle.bo_columns.specs.Rows.{quota_row}
-use Rattle.bo_columns.specs.Changes.{IsInside, Changes, head_of_quota, with_quota, without_quota}
-use Rattle.bo_rows.proofs.Rows.{adds_row, puts_row, misses_row, removes_row}
+use Rattle.bo_columns.specs.Changes.{head_of_quota, with_quota, without_quota}
+use Rattle.bo_rows.specs.Statements.{AreStatementsOf}
 
-abbrev pub insert_text : List ℕ
+abbrev insert_text : List ℕ
 insert_text = codes "INSERT INTO quotas (id, name, size) VALUES (?1, ?2, ?3)"
 
-abbrev pub update_text : List ℕ
+abbrev update_text : List ℕ
 update_text = codes "UPDATE quotas SET name = ?2, size = ?3 WHERE id = ?1"
 
-abbrev pub delete_text : List ℕ
+abbrev delete_text : List ℕ
 delete_text = codes "DELETE FROM quotas WHERE id = ?1"
 
-insert_is : (command_of (understood schema insert_text) ≡ insert_keyed 3 2) × IsPlain (understood schema insert_text)
+inserts : AsksFor (insert_keyed 3 2) insert_text
 unfolding understood everything
-insert_is = (refl, (refl, refl))
+inserts = (refl, (refl, refl))
 
-update_is : (command_of (understood schema update_text) ≡ update_keyed 3 3 2) × IsPlain (understood schema update_text)
+updates : AsksFor (update_keyed 3 3 2) update_text
 unfolding understood everything
-update_is = (refl, (refl, refl))
+updates = (refl, (refl, refl))
 
-delete_is : (command_of (understood schema delete_text) ≡ delete_keyed 3 3) × IsPlain (understood schema delete_text)
+removes : AsksFor (delete_keyed 3 3) delete_text
 unfolding understood everything
-delete_is = (refl, (refl, refl))
+removes = (refl, (refl, refl))
 
-table_is : IsPlainTable schema 3 quotas_table
-table_is = record { placed = refl; uncounted = refl; unstamped = refl; restricts = refl }
+-- the columns behind the number, as they are stored
+abbrev behind : Quota → Row
+behind w = Null ∷ drop 1 (quota_row (head_of_quota w))
 
--- the row as it is stored
-abbrev stored : QuotaRow → Row
-stored w = number w.id ∷ Null ∷ Text w.name ∷ or_null number w.size ∷ []
+stays : (w : Quota) → cast_row quotas_table (number w.id ∷ behind w) ≡ number w.id ∷ behind w
+stays w = simp (cast_int, cast_null, cast_int_or_null (λ n. pos n))
 
-casts : (w : QuotaRow) → cast_row quotas_table (stored w) ≡ stored w
-casts w = simp (cast_int, cast_null, cast_int_or_null (λ n. pos n))
-
-module _ (old new : State) (at : IsInside old) (limit : new.step_limit ≡ old.step_limit) where
-  pub adds : (w : Quota) (count : ℕ) → Executes insert_text (quota_row (head_of_quota w)) old new (Ok count) → Changes (with_quota w) old new
-  adds w count h =
-      adds_row 3 quotas_table table_is insert_text insert_is.1 old new at limit _ 4 insert_is.0 (quota_row (head_of_quota w)) (stored (head_of_quota w)) refl (pos w.id) _ (casts (head_of_quota w)) (quota_row (head_of_quota w)) refl (with_quota w) (λ t. refl) (λ t. refl) count h
-
-  pub puts : (w : Quota) (count : ℕ) → count ≡ 1 → Executes update_text (quota_row (head_of_quota w)) old new (Ok count) → Changes (λ t. with_quota w (without_quota w.id t)) old new
-  puts w count one h =
-      puts_row 3 quotas_table table_is update_text update_is.1 old new at limit quota_row (λ w. w.id) (λ w. refl) (λ t. t.quotas) (λ t h. h.1.1.1.0) (λ t. refl) _ update_is.0
-      (head_of_quota w) _ refl _ _ (λ r. refl) (casts (head_of_quota w)) refl (subst (λ n. Executes update_text (quota_row (head_of_quota w)) old new (Ok n)) one h) (λ t. with_quota w (without_quota w.id t)) (λ t e. rw e)
-
-  pub misses : (w : Quota) (count : ℕ) → count ≡ 0 → Executes update_text (quota_row (head_of_quota w)) old new (Ok count) → Changes (without_quota w.id) old new
-  misses w count none h =
-      misses_row 3 quotas_table table_is update_text update_is.1 old new at limit quota_row (λ w. w.id) (λ w. refl) (λ t. t.quotas) (λ t h. h.1.1.1.0) (λ t. refl) _ update_is.0
-      w.id _ (subst (λ n. Executes update_text (quota_row (head_of_quota w)) old new (Ok n)) none h) (without_quota w.id) (λ t e. rw e)
-
-  pub removes : (id count : ℕ) → Executes delete_text (number id ∷ []) old new (Ok count) → Changes (without_quota id) old new
-  removes id count h =
-      removes_row 3 quotas_table table_is delete_text delete_is.1 old new at limit quota_row (λ w. w.id) (λ w. refl) (λ t. t.quotas) (λ t h. h.1.1.1.0) (λ t. refl)
-      delete_is.0 id count h (without_quota id) (λ t e. rw e)
+pub statements_are : AreStatementsOf (λ w. quota_row (head_of_quota w)) (λ w. w.id) with_quota without_quota insert_text update_text delete_text
+statements_are = record {
+  at = 3;
+  table = quotas_table;
+  rows = λ t. map quota_row t.quotas;
+  is = record { placed = refl; uncounted = refl; unstamped = refl; holds = λ db t h. h.1.1.1.0; numbered = λ t. all_numbered quota_row (λ w. w.id) (λ w. refl) t.quotas };
+  adds = λ w t. refl;
+  takes = λ id t. rw (rows_without quota_row (λ w. w.id) (λ w. refl) id t.quotas);
+  behind = behind;
+  begins = λ w. (_, refl);
+  stays = stays;
+  shows = λ w. refl;
+  terms = _;
+  width = 4;
+  inserts = inserts;
+  fills = λ w. refl;
+  project = _;
+  updates = updates;
+  sets = λ w r. refl;
+  removes = removes;
+}

@@ -21,12 +21,12 @@ use Rattle.sqlite.specs.Listing.{understood}
 use Rattle.sqlite.specs.State.{State, Executes}
 use Rattle.sqlite.proofs.Callers.{IsPlain, command_of}
 use Rattle.bo_schema.specs.Tables.{schema}
-use Rattle.bo_schema.specs.Parts.{HoldParts, shown}
+use Rattle.bo_schema.specs.Parts.{HoldParts, shown, with_rows}
 use Rattle.bo_schema.specs.Shapes.{over, plainly}
 use Rattle.bo_schema.proofs.Answered.{passes, answered}
 use Rattle.bo_schema.proofs.Generic.{IsPlainTable, deletes}
 use Rattle.bo_schema.proofs.Keyed.{without_each}
-use Rattle.bo_schema.proofs.Parts.{with_rows, others_from, after_write}
+use Rattle.bo_schema.proofs.Parts.{others_from, after_write}
 use Rattle.bo_columns.specs.Tables.{Tables, parts, Holds}
 use Rattle.bo_columns.specs.Changes.{IsInside, ChangesFit}
 use Rattle.bo_rows.specs.Removed.{AreApart}

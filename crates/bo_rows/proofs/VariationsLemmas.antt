@@ -1,70 +1,66 @@
--- What the statements on `variations` do.
-use Rattle.std.proofs.Common.{◌≡◌, List, [], ◌∷◌, ℕ, codes, Ok, refl, subst, pos}
-use Rattle.sqlite_value.specs.declared.value.Value.TheVariants.{Null, Text}
+-- The statements on `variations`.
+use Rattle.std.proofs.Common.{◌≡◌, List, ◌∷◌, ℕ, codes, drop, map, pos, refl}
+use Rattle.sqlite_value.specs.declared.value.Value.TheVariants.{Null}
 use Rattle.sqlite_value.specs.Order.{Row}
 use Rattle.sqlite_rules.specs.Cast.{cast_row}
 use Rattle.sqlite_tied.specs.Compute.{everything}
-use Rattle.sqlite.specs.Values.{or_null}
 use Rattle.sqlite.specs.Listing.{understood}
-use Rattle.sqlite.specs.State.{State, Executes}
-use Rattle.sqlite.proofs.Callers.{IsPlain, command_of}
-use Rattle.bo_schema.specs.Tables.{schema, variations_table}
-use Rattle.bo_schema.specs.Shapes.{insert_keyed, update_keyed, delete_keyed}
-use Rattle.bo_schema.proofs.Generic.{IsPlainTable}
+use Rattle.bo_schema.specs.Tables.{variations_table}
+use Rattle.bo_schema.specs.Shapes.{AsksFor, insert_keyed, update_keyed, delete_keyed}
+use Rattle.bo_schema.proofs.Parts.{all_numbered, rows_without}
 use Rattle.bo_schema.proofs.Casts.{cast_null, cast_int, cast_int_or_null}
 use Rattle.bo_catalogue.specs.declared.rows.Variation.{Variation}
-use Rattle.bo_columns.specs.Cells.{number, truth}
+use Rattle.bo_columns.specs.Cells.{number}
 use Rattle.bo_columns.specs.Rows.{variation_row}
-use Rattle.bo_columns.specs.Changes.{IsInside, Changes, with_variation, without_variation}
-use Rattle.bo_rows.proofs.Rows.{adds_row, puts_row, misses_row, removes_row}
+use Rattle.bo_columns.specs.Changes.{with_variation, without_variation}
+use Rattle.bo_rows.specs.Statements.{AreStatementsOf}
 
-abbrev pub insert_text : List ℕ
+abbrev insert_text : List ℕ
 insert_text = codes "INSERT INTO variations (id, item_id, name, default_price, active) VALUES (?1, ?2, ?3, ?4, ?5)"
 
-abbrev pub update_text : List ℕ
+abbrev update_text : List ℕ
 update_text = codes "UPDATE variations SET item_id = ?2, name = ?3, default_price = ?4, active = ?5 WHERE id = ?1"
 
-abbrev pub delete_text : List ℕ
+abbrev delete_text : List ℕ
 delete_text = codes "DELETE FROM variations WHERE id = ?1"
 
-insert_is : (command_of (understood schema insert_text) ≡ insert_keyed 2 4) × IsPlain (understood schema insert_text)
+inserts : AsksFor (insert_keyed 2 4) insert_text
 unfolding understood everything
-insert_is = (refl, (refl, refl))
+inserts = (refl, (refl, refl))
 
-update_is : (command_of (understood schema update_text) ≡ update_keyed 2 2 4) × IsPlain (understood schema update_text)
+updates : AsksFor (update_keyed 2 2 4) update_text
 unfolding understood everything
-update_is = (refl, (refl, refl))
+updates = (refl, (refl, refl))
 
-delete_is : (command_of (understood schema delete_text) ≡ delete_keyed 2 2) × IsPlain (understood schema delete_text)
+removes : AsksFor (delete_keyed 2 2) delete_text
 unfolding understood everything
-delete_is = (refl, (refl, refl))
+removes = (refl, (refl, refl))
 
-table_is : IsPlainTable schema 2 variations_table
-table_is = record { placed = refl; uncounted = refl; unstamped = refl; restricts = refl }
+-- the columns behind the number, as they are stored
+abbrev behind : Variation → Row
+behind w = Null ∷ drop 1 (variation_row w)
 
--- the row as it is stored
-abbrev stored : Variation → Row
-stored w = number w.id ∷ Null ∷ number w.item ∷ Text w.name ∷ or_null number w.default_price ∷ truth w.active ∷ []
+stays : (w : Variation) → cast_row variations_table (number w.id ∷ behind w) ≡ number w.id ∷ behind w
+stays w = simp (cast_int, cast_null, cast_int_or_null (λ n. pos n))
 
-casts : (w : Variation) → cast_row variations_table (stored w) ≡ stored w
-casts w = simp (cast_int, cast_null, cast_int_or_null (λ n. pos n))
-
-module _ (old new : State) (at : IsInside old) (limit : new.step_limit ≡ old.step_limit) where
-  pub adds : (w : Variation) (count : ℕ) → Executes insert_text (variation_row w) old new (Ok count) → Changes (with_variation w) old new
-  adds w count h =
-      adds_row 2 variations_table table_is insert_text insert_is.1 old new at limit _ 6 insert_is.0 (variation_row w) (stored w) refl (pos w.id) _ (casts w) (variation_row w) refl (with_variation w) (λ t. refl) (λ t. refl) count h
-
-  pub puts : (w : Variation) (count : ℕ) → count ≡ 1 → Executes update_text (variation_row w) old new (Ok count) → Changes (λ t. with_variation w (without_variation w.id t)) old new
-  puts w count one h =
-      puts_row 2 variations_table table_is update_text update_is.1 old new at limit variation_row (λ w. w.id) (λ w. refl) (λ t. t.variations) (λ t h. h.1.1.0) (λ t. refl) _ update_is.0
-      w _ refl _ _ (λ r. refl) (casts w) refl (subst (λ n. Executes update_text (variation_row w) old new (Ok n)) one h) (λ t. with_variation w (without_variation w.id t)) (λ t e. rw e)
-
-  pub misses : (w : Variation) (count : ℕ) → count ≡ 0 → Executes update_text (variation_row w) old new (Ok count) → Changes (without_variation w.id) old new
-  misses w count none h =
-      misses_row 2 variations_table table_is update_text update_is.1 old new at limit variation_row (λ w. w.id) (λ w. refl) (λ t. t.variations) (λ t h. h.1.1.0) (λ t. refl) _ update_is.0
-      w.id _ (subst (λ n. Executes update_text (variation_row w) old new (Ok n)) none h) (without_variation w.id) (λ t e. rw e)
-
-  pub removes : (id count : ℕ) → Executes delete_text (number id ∷ []) old new (Ok count) → Changes (without_variation id) old new
-  removes id count h =
-      removes_row 2 variations_table table_is delete_text delete_is.1 old new at limit variation_row (λ w. w.id) (λ w. refl) (λ t. t.variations) (λ t h. h.1.1.0) (λ t. refl)
-      delete_is.0 id count h (without_variation id) (λ t e. rw e)
+pub statements_are : AreStatementsOf variation_row (λ w. w.id) with_variation without_variation insert_text update_text delete_text
+statements_are = record {
+  at = 2;
+  table = variations_table;
+  rows = λ t. map variation_row t.variations;
+  is = record { placed = refl; uncounted = refl; unstamped = refl; holds = λ db t h. h.1.1.0; numbered = λ t. all_numbered variation_row (λ w. w.id) (λ w. refl) t.variations };
+  adds = λ w t. refl;
+  takes = λ id t. rw (rows_without variation_row (λ w. w.id) (λ w. refl) id t.variations);
+  behind = behind;
+  begins = λ w. (_, refl);
+  stays = stays;
+  shows = λ w. refl;
+  terms = _;
+  width = 6;
+  inserts = inserts;
+  fills = λ w. refl;
+  project = _;
+  updates = updates;
+  sets = λ w r. refl;
+  removes = removes;
+}

@@ -1,7 +1,9 @@
 -- What the statements on `vouchers` do.
-use Rattle.std.proofs.Common.{◌≡◌, ◌==◌, List, [], ◌∷◌, ◌++◌, ℕ, codes, Ok, refl, sym, ap, subst, ◌∙◌, pos, map}
+use Rattle.std.proofs.Common.{◌≡◌, ◌==◌, true, All, List, [], ◌∷◌, ◌++◌, ℕ, codes, Ok, refl, sym, ap, subst, ◌∙◌, pos, map}
 use Rattle.sqlite_value.specs.declared.value.Value.TheVariants.{Null, Int, Text}
 use Rattle.sqlite_value.specs.Order.{Row, column}
+use Rattle.sqlite_trees.specs.Tree.{rowid}
+use Rattle.sqlite_trees.specs.View.{is_int}
 use Rattle.sqlite_sql.specs.Term.{Term, lit, col}
 use Rattle.sqlite_schema.specs.declared.command.Command.{Command}
 use Rattle.sqlite_schema.specs.declared.command.Command.TheVariants.{Insert, Update}
@@ -14,9 +16,10 @@ use Rattle.sqlite.specs.State.{State, Executes}
 use Rattle.sqlite.proofs.Callers.{IsPlain, command_of}
 use Rattle.bo_sorted.specs.Tables.{sum_at}
 use Rattle.bo_schema.specs.Tables.{schema, vouchers_table}
-use Rattle.bo_schema.specs.Parts.{shown}
+use Rattle.bo_schema.specs.Parts.{shown, with_rows, without}
 use Rattle.bo_schema.specs.Shapes.{places, over, plainly, equals, delete_keyed}
 use Rattle.bo_schema.proofs.Generic.{IsPlainTable}
+use Rattle.bo_schema.proofs.Parts.{all_numbered, rows_without}
 use Rattle.bo_schema.proofs.Casts.{cast_null, cast_int, cast_int_or_null}
 use Rattle.bo_lists.specs.declared.rows.Voucher.{Voucher}
 use Rattle.bo_lists.specs.declared.count_rows.VoucherCount.{VoucherCount}
@@ -86,6 +89,15 @@ casts id r = simp (cast_int, cast_null, cast_int_or_null (λ n. pos n), cast_mod
 abbrev key : VoucherRow → ℕ
 key r = r.voucher.id
 
+abbrev voucher_rows : Tables → List Row
+voucher_rows t = map voucher_row t.vouchers
+
+numbered : (t : Tables) → All (λ r. is_int (rowid r) ≡ true) (voucher_rows t)
+numbered t = all_numbered voucher_row key (λ r. refl) t.vouchers
+
+rows_left : (id : ℕ) (t : Tables) → parts (without_voucher id t) ≡ with_rows 8 (without (pos id)) (parts t)
+rows_left id t = rw (rows_without voucher_row key (λ r. refl) id t.vouchers)
+
 -- a new voucher is redeemed 0 times
 abbrev new_row : Voucher → VoucherRow
 new_row w = record { voucher = w; redeemed = 0 }
@@ -104,7 +116,7 @@ with_count n s = Null ∷ column s 1 ∷ column s 2 ∷ column s 3 ∷ column s 
 module _ (old new : State) (at : IsInside old) (limit : new.step_limit ≡ old.step_limit) where
   pub adds : (w : Voucher) (count : ℕ) → Executes insert_text (voucher_values w) old new (Ok count) → Changes (with_new_voucher w) old new
   adds w count h =
-      adds_row 6 vouchers_table table_is insert_text insert_is.1 old new at limit insert_terms 15 insert_is.0 (voucher_values w) (number w.id ∷ behind (new_row w)) refl (pos w.id) _ (casts w.id (new_row w)) (voucher_row (new_row w)) refl (with_new_voucher w) (λ t. refl) (λ t. refl) count h
+      adds_row 6 vouchers_table table_is insert_text insert_is.1 old new at limit insert_terms 15 insert_is.0 (voucher_values w) (number w.id ∷ behind (new_row w)) refl (pos w.id) _ (casts w.id (new_row w)) (voucher_row (new_row w)) refl (with_new_voucher w) (λ t. refl) count h
 
   -- the columns of the voucher change, and its count stays
   pub puts : (w : Voucher) (count : ℕ) → count ≡ 1 → Executes update_text (voucher_values w) old new (Ok count) → Changes (put_voucher w) old new
@@ -130,15 +142,14 @@ module _ (old new : State) (at : IsInside old) (limit : new.step_limit ≡ old.s
   pub missed : (w : Voucher) (count : ℕ) → count ≡ 0 → Executes update_text (voucher_values w) old new (Ok count) → Changes (without_voucher w.id) old new × ((t : Tables) → Holds old.now.trees t → redeemed_of w.id t.vouchers ≡ 0)
   missed w count none h =
       let ran = subst (λ n. Executes update_text (voucher_values w) old new (Ok n)) none h in (
-        misses_row 6 vouchers_table table_is update_text update_is.1 old new at limit voucher_row key (λ r. refl) (λ t. t.vouchers) (λ t h. h.1.1.1.1.1.1.0) (λ t. refl) update_project update_is.0 w.id _ ran (without_voucher w.id) (λ t e. rw e),
+        misses_row 6 vouchers_table table_is update_text update_is.1 old new at limit voucher_rows numbered (λ t h. h.1.1.1.1.1.1.0) update_project update_is.0 w.id _ ran (without_voucher w.id) (rows_left w.id),
         λ t held. ap (sum_at (λ (r : VoucherRow). r.redeemed)) (find_none (λ (r : VoucherRow). r.voucher.id == w.id) t.vouchers
             (no_row_of 6 vouchers_table table_is update_text update_is.1 old new at limit voucher_row key (λ r. refl) (λ t. t.vouchers) (λ t h. h.1.1.1.1.1.1.0) (λ t. refl) update_project update_is.0 w.id _ ran t held)),
       )
 
   pub removes : (id count : ℕ) → Executes delete_text (number id ∷ []) old new (Ok count) → Changes (without_voucher id) old new
   removes id count h =
-      removes_row 6 vouchers_table table_is delete_text delete_is.1 old new at limit voucher_row key (λ r. refl) (λ t. t.vouchers) (λ t h. h.1.1.1.1.1.1.0) (λ t. refl)
-      delete_is.0 id count h (without_voucher id) (λ t e. rw e)
+      removes_row 6 vouchers_table table_is delete_text delete_is.1 old new at limit voucher_rows numbered (λ t h. h.1.1.1.1.1.1.0) delete_is.0 id count h (without_voucher id) (rows_left id)
 
 -- an UPDATE that counts no row, and then an INSERT
 pub adds_new : (old mid new : State) (w : Voucher) → ((t : Tables) → Holds old.now.trees t → redeemed_of w.id t.vouchers ≡ 0) → Changes (without_voucher w.id) old mid → Changes (with_new_voucher w) mid new → Changes (put_voucher w) old new

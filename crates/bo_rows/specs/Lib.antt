@@ -1,2 +1,4 @@
 pub mod Removed
 pub mod Vouchers
+pub mod Bound
+pub mod Statements

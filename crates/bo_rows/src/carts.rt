@@ -3,10 +3,11 @@
 ghost use Rattle.bo_columns.specs.Rows.{cart_row};
 ghost use Rattle.bo_columns.specs.Changes.{with_cart, without_cart};
 
-use crate::stored::Stored;
+use crate::bound::run_bound;
+use crate::stored::{Statements, Stored};
 use bo_columns::Column;
 use bo_lists::CartPos;
-use bo_schema::{RowError, run};
+use bo_schema::RowError;
 use sqlite::{Alter, Transaction};
 
 impl Stored for CartPos {
@@ -18,58 +19,27 @@ impl Stored for CartPos {
 
     ghost without_row = { without_cart };
 
-    fn run_with<S: Alter>(
-        &self,
-        tx: &mut Transaction<'_, S>,
-        sql: &str,
-    ) -> Result<usize, RowError> {
-        let id = self.id.bind()?;
-        let cart_id = self.cart_id.bind()?;
-        let item_id = self.product.item.bind()?;
-        let variation_id = self.product.variation.bind()?;
-        let price = self.price.bind()?;
-        let made_at = self.made_at.bind()?;
-        let expires = self.expires.bind()?;
-        let voucher_id = self.voucher.bind()?;
-        run(
-            tx,
-            sql,
-            &[
-                id,
-                cart_id,
-                item_id,
-                variation_id,
-                price,
-                made_at,
-                expires,
-                voucher_id,
-            ],
-        )
-    }
-
-    fn insert<S: Alter>(&self, tx: &mut Transaction<'_, S>) -> Result<(), RowError> {
-        self.run_with(
-            tx,
-            "INSERT INTO cart_positions (id, cart_id, item_id, variation_id, price, made_at, expires, voucher_id) VALUES (?1, ?2, ?3, ?4, ?5, ?6, ?7, ?8)",
-        )?;
-        Ok(())
-    }
-
-    fn update<S: Alter>(&self, tx: &mut Transaction<'_, S>) -> Result<bool, RowError> {
-        let count = self.run_with(
-            tx,
-            "UPDATE cart_positions SET cart_id = ?2, item_id = ?3, variation_id = ?4, price = ?5, made_at = ?6, expires = ?7, voucher_id = ?8 WHERE id = ?1",
-        )?;
-        match count {
-            0 => Ok(false),
-            1 => Ok(true),
-            _ => Err(RowError::Store),
+    #[tactic(auto, using(crate::proofs::CartsLemmas::statements_are))]
+    fn statements() -> Statements {
+        Statements {
+            insert: "INSERT INTO cart_positions (id, cart_id, item_id, variation_id, price, made_at, expires, voucher_id) VALUES (?1, ?2, ?3, ?4, ?5, ?6, ?7, ?8)",
+            update: "UPDATE cart_positions SET cart_id = ?2, item_id = ?3, variation_id = ?4, price = ?5, made_at = ?6, expires = ?7, voucher_id = ?8 WHERE id = ?1",
+            remove: "DELETE FROM cart_positions WHERE id = ?1",
         }
     }
 
-    fn remove<S: Alter>(tx: &mut Transaction<'_, S>, id: u64) -> Result<(), RowError> {
-        let key = id.bind()?;
-        run(tx, "DELETE FROM cart_positions WHERE id = ?1", &[key])?;
-        Ok(())
+    #[tactic(auto, using(crate::proofs::BoundLemmas::runs_with))]
+    fn run<S: Alter>(&self, tx: &mut Transaction<'_, S>, sql: &str) -> Result<usize, RowError> {
+        let columns = [
+            self.id.bind(),
+            self.cart_id.bind(),
+            self.product.item.bind(),
+            self.product.variation.bind(),
+            self.price.bind(),
+            self.made_at.bind(),
+            self.expires.bind(),
+            self.voucher.bind(),
+        ];
+        run_bound(tx, sql, &columns)
     }
 }

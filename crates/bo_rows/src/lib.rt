@@ -1,6 +1,7 @@
 //! Rows of the file are put and removed, one statement a row.
 #![tactic(auto)]
 
+mod bound;
 pub mod carts;
 pub mod checkin_lists;
 pub mod checkins;
@@ -23,5 +24,5 @@ pub mod waiting;
 
 pub use kept::{forget, keep};
 pub use members::{remove_items_of, remove_limits_of, remove_variations_of};
-pub use stored::{Stored, put};
+pub use stored::{Statements, Stored, put};
 pub use vouchers::{put_redeemed, put_voucher, remove_voucher};

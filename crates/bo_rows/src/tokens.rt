@@ -3,9 +3,10 @@
 ghost use Rattle.bo_columns.specs.Rows.{token_row};
 ghost use Rattle.bo_columns.specs.Changes.{with_token, without_token};
 
-use crate::stored::Stored;
+use crate::bound::run_bound;
+use crate::stored::{Statements, Stored};
 use bo_columns::{Column, Token};
-use bo_schema::{RowError, run};
+use bo_schema::RowError;
 use sqlite::{Alter, Transaction};
 
 impl Stored for Token {
@@ -17,33 +18,18 @@ impl Stored for Token {
 
     ghost without_row = { without_token };
 
-    fn run_with<S: Alter>(
-        &self,
-        tx: &mut Transaction<'_, S>,
-        sql: &str,
-    ) -> Result<usize, RowError> {
-        let id = self.id.bind()?;
-        let digest = self.digest.bind()?;
-        run(tx, sql, &[id, digest])
-    }
-
-    fn insert<S: Alter>(&self, tx: &mut Transaction<'_, S>) -> Result<(), RowError> {
-        self.run_with(tx, "INSERT INTO tokens (id, digest) VALUES (?1, ?2)")?;
-        Ok(())
-    }
-
-    fn update<S: Alter>(&self, tx: &mut Transaction<'_, S>) -> Result<bool, RowError> {
-        let count = self.run_with(tx, "UPDATE tokens SET digest = ?2 WHERE id = ?1")?;
-        match count {
-            0 => Ok(false),
-            1 => Ok(true),
-            _ => Err(RowError::Store),
+    #[tactic(auto, using(crate::proofs::TokensLemmas::statements_are))]
+    fn statements() -> Statements {
+        Statements {
+            insert: "INSERT INTO tokens (id, digest) VALUES (?1, ?2)",
+            update: "UPDATE tokens SET digest = ?2 WHERE id = ?1",
+            remove: "DELETE FROM tokens WHERE id = ?1",
         }
     }
 
-    fn remove<S: Alter>(tx: &mut Transaction<'_, S>, id: u64) -> Result<(), RowError> {
-        let key = id.bind()?;
-        run(tx, "DELETE FROM tokens WHERE id = ?1", &[key])?;
-        Ok(())
+    #[tactic(auto, using(crate::proofs::BoundLemmas::runs_with))]
+    fn run<S: Alter>(&self, tx: &mut Transaction<'_, S>, sql: &str) -> Result<usize, RowError> {
+        let columns = [self.id.bind(), self.digest.bind()];
+        run_bound(tx, sql, &columns)
     }
 }

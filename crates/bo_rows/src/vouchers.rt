@@ -6,12 +6,14 @@ ghost use Rattle.sqlite.specs.State.{HasCleanDisk, Survives, KeepsCommit, Execut
 ghost use Rattle.bo_columns.specs.Changes.{IsInside, Changes};
 ghost use Rattle.bo_rows.specs.Vouchers.{voucher_values, with_new_voucher, put_voucher, set_redeemed, without_voucher};
 
+use crate::bound::run_bound;
 use bo_columns::Column;
 use bo_lists::{Voucher, VoucherCount};
 use bo_schema::{RowError, run};
 use sqlite::{Alter, Transaction};
 
 // Runs a statement whose parameters are a voucher's columns in order.
+#[tactic(auto, using(crate::proofs::BoundLemmas::runs_with))]
 fn run_with<S: Alter>(
     tx: &mut Transaction<'_, S>,
     sql: &str,
@@ -22,38 +24,22 @@ fn run_with<S: Alter>(
     ensures kept { HasCleanDisk (state S.Store tx.new.conn.now) → KeepsCommit (state S.Store tx.old.conn.now) (state S.Store tx.new.conn.now) }
     ensures crash { Survives (state S.Store tx.old.conn.now) (state S.Store tx.new.conn.now) (λ _. ⊥) }
 {
-    let id = row.id.bind()?;
-    let code = row.code.bind()?;
-    let max_usages = row.max_usages.bind()?;
-    let valid_until = row.valid_until.bind()?;
-    let block_quota = row.block_quota.bind()?;
-    let allow_ignore_quota = row.allow_ignore_quota.bind()?;
-    let price_mode = row.price_mode.bind()?;
-    let amount = row.value.bind()?;
-    let item_id = row.item.bind()?;
-    let variation_id = row.variation.bind()?;
-    let quota_id = row.quota.bind()?;
-    let tag = row.tag.bind()?;
-    let comment = row.comment.bind()?;
-    run(
-        tx,
-        sql,
-        &[
-            id,
-            code,
-            max_usages,
-            valid_until,
-            block_quota,
-            allow_ignore_quota,
-            price_mode,
-            amount,
-            item_id,
-            variation_id,
-            quota_id,
-            tag,
-            comment,
-        ],
-    )
+    let columns = [
+        row.id.bind(),
+        row.code.bind(),
+        row.max_usages.bind(),
+        row.valid_until.bind(),
+        row.block_quota.bind(),
+        row.allow_ignore_quota.bind(),
+        row.price_mode.bind(),
+        row.value.bind(),
+        row.item.bind(),
+        row.variation.bind(),
+        row.quota.bind(),
+        row.tag.bind(),
+        row.comment.bind(),
+    ];
+    run_bound(tx, sql, &columns)
 }
 
 // Adds a voucher, redeemed 0 times.

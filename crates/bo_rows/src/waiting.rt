@@ -3,10 +3,11 @@
 ghost use Rattle.bo_columns.specs.Rows.{waiting_row};
 ghost use Rattle.bo_columns.specs.Changes.{with_waiting, without_waiting};
 
-use crate::stored::Stored;
+use crate::bound::run_bound;
+use crate::stored::{Statements, Stored};
 use bo_columns::Column;
 use bo_lists::Waiting;
-use bo_schema::{RowError, run};
+use bo_schema::RowError;
 use sqlite::{Alter, Transaction};
 
 impl Stored for Waiting {
@@ -18,56 +19,26 @@ impl Stored for Waiting {
 
     ghost without_row = { without_waiting };
 
-    fn run_with<S: Alter>(
-        &self,
-        tx: &mut Transaction<'_, S>,
-        sql: &str,
-    ) -> Result<usize, RowError> {
-        let id = self.id.bind()?;
-        let email = self.email.bind()?;
-        let item_id = self.product.item.bind()?;
-        let variation_id = self.product.variation.bind()?;
-        let priority = self.priority.bind()?;
-        let created = self.created.bind()?;
-        let voucher_id = self.voucher.bind()?;
-        run(
-            tx,
-            sql,
-            &[
-                id,
-                email,
-                item_id,
-                variation_id,
-                priority,
-                created,
-                voucher_id,
-            ],
-        )
-    }
-
-    fn insert<S: Alter>(&self, tx: &mut Transaction<'_, S>) -> Result<(), RowError> {
-        self.run_with(
-            tx,
-            "INSERT INTO waiting (id, email, item_id, variation_id, priority, created, voucher_id) VALUES (?1, ?2, ?3, ?4, ?5, ?6, ?7)",
-        )?;
-        Ok(())
-    }
-
-    fn update<S: Alter>(&self, tx: &mut Transaction<'_, S>) -> Result<bool, RowError> {
-        let count = self.run_with(
-            tx,
-            "UPDATE waiting SET email = ?2, item_id = ?3, variation_id = ?4, priority = ?5, created = ?6, voucher_id = ?7 WHERE id = ?1",
-        )?;
-        match count {
-            0 => Ok(false),
-            1 => Ok(true),
-            _ => Err(RowError::Store),
+    #[tactic(auto, using(crate::proofs::WaitingLemmas::statements_are))]
+    fn statements() -> Statements {
+        Statements {
+            insert: "INSERT INTO waiting (id, email, item_id, variation_id, priority, created, voucher_id) VALUES (?1, ?2, ?3, ?4, ?5, ?6, ?7)",
+            update: "UPDATE waiting SET email = ?2, item_id = ?3, variation_id = ?4, priority = ?5, created = ?6, voucher_id = ?7 WHERE id = ?1",
+            remove: "DELETE FROM waiting WHERE id = ?1",
         }
     }
 
-    fn remove<S: Alter>(tx: &mut Transaction<'_, S>, id: u64) -> Result<(), RowError> {
-        let key = id.bind()?;
-        run(tx, "DELETE FROM waiting WHERE id = ?1", &[key])?;
-        Ok(())
+    #[tactic(auto, using(crate::proofs::BoundLemmas::runs_with))]
+    fn run<S: Alter>(&self, tx: &mut Transaction<'_, S>, sql: &str) -> Result<usize, RowError> {
+        let columns = [
+            self.id.bind(),
+            self.email.bind(),
+            self.product.item.bind(),
+            self.product.variation.bind(),
+            self.priority.bind(),
+            self.created.bind(),
+            self.voucher.bind(),
+        ];
+        run_bound(tx, sql, &columns)
     }
 }

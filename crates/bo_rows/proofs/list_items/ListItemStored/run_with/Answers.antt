@@ -1,4 +1,0 @@
-use Rattle.bo_rows.proofs.list_items.ListItemStored.run_with.Goals as goal
-
-pub returns-clause-ran : goal.returns-clause-ran
-returns-clause-ran g c clean inside = rw (c.in_ok-rowid.ensures, c.in_ok-list_id.ensures, c.in_ok-item_id.ensures) at (c.run.ensures.ran clean inside)
