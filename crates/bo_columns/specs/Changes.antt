@@ -1,5 +1,5 @@
 -- What one statement makes of the tables.
-use Rattle.std.specs.Prelude.{◌≡◌, ℕ, true, not, ◌==◌, List, [], ◌∷◌, filter}
+use Rattle.std.specs.Prelude.{◌≡◌, ℕ, true, not, ◌==◌, ◌∷◌, filter}
 use Rattle.sqlite.specs.State.{State}
 use Rattle.bo_columns.specs.declared.rows.ShopRow.{ShopRow}
 use Rattle.bo_catalogue.specs.declared.rows.Item.{Item}
@@ -8,7 +8,6 @@ use Rattle.bo_columns.specs.declared.rows.QuotaRow.{QuotaRow}
 use Rattle.bo_catalogue.specs.declared.rows.Quota.{Quota}
 use Rattle.bo_columns.specs.declared.rows.QuotaItem.{QuotaItem}
 use Rattle.bo_columns.specs.declared.rows.QuotaVariation.{QuotaVariation}
-use Rattle.bo_columns.specs.declared.rows.VoucherRow.{VoucherRow}
 use Rattle.bo_lists.specs.declared.rows.CartPos.{CartPos}
 use Rattle.bo_lists.specs.declared.rows.Order.{Order}
 use Rattle.bo_lists.specs.declared.rows.OrderPos.{OrderPos}

@@ -3,12 +3,14 @@
 
 pub mod bytes;
 pub mod column;
+pub mod members;
 pub mod methods;
 pub mod numbers;
 pub mod rows;
 pub mod words;
 
 pub use column::Column;
+pub use members::Member;
 pub use rows::{
     KeptRow, ListItem, ListRow, QuotaItem, QuotaRow, QuotaVariation, ShopRow, Token, VoucherRow,
 };

@@ -55,7 +55,7 @@ keep_all : (rows : List Row) → filter (passes [] []) rows ≡ rows
 keep_all [] = refl
 keep_all (r ∷ rows) = ap (λ l. r ∷ l) (keep_all rows)
 
-map_same : (f g : Row → Row) → ((r : Row) → f r ≡ g r) → (rows : List Row) → map f rows ≡ map g rows
+pub map_same : (f g : Row → Row) → ((r : Row) → f r ≡ g r) → (rows : List Row) → map f rows ≡ map g rows
 map_same f g same [] = refl
 map_same f g same (r ∷ rows) = rw (same r, map_same f g same rows)
 

@@ -1,20 +1,18 @@
 -- A SELECT by a test: from the rows of the tree to the values of the table.
-use Rattle.std.proofs.Common.{◌≡◌, ℕ, pos, ◌==◌, ◌&&◌, Bool, true, false, cond, List, [], ◌∷◌, map, filter, Some, refl, ap, subst, ◌∙◌, codes, bytes_eq, arith}
+use Rattle.std.proofs.Common.{◌≡◌, ℕ, pos, sym, ◌==◌, ◌&&◌, Bool, true, false, cond, List, [], ◌∷◌, map, filter, refl, ap, subst, ◌∙◌, codes, bytes_eq}
 use Rattle.std.specs.List.Sorted.{IsPermutation}
-use Rattle.std.specs.Ordering.{is_eq, int_cmp}
-use Rattle.std.proofs.lemmas.Int.{ints}
+use Rattle.std.specs.Ordering.{is_eq}
 use Rattle.std.proofs.lemmas.List.Sorted.{IsPermutation-sym, IsPermutation-trans, IsPermutation-map}
 use Rattle.std.proofs.lemmas.Map.Text.{is_eq-slice_cmp}
 use Rattle.sqlite_value.specs.declared.value.Value.TheVariants.{Blob}
 use Rattle.sqlite_value.specs.Order.{Row, column}
 use Rattle.sqlite_value.proofs.OrderLemmas.{value_cmp-Int, value_cmp-Blob}
 use Rattle.sqlite_trees.proofs.ListLemmas.{pull_back, IsPermutation-filter}
-use Rattle.sqlite_sql.specs.Ops.{is_true, binary, from_truth}
-use Rattle.sqlite_sql.specs.Term.{Term, col}
+use Rattle.sqlite_sql.specs.Ops.{is_true, binary}
+use Rattle.sqlite_sql.specs.Term.{Term, col, eval_all}
 use Rattle.sqlite_sql.specs.declared.ops.BinaryOp.TheVariants.{Compare}
 use Rattle.sqlite_sql.specs.declared.ops.CompareOp.TheVariants.{Eq}
 use Rattle.sqlite_schema.specs.declared.command.Command.TheVariants.{Select}
-use Rattle.sqlite_resolve.specs.Compile.{first as parsed}
 use Rattle.sqlite_tied.specs.Compute.{everything}
 use Rattle.sqlite.specs.Collation.TheVariants.{Binary}
 use Rattle.sqlite.specs.Listing.{understood, reads_listing}
@@ -22,34 +20,24 @@ use Rattle.sqlite.specs.State.{State, Shown}
 use Rattle.sqlite.proofs.Callers.{IsPlain, command_of, reads_as}
 use Rattle.bo_schema.specs.Tables.{schema}
 use Rattle.bo_schema.specs.Parts.{shown}
-use Rattle.bo_schema.specs.Shapes.{over, plainly, equals}
+use Rattle.bo_schema.specs.Shapes.{over, plainly, equals, by_owner}
 use Rattle.bo_schema.proofs.Answered.{passes, answered}
-use Rattle.bo_schema.proofs.Keyed.{equals_rowid}
+use Rattle.bo_schema.proofs.Generic.{asked}
+use Rattle.bo_schema.proofs.Keyed.{equals_rowid, truth_back}
+use Rattle.bo_schema.proofs.Owner.{passes_owner, same_number, stays_true}
 use Rattle.bo_columns.specs.declared.rows.KeptRow.{KeptRow}
-use Rattle.bo_columns.specs.declared.rows.QuotaItem.{QuotaItem}
-use Rattle.bo_columns.specs.declared.rows.QuotaVariation.{QuotaVariation}
 use Rattle.bo_columns.specs.declared.rows.Token.{Token}
 use Rattle.bo_columns.specs.Cells.{number}
-use Rattle.bo_columns.specs.Rows.{kept_row, token_row, quota_item_row, quota_variation_row}
+use Rattle.bo_columns.specs.Rows.{kept_row, token_row}
 use Rattle.bo_columns.specs.Tables.{Tables, Holds}
-use Rattle.bo_loads.specs.Lookups.{is_under, has_digest, is_item_of, is_variation_of}
-use Rattle.bo_loads.proofs.Back.{alike, kept_in, kept_back, token_in, token_back, quota_item_in, quota_item_back, quota_variation_in, quota_variation_back}
-use Rattle.bo_loads.proofs.Queries.{is_query}
-
-truth_back : (b : Bool) → is_true (from_truth (Some b)) ≡ b
-truth_back true = refl
-truth_back false = refl
-
-stays_true : (b : Bool) → (b && true) ≡ b
-stays_true true = refl
-stays_true false = refl
+use Rattle.bo_loads.specs.Lookups.{is_under, has_digest}
+use Rattle.bo_loads.specs.Select.{IsSelectByOwner}
+use Rattle.bo_loads.proofs.Back.{alike, kept_in, kept_back, token_in, token_back}
+use Rattle.bo_loads.proofs.Loads.{map_same}
 
 same_bytes : (a b : List ℕ) → is_true (binary (Compare Eq Binary) (Blob a) (Blob b)) ≡ bytes_eq a b
 unfolding binary
 same_bytes a b = truth_back _ ∙ ap is_eq (value_cmp-Blob a b) ∙ is_eq-slice_cmp a b
-
-same_number : (a b : ℕ) → is_eq (int_cmp (pos a) (pos b)) ≡ (a == b)
-same_number a b = grind (arith, ints)
 
 module _ {A : Type 0} (row : A → Row) (back : Row → A) (law : (a : A) → back (row a) ≡ a) (show : Row → Row) (test : Row → Bool) (asked : A → Bool) (passes_as : (r : Row) (w : A) → show r ≡ row w → test r ≡ asked w) where
   found : (tree : List Row) (xs : List A) → map show tree ≡ map row xs → map show (filter test tree) ≡ map row (filter asked xs)
@@ -141,60 +129,15 @@ finds_token digest old new known all h t held =
     let came = answered old.now 22 digest_test (col 1 0 ∷ col 1 2 ∷ []) [] params (map token_row all) read in
     looked_up token_row token_in token_back (shown schema 22) (passes digest_test params) (has_digest digest) (passes_digest digest) (old.now.trees 22) t.tokens all held.1.1.1.1.1.1.1.1.1.1.1.1.1.1.1.0 came
 
--- ---- members by their quota
+-- ---- members by their owner
 
-abbrev owner_test : List Term
-owner_test = equals (col 1 1) (col 0 0) ∷ []
-
-abbrev link_columns : List Term
-link_columns = col 1 0 ∷ col 1 1 ∷ col 1 2 ∷ []
-
-passes_owner : (owner n : ℕ) (r : Row) → column r 1 ≡ number n → passes owner_test (number owner ∷ []) r ≡ (n == owner)
-passes_owner owner n r is =
-    stays_true _ ∙ ap (λ v. is_true (binary (Compare Eq Binary) v (number owner))) is ∙ equals_rowid (number n) (pos owner) ∙ ap is_eq (value_cmp-Int (pos n) (pos owner)) ∙ same_number n owner
-
-abbrev pub items_text : List ℕ
-items_text = codes "SELECT rowid, quota_id, item_id FROM quota_items WHERE quota_id = ?1"
-
-items_is : (command_of (understood schema items_text) ≡ Select (plainly (over 4 owner_test link_columns [])) (codes "rowid" ∷ codes "quota_id" ∷ codes "item_id" ∷ [])) × IsPlain (understood schema items_text) × (reads_listing schema items_text ≡ false)
-unfolding understood everything
-items_is = (refl, (refl, refl), refl)
-
-pub items_plain : IsPlain (understood schema items_text)
-items_plain = items_is.1
-
-pub asks_items : is_query (parsed items_text) ≡ true
-unfolding everything
-asks_items = refl
-
-pub finds_items : (quota : ℕ) (old new : State) → old.now.schema ≡ schema → (all : List QuotaItem) → Shown items_text (number quota ∷ []) old new (map quota_item_row all)
-    → (t : Tables) → Holds old.now.trees t → IsPermutation all (filter (is_item_of quota) t.quota_items)
-finds_items quota old new known all h t held =
-    let params = number quota ∷ [] in
-    let read = reads_as items_text params old new schema known _ items_is.0 items_is.1 items_is.2 (map quota_item_row all) h in
-    let came = answered old.now 4 owner_test link_columns [] params (map quota_item_row all) read in
-    looked_up quota_item_row quota_item_in quota_item_back (shown schema 4) (passes owner_test params) (is_item_of quota) (λ r (w : QuotaItem) e. passes_owner quota w.quota r (ap (λ (x : Row). column x 1) e))
-    (old.now.trees 4) t.quota_items all held.1.1.1.1.0 came
-
-abbrev pub variations_text : List ℕ
-variations_text = codes "SELECT rowid, quota_id, variation_id FROM quota_variations WHERE quota_id = ?1"
-
-variations_is : (command_of (understood schema variations_text) ≡ Select (plainly (over 6 owner_test link_columns [])) (codes "rowid" ∷ codes "quota_id" ∷ codes "variation_id" ∷ [])) × IsPlain (understood schema variations_text) × (reads_listing schema variations_text ≡ false)
-unfolding understood everything
-variations_is = (refl, (refl, refl), refl)
-
-pub variations_plain : IsPlain (understood schema variations_text)
-variations_plain = variations_is.1
-
-pub asks_variations : is_query (parsed variations_text) ≡ true
-unfolding everything
-asks_variations = refl
-
-pub finds_variations : (quota : ℕ) (old new : State) → old.now.schema ≡ schema → (all : List QuotaVariation) → Shown variations_text (number quota ∷ []) old new (map quota_variation_row all)
-    → (t : Tables) → Holds old.now.trees t → IsPermutation all (filter (is_variation_of quota) t.quota_variations)
-finds_variations quota old new known all h t held =
-    let params = number quota ∷ [] in
-    let read = reads_as variations_text params old new schema known _ variations_is.0 variations_is.1 variations_is.2 (map quota_variation_row all) h in
-    let came = answered old.now 6 owner_test link_columns [] params (map quota_variation_row all) read in
-    looked_up quota_variation_row quota_variation_in quota_variation_back (shown schema 6) (passes owner_test params) (is_variation_of quota) (λ r (w : QuotaVariation) e. passes_owner quota w.quota r (ap (λ (x : Row). column x 1) e))
-    (old.now.trees 6) t.quota_variations all held.1.1.1.1.1.0 came
+module _ (sql : List ℕ) (tree : ℕ) {A : Type 0} (row : A → Row) (owner : A → ℕ) (rows : Tables → List A) (is : IsSelectByOwner sql tree row owner rows) where
+  pub finds_owned : (id : ℕ) (old new : State) → old.now.schema ≡ schema → (all : List A) → Shown sql (number id ∷ []) old new (map row all) → (t : Tables) → Holds old.now.trees t → IsPermutation all (filter (λ w. owner w == id) (rows t))
+  finds_owned id old new known all h t held =
+      let params = number id ∷ [] in
+      let read = reads_as sql params old new schema known _ (asked (understood schema sql) _ is.asks.0) is.asks.1 is.unlisted (map row all) h in
+      let came = answered old.now tree by_owner is.project [] params (map row all) read in
+      let left = filter (passes by_owner params) (old.now.trees tree) in
+      let told : IsPermutation (map (shown schema tree) left) (map row all) = subst (λ l. IsPermutation l (map row all)) (map_same (λ (r : Row). eval_all is.project (params ∷ r ∷ [])) (shown schema tree) (is.shows params) left) came in
+      looked_up row is.back is.told (shown schema tree) (passes by_owner params) (λ w. owner w == id) (λ r w e. passes_owner id (owner w) r (sym (is.begins r) ∙ ap (λ (x : Row). column x 1) e ∙ is.owned w))
+      (old.now.trees tree) (rows t) all (is.holds old.now.trees t held) told

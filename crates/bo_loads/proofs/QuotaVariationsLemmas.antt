@@ -1,14 +1,17 @@
--- What a SELECT of all columns of `quota_variations` shows.
-use Rattle.std.proofs.Common.{◌≡◌, ◌∷◌, ℕ, List, [], codes, true, false, Some, refl}
+-- What the SELECTs of all columns of `quota_variations` show.
+use Rattle.std.proofs.Common.{◌≡◌, ◌∷◌, ℕ, List, [], codes, true, false, refl}
 use Rattle.sqlite_schema.specs.declared.command.Command.TheVariants.{Select}
 use Rattle.sqlite_resolve.specs.Compile.{first}
 use Rattle.sqlite_tied.specs.Compute.{everything}
 use Rattle.sqlite.specs.Listing.{understood, reads_listing}
 use Rattle.bo_schema.specs.Tables.{schema}
-use Rattle.bo_schema.specs.Shapes.{AsksFor, over, plainly, id_order}
+use Rattle.bo_schema.specs.Shapes.{AsksFor, over, plainly, id_order, by_owner}
 use Rattle.sqlite_sql.specs.Term.{Term, col}
 use Rattle.bo_loads.specs.Texts.{quota_variations_text}
-use Rattle.bo_loads.specs.Select.{IsSelectOf}
+use Rattle.bo_columns.specs.declared.rows.QuotaVariation.{QuotaVariation}
+use Rattle.bo_columns.specs.Rows.{quota_variation_row}
+use Rattle.bo_loads.specs.Select.{IsSelectOf, IsSelectByOwner}
+use Rattle.bo_loads.proofs.Back.{quota_variation_in, quota_variation_back}
 use Rattle.bo_loads.proofs.Queries.{is_query, query_reads}
 
 abbrev pub select_text : List ℕ
@@ -27,3 +30,34 @@ asks = refl
 
 pub select_is : IsSelectOf select_text 6
 select_is = record { project = project; order = id_order; names = codes "rowid" ∷ codes "quota_id" ∷ codes "variation_id" ∷ []; asks = select_reads.0; unlisted = select_reads.1; shows = λ r. refl; reads = query_reads select_text asks }
+
+-- ---- by the quota
+
+abbrev owned_text : List ℕ
+owned_text = codes "SELECT rowid, quota_id, variation_id FROM quota_variations WHERE quota_id = ?1"
+
+abbrev names : List (List ℕ)
+names = codes "rowid" ∷ codes "quota_id" ∷ codes "variation_id" ∷ []
+
+owned_reads : AsksFor (Select (plainly (over 6 by_owner project [])) names) owned_text × (reads_listing schema owned_text ≡ false)
+unfolding understood everything
+owned_reads = ((refl, (refl, refl)), refl)
+
+asks_owned : is_query (first owned_text) ≡ true
+unfolding everything
+asks_owned = refl
+
+pub by_owner_is : IsSelectByOwner owned_text 6 quota_variation_row (λ (w : QuotaVariation). w.quota) (λ t. t.quota_variations)
+by_owner_is = record {
+  project = project;
+  names = names;
+  asks = owned_reads.0;
+  unlisted = owned_reads.1;
+  shows = λ params r. refl;
+  reads = query_reads owned_text asks_owned;
+  holds = λ db t h. h.1.1.1.1.1.0;
+  begins = λ r. refl;
+  owned = λ w. refl;
+  back = quota_variation_in;
+  told = quota_variation_back;
+}

@@ -1,8 +1,6 @@
 -- Which rows are looked up.
 use Rattle.std.specs.Prelude.{ℕ, Bool, ◌==◌, ◌&&◌, List, bytes_eq}
 use Rattle.bo_columns.specs.declared.rows.KeptRow.{KeptRow}
-use Rattle.bo_columns.specs.declared.rows.QuotaItem.{QuotaItem}
-use Rattle.bo_columns.specs.declared.rows.QuotaVariation.{QuotaVariation}
 use Rattle.bo_columns.specs.declared.rows.Token.{Token}
 
 -- an answer under this key of this token
@@ -12,11 +10,3 @@ is_under token key r = (r.kept.token == token) && bytes_eq r.kept.key key
 -- the token of this digest
 abbrev pub has_digest : List ℕ → Token → Bool
 has_digest digest r = bytes_eq r.digest digest
-
--- an item of this quota
-abbrev pub is_item_of : ℕ → QuotaItem → Bool
-is_item_of quota r = r.quota == quota
-
--- a variation of this quota
-abbrev pub is_variation_of : ℕ → QuotaVariation → Bool
-is_variation_of quota r = r.quota == quota

@@ -23,4 +23,4 @@ mod vouchers;
 mod waiting;
 
 pub use loaded::{Loaded, load};
-pub use lookups::{find_kept, find_token, items_of, variations_of};
+pub use lookups::{FindByOwner, find_kept, find_token, members_of};

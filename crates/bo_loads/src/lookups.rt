@@ -1,15 +1,16 @@
 //! Rows are looked up by other columns than their number.
 
-ghost use Rattle.std.specs.Prelude.{◌≡◌, true, filter, IfOk, OnOk, IsPermutation};
+ghost use Rattle.std.specs.Prelude.{◌≡◌, ◌==◌, true, filter, IfOk, OnOk, IsPermutation};
 ghost use Rattle.sqlite.specs.Held.{state};
 ghost use Rattle.sqlite.specs.State.{HasCleanDisk, Survives, KeepsCommit};
 ghost use Rattle.bo_schema.specs.Tables.{schema};
 ghost use Rattle.bo_columns.specs.Changes.{IsInside, Changes};
 ghost use Rattle.bo_columns.specs.Tables.{Tables, Holds};
-ghost use Rattle.bo_loads.specs.Lookups.{is_under, has_digest, is_item_of, is_variation_of};
+ghost use Rattle.bo_loads.specs.Lookups.{is_under, has_digest};
+ghost use Rattle.bo_loads.specs.Select.{IsSelectByOwner};
 
-use crate::loaded::rows_of;
-use bo_columns::{Column, KeptRow, QuotaItem, QuotaVariation, Token};
+use crate::loaded::{Loaded, rows_of};
+use bo_columns::{Column, KeptRow, Member, QuotaItem, QuotaVariation, Token};
 use bo_schema::RowError;
 use sqlite::{Alter, Transaction};
 use sqlite_value::value::ValueRef;
@@ -57,44 +58,39 @@ pub fn find_token<S: Alter>(
     )
 }
 
-/// The items of a quota, in some order. Nothing changes. Refusals: 6, 60, 62, 63.
-pub fn items_of<S: Alter>(
-    alloc: Global,
-    tx: &mut Transaction<'_, S>,
-    quota: u64,
-) -> Result<Vec<QuotaItem>, RowError>
-    ensures same { tx.new.conn.ghost_name ≡ tx.old.conn.ghost_name }
-    ensures found { HasCleanDisk (state S.Store tx.new.conn.now) → (state S.Store tx.old.conn.now).now.schema ≡ schema → IfOk result (λ all. (t : Tables) → Holds (state S.Store tx.old.conn.now).now.trees t → IsPermutation all.items (filter (is_item_of quota) t.quota_items)) }
-    ensures still { HasCleanDisk (state S.Store tx.new.conn.now) → IsInside (state S.Store tx.old.conn.now) → OnOk result (Changes (λ t. t) (state S.Store tx.old.conn.now) (state S.Store tx.new.conn.now)) }
-    ensures kept { HasCleanDisk (state S.Store tx.new.conn.now) → KeepsCommit (state S.Store tx.old.conn.now) (state S.Store tx.new.conn.now) }
-    ensures crash { Survives (state S.Store tx.old.conn.now) (state S.Store tx.new.conn.now) (λ _. ⊥) }
-{
-    let id = quota.bind()?;
-    rows_of(
-        alloc,
-        tx,
-        "SELECT rowid, quota_id, item_id FROM quota_items WHERE quota_id = ?1",
-        &[id],
-    )
+/// Members that are looked up by their owner.
+pub trait FindByOwner: Loaded + Member {
+    /// The SELECT of all columns of an owner's members.
+    fn select_by_owner() -> &'static str
+        ensures { IsSelectByOwner result.now Self.tree Self.as_row Self.owner_of Self.rows };
 }
 
-/// The variations of a quota, in some order. Nothing changes. Refusals: 6, 60, 62, 63.
-pub fn variations_of<S: Alter>(
+impl FindByOwner for QuotaItem {
+    #[tactic(auto, using(crate::proofs::QuotaItemsLemmas::by_owner_is))]
+    fn select_by_owner() -> &'static str {
+        "SELECT rowid, quota_id, item_id FROM quota_items WHERE quota_id = ?1"
+    }
+}
+
+impl FindByOwner for QuotaVariation {
+    #[tactic(auto, using(crate::proofs::QuotaVariationsLemmas::by_owner_is))]
+    fn select_by_owner() -> &'static str {
+        "SELECT rowid, quota_id, variation_id FROM quota_variations WHERE quota_id = ?1"
+    }
+}
+
+/// The rows of an owner's members, in some order. Nothing changes. Refusals: 6, 60, 62, 63.
+pub fn members_of<S: Alter, T: FindByOwner>(
     alloc: Global,
     tx: &mut Transaction<'_, S>,
-    quota: u64,
-) -> Result<Vec<QuotaVariation>, RowError>
+    owner: u64,
+) -> Result<Vec<T>, RowError>
     ensures same { tx.new.conn.ghost_name ≡ tx.old.conn.ghost_name }
-    ensures found { HasCleanDisk (state S.Store tx.new.conn.now) → (state S.Store tx.old.conn.now).now.schema ≡ schema → IfOk result (λ all. (t : Tables) → Holds (state S.Store tx.old.conn.now).now.trees t → IsPermutation all.items (filter (is_variation_of quota) t.quota_variations)) }
+    ensures found { HasCleanDisk (state S.Store tx.new.conn.now) → (state S.Store tx.old.conn.now).now.schema ≡ schema → IfOk result (λ all. (t : Tables) → Holds (state S.Store tx.old.conn.now).now.trees t → IsPermutation all.items (filter (λ r. T.owner_of r == owner) (T.rows t))) }
     ensures still { HasCleanDisk (state S.Store tx.new.conn.now) → IsInside (state S.Store tx.old.conn.now) → OnOk result (Changes (λ t. t) (state S.Store tx.old.conn.now) (state S.Store tx.new.conn.now)) }
     ensures kept { HasCleanDisk (state S.Store tx.new.conn.now) → KeepsCommit (state S.Store tx.old.conn.now) (state S.Store tx.new.conn.now) }
     ensures crash { Survives (state S.Store tx.old.conn.now) (state S.Store tx.new.conn.now) (λ _. ⊥) }
 {
-    let id = quota.bind()?;
-    rows_of(
-        alloc,
-        tx,
-        "SELECT rowid, quota_id, variation_id FROM quota_variations WHERE quota_id = ?1",
-        &[id],
-    )
+    let id = owner.bind()?;
+    rows_of(alloc, tx, T::select_by_owner(), &[id])
 }

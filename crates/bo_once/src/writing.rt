@@ -99,13 +99,20 @@ impl<T: Tables, B: Dues, W: Wording> Shop<T, B, W> {
             → (left : ShopView) → T.may_leave self.new.tables left → IsSame left (served (W.words self.old.wording) arrival v).0) }
     {
         let at = self.moment_at(arrival.clock);
+        // Where it isn't carried out it is let go by name, as a whole: part by part is a way of the proof for each of its requests.
         match self.held(alloc, &arrival, at) {
-            Ok(Some(response)) => Answer::Decided(response),
+            Ok(Some(response)) => {
+                drop(arrival);
+                Answer::Decided(response)
+            }
             Ok(None) => match self.execute(alloc, at, arrival) {
                 Ok(response) => Answer::Decided(response),
                 Err(_) => Answer::Unavailable,
             },
-            Err(_) => Answer::Unavailable,
+            Err(_) => {
+                drop(arrival);
+                Answer::Unavailable
+            }
         }
     }
 

@@ -17,7 +17,7 @@ use Rattle.bo_columns.specs.Rows.{shop_row}
 use Rattle.bo_loads.specs.Damage.{IsFor, IsForReading}
 use Rattle.bo_loads.specs.Select.{IsSelectOf}
 use Rattle.bo_loads.proofs.Loads.{command_is, shows_all}
-use Rattle.bo_opens.specs.Causes.{ShowsBy, HasOtherVersion, HasNoOtherVersion, IsOneShop}
+use Rattle.bo_opens.specs.Causes.{ShowsBy, HasNoOtherVersion, IsOneShop}
 
 -- ---- one table
 

@@ -5,7 +5,7 @@ use Rattle.std.proofs.lemmas.Bool.Decides.{nat_tests}
 use Rattle.bo_stand.specs.Free.{AreApart, AreBelow}
 use Rattle.bo_opens.specs.Numbers.{RiseTo}
 
-ends_above : (n m : ℕ) (xs : List ℕ) → RiseTo n m xs → n ≤ m
+pub ends_above : (n m : ℕ) (xs : List ℕ) → RiseTo n m xs → n ≤ m
 ends_above n m [] h = h
 ends_above n m (x ∷ xs) h = let more = ends_above (x + 1) m xs h.1 in omega (arith, h.0, more)
 

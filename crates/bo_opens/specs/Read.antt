@@ -1,5 +1,5 @@
 -- What was read of a file, beside what its trees show and what tables hold: the rows of each table, in whatever order.
-use Rattle.std.specs.Prelude.{◌≡◌, List, [], ◌∷◌, map, IsPermutation}
+use Rattle.std.specs.Prelude.{◌≡◌, [], ◌∷◌, map, IsPermutation}
 use Rattle.sqlite_trees.specs.Tree.{Trees}
 use Rattle.bo_columns.specs.Rows.{item_row, variation_row, quota_row, quota_item_row, quota_variation_row, voucher_row, cart_row, order_row, position_row, waiting_row, list_row, list_item_row, checkin_row, count_row, token_row, kept_row}
 use Rattle.bo_columns.specs.Tables.{Tables}

@@ -1,7 +1,8 @@
 //! The numbers of rows, as they were read.
 
-ghost use Rattle.std.specs.Prelude.{◌≡◌, ℕ, map, IfSome};
+ghost use Rattle.std.specs.Prelude.{◌≡◌, ℕ, map, IfSome, IfNone};
 ghost use Rattle.bo_stand.specs.Free.{AreBelow};
+ghost use Rattle.bo_opens.specs.Numbers.{Rise};
 
 use bo_columns::{KeptRow, ListItem, QuotaItem, QuotaVariation};
 
@@ -45,10 +46,10 @@ impl Numbered for KeptRow {
     }
 }
 
-/// The number that follows on the last one, where the numbers rise.
-#[tactic(auto, using(crate::proofs::RiseLemmas::rise_below))]
+/// The number that follows on the last one, where the numbers rise. None where they don't, or where the last one is 2^64 - 1.
 pub fn next_number<T: Numbered>(rows: &[T]) -> Option<u64>
-    ensures { IfSome result (λ next. AreBelow next (map T.number rows.now)) }
+    ensures next { IfSome result (λ next. AreBelow next (map T.number rows.now)) }
+    ensures none { IfNone result (¬ Rise (map T.number rows.now)) }
 {
     let mut from: u64 = 0;
     for row in rows {

@@ -1,14 +1,7 @@
 -- Values that were read are what their types promise.
-use Rattle.std.proofs.Common.{◌≡◌, ℕ, ◌<◌, length, slice_index_or, List, Option, Some, None, IfSome}
+use Rattle.std.proofs.Common.{◌≡◌, ℕ, slice_index_or, List, Option, Some, None, IfSome}
 use Rattle.std.specs.List.{All}
 use Rattle.std.specs.Str.{IsUtf8}
-use Rattle.bo_catalogue.specs.declared.rows.Item.{Item}
-use Rattle.bo_catalogue.specs.declared.rows.Variation.{Variation}
-use Rattle.bo_lists.specs.declared.rows.CartPos.{CartPos}
-use Rattle.bo_lists.specs.declared.rows.Order.{Order}
-use Rattle.bo_lists.specs.declared.rows.OrderPos.{OrderPos}
-use Rattle.bo_lists.specs.declared.rows.Waiting.{Waiting}
-use Rattle.bo_lists.specs.declared.rows.Checkin.{Checkin}
 use Rattle.bo_columns.specs.declared.rows.QuotaRow.{QuotaRow}
 use Rattle.bo_columns.specs.declared.rows.VoucherRow.{VoucherRow}
 use Rattle.bo_columns.specs.declared.rows.ListRow.{ListRow}

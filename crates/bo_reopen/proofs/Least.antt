@@ -1,5 +1,5 @@
 -- The least rule that is broken.
-use Rattle.std.proofs.Common.{◌≡◌, ℕ, ◌<◌, List, inl, inr, subst, sym, arith, IfNone}
+use Rattle.std.proofs.Common.{◌≡◌, ◌<◌, List, inl, inr, subst, sym, arith}
 use Rattle.sqlite.specs.Effect.{Database}
 use Rattle.bo_schema.specs.Tables.{schema}
 use Rattle.bo_stand.specs.Rows.{OfficeRows}

@@ -1,18 +1,17 @@
 -- What was read of a file, and what its tables hold of an office.
-use Rattle.std.proofs.Common.{◌≡◌, ℕ, false, List, [], ◌∷◌, map, IsTrue, Result, Ok, Err, IfOk, OnOk, refl, sym, ap, subst, ◌∙◌}
+use Rattle.std.proofs.Common.{◌≡◌, ℕ, false, map, IsTrue, Result, Ok, Err, IfOk, OnOk, refl, sym, ap, subst, ◌∙◌}
 use Rattle.std.specs.List.Sorted.{IsPermutation}
-use Rattle.std.proofs.lemmas.List.Sorted.{IsPermutation-map, IsPermutation-refl, IsPermutation-sym}
+use Rattle.std.proofs.lemmas.List.Sorted.{IsPermutation-map, IsPermutation-refl}
 use Rattle.sqlite_trees.specs.Tree.{Trees}
 use Rattle.sqlite.specs.Effect.{Database}
 use Rattle.sqlite.specs.State.{State as Connected}
 use Rattle.bo_schema.specs.Tables.{schema}
 use Rattle.bo_lists.specs.Lists.{State}
-use Rattle.bo_lists.specs.CountRows.{quota_counts, voucher_counts}
 use Rattle.bo_columns.specs.declared.rows.ShopRow.{ShopRow}
 use Rattle.bo_columns.specs.declared.rows.VoucherRow.{VoucherRow}
 use Rattle.bo_columns.specs.Tables.{Tables, Holds}
 use Rattle.bo_stand.specs.Free.{IsFree}
-use Rattle.bo_stand.specs.Rows.{OfficeRows, rows_of, redeemed_in}
+use Rattle.bo_stand.specs.Rows.{rows_of, redeemed_in}
 use Rattle.bo_stand.specs.Stands.{AreRowsOf, AreSameRows, Stand}
 use Rattle.bo_stand.proofs.Follow.{rows_along}
 use Rattle.bo_rules.specs.Rules.{File, IsCounted}

@@ -1,5 +1,5 @@
 -- Tables that hold an office are opened as that office.
-use Rattle.std.proofs.Common.{◌≡◌, ℕ, ◌<◌, List, [], ◌∷◌, map, IsTrue, refl, sym, ap, subst, ◌∙◌}
+use Rattle.std.proofs.Common.{◌≡◌, ◌<◌, List, [], ◌∷◌, refl, sym, ap, subst, ◌∙◌}
 use Rattle.std.specs.List.Sorted.{IsPermutation}
 use Rattle.std.proofs.lemmas.List.Sorted.{IsPermutation-map, IsPermutation-sym, IsPermutation-trans}
 use Rattle.sqlite_trees.specs.Tree.{Trees}
@@ -25,8 +25,7 @@ use Rattle.bo_rules.specs.declared.rule.Rule.{Rule}
 use Rattle.bo_rules.specs.Rules.{File, IsCounted, Keeps}
 use Rattle.bo_rules.proofs.Sounds.{keeps_all}
 use Rattle.bo_opens.specs.declared.file.FileTables.{FileTables}
-use Rattle.bo_opens.specs.declared.read.TableRows.{TableRows}
-use Rattle.bo_opens.specs.Read.{AreTableRows, IsFileOf}
+use Rattle.bo_opens.specs.Read.{IsFileOf}
 use Rattle.bo_opens.proofs.SameLemmas.{file_of}
 use Rattle.bo_arrange.specs.Arranged.{arranged, rows_in, told_by, count_in, IsInOrder}
 use Rattle.bo_arrange.proofs.Offices.{office_told}

@@ -21,11 +21,19 @@ use Rattle.bo_opens.specs.declared.error.OpenError.TheVariants.{Memory, NotAShop
 use Rattle.bo_opens.specs.declared.file.FileTables.{FileTables}
 use Rattle.bo_opens.specs.Causes.{IsReadable, IsCause}
 use Rattle.bo_opens.specs.Read.{tables_of}
+use Rattle.bo_opens.specs.Numbers.{Rise}
+use Rattle.bo_opens.specs.declared.read.TableRows.{TableRows}
 use Rattle.bo_arrange.specs.Arranged.{arranged, rows_in, IsInOrder}
 use Rattle.bo_tables.specs.Held.{number_of}
 use Rattle.bo_tables.specs.Shops.{HoldsWhileOpen, KnowsWhileOpen, Leaves}
 
 -- ---- what is wrong
+
+-- the rows without an id of their own rise by their numbers
+abbrev pub RowsRise : TableRows → Type 0
+RowsRise rows =
+    Rise (map (λ r. r.rowid) rows.catalogue.quota_items.items) × Rise (map (λ r. r.rowid) rows.catalogue.quota_variations.items) × Rise (map (λ r. r.rowid) rows.doors.list_items.items)
+    × Rise (map (λ r. r.rowid) rows.others.kept.items)
 
 -- the rows keep the rule; to that of ids it belongs that each token's is below the next one, and to that of names that each member of a
 -- quota or a check-in list is of one that stands

@@ -14,7 +14,7 @@ ghost use Rattle.bo_opens.specs.declared.file.FileTables.{FileTables};
 ghost use Rattle.bo_opens.specs.Read.{AreTableRows};
 ghost use Rattle.bo_arrange.specs.Arranged.{arranged, rows_in, told_by, IsInOrder};
 ghost use Rattle.bo_typed.specs.Typed.{AreBelowNext};
-ghost use Rattle.bo_reopen.specs.Opened.{IsLeastIn, IsWhy};
+ghost use Rattle.bo_reopen.specs.Opened.{IsLeastIn, IsWhy, RowsRise};
 
 use bo_arrange::{ArrangeError, Arranged, arrange};
 use bo_checks::first_broken;
@@ -26,7 +26,8 @@ use std::alloc::Global;
 
 /// The number from which rows without an id of their own are numbered on. None where those that stand weren't shown in order.
 pub(crate) fn free_number(tables: &TableRows) -> Option<u64>
-    ensures { IfSome result (λ next. (t : Tables) → AreTableRows t tables.now → IsFree next t) }
+    ensures next { IfSome result (λ next. (t : Tables) → AreTableRows t tables.now → IsFree next t) }
+    ensures none { IfNone result (¬ RowsRise tables.now) }
 {
     let items = next_number(tables.catalogue.quota_items.as_slice())?;
     let variations = next_number(tables.catalogue.quota_variations.as_slice())?;

@@ -48,7 +48,7 @@ statements_are = record {
   at = 7;
   table = cart_positions_table;
   rows = λ t. map cart_row t.carts;
-  is = record { placed = refl; uncounted = refl; unstamped = refl; holds = λ db t h. h.1.1.1.1.1.1.1.0; numbered = λ t. all_numbered cart_row (λ w. w.id) (λ w. refl) t.carts };
+  is = record { plain = record { placed = refl; uncounted = refl; unstamped = refl; restricts = refl }; holds = λ db t h. h.1.1.1.1.1.1.1.0; numbered = λ t. all_numbered cart_row (λ w. w.id) (λ w. refl) t.carts };
   adds = λ w t. refl;
   takes = λ id t. rw (rows_without cart_row (λ w. w.id) (λ w. refl) id t.carts);
   behind = behind;

@@ -48,7 +48,7 @@ statements_are = record {
   at = 11;
   table = checkin_lists_table;
   rows = λ t. map list_row t.checkin_lists;
-  is = record { placed = refl; uncounted = refl; unstamped = refl; holds = λ db t h. h.1.1.1.1.1.1.1.1.1.1.1.0; numbered = λ t. all_numbered list_row (λ w. w.id) (λ w. refl) t.checkin_lists };
+  is = record { plain = record { placed = refl; uncounted = refl; unstamped = refl; restricts = refl }; holds = λ db t h. h.1.1.1.1.1.1.1.1.1.1.1.0; numbered = λ t. all_numbered list_row (λ w. w.id) (λ w. refl) t.checkin_lists };
   adds = λ w t. refl;
   takes = λ id t. rw (rows_without list_row (λ w. w.id) (λ w. refl) id t.checkin_lists);
   behind = behind;

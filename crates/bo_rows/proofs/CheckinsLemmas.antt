@@ -49,7 +49,7 @@ statements_are = record {
   at = 13;
   table = checkins_table;
   rows = λ t. map checkin_row t.checkins;
-  is = record { placed = refl; uncounted = refl; unstamped = refl; holds = λ db t h. h.1.1.1.1.1.1.1.1.1.1.1.1.1.0; numbered = λ t. all_numbered checkin_row (λ w. w.id) (λ w. refl) t.checkins };
+  is = record { plain = record { placed = refl; uncounted = refl; unstamped = refl; restricts = refl }; holds = λ db t h. h.1.1.1.1.1.1.1.1.1.1.1.1.1.0; numbered = λ t. all_numbered checkin_row (λ w. w.id) (λ w. refl) t.checkins };
   adds = λ w t. refl;
   takes = λ id t. rw (rows_without checkin_row (λ w. w.id) (λ w. refl) id t.checkins);
   behind = behind;

@@ -48,7 +48,7 @@ statements_are = record {
   at = 14;
   table = quota_count_table;
   rows = λ t. map count_row t.counts;
-  is = record { placed = refl; uncounted = refl; unstamped = refl; holds = λ db t h. h.1.1.1.1.1.1.1.1.1.1.1.1.1.1.0; numbered = λ t. all_numbered count_row (λ w. w.quota) (λ w. refl) t.counts };
+  is = record { plain = record { placed = refl; uncounted = refl; unstamped = refl; restricts = refl }; holds = λ db t h. h.1.1.1.1.1.1.1.1.1.1.1.1.1.1.0; numbered = λ t. all_numbered count_row (λ w. w.quota) (λ w. refl) t.counts };
   adds = λ w t. refl;
   takes = λ id t. rw (rows_without count_row (λ w. w.quota) (λ w. refl) id t.counts);
   behind = behind;

@@ -48,7 +48,7 @@ statements_are = record {
   at = 1;
   table = items_table;
   rows = λ t. map item_row t.items;
-  is = record { placed = refl; uncounted = refl; unstamped = refl; holds = λ db t h. h.1.0; numbered = λ t. all_numbered item_row (λ w. w.id) (λ w. refl) t.items };
+  is = record { plain = record { placed = refl; uncounted = refl; unstamped = refl; restricts = refl }; holds = λ db t h. h.1.0; numbered = λ t. all_numbered item_row (λ w. w.id) (λ w. refl) t.items };
   adds = λ w t. refl;
   takes = λ id t. rw (rows_without item_row (λ w. w.id) (λ w. refl) id t.items);
   behind = behind;

@@ -9,7 +9,7 @@ use Rattle.sqlite.specs.State.{State, Executes}
 use Rattle.sqlite.proofs.Callers.{IsPlain, command_of}
 use Rattle.bo_schema.specs.Tables.{schema, kept_table}
 use Rattle.bo_schema.specs.Shapes.{insert_rowid}
-use Rattle.bo_schema.proofs.Generic.{IsPlainTable}
+use Rattle.bo_schema.specs.Plain.{IsPlainTable}
 use Rattle.bo_schema.proofs.Casts.{cast_int}
 use Rattle.bo_columns.specs.declared.rows.KeptRow.{KeptRow}
 use Rattle.bo_columns.specs.Cells.{number, methods}

@@ -1,11 +1,14 @@
 -- The statements on `list_items`.
-use Rattle.std.proofs.Common.{◌≡◌, List, ◌∷◌, ℕ, codes, drop, map, refl}
+use Rattle.std.proofs.Common.{◌≡◌, List, [], ◌∷◌, ℕ, codes, drop, map, refl}
 use Rattle.sqlite_value.specs.Order.{Row}
+use Rattle.sqlite_sql.specs.Term.{col}
+use Rattle.sqlite_schema.specs.declared.command.Command.TheVariants.{Delete}
 use Rattle.sqlite_rules.specs.Cast.{cast_row}
 use Rattle.sqlite_tied.specs.Compute.{everything}
 use Rattle.sqlite.specs.Listing.{understood}
-use Rattle.bo_schema.specs.Tables.{list_items_table}
-use Rattle.bo_schema.specs.Shapes.{AsksFor, insert_rowid, update_rowid, delete_keyed}
+use Rattle.bo_schema.specs.Tables.{schema, list_items_table}
+use Rattle.bo_schema.specs.Plain.{IsPlainTable}
+use Rattle.bo_schema.specs.Shapes.{AsksFor, insert_rowid, update_rowid, delete_keyed, over, plainly, by_owner}
 use Rattle.bo_schema.proofs.Parts.{all_numbered, rows_without}
 use Rattle.bo_schema.proofs.Casts.{cast_int}
 use Rattle.bo_columns.specs.declared.rows.ListItem.{ListItem}
@@ -13,6 +16,7 @@ use Rattle.bo_columns.specs.Cells.{number}
 use Rattle.bo_columns.specs.Rows.{list_item_row}
 use Rattle.bo_columns.specs.Changes.{with_list_item, without_list_item}
 use Rattle.bo_rows.specs.Statements.{AreStatementsOf}
+use Rattle.bo_rows.specs.Removed.{IsDeleteByOwner}
 
 abbrev insert_text : List ℕ
 insert_text = codes "INSERT INTO list_items (rowid, list_id, item_id) VALUES (?1, ?2, ?3)"
@@ -42,12 +46,15 @@ behind w = drop 1 (list_item_row w)
 stays : (w : ListItem) → cast_row list_items_table (number w.rowid ∷ behind w) ≡ number w.rowid ∷ behind w
 stays w = simp (cast_int)
 
+is_plain : IsPlainTable schema 12 list_items_table
+is_plain = record { placed = refl; uncounted = refl; unstamped = refl; restricts = refl }
+
 pub statements_are : AreStatementsOf list_item_row (λ w. w.rowid) with_list_item without_list_item insert_text update_text delete_text
 statements_are = record {
   at = 12;
   table = list_items_table;
   rows = λ t. map list_item_row t.list_items;
-  is = record { placed = refl; uncounted = refl; unstamped = refl; holds = λ db t h. h.1.1.1.1.1.1.1.1.1.1.1.1.0; numbered = λ t. all_numbered list_item_row (λ w. w.rowid) (λ w. refl) t.list_items };
+  is = record { plain = is_plain; holds = λ db t h. h.1.1.1.1.1.1.1.1.1.1.1.1.0; numbered = λ t. all_numbered list_item_row (λ w. w.rowid) (λ w. refl) t.list_items };
   adds = λ w t. refl;
   takes = λ id t. rw (rows_without list_item_row (λ w. w.rowid) (λ w. refl) id t.list_items);
   behind = behind;
@@ -62,4 +69,26 @@ statements_are = record {
   updates = updates;
   sets = λ w r. refl;
   removes = removes;
+}
+
+-- ---- by the check-in list
+
+abbrev by_owner_text : List ℕ
+by_owner_text = codes "DELETE FROM list_items WHERE list_id = ?1"
+
+removes_owned : AsksFor (Delete 12 (plainly (over 17 by_owner (col 1 0 ∷ []) []))) by_owner_text
+unfolding understood everything
+removes_owned = (refl, (refl, refl))
+
+pub by_owner_is : IsDeleteByOwner by_owner_text list_item_row (λ (w : ListItem). w.rowid) (λ w. w.list) (λ t. t.list_items) (λ xs t. record t { list_items = xs })
+by_owner_is = record {
+  at = 12;
+  table = list_items_table;
+  plain = is_plain;
+  asks = removes_owned;
+  holds = λ db t h. h.1.1.1.1.1.1.1.1.1.1.1.1.0;
+  begins = λ r. refl;
+  numbered = λ w. refl;
+  owned = λ w. refl;
+  puts = λ xs t. refl;
 }

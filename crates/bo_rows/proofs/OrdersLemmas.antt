@@ -49,7 +49,7 @@ statements_are = record {
   at = 8;
   table = orders_table;
   rows = λ t. map order_row t.orders;
-  is = record { placed = refl; uncounted = refl; unstamped = refl; holds = λ db t h. h.1.1.1.1.1.1.1.1.0; numbered = λ t. all_numbered order_row (λ w. w.id) (λ w. refl) t.orders };
+  is = record { plain = record { placed = refl; uncounted = refl; unstamped = refl; restricts = refl }; holds = λ db t h. h.1.1.1.1.1.1.1.1.0; numbered = λ t. all_numbered order_row (λ w. w.id) (λ w. refl) t.orders };
   adds = λ w t. refl;
   takes = λ id t. rw (rows_without order_row (λ w. w.id) (λ w. refl) id t.orders);
   behind = behind;

@@ -14,7 +14,8 @@ use Rattle.sqlite.proofs.Callers.{IsPlain, command_of}
 use Rattle.bo_schema.specs.Tables.{schema}
 use Rattle.bo_schema.specs.Parts.{HoldParts, shown, with_rows, without}
 use Rattle.bo_schema.specs.Shapes.{over, plainly, equals}
-use Rattle.bo_schema.proofs.Generic.{IsPlainTable, updates}
+use Rattle.bo_schema.specs.Plain.{IsPlainTable}
+use Rattle.bo_schema.proofs.Generic.{updates}
 use Rattle.bo_schema.proofs.Writes.{AreNumbered, updates_one, misses_keyed}
 use Rattle.bo_schema.proofs.Parts.{others_from, after_write, row_put, numbered_tree, all_numbered, rows_without}
 use Rattle.bo_columns.specs.Tables.{Tables, parts, Holds}

@@ -48,7 +48,7 @@ statements_are = record {
   at = 9;
   table = order_positions_table;
   rows = λ t. map position_row t.positions;
-  is = record { placed = refl; uncounted = refl; unstamped = refl; holds = λ db t h. h.1.1.1.1.1.1.1.1.1.0; numbered = λ t. all_numbered position_row (λ w. w.id) (λ w. refl) t.positions };
+  is = record { plain = record { placed = refl; uncounted = refl; unstamped = refl; restricts = refl }; holds = λ db t h. h.1.1.1.1.1.1.1.1.1.0; numbered = λ t. all_numbered position_row (λ w. w.id) (λ w. refl) t.positions };
   adds = λ w t. refl;
   takes = λ id t. rw (rows_without position_row (λ w. w.id) (λ w. refl) id t.positions);
   behind = behind;

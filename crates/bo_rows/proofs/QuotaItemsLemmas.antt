@@ -1,11 +1,14 @@
 -- The statements on `quota_items`.
-use Rattle.std.proofs.Common.{◌≡◌, List, ◌∷◌, ℕ, codes, drop, map, refl}
+use Rattle.std.proofs.Common.{◌≡◌, List, [], ◌∷◌, ℕ, codes, drop, map, refl}
 use Rattle.sqlite_value.specs.Order.{Row}
+use Rattle.sqlite_sql.specs.Term.{col}
+use Rattle.sqlite_schema.specs.declared.command.Command.TheVariants.{Delete}
 use Rattle.sqlite_rules.specs.Cast.{cast_row}
 use Rattle.sqlite_tied.specs.Compute.{everything}
 use Rattle.sqlite.specs.Listing.{understood}
-use Rattle.bo_schema.specs.Tables.{quota_items_table}
-use Rattle.bo_schema.specs.Shapes.{AsksFor, insert_rowid, update_rowid, delete_keyed}
+use Rattle.bo_schema.specs.Tables.{schema, quota_items_table}
+use Rattle.bo_schema.specs.Plain.{IsPlainTable}
+use Rattle.bo_schema.specs.Shapes.{AsksFor, insert_rowid, update_rowid, delete_keyed, over, plainly, by_owner}
 use Rattle.bo_schema.proofs.Parts.{all_numbered, rows_without}
 use Rattle.bo_schema.proofs.Casts.{cast_int}
 use Rattle.bo_columns.specs.declared.rows.QuotaItem.{QuotaItem}
@@ -13,6 +16,7 @@ use Rattle.bo_columns.specs.Cells.{number}
 use Rattle.bo_columns.specs.Rows.{quota_item_row}
 use Rattle.bo_columns.specs.Changes.{with_quota_item, without_quota_item}
 use Rattle.bo_rows.specs.Statements.{AreStatementsOf}
+use Rattle.bo_rows.specs.Removed.{IsDeleteByOwner}
 
 abbrev insert_text : List ℕ
 insert_text = codes "INSERT INTO quota_items (rowid, quota_id, item_id) VALUES (?1, ?2, ?3)"
@@ -42,12 +46,15 @@ behind w = drop 1 (quota_item_row w)
 stays : (w : QuotaItem) → cast_row quota_items_table (number w.rowid ∷ behind w) ≡ number w.rowid ∷ behind w
 stays w = simp (cast_int)
 
+is_plain : IsPlainTable schema 4 quota_items_table
+is_plain = record { placed = refl; uncounted = refl; unstamped = refl; restricts = refl }
+
 pub statements_are : AreStatementsOf quota_item_row (λ w. w.rowid) with_quota_item without_quota_item insert_text update_text delete_text
 statements_are = record {
   at = 4;
   table = quota_items_table;
   rows = λ t. map quota_item_row t.quota_items;
-  is = record { placed = refl; uncounted = refl; unstamped = refl; holds = λ db t h. h.1.1.1.1.0; numbered = λ t. all_numbered quota_item_row (λ w. w.rowid) (λ w. refl) t.quota_items };
+  is = record { plain = is_plain; holds = λ db t h. h.1.1.1.1.0; numbered = λ t. all_numbered quota_item_row (λ w. w.rowid) (λ w. refl) t.quota_items };
   adds = λ w t. refl;
   takes = λ id t. rw (rows_without quota_item_row (λ w. w.rowid) (λ w. refl) id t.quota_items);
   behind = behind;
@@ -62,4 +69,26 @@ statements_are = record {
   updates = updates;
   sets = λ w r. refl;
   removes = removes;
+}
+
+-- ---- by the quota
+
+abbrev by_owner_text : List ℕ
+by_owner_text = codes "DELETE FROM quota_items WHERE quota_id = ?1"
+
+removes_owned : AsksFor (Delete 4 (plainly (over 4 by_owner (col 1 0 ∷ []) []))) by_owner_text
+unfolding understood everything
+removes_owned = (refl, (refl, refl))
+
+pub by_owner_is : IsDeleteByOwner by_owner_text quota_item_row (λ (w : QuotaItem). w.rowid) (λ w. w.quota) (λ t. t.quota_items) (λ xs t. record t { quota_items = xs })
+by_owner_is = record {
+  at = 4;
+  table = quota_items_table;
+  plain = is_plain;
+  asks = removes_owned;
+  holds = λ db t h. h.1.1.1.1.0;
+  begins = λ r. refl;
+  numbered = λ w. refl;
+  owned = λ w. refl;
+  puts = λ xs t. refl;
 }

@@ -1,11 +1,14 @@
 -- The statements on `quota_variations`.
-use Rattle.std.proofs.Common.{◌≡◌, List, ◌∷◌, ℕ, codes, drop, map, refl}
+use Rattle.std.proofs.Common.{◌≡◌, List, [], ◌∷◌, ℕ, codes, drop, map, refl}
 use Rattle.sqlite_value.specs.Order.{Row}
+use Rattle.sqlite_sql.specs.Term.{col}
+use Rattle.sqlite_schema.specs.declared.command.Command.TheVariants.{Delete}
 use Rattle.sqlite_rules.specs.Cast.{cast_row}
 use Rattle.sqlite_tied.specs.Compute.{everything}
 use Rattle.sqlite.specs.Listing.{understood}
-use Rattle.bo_schema.specs.Tables.{quota_variations_table}
-use Rattle.bo_schema.specs.Shapes.{AsksFor, insert_rowid, update_rowid, delete_keyed}
+use Rattle.bo_schema.specs.Tables.{schema, quota_variations_table}
+use Rattle.bo_schema.specs.Plain.{IsPlainTable}
+use Rattle.bo_schema.specs.Shapes.{AsksFor, insert_rowid, update_rowid, delete_keyed, over, plainly, by_owner}
 use Rattle.bo_schema.proofs.Parts.{all_numbered, rows_without}
 use Rattle.bo_schema.proofs.Casts.{cast_int}
 use Rattle.bo_columns.specs.declared.rows.QuotaVariation.{QuotaVariation}
@@ -13,6 +16,7 @@ use Rattle.bo_columns.specs.Cells.{number}
 use Rattle.bo_columns.specs.Rows.{quota_variation_row}
 use Rattle.bo_columns.specs.Changes.{with_quota_variation, without_quota_variation}
 use Rattle.bo_rows.specs.Statements.{AreStatementsOf}
+use Rattle.bo_rows.specs.Removed.{IsDeleteByOwner}
 
 abbrev insert_text : List ℕ
 insert_text = codes "INSERT INTO quota_variations (rowid, quota_id, variation_id) VALUES (?1, ?2, ?3)"
@@ -42,12 +46,15 @@ behind w = drop 1 (quota_variation_row w)
 stays : (w : QuotaVariation) → cast_row quota_variations_table (number w.rowid ∷ behind w) ≡ number w.rowid ∷ behind w
 stays w = simp (cast_int)
 
+is_plain : IsPlainTable schema 5 quota_variations_table
+is_plain = record { placed = refl; uncounted = refl; unstamped = refl; restricts = refl }
+
 pub statements_are : AreStatementsOf quota_variation_row (λ w. w.rowid) with_quota_variation without_quota_variation insert_text update_text delete_text
 statements_are = record {
   at = 5;
   table = quota_variations_table;
   rows = λ t. map quota_variation_row t.quota_variations;
-  is = record { placed = refl; uncounted = refl; unstamped = refl; holds = λ db t h. h.1.1.1.1.1.0; numbered = λ t. all_numbered quota_variation_row (λ w. w.rowid) (λ w. refl) t.quota_variations };
+  is = record { plain = is_plain; holds = λ db t h. h.1.1.1.1.1.0; numbered = λ t. all_numbered quota_variation_row (λ w. w.rowid) (λ w. refl) t.quota_variations };
   adds = λ w t. refl;
   takes = λ id t. rw (rows_without quota_variation_row (λ w. w.rowid) (λ w. refl) id t.quota_variations);
   behind = behind;
@@ -62,4 +69,26 @@ statements_are = record {
   updates = updates;
   sets = λ w r. refl;
   removes = removes;
+}
+
+-- ---- by the quota
+
+abbrev by_owner_text : List ℕ
+by_owner_text = codes "DELETE FROM quota_variations WHERE quota_id = ?1"
+
+removes_owned : AsksFor (Delete 5 (plainly (over 6 by_owner (col 1 0 ∷ []) []))) by_owner_text
+unfolding understood everything
+removes_owned = (refl, (refl, refl))
+
+pub by_owner_is : IsDeleteByOwner by_owner_text quota_variation_row (λ (w : QuotaVariation). w.rowid) (λ w. w.quota) (λ t. t.quota_variations) (λ xs t. record t { quota_variations = xs })
+by_owner_is = record {
+  at = 5;
+  table = quota_variations_table;
+  plain = is_plain;
+  asks = removes_owned;
+  holds = λ db t h. h.1.1.1.1.1.0;
+  begins = λ r. refl;
+  numbered = λ w. refl;
+  owned = λ w. refl;
+  puts = λ xs t. refl;
 }

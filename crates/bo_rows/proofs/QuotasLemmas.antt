@@ -48,7 +48,7 @@ statements_are = record {
   at = 3;
   table = quotas_table;
   rows = λ t. map quota_row t.quotas;
-  is = record { placed = refl; uncounted = refl; unstamped = refl; holds = λ db t h. h.1.1.1.0; numbered = λ t. all_numbered quota_row (λ w. w.id) (λ w. refl) t.quotas };
+  is = record { plain = record { placed = refl; uncounted = refl; unstamped = refl; restricts = refl }; holds = λ db t h. h.1.1.1.0; numbered = λ t. all_numbered quota_row (λ w. w.id) (λ w. refl) t.quotas };
   adds = λ w t. refl;
   takes = λ id t. rw (rows_without quota_row (λ w. w.id) (λ w. refl) id t.quotas);
   behind = behind;

@@ -2,9 +2,8 @@
 use Rattle.std.proofs.Common.{◌≡◌, ℕ, ℤ, pos, ◌==◌, Bool, true, false, cond, not, ◌||◌, List, [], ◌∷◌, map, filter, Ok, refl, sym, ap, subst, ◌∙◌, arith}
 use Rattle.std.specs.List.{list_any, AllByRecursion}
 use Rattle.std.specs.List.Sorted.{IsPermutation}
-use Rattle.std.specs.Ordering.{is_eq, int_cmp}
+use Rattle.std.specs.Ordering.{is_eq}
 use Rattle.std.proofs.lemmas.Bool.Decides.{nat_tests}
-use Rattle.std.proofs.lemmas.Int.{ints}
 use Rattle.std.proofs.lemmas.List.Sorted.{IsPermutation-map, list_any-IsPermutation}
 use Rattle.sqlite_value.specs.declared.value.Value.TheVariants.{Int}
 use Rattle.sqlite_value.specs.Order.{Row, value_cmp}
@@ -24,7 +23,9 @@ use Rattle.bo_schema.specs.Tables.{schema}
 use Rattle.bo_schema.specs.Parts.{HoldParts, shown, with_rows}
 use Rattle.bo_schema.specs.Shapes.{over, plainly}
 use Rattle.bo_schema.proofs.Answered.{passes, answered}
-use Rattle.bo_schema.proofs.Generic.{IsPlainTable, deletes}
+use Rattle.bo_schema.specs.Plain.{IsPlainTable}
+use Rattle.bo_schema.proofs.Generic.{deletes}
+use Rattle.bo_schema.proofs.Owner.{same_number}
 use Rattle.bo_schema.proofs.Keyed.{without_each}
 use Rattle.bo_schema.proofs.Parts.{others_from, after_write}
 use Rattle.bo_columns.specs.Tables.{Tables, parts, Holds}
@@ -53,9 +54,6 @@ self_same n b = let e : (n == n) ≡ true = grind (arith, nat_tests) in rw e
 pub twice : (b : Bool) → not (not b) ≡ b
 twice true = refl
 twice false = refl
-
-pub same_number : (a b : ℕ) → is_eq (int_cmp (pos a) (pos b)) ≡ (a == b)
-same_number a b = grind (arith, ints)
 
 has_number : (r : Row) (a b : ℕ) → rowid r ≡ Int (pos a) → has_rowid (pos b) r ≡ (a == b)
 has_number r a b e = ap (λ v. is_eq (value_cmp v (Int (pos b)))) e ∙ ap is_eq (value_cmp-Int (pos a) (pos b)) ∙ same_number a b

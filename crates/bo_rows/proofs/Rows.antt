@@ -18,7 +18,8 @@ use Rattle.bo_schema.specs.Tables.{schema}
 use Rattle.bo_schema.specs.Parts.{HoldParts, shown, with_rows, without}
 use Rattle.bo_schema.specs.Shapes.{over, plainly, equals, delete_keyed}
 use Rattle.bo_schema.specs.Writes.{Edits}
-use Rattle.bo_schema.proofs.Generic.{IsPlainTable, deletes, updates}
+use Rattle.bo_schema.specs.Plain.{IsPlainTable}
+use Rattle.bo_schema.proofs.Generic.{deletes, updates}
 use Rattle.bo_schema.proofs.Writes.{AreNumbered, inserts_keyed, updates_keyed, misses_keyed, deletes_keyed}
 use Rattle.bo_schema.proofs.Parts.{others_from, after_write, row_added, row_removed, row_put, numbered_tree}
 use Rattle.bo_columns.specs.Tables.{Tables, parts, Holds}

@@ -48,7 +48,7 @@ statements_are = record {
   at = 0;
   table = shop_table;
   rows = λ t. map shop_row t.shop;
-  is = record { placed = refl; uncounted = refl; unstamped = refl; holds = λ db t h. h.0; numbered = λ t. all_numbered shop_row (λ w. 1) (λ w. refl) t.shop };
+  is = record { plain = record { placed = refl; uncounted = refl; unstamped = refl; restricts = refl }; holds = λ db t h. h.0; numbered = λ t. all_numbered shop_row (λ w. 1) (λ w. refl) t.shop };
   adds = λ w t. refl;
   takes = λ id t. rw (rows_without shop_row (λ w. 1) (λ w. refl) id t.shop);
   behind = behind;

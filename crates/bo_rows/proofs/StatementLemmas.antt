@@ -8,7 +8,7 @@ use Rattle.sqlite.specs.Listing.{understood}
 use Rattle.sqlite.specs.State.{State, Executes}
 use Rattle.bo_schema.specs.Tables.{schema}
 use Rattle.bo_schema.specs.Parts.{Part, with_rows, without}
-use Rattle.bo_schema.proofs.Generic.{IsPlainTable, asked}
+use Rattle.bo_schema.proofs.Generic.{asked}
 use Rattle.bo_columns.specs.Tables.{Tables, parts}
 use Rattle.bo_columns.specs.Changes.{IsInside, Changes}
 use Rattle.bo_rows.specs.Statements.{AreStatementsOf}
@@ -29,19 +29,16 @@ turned_twice tree f g (p ∷ ps) =
 
 module _ {A : Type 0} (row : A → Row) (key : A → ℕ) (with_row : A → Tables → Tables) (without_row : ℕ → Tables → Tables) (insert update remove : List ℕ)
     (are : AreStatementsOf row key with_row without_row insert update remove) (old new : State) (at : IsInside old) (limit : new.step_limit ≡ old.step_limit) where
-  plain_table : IsPlainTable schema are.at are.table
-  plain_table = record { placed = are.is.placed; uncounted = are.is.uncounted; unstamped = are.is.unstamped; restricts = refl }
-
   pub adds : (w : A) (count : ℕ) → Executes insert (row w) old new (Ok count) → Changes (with_row w) old new
   adds w count h =
-      adds_row are.at are.table plain_table insert are.inserts.1 old new at limit are.terms are.width (asked (understood schema insert) _ are.inserts.0)
+      adds_row are.at are.table are.is.plain insert are.inserts.1 old new at limit are.terms are.width (asked (understood schema insert) _ are.inserts.0)
       (row w) _ (are.fills w) (pos (key w)) (are.behind w) (are.stays w) (row w) (are.shows w) (with_row w) (are.adds w) count h
 
   pub puts : (w : A) (count : ℕ) → count ≡ 1 → Executes update (row w) old new (Ok count) → Changes (λ t. with_row w (without_row (key w) t)) old new
   puts w count one h =
       let begun = are.begins w in
       let ran = subst (λ n. Executes update (row w) old new (Ok n)) one h in
-      puts_row are.at are.table plain_table update are.updates.1 old new at limit are.rows are.is.numbered (are.is.holds old.now.trees) are.project (asked (understood schema update) _ are.updates.0)
+      puts_row are.at are.table are.is.plain update are.updates.1 old new at limit are.rows are.is.numbered (are.is.holds old.now.trees) are.project (asked (understood schema update) _ are.updates.0)
       (key w) begun.0 (row w) (are.behind w) (are.behind w)
       (λ r. subst (λ p. eval_all are.project (p ∷ r ∷ []) ≡ rowid r ∷ rowid r ∷ are.behind w) begun.1 (are.sets w r)) (are.stays w) (are.shows w)
       (subst (λ p. Executes update p old new (Ok 1)) begun.1 ran)
@@ -52,9 +49,9 @@ module _ {A : Type 0} (row : A → Row) (key : A → ℕ) (with_row : A → Tabl
   misses w count none h =
       let begun = are.begins w in
       let ran = subst (λ n. Executes update (row w) old new (Ok n)) none h in
-      misses_row are.at are.table plain_table update are.updates.1 old new at limit are.rows are.is.numbered (are.is.holds old.now.trees) are.project (asked (understood schema update) _ are.updates.0)
+      misses_row are.at are.table are.is.plain update are.updates.1 old new at limit are.rows are.is.numbered (are.is.holds old.now.trees) are.project (asked (understood schema update) _ are.updates.0)
       (key w) begun.0 (subst (λ p. Executes update p old new (Ok 0)) begun.1 ran) (without_row (key w)) (are.takes (key w))
 
   pub removes : (id count : ℕ) → Executes remove (Int (pos id) ∷ []) old new (Ok count) → Changes (without_row id) old new
   removes id count h =
-      removes_row are.at are.table plain_table remove are.removes.1 old new at limit are.rows are.is.numbered (are.is.holds old.now.trees) (asked (understood schema remove) _ are.removes.0) id count h (without_row id) (are.takes id)
+      removes_row are.at are.table are.is.plain remove are.removes.1 old new at limit are.rows are.is.numbered (are.is.holds old.now.trees) (asked (understood schema remove) _ are.removes.0) id count h (without_row id) (are.takes id)

@@ -48,7 +48,7 @@ statements_are = record {
   at = 15;
   table = tokens_table;
   rows = λ t. map token_row t.tokens;
-  is = record { placed = refl; uncounted = refl; unstamped = refl; holds = λ db t h. h.1.1.1.1.1.1.1.1.1.1.1.1.1.1.1.0; numbered = λ t. all_numbered token_row (λ w. w.id) (λ w. refl) t.tokens };
+  is = record { plain = record { placed = refl; uncounted = refl; unstamped = refl; restricts = refl }; holds = λ db t h. h.1.1.1.1.1.1.1.1.1.1.1.1.1.1.1.0; numbered = λ t. all_numbered token_row (λ w. w.id) (λ w. refl) t.tokens };
   adds = λ w t. refl;
   takes = λ id t. rw (rows_without token_row (λ w. w.id) (λ w. refl) id t.tokens);
   behind = behind;

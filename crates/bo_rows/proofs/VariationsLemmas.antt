@@ -48,7 +48,7 @@ statements_are = record {
   at = 2;
   table = variations_table;
   rows = λ t. map variation_row t.variations;
-  is = record { placed = refl; uncounted = refl; unstamped = refl; holds = λ db t h. h.1.1.0; numbered = λ t. all_numbered variation_row (λ w. w.id) (λ w. refl) t.variations };
+  is = record { plain = record { placed = refl; uncounted = refl; unstamped = refl; restricts = refl }; holds = λ db t h. h.1.1.0; numbered = λ t. all_numbered variation_row (λ w. w.id) (λ w. refl) t.variations };
   adds = λ w t. refl;
   takes = λ id t. rw (rows_without variation_row (λ w. w.id) (λ w. refl) id t.variations);
   behind = behind;

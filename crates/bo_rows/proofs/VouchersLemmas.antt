@@ -18,7 +18,7 @@ use Rattle.bo_sorted.specs.Tables.{sum_at}
 use Rattle.bo_schema.specs.Tables.{schema, vouchers_table}
 use Rattle.bo_schema.specs.Parts.{shown, with_rows, without}
 use Rattle.bo_schema.specs.Shapes.{places, over, plainly, equals, delete_keyed}
-use Rattle.bo_schema.proofs.Generic.{IsPlainTable}
+use Rattle.bo_schema.specs.Plain.{IsPlainTable}
 use Rattle.bo_schema.proofs.Parts.{all_numbered, rows_without}
 use Rattle.bo_schema.proofs.Casts.{cast_null, cast_int, cast_int_or_null}
 use Rattle.bo_lists.specs.declared.rows.Voucher.{Voucher}

@@ -48,7 +48,7 @@ statements_are = record {
   at = 10;
   table = waiting_table;
   rows = λ t. map waiting_row t.waiting;
-  is = record { placed = refl; uncounted = refl; unstamped = refl; holds = λ db t h. h.1.1.1.1.1.1.1.1.1.1.0; numbered = λ t. all_numbered waiting_row (λ w. w.id) (λ w. refl) t.waiting };
+  is = record { plain = record { placed = refl; uncounted = refl; unstamped = refl; restricts = refl }; holds = λ db t h. h.1.1.1.1.1.1.1.1.1.1.0; numbered = λ t. all_numbered waiting_row (λ w. w.id) (λ w. refl) t.waiting };
   adds = λ w t. refl;
   takes = λ id t. rw (rows_without waiting_row (λ w. w.id) (λ w. refl) id t.waiting);
   behind = behind;

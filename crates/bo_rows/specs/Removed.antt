@@ -1,8 +1,18 @@
 -- What is removed by another column than the row's number, which tells rows from one another.
-use Rattle.std.specs.Prelude.{◌≡◌, ℕ, ◌==◌, not, false, List, [], ◌∷◌, filter}
+use Rattle.std.specs.Prelude.{◌≡◌, ℕ, pos, ◌==◌, not, false, List, [], ◌∷◌, filter, map, IsPermutation}
 use Rattle.std.specs.List.{list_any}
+use Rattle.sqlite_value.specs.declared.value.Value.TheVariants.{Int}
+use Rattle.sqlite_value.specs.Order.{Row, column}
+use Rattle.sqlite_trees.specs.Tree.{Trees, rowid}
+use Rattle.sqlite_sql.specs.Term.{col}
+use Rattle.sqlite_schema.specs.declared.schema.Table.{Table}
+use Rattle.sqlite_schema.specs.declared.command.Command.TheVariants.{Delete}
 use Rattle.bo_kept.specs.KeptAnswers.{lasts}
-use Rattle.bo_columns.specs.Tables.{Tables}
+use Rattle.bo_schema.specs.Tables.{schema}
+use Rattle.bo_schema.specs.Plain.{IsPlainTable}
+use Rattle.bo_schema.specs.Parts.{shown, with_rows}
+use Rattle.bo_schema.specs.Shapes.{AsksFor, over, plainly, by_owner}
+use Rattle.bo_columns.specs.Tables.{Tables, parts, Holds}
 
 -- no two rows have the same number
 abbrev pub AreApart : {A : Type 0} → (A → ℕ) → List A → Type 0
@@ -13,14 +23,19 @@ AreApart number (x ∷ xs) = (list_any (λ y. number x == number y) xs ≡ false
 abbrev pub without_past : ℕ → Tables → Tables
 without_past at t = record t { kept = filter (λ r. lasts at r.kept.at) t.kept }
 
--- the items of other quotas stay
-abbrev pub without_items_of : ℕ → Tables → Tables
-without_items_of quota t = record t { quota_items = filter (λ r. not (r.quota == quota)) t.quota_items }
+-- the rows of other owners stay
+abbrev pub of_others : {A : Type 0} → (A → ℕ) → ℕ → List A → List A
+of_others owner id rows = filter (λ r. not (owner r == id)) rows
 
--- the variations of other quotas stay
-abbrev pub without_variations_of : ℕ → Tables → Tables
-without_variations_of quota t = record t { quota_variations = filter (λ r. not (r.quota == quota)) t.quota_variations }
-
--- the items of other check-in lists stay
-abbrev pub without_limits_of : ℕ → Tables → Tables
-without_limits_of list t = record t { list_items = filter (λ r. not (r.list == list)) t.list_items }
+-- over a shop's tables the text removes those rows of a table whose owner is the parameter
+pub record IsDeleteByOwner (sql : List ℕ) {A : Type 0} (row : A → Row) (number owner : A → ℕ) (rows : Tables → List A) (put : List A → Tables → Tables) : Type 0 where
+  pub at : ℕ
+  pub table : Table
+  pub plain : IsPlainTable schema at table
+  pub asks : AsksFor (Delete at (plainly (over table.tree by_owner (col 1 0 ∷ []) []))) sql
+  -- the table holds these rows, each by its number, with the owner in the column behind it
+  pub holds : (db : Trees) (t : Tables) → Holds db t → IsPermutation (map row (rows t)) (map (shown schema table.tree) (db table.tree))
+  pub begins : (r : Row) → column (shown schema table.tree r) 1 ≡ column r 1
+  pub numbered : (w : A) → rowid (row w) ≡ Int (pos (number w))
+  pub owned : (w : A) → column (row w) 1 ≡ Int (pos (owner w))
+  pub puts : (xs : List A) (t : Tables) → parts (put xs t) ≡ with_rows table.tree (λ _. map row xs) (parts t)

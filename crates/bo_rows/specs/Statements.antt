@@ -1,5 +1,5 @@
 -- What the statements are that put and remove the rows of a table.
-use Rattle.std.specs.Prelude.{◌≡◌, ℕ, ◌/◌, true, false, Some, List, [], ◌∷◌, All, IsPermutation, length, map, pos, slice_get}
+use Rattle.std.specs.Prelude.{◌≡◌, ℕ, ◌/◌, true, List, [], ◌∷◌, All, IsPermutation, length, map, pos}
 use Rattle.sqlite_value.specs.declared.value.Value.TheVariants.{Int}
 use Rattle.sqlite_value.specs.Order.{Row}
 use Rattle.sqlite_trees.specs.Tree.{Trees, rowid}
@@ -11,15 +11,14 @@ use Rattle.sqlite_sql.specs.Term.{Term, col, eval_all}
 use Rattle.sqlite_rules.specs.Cast.{cast_row}
 use Rattle.sqlite.specs.Effect.{value_rows}
 use Rattle.bo_schema.specs.Tables.{schema}
+use Rattle.bo_schema.specs.Plain.{IsPlainTable}
 use Rattle.bo_schema.specs.Parts.{shown, with_rows, without}
 use Rattle.bo_schema.specs.Shapes.{AsksFor, over, plainly, equals, delete_keyed}
 use Rattle.bo_columns.specs.Tables.{Tables, parts, Holds}
 
--- the table stands at this place of the schema, and shows these rows, each by its number
+-- the plain table at this place of the schema shows these rows, each by its number
 pub record IsTableOf (at : ℕ) (table : Table) (rows : Tables → List Row) : Type 0 where
-  pub placed : slice_get schema.tables at ≡ Some table
-  pub uncounted : table.is_counted ≡ false
-  pub unstamped : table.stamps.terms ≡ []
+  pub plain : IsPlainTable schema at table
   pub holds : (db : Trees) (t : Tables) → Holds db t → IsPermutation (rows t) (map (shown schema table.tree) (db table.tree))
   pub numbered : (t : Tables) → All (λ r. is_int (rowid r) ≡ true) (rows t)
 

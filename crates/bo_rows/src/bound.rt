@@ -10,7 +10,7 @@ use bo_schema::{RowError, run};
 use sqlite::{Alter, Transaction};
 use sqlite_value::value::ValueRef;
 
-// Runs a statement with these columns, of the widest table 16. One that couldn't be bound refuses it.
+// Runs a statement with these columns, at most 16, as many as the widest table has. One that couldn't be bound refuses it.
 pub(crate) fn run_bound<S: Alter>(
     tx: &mut Transaction<'_, S>,
     sql: &str,

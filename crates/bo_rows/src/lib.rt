@@ -23,6 +23,6 @@ pub mod vouchers;
 pub mod waiting;
 
 pub use kept::{forget, keep};
-pub use members::{remove_items_of, remove_limits_of, remove_variations_of};
+pub use members::{RemoveByOwner, remove_members};
 pub use stored::{Statements, Stored, put};
 pub use vouchers::{put_redeemed, put_voucher, remove_voucher};

@@ -1,54 +1,65 @@
 //! Members are removed with those of their quota or check-in list.
 
-ghost use Rattle.std.specs.Prelude.{◌≡◌, OnOk};
+ghost use Rattle.std.specs.Prelude.{◌≡◌, ◌∷◌, OnOk, refl};
 ghost use Rattle.sqlite.specs.Held.{state};
 ghost use Rattle.sqlite.specs.State.{HasCleanDisk, Survives, KeepsCommit};
 ghost use Rattle.bo_columns.specs.Changes.{IsInside, ChangesFit};
-ghost use Rattle.bo_rows.specs.Removed.{AreApart, without_items_of, without_variations_of, without_limits_of};
+ghost use Rattle.bo_columns.specs.Tables.{Tables};
+ghost use Rattle.bo_rows.specs.Removed.{AreApart, IsDeleteByOwner, of_others};
 
-use bo_columns::Column;
-use bo_schema::{RowError, run};
+use crate::bound::run_bound;
+use crate::stored::Stored;
+use bo_columns::{Column, ListItem, Member, QuotaItem, QuotaVariation};
+use bo_schema::RowError;
 use sqlite::{Alter, Transaction};
 
-/// Removes the items of a quota.
-pub fn remove_items_of<S: Alter>(tx: &mut Transaction<'_, S>, quota: u64) -> Result<(), RowError>
-    ensures same { tx.new.conn.ghost_name ≡ tx.old.conn.ghost_name }
-    ensures written { HasCleanDisk (state S.Store tx.new.conn.now) → IsInside (state S.Store tx.old.conn.now) → OnOk result (ChangesFit (λ t. AreApart (λ r. r.rowid) t.quota_items) (without_items_of quota) (state S.Store tx.old.conn.now) (state S.Store tx.new.conn.now)) }
-    ensures kept { HasCleanDisk (state S.Store tx.new.conn.now) → KeepsCommit (state S.Store tx.old.conn.now) (state S.Store tx.new.conn.now) }
-    ensures crash { Survives (state S.Store tx.old.conn.now) (state S.Store tx.new.conn.now) (λ _. ⊥) }
-{
-    let key = quota.bind()?;
-    run(tx, "DELETE FROM quota_items WHERE quota_id = ?1", &[key])?;
-    Ok(())
+/// Members that are removed with all others of their owner.
+pub trait RemoveByOwner: Stored + Member {
+    /// The DELETE of an owner's members.
+    fn delete_by_owner() -> &'static str
+        ensures { IsDeleteByOwner result.now Self.as_row Self.number_of Self.owner_of Self.rows Self.with_rows };
+
+    ghost adds: { (w : Self) (t : Tables) → Self.with_row w t ≡ Self.with_rows (w ∷ Self.rows t) t };
 }
 
-/// Removes the variations of a quota.
-pub fn remove_variations_of<S: Alter>(
+impl RemoveByOwner for QuotaItem {
+    #[tactic(auto, using(crate::proofs::QuotaItemsLemmas::by_owner_is))]
+    fn delete_by_owner() -> &'static str {
+        "DELETE FROM quota_items WHERE quota_id = ?1"
+    }
+
+    ghost adds = { λ w t. refl };
+}
+
+impl RemoveByOwner for QuotaVariation {
+    #[tactic(auto, using(crate::proofs::QuotaVariationsLemmas::by_owner_is))]
+    fn delete_by_owner() -> &'static str {
+        "DELETE FROM quota_variations WHERE quota_id = ?1"
+    }
+
+    ghost adds = { λ w t. refl };
+}
+
+impl RemoveByOwner for ListItem {
+    #[tactic(auto, using(crate::proofs::ListItemsLemmas::by_owner_is))]
+    fn delete_by_owner() -> &'static str {
+        "DELETE FROM list_items WHERE list_id = ?1"
+    }
+
+    ghost adds = { λ w t. refl };
+}
+
+/// Removes the members of an owner. Refusals: 6, 60 where the file has no such table, 63.
+pub fn remove_members<S: Alter, T: RemoveByOwner>(
     tx: &mut Transaction<'_, S>,
-    quota: u64,
+    owner: u64,
 ) -> Result<(), RowError>
     ensures same { tx.new.conn.ghost_name ≡ tx.old.conn.ghost_name }
-    ensures written { HasCleanDisk (state S.Store tx.new.conn.now) → IsInside (state S.Store tx.old.conn.now) → OnOk result (ChangesFit (λ t. AreApart (λ r. r.rowid) t.quota_variations) (without_variations_of quota) (state S.Store tx.old.conn.now) (state S.Store tx.new.conn.now)) }
+    ensures written { HasCleanDisk (state S.Store tx.new.conn.now) → IsInside (state S.Store tx.old.conn.now)
+        → OnOk result (ChangesFit (λ t. AreApart T.number_of (T.rows t)) (λ t. T.with_rows (of_others T.owner_of owner (T.rows t)) t) (state S.Store tx.old.conn.now) (state S.Store tx.new.conn.now)) }
     ensures kept { HasCleanDisk (state S.Store tx.new.conn.now) → KeepsCommit (state S.Store tx.old.conn.now) (state S.Store tx.new.conn.now) }
     ensures crash { Survives (state S.Store tx.old.conn.now) (state S.Store tx.new.conn.now) (λ _. ⊥) }
 {
-    let key = quota.bind()?;
-    run(
-        tx,
-        "DELETE FROM quota_variations WHERE quota_id = ?1",
-        &[key],
-    )?;
-    Ok(())
-}
-
-/// Removes the items of a check-in list.
-pub fn remove_limits_of<S: Alter>(tx: &mut Transaction<'_, S>, list: u64) -> Result<(), RowError>
-    ensures same { tx.new.conn.ghost_name ≡ tx.old.conn.ghost_name }
-    ensures written { HasCleanDisk (state S.Store tx.new.conn.now) → IsInside (state S.Store tx.old.conn.now) → OnOk result (ChangesFit (λ t. AreApart (λ r. r.rowid) t.list_items) (without_limits_of list) (state S.Store tx.old.conn.now) (state S.Store tx.new.conn.now)) }
-    ensures kept { HasCleanDisk (state S.Store tx.new.conn.now) → KeepsCommit (state S.Store tx.old.conn.now) (state S.Store tx.new.conn.now) }
-    ensures crash { Survives (state S.Store tx.old.conn.now) (state S.Store tx.new.conn.now) (λ _. ⊥) }
-{
-    let key = list.bind()?;
-    run(tx, "DELETE FROM list_items WHERE list_id = ?1", &[key])?;
+    run_bound(tx, T::delete_by_owner(), &[owner.bind()])?;
     Ok(())
 }

@@ -2,6 +2,7 @@ pub mod Acts
 pub mod Generic
 pub mod Answered
 pub mod Keyed
+pub mod Owner
 pub mod Writes
 pub mod Casts
 pub mod Parts

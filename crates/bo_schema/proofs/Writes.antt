@@ -29,7 +29,8 @@ use Rattle.sqlite.proofs.Callers.{IsPlain, command_of, one_permutation}
 use Rattle.bo_schema.specs.Shapes.{over, plainly, equals, delete_keyed}
 use Rattle.bo_schema.specs.Writes.{Edits}
 use Rattle.bo_schema.proofs.Answered.{passes, answered}
-use Rattle.bo_schema.proofs.Generic.{IsPlainTable, deletes, inserts, updates}
+use Rattle.bo_schema.specs.Plain.{IsPlainTable}
+use Rattle.bo_schema.proofs.Generic.{deletes, inserts, updates}
 use Rattle.bo_schema.proofs.Keyed.{without, put_fresh, equals_rowid, without_each}
 
 abbrev pub AreNumbered : List Row → Type 0

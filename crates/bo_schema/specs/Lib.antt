@@ -1,5 +1,6 @@
 pub mod Shapes
 pub mod Tables
+pub mod Plain
 pub mod Writes
 pub mod Parts
 pub mod Failures

@@ -1,0 +1,132 @@
+//! Rows that say of an owner that it has a member.
+
+ghost use Rattle.std.specs.Prelude.{◌≡◌, ℕ, List, refl};
+ghost use Rattle.bo_columns.specs.Tables.{Tables};
+
+use crate::rows::{ListItem, QuotaItem, QuotaVariation};
+
+/// A row that says of an owner that it has a member: of a quota an item or a variation, of a check-in list an item.
+pub trait Member: Drop {
+    // the row by its number, the owner's id and the member's
+    ghost row_of: { ℕ → ℕ → ℕ → Self };
+
+    ghost number_of: { Self → ℕ };
+
+    ghost owner_of: { Self → ℕ };
+
+    ghost member_of: { Self → ℕ };
+
+    // the rows of the table, and the tables with others in their place
+    ghost rows: { Tables → List Self };
+
+    ghost with_rows: { List Self → Tables → Tables };
+
+    fn new(number: u64, owner: u64, member: u64) -> Self
+        ensures { result ≡ row_of number owner member };
+
+    /// The member's id.
+    fn member(&self) -> u64
+        ensures { result ≡ member_of self.now };
+
+    ghost are_there: { (xs : List Self) (t : Tables) → rows (with_rows xs t) ≡ xs };
+
+    ghost are_same: { (t : Tables) → with_rows (rows t) t ≡ t };
+
+    ghost are_last: { (xs ys : List Self) (t : Tables) → with_rows xs (with_rows ys t) ≡ with_rows xs t };
+}
+
+impl Member for QuotaItem {
+    ghost row_of = { λ number owner member. record { rowid = number; quota = owner; item = member } };
+
+    ghost number_of = { λ r. r.rowid };
+
+    ghost owner_of = { λ r. r.quota };
+
+    ghost member_of = { λ r. r.item };
+
+    ghost rows = { λ t. t.quota_items };
+
+    ghost with_rows = { λ xs t. record t { quota_items = xs } };
+
+    fn new(number: u64, owner: u64, member: u64) -> QuotaItem {
+        QuotaItem {
+            rowid: number,
+            quota: owner,
+            item: member,
+        }
+    }
+
+    fn member(&self) -> u64 {
+        self.item
+    }
+
+    ghost are_there = { λ xs t. refl };
+
+    ghost are_same = { λ t. refl };
+
+    ghost are_last = { λ xs ys t. refl };
+}
+
+impl Member for QuotaVariation {
+    ghost row_of = { λ number owner member. record { rowid = number; quota = owner; variation = member } };
+
+    ghost number_of = { λ r. r.rowid };
+
+    ghost owner_of = { λ r. r.quota };
+
+    ghost member_of = { λ r. r.variation };
+
+    ghost rows = { λ t. t.quota_variations };
+
+    ghost with_rows = { λ xs t. record t { quota_variations = xs } };
+
+    fn new(number: u64, owner: u64, member: u64) -> QuotaVariation {
+        QuotaVariation {
+            rowid: number,
+            quota: owner,
+            variation: member,
+        }
+    }
+
+    fn member(&self) -> u64 {
+        self.variation
+    }
+
+    ghost are_there = { λ xs t. refl };
+
+    ghost are_same = { λ t. refl };
+
+    ghost are_last = { λ xs ys t. refl };
+}
+
+impl Member for ListItem {
+    ghost row_of = { λ number owner member. record { rowid = number; list = owner; item = member } };
+
+    ghost number_of = { λ r. r.rowid };
+
+    ghost owner_of = { λ r. r.list };
+
+    ghost member_of = { λ r. r.item };
+
+    ghost rows = { λ t. t.list_items };
+
+    ghost with_rows = { λ xs t. record t { list_items = xs } };
+
+    fn new(number: u64, owner: u64, member: u64) -> ListItem {
+        ListItem {
+            rowid: number,
+            list: owner,
+            item: member,
+        }
+    }
+
+    fn member(&self) -> u64 {
+        self.item
+    }
+
+    ghost are_there = { λ xs t. refl };
+
+    ghost are_same = { λ t. refl };
+
+    ghost are_last = { λ xs ys t. refl };
+}
