@@ -1,5 +1,6 @@
 -- Rows with their members, and when they are whole.
-use Rattle.std.proofs.Common.{◌≡◌, ◌↔◌, ℕ, List, [], ◌∷◌, map, length, refl, sym, ap, ap₂, subst, ◌∙◌}
+use Rattle.std.proofs.Common.{◌≡◌, ◌↔◌, ℕ, List, [], ◌∷◌, map, length, Result, Ok, Err, IfErr, refl, sym, ap, ap₂, subst, ◌∙◌}
+use Rattle.std.specs.Result.{IsErrAnd}
 use Rattle.std.specs.List.{zip, flat_map}
 use Rattle.std.specs.List.Sorted.{IsPermutation}
 use Rattle.std.proofs.lemmas.List.Sorted.{IsPermutation-refl}
@@ -142,3 +143,10 @@ all_whole tables quotas lists q l =
           },
       λ h. (subst (QuotasWhole tables) (sym q) (h.quota_items, h.quota_variations), subst (ListsWhole tables) (sym l) h.list_items),
     )
+
+-- ---- why rows aren't arranged
+
+-- a refusal that is handed on as it is
+pub handed_on : {A E : Type 0} (r : Result A E) (P : E → Type 0) (e : E) → IsErrAnd r (λ f. f ≡ e) → P e → IfErr r P
+handed_on (Ok a) P e h p = tt
+handed_on (Err f) P e h p = subst P (sym h) p

@@ -84,6 +84,12 @@ arranged shop tables = record {
   redeemed = map count_in tables.sales.vouchers.items;
 }
 
+-- ids rise in each table whose rows stand there as they were read
+abbrev pub OthersRise : Lists → Type 0
+OthersRise lists =
+    AreInOrder (λ r. r.id) lists.catalogue.items × AreInOrder (λ r. r.id) lists.catalogue.variations × AreInOrder (λ r. r.id) lists.vouchers × AreInOrder (λ r. r.id) lists.carts × AreInOrder (λ r. r.id) lists.orders
+    × AreInOrder (λ r. r.id) lists.positions × AreInOrder (λ r. r.id) lists.waiting × AreInOrder (λ r. r.id) lists.checkins
+
 -- ids rise, those of the counters too
 pub record IsInOrder (file : File) : Type 0 where
   pub lists : AreOrdered file.state.lists

@@ -1,16 +1,18 @@
 //! The rows of a file, arranged as those of a box office.
 
-ghost use Rattle.std.specs.Prelude.{◌≡◌, ◌↔◌, IfOk, OnOk, IsTrue, map};
+ghost use Rattle.std.specs.Prelude.{◌≡◌, ◌↔◌, IfOk, IfErr, OnOk, IsTrue, map};
 ghost use Rattle.bo_sorted.specs.Tables.{AreInOrder};
-ghost use Rattle.bo_rules.specs.Told.{file_of};
+ghost use Rattle.bo_rules.specs.Told.{file_of, lists_of};
 ghost use Rattle.bo_stand.specs.Stands.{AreRowsOf};
-ghost use Rattle.bo_arrange.specs.Arranged.{arranged, rows_in, told_by, IsInOrder};
+ghost use Rattle.bo_arrange.specs.Arranged.{arranged, rows_in, told_by, IsInOrder, OthersRise};
+ghost use Rattle.bo_arrange.specs.declared.error.ArrangeError.TheVariants.{Order};
 
 use crate::error::ArrangeError;
 use crate::lists::doors_in;
-use crate::members::{both, rise};
+use crate::members::both;
 use crate::quotas::catalogue_in;
 use crate::vouchers::{redeemed_in, vouchers_in};
+use bo_alike::rising::rises;
 use bo_columns::ShopRow;
 use bo_lists::QuotaCount;
 use bo_opens::TableRows;
@@ -34,31 +36,24 @@ fn quotas_counted(alloc: Global, counts: &[QuotaCount]) -> Result<Vec<u64>, Allo
 
 // Whether the quotas of counts rise.
 fn counts_rise(alloc: Global, counts: &[QuotaCount]) -> Result<bool, AllocError>
-    ensures { IfOk result (λ told. IsTrue told → AreInOrder (λ c. c.quota) counts.now) }
+    ensures { IfOk result (λ told. IsTrue told ↔ AreInOrder (λ c. c.quota) counts.now) }
 {
     let ids = quotas_counted(alloc, counts)?;
-    Ok(rise(ids.as_slice()))
+    Ok(rises(ids.as_slice()))
 }
 
 // Whether ids rise in each table but those of quotas and check-in lists.
 fn all_rise(rows: &FileRows) -> bool
-    ensures items { IsTrue result → AreInOrder (λ r. r.id) rows.now.items.items }
-    ensures variations { IsTrue result → AreInOrder (λ r. r.id) rows.now.variations.items }
-    ensures vouchers { IsTrue result → AreInOrder (λ r. r.id) rows.now.vouchers.items }
-    ensures carts { IsTrue result → AreInOrder (λ r. r.id) rows.now.carts.items }
-    ensures orders { IsTrue result → AreInOrder (λ r. r.id) rows.now.orders.items }
-    ensures positions { IsTrue result → AreInOrder (λ r. r.id) rows.now.positions.items }
-    ensures waiting { IsTrue result → AreInOrder (λ r. r.id) rows.now.waiting.items }
-    ensures checkins { IsTrue result → AreInOrder (λ r. r.id) rows.now.checkins.items }
+    ensures { IsTrue result ↔ OthersRise (lists_of rows.now) }
 {
-    rise(&rows.items)
-        && rise(&rows.variations)
-        && rise(&rows.vouchers)
-        && rise(&rows.carts)
-        && rise(&rows.orders)
-        && rise(&rows.positions)
-        && rise(&rows.waiting)
-        && rise(&rows.checkins)
+    rises(&rows.items)
+        && rises(&rows.variations)
+        && rises(&rows.vouchers)
+        && rises(&rows.carts)
+        && rises(&rows.orders)
+        && rises(&rows.positions)
+        && rises(&rows.waiting)
+        && rises(&rows.checkins)
 }
 
 /// What was read of a file, arranged: the box office that its rows tell, with its counters. It is whole where the tables hold
@@ -67,6 +62,7 @@ fn all_rise(rows: &FileRows) -> bool
 pub fn arrange(alloc: Global, shop: &ShopRow, tables: TableRows) -> Result<Arranged, ArrangeError>
     ensures told { IfOk result (λ a. file_of a.rows ≡ arranged shop.now tables) }
     ensures order { OnOk result (IsInOrder (arranged shop.now tables)) }
+    ensures refused { IfErr result (λ e. e ≡ Order → ¬ IsInOrder (arranged shop.now tables)) }
     ensures whole { IfOk result (λ a. IsTrue a.whole ↔ AreRowsOf (told_by (rows_in tables)) (rows_in tables)) }
 {
     let TableRows {

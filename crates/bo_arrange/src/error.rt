@@ -1,5 +1,8 @@
 //! Why rows aren't arranged.
 
+ghost use Rattle.std.specs.Prelude.{◌≡◌};
+ghost use Rattle.bo_arrange.specs.declared.error.ArrangeError.TheVariants.{Memory};
+
 use std::alloc::AllocError;
 
 /// Why rows aren't arranged.
@@ -12,6 +15,8 @@ pub enum ArrangeError {
 }
 
 impl From<AllocError> for ArrangeError {
+    ghost from_gives = { λ _ e. e ≡ Memory };
+
     fn from(_error: AllocError) -> ArrangeError {
         ArrangeError::Memory
     }

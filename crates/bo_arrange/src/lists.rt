@@ -1,13 +1,15 @@
 //! Check-in lists with their items.
 
-ghost use Rattle.std.specs.Prelude.{◌≡◌, ◌↔◌, IfOk, OnOk, IsTrue, IsPermutation, map};
+ghost use Rattle.std.specs.Prelude.{◌≡◌, ◌↔◌, IfOk, IfErr, OnOk, IsTrue, IsPermutation, map};
 ghost use Rattle.std.specs.List.{zip};
 ghost use Rattle.bo_sorted.specs.Tables.{AreInOrder};
 ghost use Rattle.bo_stand.specs.Links.{all_links};
 ghost use Rattle.bo_arrange.specs.Arranged.{list_link, list_of};
+ghost use Rattle.bo_arrange.specs.declared.error.ArrangeError.TheVariants.{Order};
 
 use crate::error::ArrangeError;
-use crate::members::{members_in, rise};
+use crate::members::members_in;
+use bo_alike::rising::rises;
 use bo_columns::ListRow;
 use bo_lists::{Checkin, CheckinList};
 use bo_opens::DoorRows;
@@ -64,10 +66,11 @@ pub(crate) fn doors_in(alloc: Global, rows: DoorRows) -> Result<DoorParts, Arran
     ensures checkins { IfOk result (λ d. d.checkins ≡ rows.checkins) }
     ensures lists { IfOk result (λ d. d.lists.items ≡ map (list_of (map list_link rows.list_items.items)) rows.checkin_lists.items) }
     ensures order { OnOk result (AreInOrder (λ r. r.id) rows.checkin_lists.items) }
+    ensures refused { IfErr result (λ e. e ≡ Order → ¬ AreInOrder (λ r. r.id) rows.checkin_lists.items) }
     ensures whole { IfOk result (λ d. IsTrue d.whole ↔ IsPermutation (map list_link rows.list_items.items) (all_links (λ l. l.id) (λ l. l.limit_products) d.lists.items)) }
 {
     let ids = ids_of(alloc, rows.checkin_lists.as_slice())?;
-    if !rise(ids.as_slice()) {
+    if !rises(ids.as_slice()) {
         return Err(ArrangeError::Order);
     }
     let items = members_in(alloc, ids.as_slice(), rows.list_items.as_slice())?;

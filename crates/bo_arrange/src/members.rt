@@ -10,21 +10,6 @@ use crate::links::Linking;
 use bo_sorted::{Ids, Row, place_of};
 use std::alloc::{AllocError, Global};
 
-/// Whether each id is below the next one.
-pub(crate) fn rise<T: Row>(rows: &[T]) -> bool
-    ensures { IsTrue result → AreInOrder T.key rows.now }
-{
-    let mut from: u64 = 0;
-    for row in rows {
-        let id = row.id();
-        if id < from || id == u64::MAX {
-            return false;
-        }
-        from = id + 1;
-    }
-    true
-}
-
 // No members yet for each id.
 fn none_told(alloc: Global, ids: &[u64]) -> Result<Vec<Vec<u64>>, AllocError>
     ensures { IfOk result (λ all. map (λ v. v.items) all.items ≡ map (λ id. told id []) ids.now) }

@@ -1,13 +1,15 @@
 //! Quotas with their members.
 
-ghost use Rattle.std.specs.Prelude.{◌≡◌, ◌↔◌, IfOk, OnOk, IsTrue, IsPermutation, map};
+ghost use Rattle.std.specs.Prelude.{◌≡◌, ◌↔◌, IfOk, IfErr, OnOk, IsTrue, IsPermutation, map};
 ghost use Rattle.std.specs.List.{zip};
 ghost use Rattle.bo_sorted.specs.Tables.{AreInOrder};
 ghost use Rattle.bo_stand.specs.Links.{all_links};
 ghost use Rattle.bo_arrange.specs.Arranged.{item_link, variation_link, quota_of};
+ghost use Rattle.bo_arrange.specs.declared.error.ArrangeError.TheVariants.{Order};
 
 use crate::error::ArrangeError;
-use crate::members::{both, members_in, rise};
+use crate::members::{both, members_in};
+use bo_alike::rising::rises;
 use bo_catalogue::{Item, Quota, Variation};
 use bo_columns::QuotaRow;
 use bo_opens::CatalogueRows;
@@ -69,10 +71,11 @@ pub(crate) fn catalogue_in(
     ensures variations { IfOk result (λ c. c.variations ≡ rows.variations) }
     ensures quotas { IfOk result (λ c. c.quotas.items ≡ map (quota_of (map item_link rows.quota_items.items) (map variation_link rows.quota_variations.items)) rows.quotas.items) }
     ensures order { OnOk result (AreInOrder (λ r. r.id) rows.quotas.items) }
+    ensures refused { IfErr result (λ e. e ≡ Order → ¬ AreInOrder (λ r. r.id) rows.quotas.items) }
     ensures whole { IfOk result (λ c. IsTrue c.whole ↔ (IsPermutation (map item_link rows.quota_items.items) (all_links (λ q. q.id) (λ q. q.items) c.quotas.items) × IsPermutation (map variation_link rows.quota_variations.items) (all_links (λ q. q.id) (λ q. q.variations) c.quotas.items))) }
 {
     let ids = ids_of(alloc, rows.quotas.as_slice())?;
-    if !rise(ids.as_slice()) {
+    if !rises(ids.as_slice()) {
         return Err(ArrangeError::Order);
     }
     let in_items = members_in(alloc, ids.as_slice(), rows.quota_items.as_slice())?;

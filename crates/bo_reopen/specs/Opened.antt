@@ -58,13 +58,13 @@ pub record IsDamagedBy (rule : Rule) (db : Trees) : Type 0 where
   pub order : IsInOrder (arranged read.shop read.tables)
   pub least : IsLeastOf read rule
 
--- why rows that were read are no office: 62 because of that rule, and neither 60 nor 61
+-- why rows that were read are no office: 62 because of that rule, 63 because they don't rise by their numbers, and neither 60 nor 61
 abbrev pub IsWhy : FileTables → OpenError → Type 0
 IsWhy read Memory = Unit {0}
 IsWhy read NotAShop = ⊥
 IsWhy read (Version version) = ⊥
 IsWhy read (Damaged rule) = IsInOrder (arranged read.shop read.tables) × IsLeastOf read rule
-IsWhy read Store = Unit {0}
+IsWhy read Store = ¬ (RowsRise read.tables × IsInOrder (arranged read.shop read.tables))
 
 -- why rows that keep the first rules are no office: for want of memory, or because of the least rule that they break
 abbrev pub IsBroken : File → OpenError → Type 0

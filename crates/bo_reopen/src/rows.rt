@@ -12,6 +12,7 @@ ghost use Rattle.bo_rules.specs.Told.{file_of};
 ghost use Rattle.bo_checks.specs.Last.{KeepsFirst};
 ghost use Rattle.bo_opens.specs.declared.file.FileTables.{FileTables};
 ghost use Rattle.bo_opens.specs.Read.{AreTableRows};
+ghost use Rattle.bo_arrange.specs.declared.error.ArrangeError.TheVariants.{Order};
 ghost use Rattle.bo_arrange.specs.Arranged.{arranged, rows_in, told_by, IsInOrder};
 ghost use Rattle.bo_typed.specs.Typed.{AreBelowNext};
 ghost use Rattle.bo_reopen.specs.Opened.{IsLeastIn, IsWhy, RowsRise};
@@ -69,7 +70,7 @@ fn broken_in(rows: &FileRows, numbered: bool, whole: bool) -> Option<Rule>
 
 // What a refusal to arrange rows means.
 fn unarranged(error: ArrangeError) -> OpenError
-    ensures { (read : FileTables) → IsWhy read result }
+    ensures { (read : FileTables) → (error ≡ Order → ¬ IsInOrder (arranged read.shop read.tables)) → IsWhy read result }
 {
     match error {
         ArrangeError::Memory => OpenError::Memory,

@@ -1,11 +1,11 @@
-use Rattle.std.proofs.Common.{map, refl, subst}
+use Rattle.std.proofs.Common.{map, refl, sym, subst}
 use Rattle.bo_sorted.specs.Tables.{AreInOrder}
 use Rattle.bo_columns.specs.declared.rows.ListRow.{ListRow}
 use Rattle.bo_columns.specs.declared.rows.QuotaRow.{QuotaRow}
 use Rattle.bo_columns.specs.declared.rows.VoucherRow.{VoucherRow}
 use Rattle.bo_stand.proofs.Told.{order_of_parts}
 use Rattle.bo_arrange.specs.Arranged.{count_in, item_link, variation_link, list_link, quota_of, list_of}
-use Rattle.bo_arrange.proofs.Joined.{all_whole, both_whole}
+use Rattle.bo_arrange.proofs.Joined.{all_whole, both_whole, handed_on}
 use Rattle.bo_arrange.proofs.Offices.{members_rise, items_rise, order_in_parts}
 use Rattle.bo_arrange.proofs.arranging.arrange.Goals as goal
 
@@ -13,29 +13,29 @@ pub returns-clause-order : goal.returns-clause-order
 returns-clause-order c =
     let t = c.args.tables in
     let rise = (c.both.ensures.0 c.if-not-both.false).0 in
-    let all = c.all_rise.ensures in
+    let all = c.all_rise.ensures.0 rise in
     let i = map item_link t.catalogue.quota_items.items in
     let v = map variation_link t.catalogue.quota_variations.items in
     let l = map list_link t.doors.list_items.items in
-    let vouchers : AreInOrder (λ w. w.id) (map (λ (r : VoucherRow). r.voucher) t.sales.vouchers.items) = subst (AreInOrder (λ w. w.id)) c.in_ok-vouchers_in.ensures (all.vouchers rise) in
+    let vouchers : AreInOrder (λ w. w.id) (map (λ (r : VoucherRow). r.voucher) t.sales.vouchers.items) = subst (AreInOrder (λ w. w.id)) c.in_ok-vouchers_in.ensures (all.2) in
     record {
       lists = record {
         ids = record {
-          items = subst (λ rows. AreInOrder (λ r. r.id) rows.items) c.in_ok-catalogue.ensures.items (all.items rise);
-          variations = subst (λ rows. AreInOrder (λ r. r.id) rows.items) c.in_ok-catalogue.ensures.variations (all.variations rise);
+          items = subst (λ rows. AreInOrder (λ r. r.id) rows.items) c.in_ok-catalogue.ensures.items (all.0);
+          variations = subst (λ rows. AreInOrder (λ r. r.id) rows.items) c.in_ok-catalogue.ensures.variations (all.1);
           quotas = order_of_parts (λ (h : QuotaRow). h.id) (quota_of i v) (λ q. q.id) (λ h. refl) 0 t.catalogue.quotas.items c.in_ok-catalogue.ensures.order;
           vouchers = vouchers;
-          carts = all.carts rise;
-          orders = all.orders rise;
-          positions = all.positions rise;
-          waiting = all.waiting rise;
+          carts = all.3;
+          orders = all.4;
+          positions = all.5;
+          waiting = all.6;
           checkin_lists = order_of_parts (λ (h : ListRow). h.id) (list_of l) (λ q. q.id) (λ h. refl) 0 t.doors.checkin_lists.items c.in_ok-doors.ensures.order;
-          checkins = subst (λ rows. AreInOrder (λ r. r.id) rows.items) c.in_ok-doors.ensures.checkins (all.checkins rise);
+          checkins = subst (λ rows. AreInOrder (λ r. r.id) rows.items) c.in_ok-doors.ensures.checkins (all.7);
         };
         members = members_rise i v t.catalogue.quotas.items;
         limits = items_rise l t.doors.checkin_lists.items;
       };
-      used = subst (AreInOrder (λ w. w.quota)) c.as_slice-2.ensures.value (c.in_ok-counted.ensures (c.both.ensures.0 c.if-not-both.false).1);
+      used = subst (AreInOrder (λ w. w.quota)) c.as_slice-2.ensures.value (c.in_ok-counted.ensures.0 (c.both.ensures.0 c.if-not-both.false).1);
       redeemed = order_of_parts (λ (r : VoucherRow). r.voucher.id) count_in (λ w. w.voucher) (λ r. refl) 0 t.sales.vouchers.items (order_in_parts (λ (r : VoucherRow). r.voucher.id) (λ r. r.voucher) (λ w. w.id) (λ r. refl) 0 t.sales.vouchers.items vouchers);
     }
 
@@ -44,3 +44,35 @@ returns-clause-whole c =
     let all = all_whole c.args.tables c.in_ok-catalogue.catalogue.quotas.items c.in_ok-doors.doors.lists.items c.in_ok-catalogue.ensures.quotas c.in_ok-doors.ensures.lists in
     let two = both_whole _ _ _ _ _ c.both-whole.ensures c.in_ok-catalogue.ensures.whole c.in_ok-doors.ensures.whole in
     (λ w. all.0 (two.0 w), λ h. two.1 (all.1 h))
+
+pub returns-then-not-both-clause-refused : goal.returns-then-not-both-clause-refused
+returns-then-not-both-clause-refused c is order =
+    let ids = order.lists.ids in
+    let all = c.all_rise.ensures.1 (
+      subst (λ rows. AreInOrder (λ r. r.id) rows.items) (sym c.in_ok-catalogue.ensures.items) ids.items,
+      subst (λ rows. AreInOrder (λ r. r.id) rows.items) (sym c.in_ok-catalogue.ensures.variations) ids.variations,
+      subst (AreInOrder (λ w. w.id)) (sym c.in_ok-vouchers_in.ensures) ids.vouchers,
+      ids.carts,
+      ids.orders,
+      ids.positions,
+      ids.waiting,
+      subst (λ rows. AreInOrder (λ r. r.id) rows.items) (sym c.in_ok-doors.ensures.checkins) ids.checkins,
+    ) in
+    let counted = c.in_ok-counted.ensures.1 (subst (AreInOrder (λ w. w.quota)) (sym c.as_slice-2.ensures.value) order.used) in
+    let both = c.both.ensures.1 (all, counted) in
+    absurd (let no = c.if-not-both.true in cc)
+
+pub returns-in_err-catalogue-clause-refused : goal.returns-in_err-catalogue-clause-refused
+returns-in_err-catalogue-clause-refused c =
+    let t = c.args.tables in
+    let i = map item_link t.catalogue.quota_items.items in
+    let v = map variation_link t.catalogue.quota_variations.items in
+    handed_on c.from_residual.result _ c.in_err-catalogue.field-0.0 c.from_residual.ensures.1
+    (λ is order. c.in_err-catalogue.ensures.refused is (order_in_parts (λ (h : QuotaRow). h.id) (quota_of i v) (λ q. q.id) (λ h. refl) 0 t.catalogue.quotas.items order.lists.ids.quotas))
+
+pub returns-in_err-doors-clause-refused : goal.returns-in_err-doors-clause-refused
+returns-in_err-doors-clause-refused c =
+    let t = c.args.tables in
+    let l = map list_link t.doors.list_items.items in
+    handed_on c.from_residual-in_err-doors.result _ c.in_err-doors.field-0.0 c.from_residual-in_err-doors.ensures.1
+    (λ is order. c.in_err-doors.ensures.refused is (order_in_parts (λ (h : ListRow). h.id) (list_of l) (λ q. q.id) (λ h. refl) 0 t.doors.checkin_lists.items order.lists.ids.checkin_lists))

@@ -24,4 +24,4 @@ pub returns-in-None-clause-whole : goal.returns-in-None-clause-whole
 returns-in-None-clause-whole c = c.in-Ok.ensures.whole.0 c.in-None.ensures.whole.1
 
 pub returns-in-Err-clause-refused : goal.returns-in-Err-clause-refused
-returns-in-Err-clause-refused c = c.unarranged.ensures (record { shop = c.args.shop.now; tables = c.args.tables })
+returns-in-Err-clause-refused c = c.unarranged.ensures (record { shop = c.args.shop.now; tables = c.args.tables }) c.in-Err.ensures.refused
