@@ -1,1 +1,2 @@
 pub mod UnreadLemmas
+pub mod OwnedLemmas

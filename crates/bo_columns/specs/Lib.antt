@@ -4,3 +4,4 @@ pub mod Rows
 pub mod Tables
 pub mod Changes
 pub mod Fit
+pub mod Owned

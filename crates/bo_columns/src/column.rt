@@ -6,6 +6,7 @@ ghost use Rattle.sqlite_value.specs.declared.value.Value.TheVariants.{Null};
 ghost use Rattle.sqlite_value.specs.Value.{owned};
 ghost use Rattle.sqlite_value.specs.Order.{column};
 ghost use Rattle.sqlite.specs.Values.{or_null, bound_value};
+ghost use Rattle.bo_schema.specs.declared.error.RowError.TheVariants.{Store};
 ghost use Rattle.bo_columns.specs.Cells as cell;
 ghost use Rattle.bo_columns.specs.Unread.{IsUnread};
 
@@ -25,7 +26,8 @@ pub trait Column {
 
     /// As a parameter of a statement. It is refused with 63 where the file has no such number.
     fn bind(&self) -> Result<ValueRef<'_>, RowError>
-        ensures { IfOk result (λ v. bound_value (owned v) ≡ cell self.now) };
+        ensures value { IfOk result (λ v. bound_value (owned v) ≡ cell self.now) }
+        ensures refused { IfErr result (λ e. e ≡ Store) };
 
     /// From the column at this place of a row, from 0. Refusals: 62 where it holds no such value within its limits, 6.
     fn read(alloc: Global, row: &Row, at: usize) -> Result<Self, RowError>

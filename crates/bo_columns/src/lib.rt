@@ -10,7 +10,7 @@ pub mod rows;
 pub mod words;
 
 pub use column::Column;
-pub use members::Member;
+pub use members::{Member, Numbered};
 pub use rows::{
     KeptRow, ListItem, ListRow, QuotaItem, QuotaRow, QuotaVariation, ShopRow, Token, VoucherRow,
 };

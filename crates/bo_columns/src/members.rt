@@ -1,16 +1,23 @@
-//! Rows that say of an owner that it has a member.
+//! Rows that have a number and no id, most of which say of an owner that it has a member.
 
 ghost use Rattle.std.specs.Prelude.{◌≡◌, ℕ, List, refl};
 ghost use Rattle.bo_columns.specs.Tables.{Tables};
 
-use crate::rows::{ListItem, QuotaItem, QuotaVariation};
+use crate::rows::{KeptRow, ListItem, QuotaItem, QuotaVariation};
+
+/// A row that has a number.
+pub trait Numbered: Drop {
+    ghost number_of: { Self → ℕ };
+
+    /// The row's number.
+    fn number(&self) -> u64
+        ensures { result ≡ number_of self.now };
+}
 
 /// A row that says of an owner that it has a member: of a quota an item or a variation, of a check-in list an item.
-pub trait Member: Drop {
+pub trait Member: Numbered {
     // the row by its number, the owner's id and the member's
     ghost row_of: { ℕ → ℕ → ℕ → Self };
-
-    ghost number_of: { Self → ℕ };
 
     ghost owner_of: { Self → ℕ };
 
@@ -21,6 +28,7 @@ pub trait Member: Drop {
 
     ghost with_rows: { List Self → Tables → Tables };
 
+    /// The row of this number, which says that the owner has the member.
     fn new(number: u64, owner: u64, member: u64) -> Self
         ensures { result ≡ row_of number owner member };
 
@@ -28,17 +36,26 @@ pub trait Member: Drop {
     fn member(&self) -> u64
         ensures { result ≡ member_of self.now };
 
+    // what is put in the place of the rows stands there
     ghost are_there: { (xs : List Self) (t : Tables) → rows (with_rows xs t) ≡ xs };
 
+    // the rows that stand there, put once more, change nothing
     ghost are_same: { (t : Tables) → with_rows (rows t) t ≡ t };
 
+    // of what is put twice the last counts
     ghost are_last: { (xs ys : List Self) (t : Tables) → with_rows xs (with_rows ys t) ≡ with_rows xs t };
+}
+
+impl Numbered for QuotaItem {
+    ghost number_of = { λ r. r.rowid };
+
+    fn number(&self) -> u64 {
+        self.rowid
+    }
 }
 
 impl Member for QuotaItem {
     ghost row_of = { λ number owner member. record { rowid = number; quota = owner; item = member } };
-
-    ghost number_of = { λ r. r.rowid };
 
     ghost owner_of = { λ r. r.quota };
 
@@ -67,10 +84,16 @@ impl Member for QuotaItem {
     ghost are_last = { λ xs ys t. refl };
 }
 
+impl Numbered for QuotaVariation {
+    ghost number_of = { λ r. r.rowid };
+
+    fn number(&self) -> u64 {
+        self.rowid
+    }
+}
+
 impl Member for QuotaVariation {
     ghost row_of = { λ number owner member. record { rowid = number; quota = owner; variation = member } };
-
-    ghost number_of = { λ r. r.rowid };
 
     ghost owner_of = { λ r. r.quota };
 
@@ -99,10 +122,16 @@ impl Member for QuotaVariation {
     ghost are_last = { λ xs ys t. refl };
 }
 
+impl Numbered for ListItem {
+    ghost number_of = { λ r. r.rowid };
+
+    fn number(&self) -> u64 {
+        self.rowid
+    }
+}
+
 impl Member for ListItem {
     ghost row_of = { λ number owner member. record { rowid = number; list = owner; item = member } };
-
-    ghost number_of = { λ r. r.rowid };
 
     ghost owner_of = { λ r. r.list };
 
@@ -129,4 +158,12 @@ impl Member for ListItem {
     ghost are_same = { λ t. refl };
 
     ghost are_last = { λ xs ys t. refl };
+}
+
+impl Numbered for KeptRow {
+    ghost number_of = { λ r. r.rowid };
+
+    fn number(&self) -> u64 {
+        self.rowid
+    }
 }

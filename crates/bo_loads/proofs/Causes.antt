@@ -1,5 +1,5 @@
 -- Why rows aren't read: what is known of a query that failed, and of rows that are damaged.
-use Rattle.std.proofs.Common.{◌≡◌, ◌⊎◌, inl, inr, ℕ, zero, suc, List, [], ◌∷◌, map, Option, Some, None, Result, Ok, Err, IfErr, IfOk, OnOk, IfSome, sym, subst, ap, ◌∙◌, arith}
+use Rattle.std.proofs.Common.{◌≡◌, ◌⊎◌, inl, inr, ℕ, zero, suc, Bool, true, false, cond, List, [], ◌∷◌, map, filter, Option, Some, None, Result, Ok, Err, IfErr, IfOk, OnOk, IfSome, sym, subst, ap, ◌∙◌, arith}
 use Rattle.std.specs.List.{All, Contains}
 use Rattle.std.specs.List.Sorted.{IsPermutation}
 use Rattle.std.proofs.lemmas.List.Sorted.{Contains-permutation, IsPermutation-sym}
@@ -7,6 +7,7 @@ use Rattle.std.proofs.lemmas.List.Elements.{All-head, All-tail}
 use Rattle.sqlite_value.specs.Order.{Row}
 use Rattle.sqlite_trees.specs.declared.error.StoreError.{StoreError}
 use Rattle.sqlite_trees.specs.declared.error.StoreError.TheVariants.{OutOfMemory, Io, Corrupt, Full, Broken, Unstorable}
+use Rattle.sqlite_sql.specs.Term.{Term}
 use Rattle.sqlite_schema.specs.declared.schema.Schema.{Schema}
 use Rattle.sqlite_schema.specs.declared.command.Command.{Command}
 use Rattle.sqlite_schema.specs.declared.command.Command.TheVariants as does
@@ -27,8 +28,9 @@ use Rattle.bo_schema.specs.Tables.{schema}
 use Rattle.bo_schema.specs.Parts.{shown}
 use Rattle.bo_columns.specs.Unread.{IsUnread}
 use Rattle.bo_loads.specs.Damage.{IsDamaged, IsFor, HasMeaning, HasNoMeaning, IsForReading}
-use Rattle.bo_loads.specs.Select.{IsSelectOf}
-use Rattle.bo_loads.proofs.Loads.{stands, loads}
+use Rattle.bo_loads.specs.Select.{IsSelect}
+use Rattle.bo_schema.proofs.Answered.{passes}
+use Rattle.bo_loads.proofs.Loads.{stands, selects}
 
 -- ---- one cause for another
 
@@ -110,19 +112,38 @@ failed old new sql params e D reads (inr h) = told (HasNoMeaning old.now.schema 
 
 -- ---- a table of a shop
 
--- its SELECT has a meaning
-pub lacks_none : (sql : List ℕ) (tree : ℕ) → IsSelectOf sql tree → (s : Schema) → s ≡ schema → HasNoMeaning s sql → ⊥
-lacks_none sql tree is s known none = let meant = stands sql tree is in none meant.0 (ap (λ k. understood k sql) known ∙ meant.1)
+-- its SELECTs have a meaning
+pub lacks_none : (sql : List ℕ) (tree : ℕ) (test : List Term) → IsSelect sql tree test → (s : Schema) → s ≡ schema → HasNoMeaning s sql → ⊥
+lacks_none sql tree test is s known none = let meant = stands sql tree test is in none meant.0 (ap (λ k. understood k sql) known ∙ meant.1)
 
--- rows that are shown are those that stand, so one of these is damaged
-pub refuses : {T : Type 0} (as_row : T → Row) (fits : T → Type 0) (sql : List ℕ) (tree : ℕ) → IsSelectOf sql tree → (old new : State) → old.now.schema ≡ schema → (e : RowError)
-    → IsFor (HasNoMeaning old.now.schema sql) ((rows : List Row) × Shown sql [] old new rows × IsDamaged as_row fits rows) e
+-- what passes a test stood there before
+behind : (x r : Row) (xs : List Row) → Contains xs r → Contains (x ∷ xs) r
+behind x r xs (k, within, is) = (suc k, omega (arith, within), is)
+
+with_first : (x r : Row) (xs ys : List Row) → (Contains xs r → Contains ys r) → Contains (x ∷ xs) r → Contains (x ∷ ys) r
+with_first x r xs ys more (zero, within, is) = (zero, omega arith, is)
+with_first x r xs ys more (suc k, within, is) = behind x r ys (more (k, omega (arith, within), is))
+
+still_there : (show : Row → Row) (test : Row → Bool) (tree : List Row) (r : Row) → Contains (map show (filter test tree)) r → Contains (map show tree) r
+still_there show test [] r h = h
+still_there show test (x ∷ xs) r h =
+    let left = filter test xs in
+    let rest : Contains (map show left) r → Contains (map show xs) r = still_there show test xs r in
+    elim (test x) as (λ b. Contains (map show (cond b (x ∷ left) left)) r → Contains (show x ∷ map show xs) r) [
+      | true ↦ with_first (show x) r (map show left) (map show xs) rest
+      | false ↦ λ there. behind (show x) r (map show xs) (rest there)
+    ] h
+
+-- rows that are shown are some of those that stand, so one of these is damaged
+pub refuses : {T : Type 0} (as_row : T → Row) (fits : T → Type 0) (sql : List ℕ) (tree : ℕ) (test : List Term) → IsSelect sql tree test → (params : Row) (old new : State) → old.now.schema ≡ schema → (e : RowError)
+    → IsFor (HasNoMeaning old.now.schema sql) ((rows : List Row) × Shown sql params old new rows × IsDamaged as_row fits rows) e
     → IsFor ⊥ (IsDamaged as_row fits (map (shown schema tree) (old.now.trees tree))) e
-refuses as_row fits sql tree is old new known e h =
-    for (HasNoMeaning old.now.schema sql) ⊥ _ _ (lacks_none sql tree is old.now.schema known)
-    (λ (found : (rows : List Row) × Shown sql [] old new rows × IsDamaged as_row fits rows).
-    let alike = loads sql tree is old new known found.0 found.1 in
-    (found.2.0, Contains-permutation found.0 (map (shown schema tree) (old.now.trees tree)) found.2.0 alike found.2.1, found.2.2)) e h
+refuses as_row fits sql tree test is params old new known e h =
+    for (HasNoMeaning old.now.schema sql) ⊥ _ _ (lacks_none sql tree test is old.now.schema known)
+    (λ (found : (rows : List Row) × Shown sql params old new rows × IsDamaged as_row fits rows).
+    let alike = IsPermutation-sym _ _ (selects sql tree test is params old new known found.0 found.1) in
+    let there = Contains-permutation found.0 (map (shown schema tree) (filter (passes test params) (old.now.trees tree))) found.2.0 alike found.2.1 in
+    (found.2.0, still_there (shown schema tree) (passes test params) (old.now.trees tree) found.2.0 there, found.2.2)) e h
 
 -- ---- rows of values within their limits
 

@@ -4,7 +4,7 @@ use Rattle.std.specs.List.Sorted.{IsPermutation}
 use Rattle.std.proofs.lemmas.List.Sorted.{IsPermutation-sym}
 use Rattle.sqlite_value.specs.declared.value.Value.{Value}
 use Rattle.sqlite_value.specs.Order.{Row, column}
-use Rattle.sqlite_sql.specs.Term.{eval_all}
+use Rattle.sqlite_sql.specs.Term.{Term, eval_all}
 use Rattle.sqlite_schema.specs.declared.command.Command.{Command}
 use Rattle.sqlite_schema.specs.declared.command.Command.TheVariants.{Select}
 use Rattle.sqlite_schema.specs.declared.command.Returning.{Returning}
@@ -23,7 +23,7 @@ use Rattle.bo_schema.proofs.Generic.{asked}
 use Rattle.bo_columns.specs.Tables.{Holds}
 use Rattle.bo_columns.specs.Changes.{IsInside, Changes}
 use Rattle.bo_loads.specs.Damage.{HasMeaning, IsForReading}
-use Rattle.bo_loads.specs.Select.{IsSelectOf}
+use Rattle.bo_loads.specs.Select.{IsSelect}
 
 -- ---- a row that is read column by column
 
@@ -48,28 +48,39 @@ has_meaning : (r : Result Compiled CompileError) (k : Command) → command_in r 
 has_meaning (Ok c) k h = (c, refl)
 has_meaning (Err e) k h = absurd (cc)
 
-pub stands : (sql : List ℕ) (tree : ℕ) → IsSelectOf sql tree → HasMeaning schema sql
-stands sql tree is = has_meaning (understood schema sql) (Select (plainly (over tree [] is.project is.order)) is.names) is.asks.0
+pub stands : (sql : List ℕ) (tree : ℕ) (test : List Term) → IsSelect sql tree test → HasMeaning schema sql
+stands sql tree test is = has_meaning (understood schema sql) (Select (plainly (over tree test is.project is.order)) is.names) is.asks.0
 
 keep_all : (rows : List Row) → filter (passes [] []) rows ≡ rows
 keep_all [] = refl
 keep_all (r ∷ rows) = ap (λ l. r ∷ l) (keep_all rows)
 
-pub map_same : (f g : Row → Row) → ((r : Row) → f r ≡ g r) → (rows : List Row) → map f rows ≡ map g rows
+map_same : (f g : Row → Row) → ((r : Row) → f r ≡ g r) → (rows : List Row) → map f rows ≡ map g rows
 map_same f g same [] = refl
 map_same f g same (r ∷ rows) = rw (same r, map_same f g same rows)
 
--- what it reads of a database is what the table shows
-pub shows_all : (sql : List ℕ) (tree : ℕ) (is : IsSelectOf sql tree) (db : Database) (rows : List Row) → Reads (Select (plainly (over tree [] is.project is.order)) is.names) db [] rows → IsPermutation rows (map (shown schema tree) (db.trees tree))
+-- what it reads of a database is what the table shows of the rows that pass
+shows_those : (sql : List ℕ) (tree : ℕ) (test : List Term) (is : IsSelect sql tree test) (db : Database) (params : Row) (rows : List Row)
+    → Reads (Select (plainly (over tree test is.project is.order)) is.names) db params rows → IsPermutation (map (shown schema tree) (filter (passes test params) (db.trees tree))) rows
+shows_those sql tree test is db params rows read =
+    let left = filter (passes test params) (db.trees tree) in
+    subst (λ l. IsPermutation l rows) (map_same (λ (r : Row). eval_all is.project (params ∷ r ∷ [])) (shown schema tree) (is.shows params) left) (answered db tree test is.project is.order params rows read)
+
+-- where there is no test, it is all that the table shows
+pub shows_all : (sql : List ℕ) (tree : ℕ) (is : IsSelect sql tree []) (db : Database) (rows : List Row) → Reads (Select (plainly (over tree [] is.project is.order)) is.names) db [] rows → IsPermutation rows (map (shown schema tree) (db.trees tree))
 shows_all sql tree is db rows read =
-    IsPermutation-sym _ _ (subst (λ l. IsPermutation l rows)
-    (ap (map (λ (r : Row). eval_all is.project ([] ∷ r ∷ []))) (keep_all (db.trees tree)) ∙ map_same (λ (r : Row). eval_all is.project ([] ∷ r ∷ [])) (shown schema tree) is.shows (db.trees tree)) (answered db tree [] is.project is.order [] rows read))
+    IsPermutation-sym _ _ (subst (λ l. IsPermutation (map (shown schema tree) l) rows) (keep_all (db.trees tree)) (shows_those sql tree [] is db [] rows read))
 
-pub command_is : (sql : List ℕ) (tree : ℕ) (is : IsSelectOf sql tree) → command_of (understood schema sql) ≡ Select (plainly (over tree [] is.project is.order)) is.names
-command_is sql tree is = asked (understood schema sql) _ is.asks.0
+pub command_is : (sql : List ℕ) (tree : ℕ) (test : List Term) (is : IsSelect sql tree test) → command_of (understood schema sql) ≡ Select (plainly (over tree test is.project is.order)) is.names
+command_is sql tree test is = asked (understood schema sql) _ is.asks.0
 
-pub loads : (sql : List ℕ) (tree : ℕ) → IsSelectOf sql tree → (old new : State) → old.now.schema ≡ schema → (rows : List Row) → Shown sql [] old new rows → IsPermutation rows (map (shown schema tree) (old.now.trees tree))
-loads sql tree is old new known rows h = shows_all sql tree is old.now rows (reads_as sql [] old new schema known _ (command_is sql tree is) is.asks.1 is.unlisted rows h)
+pub selects : (sql : List ℕ) (tree : ℕ) (test : List Term) → IsSelect sql tree test → (params : Row) (old new : State) → old.now.schema ≡ schema → (rows : List Row) → Shown sql params old new rows
+    → IsPermutation (map (shown schema tree) (filter (passes test params) (old.now.trees tree))) rows
+selects sql tree test is params old new known rows h = shows_those sql tree test is old.now params rows (reads_as sql params old new schema known _ (command_is sql tree test is) is.asks.1 is.unlisted rows h)
+
+pub loads : (sql : List ℕ) (tree : ℕ) → IsSelect sql tree [] → (old new : State) → old.now.schema ≡ schema → (rows : List Row) → Shown sql [] old new rows → IsPermutation rows (map (shown schema tree) (old.now.trees tree))
+loads sql tree is old new known rows h =
+    IsPermutation-sym _ _ (subst (λ l. IsPermutation (map (shown schema tree) l) rows) (keep_all (old.now.trees tree)) (selects sql tree [] is [] old new known rows h))
 
 -- a SELECT changes nothing
 pub unchanged : (sql : List ℕ) (params : Row) (old new : State) → IsPlain (understood schema sql) → old.now.schema ≡ schema → (rows : List Row) → Shown sql params old new rows → new.now ≡ old.now
@@ -78,9 +89,6 @@ unchanged sql params old new plain known rows h =
     let none = (subst IsPlain (ap (λ s. understood s sql) (sym known) ∙ h.1.is) plain).0 in
     let it = subst (ShowsRows old new sql h.0 _ rows) none h.2 in
     it.3.0.now_is
-
-pub still : (sql : List ℕ) (tree : ℕ) → IsSelectOf sql tree → (old new : State) → old.now.schema ≡ schema → (rows : List Row) → Shown sql [] old new rows → new.now ≡ old.now
-still sql tree is old new known rows h = unchanged sql [] old new is.asks.1 known rows h
 
 -- inside a transaction over the schema it leaves all as it is
 pub still_inside : (sql : List ℕ) (params : Row) (old new : State) → IsPlain (understood schema sql) → IsInside old → (rows : List Row) → Shown sql params old new rows → Changes (λ t. t) old new

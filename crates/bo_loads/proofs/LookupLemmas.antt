@@ -9,20 +9,19 @@ use Rattle.sqlite_value.specs.Order.{Row, column}
 use Rattle.sqlite_value.proofs.OrderLemmas.{value_cmp-Int, value_cmp-Blob}
 use Rattle.sqlite_trees.proofs.ListLemmas.{pull_back, IsPermutation-filter}
 use Rattle.sqlite_sql.specs.Ops.{is_true, binary}
-use Rattle.sqlite_sql.specs.Term.{Term, col, eval_all}
+use Rattle.sqlite_sql.specs.Term.{Term, col}
 use Rattle.sqlite_sql.specs.declared.ops.BinaryOp.TheVariants.{Compare}
 use Rattle.sqlite_sql.specs.declared.ops.CompareOp.TheVariants.{Eq}
 use Rattle.sqlite_schema.specs.declared.command.Command.TheVariants.{Select}
+use Rattle.sqlite_resolve.specs.Compile.{first}
 use Rattle.sqlite_tied.specs.Compute.{everything}
 use Rattle.sqlite.specs.Collation.TheVariants.{Binary}
 use Rattle.sqlite.specs.Listing.{understood, reads_listing}
 use Rattle.sqlite.specs.State.{State, Shown}
-use Rattle.sqlite.proofs.Callers.{IsPlain, command_of, reads_as}
 use Rattle.bo_schema.specs.Tables.{schema}
 use Rattle.bo_schema.specs.Parts.{shown}
-use Rattle.bo_schema.specs.Shapes.{over, plainly, equals, by_owner}
-use Rattle.bo_schema.proofs.Answered.{passes, answered}
-use Rattle.bo_schema.proofs.Generic.{asked}
+use Rattle.bo_schema.specs.Shapes.{AsksFor, over, plainly, equals, by_owner}
+use Rattle.bo_schema.proofs.Answered.{passes}
 use Rattle.bo_schema.proofs.Keyed.{equals_rowid, truth_back}
 use Rattle.bo_schema.proofs.Owner.{passes_owner, same_number, stays_true}
 use Rattle.bo_columns.specs.declared.rows.KeptRow.{KeptRow}
@@ -31,9 +30,10 @@ use Rattle.bo_columns.specs.Cells.{number}
 use Rattle.bo_columns.specs.Rows.{kept_row, token_row}
 use Rattle.bo_columns.specs.Tables.{Tables, Holds}
 use Rattle.bo_loads.specs.Lookups.{is_under, has_digest}
-use Rattle.bo_loads.specs.Select.{IsSelectByOwner}
+use Rattle.bo_loads.specs.Select.{IsSelect, IsSelectByOwner}
 use Rattle.bo_loads.proofs.Back.{alike, kept_in, kept_back, token_in, token_back}
-use Rattle.bo_loads.proofs.Loads.{map_same}
+use Rattle.bo_loads.proofs.Loads.{selects}
+use Rattle.bo_loads.proofs.Queries.{is_query, query_reads}
 
 same_bytes : (a b : List ℕ) → is_true (binary (Compare Eq Binary) (Blob a) (Blob b)) ≡ bytes_eq a b
 unfolding binary
@@ -70,19 +70,23 @@ module _ {A : Type 0} (row : A → Row) (back : Row → A) (law : (a : A) → ba
 abbrev pub kept_text : List ℕ
 kept_text = codes "SELECT rowid, token_id, request_key, first_moment, status, allow, body FROM kept WHERE token_id = ?1 AND request_key = ?2"
 
-abbrev key_test : List Term
+abbrev pub key_test : List Term
 key_test = equals (col 1 1) (col 0 0) ∷ equals (col 1 2) (col 0 1) ∷ []
 
 abbrev kept_columns : List Term
 kept_columns = col 1 0 ∷ col 1 1 ∷ col 1 2 ∷ col 1 3 ∷ col 1 4 ∷ col 1 5 ∷ col 1 6 ∷ []
 
-kept_is : (command_of (understood schema kept_text) ≡ Select (plainly (over 24 key_test kept_columns []))
-    (codes "rowid" ∷ codes "token_id" ∷ codes "request_key" ∷ codes "first_moment" ∷ codes "status" ∷ codes "allow" ∷ codes "body" ∷ [])) × IsPlain (understood schema kept_text) × (reads_listing schema kept_text ≡ false)
+kept_reads : AsksFor (Select (plainly (over 24 key_test kept_columns []))
+    (codes "rowid" ∷ codes "token_id" ∷ codes "request_key" ∷ codes "first_moment" ∷ codes "status" ∷ codes "allow" ∷ codes "body" ∷ [])) kept_text × (reads_listing schema kept_text ≡ false)
 unfolding understood everything
-kept_is = (refl, (refl, refl), refl)
+kept_reads = ((refl, (refl, refl)), refl)
 
-pub kept_plain : IsPlain (understood schema kept_text)
-kept_plain = kept_is.1
+kept_asks : is_query (first kept_text) ≡ true
+unfolding everything
+kept_asks = refl
+
+pub kept_is : IsSelect kept_text 24 key_test
+kept_is = record { project = kept_columns; order = []; names = _; asks = kept_reads.0; unlisted = kept_reads.1; shows = λ params r. refl; reads = query_reads kept_text kept_asks }
 
 passes_key : (token : ℕ) (key : List ℕ) (r : Row) (w : KeptRow) → shown schema 24 r ≡ kept_row w → passes key_test (number token ∷ Blob key ∷ []) r ≡ is_under token key w
 passes_key token key r w e =
@@ -97,24 +101,27 @@ pub finds_kept : (token : ℕ) (key : List ℕ) (old new : State) → old.now.sc
     → (t : Tables) → Holds old.now.trees t → IsPermutation all (filter (is_under token key) t.kept)
 finds_kept token key old new known all h t held =
     let params = number token ∷ Blob key ∷ [] in
-    let read = reads_as kept_text params old new schema known _ kept_is.0 kept_is.1 kept_is.2 (map kept_row all) h in
-    let came = answered old.now 24 key_test kept_columns [] params (map kept_row all) read in
-    looked_up kept_row kept_in kept_back (shown schema 24) (passes key_test params) (is_under token key) (passes_key token key) (old.now.trees 24) t.kept all held.1.1.1.1.1.1.1.1.1.1.1.1.1.1.1.1.0 came
+    looked_up kept_row kept_in kept_back (shown schema 24) (passes key_test params) (is_under token key) (passes_key token key) (old.now.trees 24) t.kept all held.1.1.1.1.1.1.1.1.1.1.1.1.1.1.1.1.0
+    (selects kept_text 24 key_test kept_is params old new known (map kept_row all) h)
 
 -- ---- tokens by digest
 
 abbrev pub token_text : List ℕ
 token_text = codes "SELECT id, digest FROM tokens WHERE digest = ?1"
 
-abbrev digest_test : List Term
+abbrev pub digest_test : List Term
 digest_test = equals (col 1 2) (col 0 0) ∷ []
 
-token_is : (command_of (understood schema token_text) ≡ Select (plainly (over 22 digest_test (col 1 0 ∷ col 1 2 ∷ []) [])) (codes "id" ∷ codes "digest" ∷ [])) × IsPlain (understood schema token_text) × (reads_listing schema token_text ≡ false)
+token_reads : AsksFor (Select (plainly (over 22 digest_test (col 1 0 ∷ col 1 2 ∷ []) [])) (codes "id" ∷ codes "digest" ∷ [])) token_text × (reads_listing schema token_text ≡ false)
 unfolding understood everything
-token_is = (refl, (refl, refl), refl)
+token_reads = ((refl, (refl, refl)), refl)
 
-pub token_plain : IsPlain (understood schema token_text)
-token_plain = token_is.1
+token_asks : is_query (first token_text) ≡ true
+unfolding everything
+token_asks = refl
+
+pub token_is : IsSelect token_text 22 digest_test
+token_is = record { project = col 1 0 ∷ col 1 2 ∷ []; order = []; names = _; asks = token_reads.0; unlisted = token_reads.1; shows = λ params r. refl; reads = query_reads token_text token_asks }
 
 passes_digest : (digest : List ℕ) (r : Row) (w : Token) → shown schema 22 r ≡ token_row w → passes digest_test (Blob digest ∷ []) r ≡ has_digest digest w
 passes_digest digest r w e =
@@ -125,9 +132,8 @@ pub finds_token : (digest : List ℕ) (old new : State) → old.now.schema ≡ s
     → (t : Tables) → Holds old.now.trees t → IsPermutation all (filter (has_digest digest) t.tokens)
 finds_token digest old new known all h t held =
     let params = Blob digest ∷ [] in
-    let read = reads_as token_text params old new schema known _ token_is.0 token_is.1 token_is.2 (map token_row all) h in
-    let came = answered old.now 22 digest_test (col 1 0 ∷ col 1 2 ∷ []) [] params (map token_row all) read in
-    looked_up token_row token_in token_back (shown schema 22) (passes digest_test params) (has_digest digest) (passes_digest digest) (old.now.trees 22) t.tokens all held.1.1.1.1.1.1.1.1.1.1.1.1.1.1.1.0 came
+    looked_up token_row token_in token_back (shown schema 22) (passes digest_test params) (has_digest digest) (passes_digest digest) (old.now.trees 22) t.tokens all held.1.1.1.1.1.1.1.1.1.1.1.1.1.1.1.0
+    (selects token_text 22 digest_test token_is params old new known (map token_row all) h)
 
 -- ---- members by their owner
 
@@ -135,9 +141,5 @@ module _ (sql : List ℕ) (tree : ℕ) {A : Type 0} (row : A → Row) (owner : A
   pub finds_owned : (id : ℕ) (old new : State) → old.now.schema ≡ schema → (all : List A) → Shown sql (number id ∷ []) old new (map row all) → (t : Tables) → Holds old.now.trees t → IsPermutation all (filter (λ w. owner w == id) (rows t))
   finds_owned id old new known all h t held =
       let params = number id ∷ [] in
-      let read = reads_as sql params old new schema known _ (asked (understood schema sql) _ is.asks.0) is.asks.1 is.unlisted (map row all) h in
-      let came = answered old.now tree by_owner is.project [] params (map row all) read in
-      let left = filter (passes by_owner params) (old.now.trees tree) in
-      let told : IsPermutation (map (shown schema tree) left) (map row all) = subst (λ l. IsPermutation l (map row all)) (map_same (λ (r : Row). eval_all is.project (params ∷ r ∷ [])) (shown schema tree) (is.shows params) left) came in
-      looked_up row is.back is.told (shown schema tree) (passes by_owner params) (λ w. owner w == id) (λ r w e. passes_owner id (owner w) r (sym (is.begins r) ∙ ap (λ (x : Row). column x 1) e ∙ is.owned w))
-      (old.now.trees tree) (rows t) all (is.holds old.now.trees t held) told
+      looked_up row is.back is.told (shown schema tree) (passes by_owner params) (λ w. owner w == id) (λ r w e. passes_owner id (owner w) r (sym (is.owned.begins r) ∙ ap (λ (x : Row). column x 1) e ∙ is.owned.owned w))
+      (old.now.trees tree) (rows t) all (is.owned.holds old.now.trees t held) (selects sql tree by_owner is.select params old new known (map row all) h)

@@ -10,7 +10,8 @@ use Rattle.sqlite_sql.specs.Term.{Term, col}
 use Rattle.bo_loads.specs.Texts.{quota_items_text}
 use Rattle.bo_columns.specs.declared.rows.QuotaItem.{QuotaItem}
 use Rattle.bo_columns.specs.Rows.{quota_item_row}
-use Rattle.bo_loads.specs.Select.{IsSelectOf, IsSelectByOwner}
+use Rattle.bo_columns.proofs.OwnedLemmas.{quota_items_are}
+use Rattle.bo_loads.specs.Select.{IsSelect, IsSelectByOwner}
 use Rattle.bo_loads.proofs.Back.{quota_item_in, quota_item_back}
 use Rattle.bo_loads.proofs.Queries.{is_query, query_reads}
 
@@ -28,8 +29,8 @@ asks : is_query (first select_text) ≡ true
 unfolding everything
 asks = refl
 
-pub select_is : IsSelectOf select_text 4
-select_is = record { project = project; order = id_order; names = codes "rowid" ∷ codes "quota_id" ∷ codes "item_id" ∷ []; asks = select_reads.0; unlisted = select_reads.1; shows = λ r. refl; reads = query_reads select_text asks }
+pub select_is : IsSelect select_text 4 []
+select_is = record { project = project; order = id_order; names = codes "rowid" ∷ codes "quota_id" ∷ codes "item_id" ∷ []; asks = select_reads.0; unlisted = select_reads.1; shows = λ params r. refl; reads = query_reads select_text asks }
 
 -- ---- by the quota
 
@@ -49,15 +50,8 @@ asks_owned = refl
 
 pub by_owner_is : IsSelectByOwner owned_text 4 quota_item_row (λ (w : QuotaItem). w.quota) (λ t. t.quota_items)
 by_owner_is = record {
-  project = project;
-  names = names;
-  asks = owned_reads.0;
-  unlisted = owned_reads.1;
-  shows = λ params r. refl;
-  reads = query_reads owned_text asks_owned;
-  holds = λ db t h. h.1.1.1.1.0;
-  begins = λ r. refl;
-  owned = λ w. refl;
+  select = record { project = project; order = []; names = names; asks = owned_reads.0; unlisted = owned_reads.1; shows = λ params r. refl; reads = query_reads owned_text asks_owned };
+  owned = quota_items_are;
   back = quota_item_in;
   told = quota_item_back;
 }

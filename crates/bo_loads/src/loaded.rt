@@ -1,6 +1,6 @@
 //! A row that a table of the file shows.
 
-ghost use Rattle.std.specs.Prelude.{◌≡◌, ◌≢◌, ℕ, map, true, List, All, IfOk, IfErr, OnOk, IsPermutation};
+ghost use Rattle.std.specs.Prelude.{◌≡◌, ◌≢◌, ℕ, map, true, List, [], All, IfOk, IfErr, OnOk, IsPermutation};
 ghost use Rattle.sqlite_value.specs.Order.{Row as Shown};
 ghost use Rattle.sqlite.specs.Held.{state};
 ghost use Rattle.sqlite.specs.Values.{bound};
@@ -10,7 +10,7 @@ ghost use Rattle.bo_schema.specs.Tables.{schema};
 ghost use Rattle.bo_schema.specs.Parts.{shown};
 ghost use Rattle.bo_columns.specs.Unread.{IsUnread};
 ghost use Rattle.bo_loads.specs.Damage.{IsDamaged, IsFor, IsForReading, HasMeaning, HasNoMeaning};
-ghost use Rattle.bo_loads.specs.Select.{IsSelectOf};
+ghost use Rattle.bo_loads.specs.Select.{IsSelect};
 
 use bo_schema::RowError;
 use sqlite::{Alter, Row, Transaction};
@@ -34,7 +34,7 @@ pub trait Loaded: Drop {
     /// The SELECT of all columns of the table.
     fn statement() -> &'static str
         ensures text { result.now ≡ text }
-        ensures select { IsSelectOf text tree };
+        ensures select { IsSelect text tree [] };
 
     /// From a row that is shown. Refusals: 62 where it is the row of no such value within its limits, 6.
     fn read(alloc: Global, row: &Row) -> Result<Self, RowError>

@@ -1,11 +1,15 @@
 //! Rows are looked up by other columns than their number.
 
-ghost use Rattle.std.specs.Prelude.{◌≡◌, ◌==◌, true, filter, IfOk, OnOk, IsPermutation};
+ghost use Rattle.std.specs.Prelude.{◌≡◌, ◌==◌, true, filter, map, IfOk, IfErr, OnOk, IsPermutation};
 ghost use Rattle.sqlite.specs.Held.{state};
 ghost use Rattle.sqlite.specs.State.{HasCleanDisk, Survives, KeepsCommit};
 ghost use Rattle.bo_schema.specs.Tables.{schema};
+ghost use Rattle.bo_schema.specs.Parts.{shown};
 ghost use Rattle.bo_columns.specs.Changes.{IsInside, Changes};
+ghost use Rattle.bo_columns.specs.Fit.{IsFitKept, IsFitToken};
+ghost use Rattle.bo_columns.specs.Rows.{kept_row, token_row};
 ghost use Rattle.bo_columns.specs.Tables.{Tables, Holds};
+ghost use Rattle.bo_loads.specs.Damage.{IsDamaged, IsFor};
 ghost use Rattle.bo_loads.specs.Lookups.{is_under, has_digest};
 ghost use Rattle.bo_loads.specs.Select.{IsSelectByOwner};
 
@@ -25,6 +29,7 @@ pub fn find_kept<S: Alter>(
 ) -> Result<Vec<KeptRow>, RowError>
     ensures same { tx.new.conn.ghost_name ≡ tx.old.conn.ghost_name }
     ensures found { HasCleanDisk (state S.Store tx.new.conn.now) → (state S.Store tx.old.conn.now).now.schema ≡ schema → IfOk result (λ all. (t : Tables) → Holds (state S.Store tx.old.conn.now).now.trees t → IsPermutation all.items (filter (is_under token key.now) t.kept)) }
+    ensures refused { HasCleanDisk (state S.Store tx.new.conn.now) → (state S.Store tx.old.conn.now).now.schema ≡ schema → IfErr result (IsFor ⊥ (IsDamaged kept_row IsFitKept (map (shown schema 24) ((state S.Store tx.old.conn.now).now.trees 24)))) }
     ensures still { HasCleanDisk (state S.Store tx.new.conn.now) → (state S.Store tx.old.conn.now).now.schema ≡ schema → OnOk result ((state S.Store tx.new.conn.now).now ≡ (state S.Store tx.old.conn.now).now) }
     ensures kept { HasCleanDisk (state S.Store tx.new.conn.now) → (state S.Store tx.old.conn.now).in_transaction ≡ true → KeepsCommit (state S.Store tx.old.conn.now) (state S.Store tx.new.conn.now) }
     ensures crash { Survives (state S.Store tx.old.conn.now) (state S.Store tx.new.conn.now) (λ _. ⊥) }
@@ -46,6 +51,7 @@ pub fn find_token<S: Alter>(
 ) -> Result<Vec<Token>, RowError>
     ensures same { tx.new.conn.ghost_name ≡ tx.old.conn.ghost_name }
     ensures found { HasCleanDisk (state S.Store tx.new.conn.now) → (state S.Store tx.old.conn.now).now.schema ≡ schema → IfOk result (λ all. (t : Tables) → Holds (state S.Store tx.old.conn.now).now.trees t → IsPermutation all.items (filter (has_digest digest.now) t.tokens)) }
+    ensures refused { HasCleanDisk (state S.Store tx.new.conn.now) → (state S.Store tx.old.conn.now).now.schema ≡ schema → IfErr result (IsFor ⊥ (IsDamaged token_row IsFitToken (map (shown schema 22) ((state S.Store tx.old.conn.now).now.trees 22)))) }
     ensures still { HasCleanDisk (state S.Store tx.new.conn.now) → (state S.Store tx.old.conn.now).now.schema ≡ schema → OnOk result ((state S.Store tx.new.conn.now).now ≡ (state S.Store tx.old.conn.now).now) }
     ensures kept { HasCleanDisk (state S.Store tx.new.conn.now) → (state S.Store tx.old.conn.now).in_transaction ≡ true → KeepsCommit (state S.Store tx.old.conn.now) (state S.Store tx.new.conn.now) }
     ensures crash { Survives (state S.Store tx.old.conn.now) (state S.Store tx.new.conn.now) (λ _. ⊥) }
@@ -87,6 +93,7 @@ pub fn members_of<S: Alter, T: FindByOwner>(
 ) -> Result<Vec<T>, RowError>
     ensures same { tx.new.conn.ghost_name ≡ tx.old.conn.ghost_name }
     ensures found { HasCleanDisk (state S.Store tx.new.conn.now) → (state S.Store tx.old.conn.now).now.schema ≡ schema → IfOk result (λ all. (t : Tables) → Holds (state S.Store tx.old.conn.now).now.trees t → IsPermutation all.items (filter (λ r. T.owner_of r == owner) (T.rows t))) }
+    ensures refused { HasCleanDisk (state S.Store tx.new.conn.now) → (state S.Store tx.old.conn.now).now.schema ≡ schema → IfErr result (IsFor ⊥ (IsDamaged T.as_row T.fits (map (shown schema T.tree) ((state S.Store tx.old.conn.now).now.trees T.tree)))) }
     ensures still { HasCleanDisk (state S.Store tx.new.conn.now) → IsInside (state S.Store tx.old.conn.now) → OnOk result (Changes (λ t. t) (state S.Store tx.old.conn.now) (state S.Store tx.new.conn.now)) }
     ensures kept { HasCleanDisk (state S.Store tx.new.conn.now) → KeepsCommit (state S.Store tx.old.conn.now) (state S.Store tx.new.conn.now) }
     ensures crash { Survives (state S.Store tx.old.conn.now) (state S.Store tx.new.conn.now) (λ _. ⊥) }

@@ -15,7 +15,7 @@ use Rattle.bo_schema.specs.declared.error.RowError.TheVariants.{Memory, Foreign,
 use Rattle.bo_columns.specs.declared.rows.ShopRow.{ShopRow}
 use Rattle.bo_columns.specs.Rows.{shop_row}
 use Rattle.bo_loads.specs.Damage.{IsFor, IsForReading}
-use Rattle.bo_loads.specs.Select.{IsSelectOf}
+use Rattle.bo_loads.specs.Select.{IsSelect}
 use Rattle.bo_loads.proofs.Loads.{command_is, shows_all}
 use Rattle.bo_opens.specs.Causes.{ShowsBy, HasNoOtherVersion, IsOneShop}
 
@@ -40,13 +40,13 @@ shown_by sql old new rows reads h =
     (h.0, h.1.is, it.0, it.1, h.1.now, it.2)
 
 -- of our tables these are the rows of the tree
-pub shows_rows : (sql : List ℕ) (tree : ℕ) → IsSelectOf sql tree → (db : Database) → db.schema ≡ schema → (rows : List Row) → ShowsBy sql db rows → IsPermutation rows (map (shown schema tree) (db.trees tree))
+pub shows_rows : (sql : List ℕ) (tree : ℕ) → IsSelect sql tree [] → (db : Database) → db.schema ≡ schema → (rows : List Row) → ShowsBy sql db rows → IsPermutation rows (map (shown schema tree) (db.trees tree))
 shows_rows sql tree is db has rows h =
     let known = sym h.1 ∙ ap (λ s. understood s sql) has in
     let bare = subst IsPlain (sym known) is.asks.1 in
     let source : h.2 ≡ db = subst (λ b. IsSourceOf b db h.2) (ap (λ s. reads_listing s sql) has ∙ is.unlisted) h.3 in
     let plainly_read : Reads h.0.command h.2 [] rows = rw bare.1 at h.5 in
-    let read = subst₂ (λ k d. Reads k d [] rows) (ap command_of known ∙ command_is sql tree is) source plainly_read in
+    let read = subst₂ (λ k d. Reads k d [] rows) (ap command_of known ∙ command_is sql tree [] is) source plainly_read in
     shows_all sql tree is db rows read
 
 -- ---- one table and then others

@@ -81,28 +81,28 @@ undamaged_tables t db held fit (inr (inr (inr bad))) = whole_others t db held fi
 -- ---- our tables lack none
 
 has_catalogue : (s : Schema) → s ≡ schema → LacksCatalogue s → ⊥
-has_catalogue s known (inl none) = lacks_none of_items.select_text _ of_items.select_is s known none
-has_catalogue s known (inr (inl none)) = lacks_none of_variations.select_text _ of_variations.select_is s known none
-has_catalogue s known (inr (inr (inl none))) = lacks_none of_quotas.select_text _ of_quotas.select_is s known none
-has_catalogue s known (inr (inr (inr (inl none)))) = lacks_none of_quota_items.select_text _ of_quota_items.select_is s known none
-has_catalogue s known (inr (inr (inr (inr none)))) = lacks_none of_quota_variations.select_text _ of_quota_variations.select_is s known none
+has_catalogue s known (inl none) = lacks_none of_items.select_text _ [] of_items.select_is s known none
+has_catalogue s known (inr (inl none)) = lacks_none of_variations.select_text _ [] of_variations.select_is s known none
+has_catalogue s known (inr (inr (inl none))) = lacks_none of_quotas.select_text _ [] of_quotas.select_is s known none
+has_catalogue s known (inr (inr (inr (inl none)))) = lacks_none of_quota_items.select_text _ [] of_quota_items.select_is s known none
+has_catalogue s known (inr (inr (inr (inr none)))) = lacks_none of_quota_variations.select_text _ [] of_quota_variations.select_is s known none
 
 has_sales : (s : Schema) → s ≡ schema → LacksSales s → ⊥
-has_sales s known (inl none) = lacks_none of_vouchers.select_text _ of_vouchers.select_is s known none
-has_sales s known (inr (inl none)) = lacks_none of_carts.select_text _ of_carts.select_is s known none
-has_sales s known (inr (inr (inl none))) = lacks_none of_orders.select_text _ of_orders.select_is s known none
-has_sales s known (inr (inr (inr (inl none)))) = lacks_none of_positions.select_text _ of_positions.select_is s known none
-has_sales s known (inr (inr (inr (inr none)))) = lacks_none of_waiting.select_text _ of_waiting.select_is s known none
+has_sales s known (inl none) = lacks_none of_vouchers.select_text _ [] of_vouchers.select_is s known none
+has_sales s known (inr (inl none)) = lacks_none of_carts.select_text _ [] of_carts.select_is s known none
+has_sales s known (inr (inr (inl none))) = lacks_none of_orders.select_text _ [] of_orders.select_is s known none
+has_sales s known (inr (inr (inr (inl none)))) = lacks_none of_positions.select_text _ [] of_positions.select_is s known none
+has_sales s known (inr (inr (inr (inr none)))) = lacks_none of_waiting.select_text _ [] of_waiting.select_is s known none
 
 has_doors : (s : Schema) → s ≡ schema → LacksDoors s → ⊥
-has_doors s known (inl none) = lacks_none of_checkin_lists.select_text _ of_checkin_lists.select_is s known none
-has_doors s known (inr (inl none)) = lacks_none of_list_items.select_text _ of_list_items.select_is s known none
-has_doors s known (inr (inr none)) = lacks_none of_checkins.select_text _ of_checkins.select_is s known none
+has_doors s known (inl none) = lacks_none of_checkin_lists.select_text _ [] of_checkin_lists.select_is s known none
+has_doors s known (inr (inl none)) = lacks_none of_list_items.select_text _ [] of_list_items.select_is s known none
+has_doors s known (inr (inr none)) = lacks_none of_checkins.select_text _ [] of_checkins.select_is s known none
 
 has_others : (s : Schema) → s ≡ schema → LacksOthers s → ⊥
-has_others s known (inl none) = lacks_none of_counts.select_text _ of_counts.select_is s known none
-has_others s known (inr (inl none)) = lacks_none of_tokens.select_text _ of_tokens.select_is s known none
-has_others s known (inr (inr none)) = lacks_none of_kept.select_text _ of_kept.select_is s known none
+has_others s known (inl none) = lacks_none of_counts.select_text _ [] of_counts.select_is s known none
+has_others s known (inr (inl none)) = lacks_none of_tokens.select_text _ [] of_tokens.select_is s known none
+has_others s known (inr (inr none)) = lacks_none of_kept.select_text _ [] of_kept.select_is s known none
 
 pub has_tables : (s : Schema) → s ≡ schema → LacksTable s → ⊥
 has_tables s known (inl none) = has_catalogue s known none
@@ -139,7 +139,7 @@ module _ (db : Database) (known : db.schema ≡ schema) where
   -- such a file is refused for want of memory, or because the store fails
   clear : (of : (rows : List Row) → ShowsBy of_shop.select_text db rows → IsOneShop rows) → (HasDamage db.trees → ⊥) → (e : OpenError) → IsCause db e → IsOfMachine e
   clear of whole Memory h = tt
-  clear of whole NotAShop (inl none) = lacks_none of_shop.select_text _ of_shop.select_is db.schema known none
+  clear of whole NotAShop (inl none) = lacks_none of_shop.select_text _ [] of_shop.select_is db.schema known none
   clear of whole NotAShop (inr h) = has_tables db.schema known h.2.1
   clear of whole (Version version) h = one_is_ours h.0 (of h.0 h.1) version h.2
   clear of whole (Damaged rule.Shop) h = h.2.1 (of h.0 h.1)

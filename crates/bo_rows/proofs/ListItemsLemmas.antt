@@ -15,6 +15,7 @@ use Rattle.bo_columns.specs.declared.rows.ListItem.{ListItem}
 use Rattle.bo_columns.specs.Cells.{number}
 use Rattle.bo_columns.specs.Rows.{list_item_row}
 use Rattle.bo_columns.specs.Changes.{with_list_item, without_list_item}
+use Rattle.bo_columns.proofs.OwnedLemmas.{list_items_are}
 use Rattle.bo_rows.specs.Statements.{AreStatementsOf}
 use Rattle.bo_rows.specs.Removed.{IsDeleteByOwner}
 
@@ -86,9 +87,7 @@ by_owner_is = record {
   table = list_items_table;
   plain = is_plain;
   asks = removes_owned;
-  holds = λ db t h. h.1.1.1.1.1.1.1.1.1.1.1.1.0;
-  begins = λ r. refl;
+  owned = list_items_are;
   numbered = λ w. refl;
-  owned = λ w. refl;
   puts = λ xs t. refl;
 }

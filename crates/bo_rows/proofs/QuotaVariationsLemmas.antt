@@ -15,6 +15,7 @@ use Rattle.bo_columns.specs.declared.rows.QuotaVariation.{QuotaVariation}
 use Rattle.bo_columns.specs.Cells.{number}
 use Rattle.bo_columns.specs.Rows.{quota_variation_row}
 use Rattle.bo_columns.specs.Changes.{with_quota_variation, without_quota_variation}
+use Rattle.bo_columns.proofs.OwnedLemmas.{quota_variations_are}
 use Rattle.bo_rows.specs.Statements.{AreStatementsOf}
 use Rattle.bo_rows.specs.Removed.{IsDeleteByOwner}
 
@@ -86,9 +87,7 @@ by_owner_is = record {
   table = quota_variations_table;
   plain = is_plain;
   asks = removes_owned;
-  holds = λ db t h. h.1.1.1.1.1.0;
-  begins = λ r. refl;
+  owned = quota_variations_are;
   numbered = λ w. refl;
-  owned = λ w. refl;
   puts = λ xs t. refl;
 }

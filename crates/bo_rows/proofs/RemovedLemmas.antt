@@ -37,8 +37,8 @@ use Rattle.bo_rows.proofs.Removed.{removes_where, twice}
 module _ (sql : List ℕ) {A : Type 0} (row : A → Row) (number_of owner : A → ℕ) (rows : Tables → List A) (put : List A → Tables → Tables) (is : IsDeleteByOwner sql row number_of owner rows put) where
   pub removes_owned : (id count : ℕ) (old new : State) → IsInside old → new.step_limit ≡ old.step_limit → Executes sql (number id ∷ []) old new (Ok count) → ChangesFit (λ t. AreApart number_of (rows t)) (λ t. put (of_others owner id (rows t)) t) old new
   removes_owned id count old new at limit h =
-      removes_where is.at is.table is.plain sql is.asks.1 old new at limit row number_of is.numbered rows (is.holds old.now.trees) (λ t. refl) by_owner (number id ∷ []) (λ w. owner w == id)
-      (λ r w e. passes_owner id (owner w) r (sym (is.begins r) ∙ ap (λ (x : Row). column x 1) e ∙ is.owned w)) (asked (understood schema sql) _ is.asks.0) count h (λ t. put (of_others owner id (rows t)) t) (λ t. is.puts (of_others owner id (rows t)) t)
+      removes_where is.at is.table is.plain sql is.asks.1 old new at limit row number_of is.numbered rows (is.owned.holds old.now.trees) (λ t. refl) by_owner (number id ∷ []) (λ w. owner w == id)
+      (λ r w e. passes_owner id (owner w) r (sym (is.owned.begins r) ∙ ap (λ (x : Row). column x 1) e ∙ is.owned.owned w)) (asked (understood schema sql) _ is.asks.0) count h (λ t. put (of_others owner id (rows t)) t) (λ t. is.puts (of_others owner id (rows t)) t)
 
 -- ---- what is past
 

@@ -1,18 +1,19 @@
 -- What is removed by another column than the row's number, which tells rows from one another.
-use Rattle.std.specs.Prelude.{◌≡◌, ℕ, pos, ◌==◌, not, false, List, [], ◌∷◌, filter, map, IsPermutation}
+use Rattle.std.specs.Prelude.{◌≡◌, ℕ, pos, ◌==◌, not, false, List, [], ◌∷◌, filter, map}
 use Rattle.std.specs.List.{list_any}
 use Rattle.sqlite_value.specs.declared.value.Value.TheVariants.{Int}
-use Rattle.sqlite_value.specs.Order.{Row, column}
-use Rattle.sqlite_trees.specs.Tree.{Trees, rowid}
+use Rattle.sqlite_value.specs.Order.{Row}
+use Rattle.sqlite_trees.specs.Tree.{rowid}
 use Rattle.sqlite_sql.specs.Term.{col}
 use Rattle.sqlite_schema.specs.declared.schema.Table.{Table}
 use Rattle.sqlite_schema.specs.declared.command.Command.TheVariants.{Delete}
 use Rattle.bo_kept.specs.KeptAnswers.{lasts}
 use Rattle.bo_schema.specs.Tables.{schema}
 use Rattle.bo_schema.specs.Plain.{IsPlainTable}
-use Rattle.bo_schema.specs.Parts.{shown, with_rows}
+use Rattle.bo_schema.specs.Parts.{with_rows}
 use Rattle.bo_schema.specs.Shapes.{AsksFor, over, plainly, by_owner}
-use Rattle.bo_columns.specs.Tables.{Tables, parts, Holds}
+use Rattle.bo_columns.specs.Owned.{AreOwned}
+use Rattle.bo_columns.specs.Tables.{Tables, parts}
 
 -- no two rows have the same number
 abbrev pub AreApart : {A : Type 0} → (A → ℕ) → List A → Type 0
@@ -34,8 +35,6 @@ pub record IsDeleteByOwner (sql : List ℕ) {A : Type 0} (row : A → Row) (numb
   pub plain : IsPlainTable schema at table
   pub asks : AsksFor (Delete at (plainly (over table.tree by_owner (col 1 0 ∷ []) []))) sql
   -- the table holds these rows, each by its number, with the owner in the column behind it
-  pub holds : (db : Trees) (t : Tables) → Holds db t → IsPermutation (map row (rows t)) (map (shown schema table.tree) (db table.tree))
-  pub begins : (r : Row) → column (shown schema table.tree r) 1 ≡ column r 1
+  pub owned : AreOwned table.tree row owner rows
   pub numbered : (w : A) → rowid (row w) ≡ Int (pos (number w))
-  pub owned : (w : A) → column (row w) 1 ≡ Int (pos (owner w))
   pub puts : (xs : List A) (t : Tables) → parts (put xs t) ≡ with_rows table.tree (λ _. map row xs) (parts t)

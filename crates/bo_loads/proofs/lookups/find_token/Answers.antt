@@ -6,8 +6,10 @@ use Rattle.sqlite.specs.Held.{state}
 use Rattle.sqlite.specs.State.{Shown}
 use Rattle.bo_columns.specs.declared.rows.Token.{Token}
 use Rattle.bo_columns.specs.Rows.{token_row}
+use Rattle.bo_columns.specs.Fit.{IsFitToken}
+use Rattle.bo_loads.proofs.Causes.{if_err, refuses}
 use Rattle.bo_loads.proofs.Loads.{if_ok, unchanged}
-use Rattle.bo_loads.proofs.LookupLemmas.{token_text, token_plain, finds_token}
+use Rattle.bo_loads.proofs.LookupLemmas.{token_text, digest_test, token_is, finds_token}
 use Rattle.bo_loads.proofs.lookups.find_token.Goals as goal
 
 pub returns-clause-found : goal.returns-clause-found
@@ -22,4 +24,10 @@ returns-clause-still g c clean known =
     let old = state g.S.Store c.args.tx.now.conn.now in
     let new = state g.S.Store c.rows_of.new.tx.conn.now in
     let shown : IfOk c.rows_of.result (λ all. Shown token_text (Blob c.args.digest.now ∷ []) old new (map token_row all.items)) = (c.rows_of.ensures.shown clean) in
-    if_ok c.rows_of.result _ _ shown (λ (all : Vec Token Global) h. unchanged token_text (Blob c.args.digest.now ∷ []) old new token_plain known (map token_row all.items) h)
+    if_ok c.rows_of.result _ _ shown (λ (all : Vec Token Global) h. unchanged token_text (Blob c.args.digest.now ∷ []) old new token_is.asks.1 known (map token_row all.items) h)
+
+pub returns-clause-refused : goal.returns-clause-refused
+returns-clause-refused g c clean known =
+    let old = state g.S.Store c.args.tx.now.conn.now in
+    let new = state g.S.Store c.rows_of.new.tx.conn.now in
+    if_err c.rows_of.result _ _ (c.rows_of.ensures.refused clean (token_is.reads old.now.schema)) (λ e. refuses token_row IsFitToken token_text 22 digest_test token_is (Blob c.args.digest.now ∷ []) old new known e)

@@ -4,7 +4,7 @@ use Rattle.sqlite.specs.State.{Shown}
 use Rattle.bo_loads.specs.Damage.{IsFor}
 use Rattle.bo_loads.specs.Texts.{shop_text}
 use Rattle.bo_loads.proofs.Causes.{failed}
-use Rattle.bo_loads.proofs.Loads.{still, shown_keeps, failed_keeps}
+use Rattle.bo_loads.proofs.Loads.{unchanged, shown_keeps, failed_keeps}
 use Rattle.bo_opens.proofs.CauseLemmas.{shown_by}
 use Rattle.bo_opens.proofs.head.load_shown.Goals as goal
 
@@ -26,7 +26,7 @@ returns-in-Ok-clause-still g c clean known =
     let old = state g.S.Store c.args.tx.now.conn.now in
     let new = state g.S.Store c.query_all.new.self.conn.now in
     let shown : Shown shop_text [] old new c.in-Ok.rows.items = rw c.statement.ensures.text at (c.in-Ok.ensures.ok clean) in
-    still shop_text 0 c.statement.ensures.select old new known c.in-Ok.rows.items shown
+    unchanged shop_text [] old new c.statement.ensures.select.asks.1 known c.in-Ok.rows.items shown
 
 pub returns-in-Ok-clause-kept : goal.returns-in-Ok-clause-kept
 returns-in-Ok-clause-kept g c clean inside =

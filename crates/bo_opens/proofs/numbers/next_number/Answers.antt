@@ -13,15 +13,15 @@ dropped (suc n) (x ∷ xs) le = dropped n xs (omega arith)
 pub returns-clause-next : goal.returns-clause-next
 returns-clause-next g c =
     let none = dropped c.loop-row.row-index c.args.rows.now (omega arith) in
-    rise_below c.loop-row.from (map g.T.Numbered.number c.args.rows.now)
-    (c.loop-row.invariant.0 c.loop-row.from (subst (λ l. RiseTo c.loop-row.from c.loop-row.from (map g.T.Numbered.number l)) (sym none) (omega arith)))
+    rise_below c.loop-row.from (map g.T.Numbered.number_of c.args.rows.now)
+    (c.loop-row.invariant.0 c.loop-row.from (subst (λ l. RiseTo c.loop-row.from c.loop-row.from (map g.T.Numbered.number_of l)) (sym none) (omega arith)))
 
 pub returns-then-number-from-clause-none : goal.returns-then-number-from-clause-none
 returns-then-number-from-clause-none g c (m, low, rise) =
     let rows = c.args.rows.now in
     let i = c.loop-row.row-index in
     let x = c.row-item.result in
-    let number = g.T.Numbered.number in
+    let number = g.T.Numbered.number_of in
     let is : drop i rows ≡ x ∷ drop (suc i) rows = drop-cons rows i x c.loop-row-test.true ∙ ap (λ y. y ∷ drop (suc i) rows) (sym c.row-item.is) in
     let here : RiseTo c.loop-row.from m (number x ∷ map number (drop (suc i) rows)) = subst (λ l. RiseTo c.loop-row.from m (map number l)) is (c.loop-row.invariant.1 m rise) in
     let end : number x + 1 ≤ m = ends_above (number x + 1) m (map number (drop (suc i) rows)) here.1 in

@@ -4,5 +4,5 @@ use Rattle.bo_opens.proofs.numbers.next_number.Given as goal
 
 abbrev pub invariant-loop-row : goal.invariant-loop-row
 invariant-loop-row g l =
-    ((m : ℕ) → RiseTo l.from m (map g.T.Numbered.number (drop l.row-index l.rows)) → RiseTo 0 m (map g.T.Numbered.number l.rows))
-    × ((m : ℕ) → RiseTo 0 m (map g.T.Numbered.number l.rows) → RiseTo l.from m (map g.T.Numbered.number (drop l.row-index l.rows)))
+    ((m : ℕ) → RiseTo l.from m (map g.T.Numbered.number_of (drop l.row-index l.rows)) → RiseTo 0 m (map g.T.Numbered.number_of l.rows))
+    × ((m : ℕ) → RiseTo 0 m (map g.T.Numbered.number_of l.rows) → RiseTo l.from m (map g.T.Numbered.number_of (drop l.row-index l.rows)))

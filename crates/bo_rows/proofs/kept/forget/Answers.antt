@@ -15,6 +15,6 @@ returns-clause-written g c clean at =
     let old = state g.S.Store c.args.tx.now.conn.now in
     let new = state g.S.Store c.run.new.tx.conn.now in
     let now = c.get-now.result in
-    let ran : Executes forget_text (number (now - 86400) ∷ []) old new (Ok c.in_ok-run.field-0) = rw c.in_ok-since.ensures at (c.in_ok-run.ensures.ran clean at.inside) in
+    let ran : Executes forget_text (number (now - 86400) ∷ []) old new (Ok c.in_ok-run.field-0) = rw c.in_ok-since.ensures.value at (c.in_ok-run.ensures.ran clean at.inside) in
     subst (λ n. ChangesFit (λ t. AreApart (λ r. r.rowid) t.kept) (without_past n) old new) c.get-now.ensures.value
     (forgets old new at c.run.ensures.crash.limit now (omega (arith, c.if-now-lt-A_DAY.false)) c.in_ok-run.field-0 ran)

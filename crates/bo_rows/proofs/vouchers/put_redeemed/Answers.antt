@@ -10,5 +10,5 @@ returns-clause-written g c clean at =
     let old = state g.S.Store c.args.tx.now.conn.now in
     let new = state g.S.Store c.run.new.tx.conn.now in
     let count = c.args.count in
-    let ran : Executes redeem_text (number count.voucher ∷ number count.redeemed ∷ []) old new (Ok c.in_ok-rows.rows) = rw (c.in_ok-id.ensures, c.in_ok-redeemed.ensures) at (c.in_ok-rows.ensures.ran clean at.inside) in
+    let ran : Executes redeem_text (number count.voucher ∷ number count.redeemed ∷ []) old new (Ok c.in_ok-rows.rows) = rw (c.in_ok-id.ensures.value, c.in_ok-redeemed.ensures.value) at (c.in_ok-rows.ensures.ran clean at.inside) in
     redeems old new at c.run.ensures.crash.limit count c.in_ok-rows.rows (omega arith) ran
