@@ -1,8 +1,10 @@
 -- A desk that `feed` begins with, as a shop and as one that stands for no arrivals; and what is told of a run from it.
 use Rattle.std.proofs.Common.{◌≡◌, ◌⊎◌, inl, inr, ℕ, List, [], Result, Err, sym, subst₂}
+use Rattle.sqlite_trees.specs.declared.store.Store.{Ghosts}
 use Rattle.bo_base.specs.declared.answer.Answer.{Answer}
 use Rattle.bo_devices.specs.declared.device.Tick.{Tick}
 use Rattle.bo_http.specs.Messages.{Message}
+use Rattle.bo_lists.specs.Lists.{State}
 use Rattle.bo_sound.specs.Sound.{IsSound}
 use Rattle.bo_sound.proofs.Sound.{sound_empty}
 use Rattle.bo_kept.specs.ShopView.{ShopView}
@@ -16,12 +18,14 @@ use Rattle.bo_desk.specs.DeskView.{DeskView, Meaning, words_of}
 use Rattle.bo_desk.specs.Streams.{ServesAndKeeps, ServesList}
 use Rattle.bo_desk.proofs.RowLemmas.{nothing-too-much}
 use Rattle.bo_desk.proofs.StreamLemmas.{told-once}
-use Rattle.bo_fresh.specs.House.{IsFresh, feed_house}
-use Rattle.bo_fresh.specs.Stored.{in_memory}
+use Rattle.bo_tables.specs.declared.sql.SqlTables.{SqlTables}
+use Rattle.bo_fresh.specs.House.{IsFreshShop}
 use Rattle.bo_fresh.proofs.Sure.{memory_sure}
 use Rattle.bo_feed.specs.Feed.{Feeds, FeedsDesk, Ports, devices}
 use Rattle.bo_feed.specs.FeedTicks.{feed_ticks}
+use Rattle.bo_feed.specs.Fresh.{IsFresh, desk_with, feed_house}
 use Rattle.bo_feed.specs.House.{fresh_opening, fresh_shop}
+use Rattle.bo_feed.specs.Stored.{in_memory, in_store}
 
 module _ {T : Type 0} (tables : Meaning T) (first : DeskView T) (from step : ℕ) (old new : Ports) (result : Result (Unit {0}) Failure) (fresh : IsFresh tables first)
     (fed : FeedsDesk tables first from step old new result) (sure : tables.sure fed.house.tables) where
@@ -44,6 +48,14 @@ module _ {T : Type 0} (tables : Meaning T) (first : DeskView T) (from step : ℕ
       (x.0, x.1, x.3)
 
 -- ---- `feed` itself, over SQLite's memory
+
+-- the desk of a shop that was just opened
+pub desk_is_fresh : {S : Type 0} (g : Ghosts S) (tables : SqlTables S) (organizer event : List ℕ) (office : State) → IsFreshShop g tables organizer event office → IsFresh (in_store g) (desk_with tables organizer event office)
+desk_is_fresh g tables organizer event office fresh = record {
+  of = record { organizer = fresh.organizer_is; event = fresh.event_is; tokens = fresh.knows };
+  state = fresh.empty_is;
+  held = fresh.holds;
+}
 
 module _ (from step : ℕ) (old new : Ports) (result : Result (Unit {0}) Failure) where
   -- where there was no memory for the shop

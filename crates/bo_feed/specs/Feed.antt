@@ -9,8 +9,8 @@ use Rattle.bo_connection.specs.declared.failure.Failure.TheVariants as failures
 use Rattle.bo_connection.specs.Run.{Counts, CountedAll, Devices, RunLeads}
 use Rattle.bo_desk.specs.DeskView.{DeskView, Meaning}
 use Rattle.bo_desk.specs.Served.{Serves}
-use Rattle.bo_fresh.specs.House.{IsFresh}
-use Rattle.bo_fresh.specs.Stored.{MemoryDesk, in_memory}
+use Rattle.bo_feed.specs.Fresh.{IsFresh}
+use Rattle.bo_feed.specs.Stored.{MemoryDesk, in_memory}
 use Rattle.bo_feed.specs.declared.fault.RunFault.{RunFault}
 use Rattle.bo_feed.specs.declared.fault.RunFault.TheVariants as faults
 use Rattle.bo_feed.specs.FeedTicks.{feed_ticks}

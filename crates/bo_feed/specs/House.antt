@@ -7,8 +7,8 @@ use Rattle.bo_connection.specs.declared.failure.Failure.{Failure}
 use Rattle.bo_connection.specs.declared.failure.Failure.TheVariants as failures
 use Rattle.bo_connection.specs.Run.{Devices, RunLeads, with_desk}
 use Rattle.bo_desk.specs.Served.{Serves}
-use Rattle.bo_fresh.specs.House.{IsFresh}
-use Rattle.bo_fresh.specs.Stored.{MemoryDesk, in_memory}
+use Rattle.bo_feed.specs.Fresh.{IsFresh}
+use Rattle.bo_feed.specs.Stored.{MemoryDesk, in_memory}
 
 -- no rows and no answers
 abbrev pub fresh_shop : ShopView

@@ -4,3 +4,5 @@ pub mod FeedTicks
 pub mod House
 pub mod Line
 pub mod Words
+pub mod Fresh
+pub mod Stored

@@ -2,7 +2,7 @@
 
 ghost use Rattle.std.specs.Prelude.{◌≡◌, ◌<◌};
 ghost use Rattle.bo_desk.specs.DeskView.{meaning};
-ghost use Rattle.bo_fresh.specs.House.{desk_with};
+ghost use Rattle.bo_feed.specs.Fresh.{desk_with};
 ghost use Rattle.bo_feed.specs.Feed.{Feeds, FeedsDesk, FeedsTexts, as_fault, feed_values};
 
 use crate::fault::RunFault;

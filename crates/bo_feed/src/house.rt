@@ -4,7 +4,7 @@ ghost use Rattle.std.specs.Prelude.{◌+◌, ◌≤◌};
 ghost use Rattle.bo_connection.specs.Run.{RunLeads, CountedAll};
 ghost use Rattle.bo_desk.specs.DeskView.{DeskView, meaning};
 ghost use Rattle.bo_desk.specs.Served.{Serves};
-ghost use Rattle.bo_fresh.specs.House.{desk_with};
+ghost use Rattle.bo_feed.specs.Fresh.{desk_with};
 ghost use Rattle.bo_feed.specs.House.{ServesFresh, no_desk};
 
 use bo_connection::{Desk, Failure, Room, run_stream};

@@ -1,11 +1,13 @@
 -- SQLite's memory is sure.
 use Rattle.std.proofs.Common.{Result, Ok, Err, IfOk}
 use Rattle.sqlite_trees.specs.declared.memory.MemStore.{MemStore}
+use Rattle.sqlite.specs.Held.{state}
+use Rattle.sqlite.specs.State.{HasCleanDisk}
+use Rattle.sqlite.specs.Steps.{over_memory}
 use Rattle.sqlite.proofs.Callers.{memory_is_clean}
 use Rattle.bo_tables.specs.declared.sql.SqlTables.{SqlTables}
-use Rattle.bo_fresh.specs.Stored.{in_memory}
 
-pub memory_sure : (tables : SqlTables MemStore) → in_memory.sure tables
+pub memory_sure : (tables : SqlTables MemStore) → HasCleanDisk (state over_memory tables.connection)
 memory_sure tables = memory_is_clean tables.connection
 
 -- what holds of a value whose tables are sure

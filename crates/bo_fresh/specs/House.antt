@@ -1,8 +1,11 @@
 -- The shop that `feed` begins with.
 use Rattle.std.specs.Prelude.{◌≡◌, ℕ, List, [], Option, Some, None, bytes_eq, codes, if◌then◌else◌}
 use Rattle.sha2.specs.Sha256.{sha256}
+use Rattle.sqlite_trees.specs.declared.store.Store.{Ghosts}
+use Rattle.sqlite.specs.Held.{state}
 use Rattle.bo_lists.specs.Lists.{State, empty}
-use Rattle.bo_desk.specs.DeskView.{DeskView, House, IsOf, Meaning}
+use Rattle.bo_tables.specs.declared.sql.SqlTables.{SqlTables}
+use Rattle.bo_tables.specs.Shops.{HoldsWhileOpen, KnowsWhileOpen}
 
 -- the digest of the token `feed`
 unfoldable pub feed_digest : List ℕ
@@ -12,16 +15,10 @@ feed_digest = sha256 (codes "feed")
 abbrev pub feed_tokens : List ℕ → Option ℕ
 feed_tokens digest = if bytes_eq feed_digest digest then Some 1 else None
 
--- organizer `house`, event `hall`, and that token: by what its messages are read
-abbrev pub feed_house : House
-feed_house = record { organizer = codes "house"; event = codes "hall"; tokens = feed_tokens }
-
--- the desk of an office over tables
-abbrev pub desk_with : {T : Type 0} → T → List ℕ → List ℕ → State → DeskView T
-desk_with tables organizer event state = record { organizer = organizer; event = event; tables = tables; state = state }
-
--- a desk of this house that has no rows, over tables that hold none, keep no answer, and know that token
-pub record IsFresh {T : Type 0} (tables : Meaning T) (desk : DeskView T) : Type 0 where
-  pub of : IsOf tables feed_house desk
-  pub state : desk.state ≡ empty
-  pub held : tables.holds desk.tables empty []
+-- an office without rows, of the organizer `house` and the event `hall`, over tables that hold it, keep no answer, and know that token
+pub record IsFreshShop {S : Type 0} (g : Ghosts S) (tables : SqlTables S) (organizer event : List ℕ) (office : State) : Type 0 where
+  pub organizer_is : organizer ≡ codes "house"
+  pub event_is : event ≡ codes "hall"
+  pub empty_is : office ≡ empty
+  pub holds : HoldsWhileOpen tables.head tables.next_row (state g tables.connection) empty []
+  pub knows : KnowsWhileOpen tables.next_row (state g tables.connection) feed_tokens

@@ -3,10 +3,10 @@
 ghost use Rattle.std.specs.Prelude.{◌≡◌, [], None, Ok, Err, IfOk, IfErr, OnOk, codes};
 ghost use Rattle.sqlite.specs.Held.{state};
 ghost use Rattle.sqlite.specs.State.{HasCleanDisk};
+ghost use Rattle.sqlite.specs.Steps.{over_memory};
 ghost use Rattle.bo_lists.specs.Lists.{empty};
 ghost use Rattle.bo_tables.specs.Shops.{HoldsWhileOpen, KnowsWhileOpen};
-ghost use Rattle.bo_fresh.specs.House.{IsFresh, desk_with, feed_digest, feed_tokens};
-ghost use Rattle.bo_fresh.specs.Stored.{in_memory, in_store};
+ghost use Rattle.bo_fresh.specs.House.{IsFreshShop, feed_digest, feed_tokens};
 
 use bo_base::Slug;
 use bo_counters::Counters;
@@ -92,7 +92,7 @@ pub fn open_store<S: Alter + Drop>(
     alloc: Global,
     connection: Connection<S>,
 ) -> Result<(SqlTables<S>, Office<Counters>), AllocError>
-    ensures { IfOk result (λ made. HasCleanDisk (state S.Store made.0.connection) → IsFresh (in_store S.Store) (desk_with made.0 made.1.organizer made.1.event made.1.state)) }
+    ensures { IfOk result (λ made. HasCleanDisk (state S.Store made.0.connection) → IsFreshShop S.Store made.0 made.1.organizer made.1.event made.1.state) }
 {
     let mut made = begin(alloc, connection)?;
     let ended = add_feed(&mut made.0);
@@ -101,7 +101,7 @@ pub fn open_store<S: Alter + Drop>(
 
 /// The same in SQLite's memory, which has no tables at first.
 pub fn open_memory(alloc: Global) -> Result<(SqlTables<MemStore>, Office<Counters>), AllocError>
-    ensures { IfOk result (λ made. IsFresh in_memory (desk_with made.0 made.1.organizer made.1.event made.1.state)) }
+    ensures { IfOk result (λ made. IsFreshShop over_memory made.0 made.1.organizer made.1.event made.1.state) }
 {
     let connection = Connection::open_in_memory(alloc)?;
     open_store(alloc, connection)

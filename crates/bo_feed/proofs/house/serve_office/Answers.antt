@@ -3,7 +3,7 @@ use Rattle.bo_connection.specs.Run.{RunLeads}
 use Rattle.bo_connection.proofs.RunLemmas.{unopened}
 use Rattle.bo_desk.specs.DeskView.{DeskView, meaning}
 use Rattle.bo_desk.specs.Served.{Serves}
-use Rattle.bo_fresh.specs.House.{desk_with}
+use Rattle.bo_feed.specs.Fresh.{desk_with}
 use Rattle.bo_feed.proofs.house.serve_office.Goals as goal
 
 pub returns-in_default-clause-leads : goal.returns-in_default-clause-leads

@@ -6,7 +6,9 @@ returns g c = once_well c.if_well.result _ c.add_feed-ended.result _ c.if_well.e
     let made = c.in_ok-made.ensures in
     let early = c.add_feed-ended.ensures.clean clean in
     record {
-      of = record { organizer = made.office.0; event = made.office.1; tokens = well _ _ is (c.add_feed-ended.ensures.knows clean (made.next early) (made.knows early)) };
-      state = made.office.2;
-      held = c.add_feed-ended.ensures.holds clean (made.holds early);
+      organizer_is = made.office.0;
+      event_is = made.office.1;
+      empty_is = made.office.2;
+      holds = c.add_feed-ended.ensures.holds clean (made.holds early);
+      knows = well _ _ is (c.add_feed-ended.ensures.knows clean (made.next early) (made.knows early));
     })
