@@ -17,8 +17,6 @@ pub mod refusal;
 pub mod secrets;
 pub mod slug;
 pub mod steps;
-#[cfg(test)]
-mod tests;
 pub mod text;
 
 pub use answer::{Answer, Body, Methods, Response};

@@ -1,6 +1,5 @@
 pub mod Limits
 pub mod Member
-pub mod Members
 pub mod CatalogueLists
 pub mod VariationAdded
 pub mod ItemAdded

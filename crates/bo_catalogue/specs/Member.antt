@@ -1,5 +1,5 @@
--- Which products a quota has.
-use Rattle.std.specs.Prelude.{ℕ, Bool, Option, Some, None}
+-- Which products a quota has, and how much room that takes.
+use Rattle.std.specs.Prelude.{ℕ, ◌+◌, Bool, length, Option, Some, None}
 use Rattle.bo_sorted.specs.Tables.{has}
 use Rattle.bo_catalogue.specs.declared.rows.Quota.{Quota}
 use Rattle.bo_catalogue.specs.declared.rows.Product.{Product}
@@ -11,3 +11,7 @@ lists quota product (Some variation) = has variation quota.variations
 
 abbrev pub is_in : Quota → Product → Bool
 is_in quota product = lists quota product product.variation
+
+-- how much room a quota takes: for its row, and for each of its members
+abbrev pub quota_weight : Quota → ℕ
+quota_weight quota = 1 + (length quota.items + length quota.variations)

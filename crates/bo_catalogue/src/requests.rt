@@ -86,7 +86,7 @@ impl NewVariation {
 
 /// The rows of an item's variations, whose ids count on from `first`. The last of them must be at most
 /// 9,007,199,254,740,991.
-pub(crate) fn variation_rows(
+pub fn variation_rows(
     alloc: Global,
     variations: &[NewVariation],
     item: u64,

@@ -1,8 +1,7 @@
 //! The rows of the catalogue.
 
 ghost use Rattle.std.specs.Prelude.{◌≡◌, IfOk};
-ghost use Rattle.bo_catalogue.specs.Member.{is_in};
-ghost use Rattle.bo_catalogue.specs.Members.{quota_weight};
+ghost use Rattle.bo_catalogue.specs.Member.{is_in, quota_weight};
 
 use bo_base::{Cents, List, Size, Text};
 use bo_sorted::{Ids, Row};

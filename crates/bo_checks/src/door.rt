@@ -6,8 +6,8 @@ ghost use Rattle.bo_sound.specs.Checkins.{has_item, HasItems, IsCheckedIn, IsDoo
 
 use bo_alike::are_once;
 use bo_alike::rising::are_rising;
-use bo_catalogue::Catalogue;
 use bo_lists::{Checkin, CheckinList};
+use bo_stock::Catalogue;
 use bo_usage::Book;
 use std::alloc::{AllocError, Global};
 

@@ -7,8 +7,9 @@ ghost use Rattle.bo_catalogue.specs.QuotaAdded.{items_stand, variations_stand, v
 ghost use Rattle.bo_sound.specs.Members.{HasMembers, AllHaveMembers};
 
 use bo_alike::rising::are_rising;
-use bo_catalogue::{Catalogue, Quota};
+use bo_catalogue::Quota;
 use bo_sorted::Ids;
+use bo_stock::Catalogue;
 use bo_usage::Book;
 use std::alloc::{AllocError, Global};
 

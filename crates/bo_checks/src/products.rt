@@ -7,8 +7,10 @@ ghost use Rattle.bo_sound.specs.Targets.{is_of_item, variation_stands};
 ghost use Rattle.bo_sound.specs.Varied.{is_of_varied, is_named_as_sold, IsProduct, AllVaried, AllProducts};
 ghost use Rattle.bo_lists.specs.Fits.{is_fit, AllFit};
 
-use bo_catalogue::{Catalogue, Product, Variation};
+use bo_catalogue::{Product, Variation};
+use bo_stock::Catalogue;
 use bo_usage::Book;
+use bo_usage::rules::fits;
 
 // Whether a variation is of the item, if one is named.
 fn is_of_item(item: Option<u64>, variation: &Variation) -> bool
@@ -148,7 +150,7 @@ fn is_fit<B: Book>(book: &B, product: Product, voucher: Option<u64>) -> bool
     };
     match book.voucher(id) {
         None => false,
-        Some(row) => row.fits(book.catalogue(), product),
+        Some(row) => fits(row, book.catalogue(), product),
     }
 }
 

@@ -5,8 +5,8 @@ ghost use Rattle.bo_sound.specs.Targets.{item_stands, quota_stands, has_one_targ
 ghost use Rattle.bo_sound.specs.Varied.{is_plain, is_whole, AllWhole};
 
 use crate::products::variation_stands;
-use bo_catalogue::Catalogue;
 use bo_lists::Voucher;
+use bo_stock::Catalogue;
 use bo_usage::Book;
 
 // Whether the item that is named stands.

@@ -7,11 +7,12 @@ ghost use Rattle.bo_lists.specs.CameDue.{came_due, naming_due};
 
 use crate::counters::Counters;
 use bo_base::{List, Moment, Steps, Text};
-use bo_catalogue::{Catalogue, Product, Quota};
+use bo_catalogue::{Product, Quota};
 use bo_lists::{
     CartPos, Changes, Checkin, CheckinList, NextIds, Order, OrderPos, Usage, Voucher, Waiting,
 };
 use bo_sparse::Sparse;
+use bo_stock::Catalogue;
 use bo_usage::{Book, LookUps, PositionTest};
 use std::alloc::{AllocError, Global};
 use std::sync::ledger::Ledger;

@@ -8,7 +8,7 @@ ghost use Rattle.bo_lists.specs.Headroom.{held};
 ghost use Rattle.bo_lists.specs.Usage.{redeemed, usage_of};
 ghost use Rattle.bo_lists.specs.Change.{after_change, after_all, applied};
 ghost use Rattle.bo_lists.specs.Weight.{change_weight, weight};
-ghost use Rattle.bo_catalogue.specs.Members.{quota_weight};
+ghost use Rattle.bo_catalogue.specs.Member.{quota_weight};
 ghost use Rattle.bo_lists.specs.CameDue.{came_due, naming_due};
 
 use bo_base::{Moment, Steps};

@@ -8,8 +8,9 @@ ghost use Rattle.bo_counts.specs.Reached.{product_in, quotas_with, hit_by, quota
 use crate::shares::PlaceCount;
 use crate::touched::TouchedRows;
 use crate::view::View;
-use bo_catalogue::{Catalogue, Product};
+use bo_catalogue::Product;
 use bo_lists::Voucher;
+use bo_stock::Catalogue;
 use bo_usage::{Book, LookUps};
 use std::alloc::{AllocError, Global};
 

@@ -5,11 +5,12 @@ ghost use Rattle.bo_draft.specs.DraftState.{now, Extends};
 ghost use Rattle.bo_lists.specs.declared.changes.Change.TheVariants.{PutCheckinList};
 ghost use Rattle.bo_door.specs.ListAdded.{list_row, items_stand, list_added};
 
-use bo_catalogue::{Catalogue, CatalogueRefusal};
+use bo_catalogue::CatalogueRefusal;
 use bo_commands::{DoorRefusal, NewCheckinList};
 use bo_draft::Draft;
 use bo_lists::CheckinList;
 use bo_sorted::Ids;
+use bo_stock::Catalogue;
 use bo_usage::Book;
 use std::alloc::{AllocError, Global};
 

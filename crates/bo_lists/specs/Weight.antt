@@ -1,6 +1,6 @@
 -- How much room changes need in a book.
 use Rattle.std.specs.Prelude.{ℕ, ◌+◌, List, [], ◌∷◌}
-use Rattle.bo_catalogue.specs.Members.{quota_weight}
+use Rattle.bo_catalogue.specs.Member.{quota_weight}
 use Rattle.bo_lists.specs.declared.changes.Change.{Change}
 use Rattle.bo_lists.specs.declared.changes.Change.TheVariants.{PutQuota}
 

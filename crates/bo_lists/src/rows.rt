@@ -9,10 +9,10 @@ ghost use Rattle.bo_lists.specs.Usage.{waits_for};
 ghost use Rattle.bo_lists.specs.Waits.{same_product, waits_as};
 ghost use Rattle.bo_lists.specs.Due.{is_due};
 ghost use Rattle.bo_lists.specs.CameDue.{is_due_cart, is_due_voucher};
-ghost use Rattle.bo_lists.specs.Fits.{has_variation, fits_item, fits_by, fits};
+ghost use Rattle.bo_lists.specs.Fits.{has_variation, fits_item};
 
 use bo_base::{Cents, List, Moment, PriceMode, Priority, Size, Text, Uses};
-use bo_catalogue::{Catalogue, Product, Quota};
+use bo_catalogue::{Product, Quota};
 use bo_sorted::{Ids, Row};
 use std::alloc::{AllocError, Global};
 
@@ -327,21 +327,8 @@ impl Voucher {
         })
     }
 
-    /// Whether it is for this product: one in its quota, of its item, of its item and variation, or any.
-    pub fn fits(&self, catalogue: &Catalogue, product: Product) -> bool
-        ensures { result ≡ fits catalogue.now.lists self.now product }
-    {
-        match self.quota {
-            Some(id) => match catalogue.quota(id) {
-                None => false,
-                Some(quota) => quota.has(product),
-            },
-            None => self.fits_item(product),
-        }
-    }
-
-    // Whether it is for the product by its item and variation, where it names any.
-    fn fits_item(&self, product: Product) -> bool
+    /// Whether it is for the product by its item and variation, where it names any.
+    pub fn fits_item(&self, product: Product) -> bool
         ensures { result ≡ fits_item self.now.item self.now.variation product }
     {
         match self.item {

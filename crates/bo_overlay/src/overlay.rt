@@ -23,13 +23,14 @@ use crate::cart_conditions::{CartCondition, Holds, HoldsIn};
 use crate::purchases::{Purchase, copy_purchases, put_purchases};
 use crate::row_names::{cart_name, entry_name, is_name, name_put};
 use bo_base::Moment;
-use bo_catalogue::{Catalogue, Quota};
+use bo_catalogue::Quota;
 use bo_lists::{CartPos, Change, Checkin, CheckinList, Order, OrderPos, Voucher, Waiting};
 use bo_log::rows::{
     cart_after, cart_in, checkin_in, checkin_list_in, order_after, order_in, position_in,
     voucher_in, waiting_after, waiting_in,
 };
 use bo_log::{ChangeLog, KeyLog, Table, code_key, digest};
+use bo_stock::Catalogue;
 use bo_usage::rules::is_in_force;
 use bo_usage::{Book, LookUps, PositionTest};
 use std::alloc::{AllocError, Global};

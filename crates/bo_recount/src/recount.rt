@@ -9,13 +9,14 @@ ghost use Rattle.bo_lists.specs.Change.{applied, after_change, after_all};
 ghost use Rattle.bo_lists.specs.Weight.{change_weight, weight};
 
 use bo_base::{List, Moment, Steps, Text};
-use bo_catalogue::{Catalogue, Product, Quota};
+use bo_catalogue::{Product, Quota};
 use bo_lists::{
     CartPos, Change, Changes, Checkin, CheckinList, NextIds, Order, OrderPos, Usage, Voucher,
     Waiting,
 };
 use bo_sorted::Rows;
 use bo_sparse::Sparse;
+use bo_stock::Catalogue;
 use bo_usage::rules::{cart_counts, is_paid_in, is_pending_in, left_of, uses};
 use bo_usage::{Book, LookUps, PositionTest};
 use std::alloc::{AllocError, Global};

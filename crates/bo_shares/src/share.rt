@@ -7,8 +7,9 @@ ghost use Rattle.bo_shares.specs.Counts.{IsMore};
 ghost use Rattle.bo_tally.specs.Counts.{came, went, GoesOn};
 ghost use Rattle.bo_shares.specs.Touched.{NoneElse, Keeps, among, at_id};
 
-use bo_catalogue::{Catalogue, Quota};
+use bo_catalogue::Quota;
 use bo_sorted::{Ids, place_of};
+use bo_stock::Catalogue;
 use bo_tally::Tally;
 use std::alloc::{AllocError, Global};
 

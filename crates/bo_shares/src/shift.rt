@@ -19,9 +19,10 @@ ghost use Rattle.bo_shares.specs.Shift.{come_of, gone_of, once, spot_share, sale
 use crate::share::{Share, Shares, count_each};
 use crate::touched::{touch_product, touch_voucher};
 use bo_base::Moment;
-use bo_catalogue::{Catalogue, Product, Quota};
+use bo_catalogue::{Product, Quota};
 use bo_lists::{CartPos, Change, Order, OrderPos, Voucher, Waiting};
 use bo_overlay::{Overlay, Purchase, count_if};
+use bo_stock::Catalogue;
 use bo_tally::Tally;
 use bo_usage::rules::{self, blocks, is_in_force};
 use bo_usage::{Book, LookUps};

@@ -7,8 +7,9 @@ ghost use Rattle.bo_lists.specs.Conditions.{hits};
 ghost use Rattle.bo_lists.specs.Usage.{blocks_if};
 ghost use Rattle.bo_shares.specs.Touched.{NoOther, Keeps};
 
-use bo_catalogue::{Catalogue, Product};
+use bo_catalogue::Product;
 use bo_lists::Voucher;
+use bo_stock::Catalogue;
 use std::alloc::{AllocError, Global};
 
 /// Adds the ids of the quotas that a product is in.

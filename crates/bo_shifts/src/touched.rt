@@ -7,10 +7,11 @@ ghost use Rattle.bo_lists.specs.Conditions.{hits, hits_by, hits_by_product};
 ghost use Rattle.bo_shifts.specs.Shifts.{map_beside, only};
 
 use crate::shift::Shift;
-use bo_catalogue::{Catalogue, Product, Quota};
+use bo_catalogue::{Product, Quota};
 use bo_index::Found;
 use bo_lists::{Usage, Voucher};
 use bo_sorted::place_of;
+use bo_stock::Catalogue;
 
 // Shifts the usage of the quota of an id, if it stands.
 fn shift_one<S: Shift>(quotas: &[Quota], usages: &mut Vec<Usage>, id: u64, shift: &S)

@@ -8,11 +8,11 @@ ghost use Rattle.bo_lists.specs.Weight.{change_weight};
 ghost use Rattle.bo_lists.specs.Kept.{IsKept};
 
 use bo_base::Moment;
-use bo_catalogue::Catalogue;
 use bo_indexed::Indexed;
 use bo_lists::{CartPos, Change, Checkin, CheckinList, NextIds, Order, OrderPos, Voucher, Waiting};
 use bo_sorted::Rows;
 use bo_sparse::Sparse;
+use bo_stock::Catalogue;
 use bo_usage::LookUps;
 use std::alloc::{AllocError, Global};
 use std::marker::Model;

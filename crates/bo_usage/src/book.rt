@@ -18,11 +18,12 @@ ghost use Rattle.bo_lists.specs.Kept.{IsKept};
 ghost use Rattle.bo_lists.specs.Consumed.{consumed};
 
 use bo_base::{List, Moment, Steps, Text};
-use bo_catalogue::{Catalogue, Product, Quota};
+use bo_catalogue::{Product, Quota};
 use bo_lists::{
     CartPos, Changes, Checkin, CheckinList, NextIds, Order, OrderPos, Usage, Voucher, Waiting,
 };
 use bo_sparse::Sparse;
+use bo_stock::Catalogue;
 use std::alloc::{AllocError, Global};
 use std::sync::ledger::Ledger;
 

@@ -3,6 +3,7 @@
 ghost use Rattle.std.specs.Prelude.{◌≡◌, ◌≤◌, ◌-◌};
 ghost use Rattle.std.specs.Option.{option_copied};
 ghost use Rattle.bo_lists.specs.Conditions.{is_paid, is_pending, is_in_force, same_id};
+ghost use Rattle.bo_lists.specs.Fits.{fits};
 ghost use Rattle.bo_lists.specs.Over.{ignores};
 ghost use Rattle.bo_lists.specs.Usage.{stands_as, position_counts, uses, blocks_if, is_covered_by, cart_counts};
 ghost use Rattle.bo_usage.specs.Covers.{cover_alike};
@@ -10,8 +11,9 @@ ghost use Rattle.bo_usage.specs.Shares.{status_share, cart_share, waiting_share,
 
 use crate::look_ups::LookUps;
 use bo_base::Moment;
-use bo_catalogue::Quota;
+use bo_catalogue::{Product, Quota};
 use bo_lists::{CartPos, Order, OrderPos, Voucher, Waiting};
+use bo_stock::Catalogue;
 
 /// Whether an order stands and is paid.
 pub fn is_paid(order: Option<&Order>) -> bool
@@ -79,6 +81,19 @@ pub fn covers<R: LookUps>(rows: &R, at: Moment, quota: &Quota, voucher: Option<u
     match voucher {
         None => false,
         Some(id) => blocks(at, quota, rows.voucher(id)),
+    }
+}
+
+/// Whether a voucher is for this product: one in its quota, of its item, of its item and variation, or any.
+pub fn fits(voucher: &Voucher, catalogue: &Catalogue, product: Product) -> bool
+    ensures { result ≡ fits catalogue.now.lists voucher.now product }
+{
+    match voucher.quota {
+        Some(id) => match catalogue.quota(id) {
+            None => false,
+            Some(quota) => quota.has(product),
+        },
+        None => voucher.fits_item(product),
     }
 }
 
