@@ -13,6 +13,7 @@ use bo_catalogue::{
     CatalogueRefusal, ItemPatch, ItemRows, NewItem, NewQuota, NewVariation, QuotaPatch,
 };
 use bo_commands::{Kind, Refusal, Reply, Shown};
+use bo_items::{add_item, add_quota, add_variation, change_item, resize};
 use bo_lists::{Change, Changes, NextIds};
 use bo_usage::Book;
 use std::alloc::{AllocError, Global};
@@ -29,11 +30,8 @@ impl<B: Book> Office<B> {
         ensures refused { IfOk result (RefusesWithoutChange self.now.state) }
     {
         let next = self.book().next_ids();
-        match self
-            .book()
-            .catalogue()
-            .add_item(alloc, new, next.item, next.variation)
-        {
+        let catalogue = self.book().catalogue();
+        match add_item(catalogue, alloc, new, next.item, next.variation) {
             Ok(rows) => {
                 let list = puts_of(alloc, &rows)?;
                 let next = NextIds {
@@ -60,7 +58,7 @@ impl<B: Book> Office<B> {
         ensures refused { IfOk result (RefusesWithoutChange self.now.state) }
     {
         let catalogue = self.book().catalogue();
-        match catalogue.change_item(alloc, id, patch) {
+        match change_item(catalogue, alloc, id, patch) {
             Ok(row) => {
                 let rows = catalogue.with_variations(alloc, &row)?;
                 let list = vec![in alloc; Change::PutItem(row)]?;
@@ -84,11 +82,8 @@ impl<B: Book> Office<B> {
         ensures refused { IfOk result (RefusesWithoutChange self.now.state) }
     {
         let next = self.book().next_ids();
-        match self
-            .book()
-            .catalogue()
-            .add_variation(alloc, item, new, next.variation)
-        {
+        let catalogue = self.book().catalogue();
+        match add_variation(catalogue, alloc, item, new, next.variation) {
             Ok(made) => {
                 let put = Change::PutVariation(made.row.copy(alloc)?);
                 let next = NextIds {
@@ -117,7 +112,7 @@ impl<B: Book> Office<B> {
         ensures refused { IfOk result (RefusesWithoutChange self.now.state) }
     {
         let next = self.book().next_ids();
-        match self.book().catalogue().add_quota(alloc, new, next.quota) {
+        match add_quota(self.book().catalogue(), alloc, new, next.quota) {
             Ok(row) => {
                 let copy = row.copy(alloc)?;
                 let next = NextIds {
@@ -143,7 +138,7 @@ impl<B: Book> Office<B> {
         ensures changes { IfOk result (λ r. (at : ℕ) (draw : Draw) → r.0.list ≡ changes_of (Command.ResizeQuota id patch) draw (record self.now.state { moment = at }) r.1) }
         ensures refused { IfOk result (RefusesWithoutChange self.now.state) }
     {
-        match self.book().catalogue().resize(alloc, id, patch) {
+        match resize(self.book().catalogue(), alloc, id, patch) {
             Ok(row) => {
                 let copy = row.copy(alloc)?;
                 let list = vec![in alloc; Change::PutQuota(row)]?;

@@ -240,12 +240,10 @@ impl<'a, B: Book> Overlay<'a, B> {
         ensures err { OnErr result (self.new ≡ self.old) }
     {
         let count = self.log.len();
-        if count == 4294967296 {
-            return Err(AllocError);
-        }
-        self.codes.push(code_key(&change))?;
-        if self.log.push(change).is_err() {
-            self.codes.truncate(count);
+        let key = code_key(&change);
+        self.log.push(change)?;
+        if count == 4294967296 || self.codes.push(key).is_err() {
+            self.log.truncate(count);
             return Err(AllocError);
         }
         Ok(())

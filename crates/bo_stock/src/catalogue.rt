@@ -1,24 +1,14 @@
 //! The tables of the catalogue.
 
 ghost use Rattle.std.specs.Prelude.{◌≡◌, ◌≢◌, ◌≤◌, ◌+◌, Ok, Err, IfOk, IfErr, OnOk, []};
-ghost use Rattle.std.specs.List.{list_all};
 ghost use Rattle.std.specs.Option.{option_copied};
 ghost use Rattle.bo_sorted.specs.Tables.{with_row, AreKept};
 ghost use Rattle.bo_catalogue.specs.CatalogueLists.{item_at, variation_at, quota_at, product_of, quotas_of, base_price, is_active, is_sold, variations_of, with_variations};
-ghost use Rattle.bo_catalogue.specs.ItemAdded.{item_added};
-ghost use Rattle.bo_catalogue.specs.ItemChanged.{item_changed};
 ghost use Rattle.bo_catalogue.specs.Member.{quota_weight};
-ghost use Rattle.bo_catalogue.specs.VariationAdded.{variation_added};
-ghost use Rattle.bo_catalogue.specs.Resized.{resized};
-ghost use Rattle.bo_catalogue.specs.QuotaAdded.{quota_added, quota_test, items_stand, variations_stand, variations_fit, items_fit, is_of_one, item_of, items_of, is_offered};
 
 use crate::members::{list_items, list_variations};
 use bo_base::{Cents, List};
-use bo_catalogue::requests::variation_rows;
-use bo_catalogue::{
-    CatalogueRefusal, Item, ItemPatch, ItemRows, NewItem, NewQuota, NewVariation, PricedVariation,
-    Product, Quota, QuotaPatch, Variation, takes_row, takes_rows,
-};
+use bo_catalogue::{CatalogueRefusal, Item, ItemRows, Product, Quota, Variation};
 use bo_index::{Found, Index};
 use bo_sorted::{Ids, Rows};
 use std::alloc::{AllocError, Global};
@@ -194,93 +184,6 @@ impl Catalogue {
 }
 
 impl Catalogue {
-    /// The row of a new item with this id, and those of its variations, whose ids count on from `first`.
-    /// It is for the caller to put them. Refusals: 16 `Full` where 1,000,000 items stand or the id is above
-    /// 9,007,199,254,740,991, and where that would come to be so of the variations.
-    #[tactic(auto, unfolding(crate::specs::ItemAdded::item_added))]
-    pub fn add_item(
-        &self,
-        alloc: Global,
-        new: &NewItem,
-        id: u64,
-        first: u64,
-    ) -> Result<ItemRows, CatalogueRefusal>
-        ensures done { IfOk result (λ rows. item_added new.now id first self.now.lists ≡ Ok rows) }
-        ensures refused { IfErr result (λ e. e ≢ CatalogueRefusal.Memory → item_added new.now id first self.now.lists ≡ Err e) }
-    {
-        let count = new.variations.as_slice().len();
-        if !(takes_row(id, self.items()) && takes_rows(count, first, self.variations())) {
-            return Err(CatalogueRefusal::Full);
-        }
-        Ok(ItemRows {
-            item: new.row(alloc, id)?,
-            variations: variation_rows(alloc, new.variations.as_slice(), id, first)?,
-        })
-    }
-
-    /// An item as it is after a change. It is for the caller to put it.
-    /// Refusals: 10 `NoItem`.
-    pub fn change_item(
-        &self,
-        alloc: Global,
-        id: u64,
-        patch: &ItemPatch,
-    ) -> Result<Item, CatalogueRefusal>
-        ensures done { IfOk result (λ row. item_changed id patch.now self.now.lists ≡ Ok row) }
-        ensures refused { IfErr result (λ e. e ≢ CatalogueRefusal.Memory → item_changed id patch.now self.now.lists ≡ Err e) }
-    {
-        match self.item(id) {
-            None => Err(CatalogueRefusal::NoItem),
-            Some(row) => Ok(patch.row(alloc, row)?),
-        }
-    }
-
-    /// The row of a new variation of an item, with this id, and its price. It is for the caller to put it.
-    /// Refusals: 10 `NoItem`; 17 `Plain` where the item was made without variations; 16 `Full` where
-    /// 1,000,000 variations stand or the id is above 9,007,199,254,740,991.
-    #[tactic(auto, unfolding(crate::specs::VariationAdded::variation_added))]
-    pub fn add_variation(
-        &self,
-        alloc: Global,
-        item: u64,
-        new: &NewVariation,
-        id: u64,
-    ) -> Result<PricedVariation, CatalogueRefusal>
-        ensures done { IfOk result (λ row. variation_added item new.now id self.now.lists ≡ Ok row) }
-        ensures refused { IfErr result (λ e. e ≢ CatalogueRefusal.Memory → variation_added item new.now id self.now.lists ≡ Err e) }
-    {
-        let Some(row) = self.item(item) else {
-            return Err(CatalogueRefusal::NoItem);
-        };
-        if !row.varied {
-            return Err(CatalogueRefusal::Plain);
-        }
-        if !takes_row(id, self.variations()) {
-            return Err(CatalogueRefusal::Full);
-        }
-        Ok(PricedVariation {
-            row: new.row(alloc, row.id, id)?,
-            price: new.default_price.unwrap_or(row.default_price),
-        })
-    }
-
-    /// A quota as it is with another size. It is for the caller to put it.
-    /// Refusals: 13 `NoQuota`.
-    pub fn resize(
-        &self,
-        alloc: Global,
-        id: u64,
-        patch: QuotaPatch,
-    ) -> Result<Quota, CatalogueRefusal>
-        ensures done { IfOk result (λ row. resized id patch self.now.lists ≡ Ok row) }
-        ensures refused { IfErr result (λ e. e ≢ CatalogueRefusal.Memory → resized id patch self.now.lists ≡ Err e) }
-    {
-        match self.quota(id) {
-            None => Err(CatalogueRefusal::NoQuota),
-            Some(row) => Ok(patch.row(alloc, row)?),
-        }
-    }
-
     /// Copies of an item's variations, by id.
     pub fn variations_of(&self, alloc: Global, item: u64) -> Result<List<Variation>, AllocError>
         ensures { IfOk result (λ rows. rows ≡ variations_of item self.now.lists) }
@@ -302,139 +205,6 @@ impl Catalogue {
             item: item.copy(alloc)?,
             variations: self.variations_of(alloc, item.id)?,
         })
-    }
-
-    /// The row of a new quota with this id. It is for the caller to put it.
-    /// Refusals: 10 `NoItem`, 11 `NoVariation` where one is unknown; 14 `BadMember` where a variation's item
-    /// isn't listed, or none of the variations of an item that is sold by them; 16 `Full` where
-    /// 1,000,000 quotas stand or the id is above 9,007,199,254,740,991.
-    #[tactic(auto, unfolding(crate::specs::QuotaAdded::quota_added))]
-    pub fn add_quota(
-        &self,
-        alloc: Global,
-        new: &NewQuota,
-        id: u64,
-    ) -> Result<Quota, CatalogueRefusal>
-        ensures done { IfOk result (λ row. quota_added new.now id self.now.lists ≡ Ok row) }
-        ensures refused { IfErr result (λ e. e ≢ CatalogueRefusal.Memory → quota_added new.now id self.now.lists ≡ Err e) }
-    {
-        let quota = new.row(alloc, id)?;
-        self.test_quota(alloc, &quota)?;
-        Ok(quota)
-    }
-
-    // Whether a quota may be added.
-    #[tactic(auto, unfolding(crate::specs::QuotaAdded::quota_test))]
-    fn test_quota(&self, alloc: Global, quota: &Quota) -> Result<(), CatalogueRefusal>
-        ensures done { IfOk result (λ u. quota_test quota.now self.now.lists ≡ Ok u) }
-        ensures refused { IfErr result (λ e. e ≢ CatalogueRefusal.Memory → quota_test quota.now self.now.lists ≡ Err e) }
-    {
-        if !self.items_stand(quota) {
-            return Err(CatalogueRefusal::NoItem);
-        }
-        if !self.variations_stand(quota) {
-            return Err(CatalogueRefusal::NoVariation);
-        }
-        if !self.variations_fit(quota) {
-            return Err(CatalogueRefusal::BadMember);
-        }
-        if !self.items_fit(alloc, quota)? {
-            return Err(CatalogueRefusal::BadMember);
-        }
-        if !takes_row(quota.id, self.quotas()) {
-            return Err(CatalogueRefusal::Full);
-        }
-        Ok(())
-    }
-
-    // Whether each item that the quota lists stands.
-    #[tactic(auto, unfolding(crate::specs::QuotaAdded::items_stand))]
-    fn items_stand(&self, quota: &Quota) -> bool
-        ensures { result ≡ items_stand quota.now self.now.lists }
-    {
-        quota
-            .items
-            .as_slice()
-            .iter()
-            .all(|id| self.item(*id).is_some())
-    }
-
-    // Whether each variation that the quota lists stands.
-    #[tactic(auto, unfolding(crate::specs::QuotaAdded::variations_stand))]
-    fn variations_stand(&self, quota: &Quota) -> bool
-        ensures { result ≡ variations_stand quota.now self.now.lists }
-    {
-        quota
-            .variations
-            .as_slice()
-            .iter()
-            .all(|id| self.variation(*id).is_some())
-    }
-
-    // Whether each listed variation's item is listed too.
-    #[tactic(auto, unfolding(crate::specs::QuotaAdded::variations_fit))]
-    fn variations_fit(&self, quota: &Quota) -> bool
-        ensures { result ≡ variations_fit quota.now self.now.lists }
-    {
-        quota
-            .variations
-            .as_slice()
-            .iter()
-            .all(|id| self.is_of_one(*id, quota))
-    }
-
-    // Whether each listed item is sold by itself, or one of its variations is listed.
-    #[tactic(auto, unfolding(crate::specs::QuotaAdded::items_fit))]
-    fn items_fit(&self, alloc: Global, quota: &Quota) -> Result<bool, AllocError>
-        ensures { IfOk result (λ fit. fit ≡ items_fit quota.now self.now.lists) }
-    {
-        let items = self.items_of(alloc, quota.variations.as_slice())?;
-        let offered = Ids::sorted(items);
-        Ok(self.are_offered(quota.items.as_slice(), &offered))
-    }
-
-    // The items that these variations are of.
-    fn items_of(&self, alloc: Global, variations: &[u64]) -> Result<Vec<u64>, AllocError>
-        ensures { IfOk result (λ items. items.items ≡ items_of variations.now self.now.lists) }
-    {
-        variations
-            .iter()
-            .filter_map(|id| self.item_of(*id))
-            .collect(alloc)
-    }
-
-    // The item that a variation is of.
-    fn item_of(&self, variation: u64) -> Option<u64>
-        ensures { result ≡ item_of (variation_at variation self.now.lists) }
-    {
-        self.variation(variation).map(|row| row.item)
-    }
-
-    // Whether a variation's item is in the quota.
-    fn is_of_one(&self, variation: u64, quota: &Quota) -> bool
-        ensures { result ≡ is_of_one quota.now.items (variation_at variation self.now.lists) }
-    {
-        match self.variation(variation) {
-            None => false,
-            Some(row) => quota.items.has(row.item),
-        }
-    }
-
-    // Whether each of these items is sold by itself, or is among those of which a variation is listed.
-    fn are_offered(&self, items: &[u64], offered: &Ids) -> bool
-        ensures { result ≡ list_all (λ id. is_offered offered.now (item_at id self.now.lists)) items.now }
-    {
-        items.iter().all(|id| self.is_offered(*id, offered))
-    }
-
-    // Whether an item is sold by itself, or is among those of which a variation is listed.
-    fn is_offered(&self, item: u64, offered: &Ids) -> bool
-        ensures { result ≡ is_offered offered.now (item_at item self.now.lists) }
-    {
-        match self.item(item) {
-            None => false,
-            Some(row) => !row.varied || offered.has(row.id),
-        }
     }
 }
 
