@@ -9,9 +9,10 @@ use Rattle.bo_lists.specs.Lists.{State}
 use Rattle.bo_sound.specs.Sound.{IsSound}
 use Rattle.bo_sound.proofs.Sound.{sound_later}
 use Rattle.bo_commands.specs.declared.replies.Reply.{Reply}
-use Rattle.bo_office.specs.Runs.{Arrival as Coming, IsFitArrival as IsFitComing, moment_at}
-use Rattle.bo_office.proofs.Runs.{not_before, in_range, none_over_all, within_all, lowers_all, ids_all, sound_all}
-use Rattle.bo_office.proofs.BulkRuns.{entries_all}
+use Rattle.bo_runs.specs.Runs.{Arrival as Coming, IsFitArrival as IsFitComing}
+use Rattle.bo_machine.specs.Step.{moment_at}
+use Rattle.bo_runs.proofs.Runs.{not_before, in_range, none_over_all, within_all, lowers_all, ids_all, sound_all}
+use Rattle.bo_runs.proofs.BulkRuns.{entries_all}
 use Rattle.bo_deliveries.specs.declared.arrival.Request.{Request}
 use Rattle.bo_deliveries.specs.declared.arrival.Request.TheVariants.{Write, WriteRefused, Read, ReadRefused}
 use Rattle.bo_deliveries.specs.Deliveries.{done, is_first, is_repeat, is_write, Delivery, Opening, First, executed, firsts, office, office_after}

@@ -5,8 +5,8 @@ use Rattle.bo_base.specs.declared.answer.Response.{Response}
 use Rattle.bo_base.specs.declared.draw.Draw.{Draw}
 use Rattle.bo_lists.specs.Lists.{State}
 use Rattle.bo_commands.specs.declared.replies.Reply.{Reply}
-use Rattle.bo_office.specs.Runs.{Stepped, Each, NoneOver, StaysWithin, RaisesNothing, RunsItsEntries, GivesNewIds, LeavesSound}
-use Rattle.bo_office.specs.Step.{step}
+use Rattle.bo_runs.specs.Runs.{Stepped, Each, NoneOver, StaysWithin, RaisesNothing, RunsItsEntries, GivesNewIds, LeavesSound}
+use Rattle.bo_machine.specs.Step.{step}
 use Rattle.bo_deliveries.specs.declared.arrival.Arrival.{Arrival}
 use Rattle.bo_deliveries.specs.declared.arrival.Request.{Request}
 use Rattle.bo_deliveries.specs.declared.arrival.Request.TheVariants.{Write, WriteRefused, Read, ReadRefused}

@@ -7,7 +7,7 @@ use Rattle.bo_devices.specs.declared.device.Tick.{Tick}
 use Rattle.bo_base.specs.declared.draw.Draw.{Draw}
 use Rattle.bo_http.specs.Messages.{Message}
 use Rattle.bo_lists.specs.Lists.{State}
-use Rattle.bo_office.specs.Runs.{stepped}
+use Rattle.bo_runs.specs.Runs.{stepped}
 use Rattle.bo_deliveries.specs.declared.arrival.Arrival.{Arrival}
 use Rattle.bo_deliveries.specs.declared.arrival.Request.{Request}
 use Rattle.bo_deliveries.specs.declared.arrival.Request.TheVariants.{Write, WriteRefused, Read, ReadRefused}

@@ -17,9 +17,9 @@ use Rattle.bo_vouchers.proofs.Changed.{changed_is}
 use Rattle.bo_commands.specs.declared.requests.Command.TheVariants.{AddVoucher, ChangeVoucher}
 use Rattle.bo_commands.specs.declared.replies.Reply.{Reply}
 use Rattle.bo_commands.specs.declared.replies.Reply.TheVariants.{Made, Found}
-use Rattle.bo_office.specs.Changes.{changes_of}
-use Rattle.bo_office.specs.ShownRows.{show_voucher}
-use Rattle.bo_office.specs.Step.{step, voucher_step, voucher_change_step}
+use Rattle.bo_machine.specs.Changes.{changes_of}
+use Rattle.bo_machine.specs.ShownRows.{show_voucher}
+use Rattle.bo_machine.specs.Step.{step, voucher_step, voucher_change_step}
 
 pub made_shown : (new : NewVoucher) (draw : Draw) (before after : State) (row : Voucher) → voucher_made new draw before ≡ Ok (after, row) → show_voucher before.lists row ≡ show_voucher after.lists row
 unfolding show_voucher

@@ -5,9 +5,9 @@ ghost use Rattle.bo_base.specs.declared.draw.Draw.{Draw};
 ghost use Rattle.bo_draft.specs.DraftState.{now, Extends};
 ghost use Rattle.bo_lists.specs.Change.{applied};
 ghost use Rattle.bo_sound.specs.Sound.{IsSound};
-ghost use Rattle.bo_office.specs.PeriodicWork.{periodic_done, periodic_changes};
-ghost use Rattle.bo_office.specs.Changes.{changes_of};
-ghost use Rattle.bo_office.specs.Step.{RefusesWithoutChange, step};
+ghost use Rattle.bo_machine.specs.PeriodicWork.{periodic_done, periodic_changes};
+ghost use Rattle.bo_machine.specs.Changes.{changes_of};
+ghost use Rattle.bo_machine.specs.Step.{RefusesWithoutChange, step};
 ghost use Rattle.bo_commands.specs.declared.requests.Command.{Command};
 
 use crate::office::Office;

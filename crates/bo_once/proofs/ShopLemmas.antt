@@ -14,8 +14,7 @@ use Rattle.bo_sound.specs.Sound.{IsSound}
 use Rattle.bo_sound.proofs.Sound.{sound_later}
 use Rattle.bo_commands.specs.declared.requests.Command.{Command}
 use Rattle.bo_commands.specs.declared.replies.Reply.{Reply}
-use Rattle.bo_office.specs.Runs.{moment_at}
-use Rattle.bo_office.specs.Step.{step}
+use Rattle.bo_machine.specs.Step.{step, moment_at}
 use Rattle.bo_deliveries.specs.declared.arrival.Arrival.{Arrival}
 use Rattle.bo_kept.specs.declared.kept.Kept.{Kept}
 use Rattle.bo_deliveries.specs.declared.arrival.Request.TheVariants.{Write, WriteRefused}

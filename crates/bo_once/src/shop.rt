@@ -1,7 +1,7 @@
 //! A shop: an office, its tables and its wording.
 
 ghost use Rattle.std.specs.Prelude.{◌≡◌, ◌≤◌, ℕ, List, Option, IfOk};
-ghost use Rattle.bo_office.specs.Runs.{moment_at};
+ghost use Rattle.bo_machine.specs.Step.{moment_at};
 ghost use Rattle.bo_kept.specs.ShopView.{ShopView};
 ghost use Rattle.bo_deliveries.specs.Shops.{Views};
 
