@@ -12,7 +12,7 @@ use Rattle.bo_deliveries.specs.declared.arrival.Arrival.{Arrival}
 use Rattle.bo_deliveries.specs.declared.arrival.Request.{Request}
 use Rattle.bo_deliveries.specs.declared.arrival.Request.TheVariants.{Write, WriteRefused, Read, ReadRefused}
 use Rattle.bo_deliveries.specs.Deliveries.{Opening, Delivery}
-use Rattle.bo_deliveries.specs.Headline.{TakesNothingTooMuch}
+use Rattle.bo_runs.specs.NothingTooMuch.{TakesNothingTooMuch}
 use Rattle.bo_deliveries.specs.Histories.{Running}
 use Rattle.bo_deliveries.specs.Shops.{executes}
 use Rattle.bo_kept.specs.ShopView.{ShopView}

@@ -7,3 +7,4 @@ pub mod Runs
 pub mod DoorTables
 pub mod ScansAgain
 pub mod Changes
+pub mod NothingOver

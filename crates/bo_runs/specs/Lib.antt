@@ -3,3 +3,4 @@ pub mod NewIds
 pub mod Runs
 pub mod Doors
 pub mod Changes
+pub mod NothingTooMuch

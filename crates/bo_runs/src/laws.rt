@@ -12,6 +12,10 @@ ghost use Rattle.bo_commands.specs.declared.doors.Scan.{Scan};
 ghost use Rattle.bo_commands.specs.declared.doors.Ticket.{Ticket};
 ghost use Rattle.bo_commands.specs.declared.replies.Reply.{Reply};
 ghost use Rattle.bo_door.specs.Valid.{IsStillGood};
+ghost use Rattle.bo_base.specs.declared.answer.Response.{Response};
+ghost use Rattle.bo_deliveries.specs.Deliveries.{Delivery, Opening, firsts, office};
+ghost use Rattle.bo_deliveries.specs.Fit.{IsFitDelivery};
+ghost use Rattle.bo_runs.specs.NothingTooMuch.{TakesNothingTooMuch, steps};
 ghost use Rattle.bo_runs.specs.Doors.{HasNoncesOnce, scan_comes, AddsNothing};
 ghost use Rattle.bo_runs.specs.NewIds.{AllIdsGoOn};
 ghost use Rattle.bo_runs.specs.Runs.{Arrival, IsFitArrival, stepped, trace, after_run, Each, NoneOver, StaysWithin, RaisesNothing, RunsItsEntries, GivesNewIds, LeavesSound, StoresItsMoment, ChangesNothingElse, NeverGoesBack};
@@ -97,4 +101,11 @@ pub fn a_scan_sent_again_adds_nothing()
         (stepped (scan_comes list ticket scan clock draw) state).reply ≡ Reply.Admitted position →
         IsStillGood position.order state.lists (after_run arrivals (stepped (scan_comes list ticket scan clock draw) state).after).lists →
         AddsNothing position (stepped (scan_comes list ticket scan later other) (after_run arrivals (stepped (scan_comes list ticket scan clock draw) state).after)) }
+{}
+
+/// Whatever arrivals come to a sound office, each executed command takes too much of no quota, as the laws of the office say
+/// it, a bulk call by its entries; it uses no id again, and leaves the office sound; and so the office is after all of them.
+pub fn nothing_is_taken_too_much()
+    ensures each { (words : Reply → Response) (p : Opening) (ds : List Delivery) → AllByRecursion IsFitDelivery ds → IsSound p.state → AllByRecursion TakesNothingTooMuch (steps words p.state (firsts p ds)) }
+    ensures all { (words : Reply → Response) (p : Opening) (ds : List Delivery) → AllByRecursion IsFitDelivery ds → IsSound p.state → IsSound (office words p (firsts p ds)) }
 {}

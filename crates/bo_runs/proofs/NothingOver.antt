@@ -17,7 +17,7 @@ use Rattle.bo_deliveries.specs.declared.arrival.Request.{Request}
 use Rattle.bo_deliveries.specs.declared.arrival.Request.TheVariants.{Write, WriteRefused, Read, ReadRefused}
 use Rattle.bo_deliveries.specs.Deliveries.{done, is_first, is_repeat, is_write, Delivery, Opening, First, executed, firsts, office, office_after}
 use Rattle.bo_deliveries.specs.Fit.{IsFitRequest, IsFitArrival, IsFitDelivery}
-use Rattle.bo_deliveries.specs.Headline.{TakesNothingTooMuch, step_of, steps}
+use Rattle.bo_runs.specs.NothingTooMuch.{TakesNothingTooMuch, step_of, steps}
 use Rattle.bo_deliveries.proofs.Runs.{AreTimed, timed, stores}
 use Rattle.bo_deliveries.proofs.Again.{more}
 

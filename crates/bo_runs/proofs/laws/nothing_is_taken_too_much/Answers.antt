@@ -1,5 +1,5 @@
-use Rattle.bo_deliveries.proofs.NothingOver.{nothing_over}
-use Rattle.bo_deliveries.proofs.laws.nothing_is_taken_too_much.Goals as goal
+use Rattle.bo_runs.proofs.NothingOver.{nothing_over}
+use Rattle.bo_runs.proofs.laws.nothing_is_taken_too_much.Goals as goal
 
 pub returns-clause-each : goal.returns-clause-each
 returns-clause-each c = λ words p ds fit sound. (nothing_over words p ds fit sound).0
