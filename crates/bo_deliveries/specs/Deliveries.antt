@@ -9,7 +9,7 @@ use Rattle.bo_base.specs.Moments.{last_moment}
 use Rattle.bo_lists.specs.Lists.{State}
 use Rattle.bo_commands.specs.declared.replies.Reply.{Reply}
 use Rattle.bo_machine.specs.Answer.{answer}
-use Rattle.bo_machine.specs.Step.{step}
+pub use Rattle.bo_machine.specs.Step.{step}
 use Rattle.bo_deliveries.specs.declared.arrival.Arrival.{Arrival}
 use Rattle.bo_kept.specs.declared.kept.Kept.{Kept}
 use Rattle.bo_kept.specs.KeptAnswers.{has_key, lasts}

@@ -29,7 +29,9 @@ use Rattle.bo_commands.specs.declared.vouchers.VoucherRefusal.{VoucherRefusal}
 use Rattle.bo_vouchers.specs.Made.{voucher_made}
 use Rattle.bo_vouchers.specs.Changed.{voucher_changed}
 use Rattle.bo_vouchers.specs.Deleted.{voucher_deleted}
+pub use Rattle.bo_vouchers.proofs.Made.{made_is}
 use Rattle.bo_vouchers.proofs.Made.{made_sound, made_moment}
+pub use Rattle.bo_vouchers.proofs.Changed.{changed_is}
 use Rattle.bo_vouchers.proofs.Changed.{changed_sound, changed_moment}
 use Rattle.bo_vouchers.proofs.Deleted.{deleted_sound, deleted_moment}
 use Rattle.bo_commands.specs.declared.orders.OrderRefusal.{OrderRefusal}
@@ -44,7 +46,7 @@ use Rattle.bo_orders.proofs.BulkSound.{many_is, all_sound, all_moment}
 use Rattle.bo_orders.proofs.Added.{added_sound, added_moment}
 use Rattle.bo_orders.proofs.Created.{created_moment, created_sound}
 use Rattle.bo_orders.proofs.Dropped.{dropped_sound, dropped_moment}
-use Rattle.bo_orders.proofs.Expires.{expired_sound, dropped_carts_sound}
+pub use Rattle.bo_orders.proofs.Expires.{expired_sound, dropped_carts_sound}
 use Rattle.bo_orders.proofs.Moved.{moved_moment, moved_sound}
 use Rattle.bo_commands.specs.Fit.{IsFit}
 use Rattle.bo_commands.specs.declared.requests.Command.{Command}

@@ -16,7 +16,7 @@ use Rattle.bo_commands.specs.declared.vouchers.VoucherRefusal.TheVariants.{NoVou
 use Rattle.bo_commands.specs.declared.orders.OrderRefusal.TheVariants.{NoPosition, NoOrder}
 use Rattle.bo_commands.specs.declared.waiting.WaitingRefusal.TheVariants.{NoEntry}
 use Rattle.bo_commands.specs.declared.doors.DoorRefusal.TheVariants.{NoList, Invalid}
-use Rattle.bo_door.specs.Belongs.{belongs, belonging}
+pub use Rattle.bo_door.specs.Belongs.{belongs, belonging}
 use Rattle.bo_door.specs.Status.{status_of}
 use Rattle.bo_commands.specs.declared.requests.Query.{Query}
 use Rattle.bo_commands.specs.declared.requests.Query.TheVariants as queries

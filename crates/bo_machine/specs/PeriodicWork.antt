@@ -5,7 +5,7 @@ use Rattle.bo_lists.specs.declared.changes.Change.{Change}
 use Rattle.bo_lists.specs.Lists.{State}
 use Rattle.bo_lists.specs.Due.{due_orders, dead_carts}
 use Rattle.bo_commands.specs.declared.waiting.PeriodicCounts.{PeriodicCounts}
-use Rattle.bo_orders.specs.Expired.{orders_expired, carts_dropped, expired_changes, dropped_changes}
+pub use Rattle.bo_orders.specs.Expired.{orders_expired, carts_dropped, expired_changes, dropped_changes}
 use Rattle.bo_waiting.specs.Serving.{all_served, served_changes}
 
 -- the pending orders whose end is before the moment are expired, and the dead cart positions are gone

@@ -10,7 +10,7 @@ use Rattle.bo_lists.specs.declared.rows.Waiting.{Waiting}
 use Rattle.bo_lists.specs.declared.rows.CheckinList.{CheckinList}
 use Rattle.bo_lists.specs.Lists.{Lists, positions_of}
 use Rattle.bo_lists.specs.Usage.{redeemed}
-use Rattle.bo_door.specs.Status.{ticket_of}
+pub use Rattle.bo_door.specs.Status.{ticket_of}
 use Rattle.bo_commands.specs.declared.replies.Shown.{Shown}
 use Rattle.bo_commands.specs.declared.replies.Shown.TheVariants as rows
 

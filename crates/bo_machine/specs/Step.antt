@@ -23,8 +23,8 @@ use Rattle.bo_lists.specs.Lists.{State}
 use Rattle.bo_lists.specs.Change.{Changed, changed}
 use Rattle.bo_lists.specs.Numbered.{with_item, with_variation, with_quota}
 use Rattle.bo_commands.specs.declared.vouchers.VoucherRefusal.{VoucherRefusal}
-use Rattle.bo_vouchers.specs.Made.{voucher_made}
-use Rattle.bo_vouchers.specs.Changed.{voucher_changed}
+pub use Rattle.bo_vouchers.specs.Made.{voucher_made}
+pub use Rattle.bo_vouchers.specs.Changed.{voucher_changed}
 use Rattle.bo_vouchers.specs.Deleted.{voucher_deleted}
 use Rattle.bo_commands.specs.declared.orders.OrderRefusal.{OrderRefusal}
 use Rattle.bo_commands.specs.declared.carts.Outcome.{Outcome}

@@ -10,8 +10,8 @@ ghost use Rattle.bo_commands.specs.declared.requests.Command.{Command};
 use crate::office::Office;
 use bo_base::Moment;
 use bo_commands::{DoorRefusal, Kind, NewCheckinList, Refusal, Reply, Scan, Shown, Ticket};
-use bo_door::{add_list, redeem};
 use bo_lists::Changes;
+use bo_machine::decisions::{add_list, redeem};
 use bo_usage::Book;
 use std::alloc::{AllocError, Global};
 

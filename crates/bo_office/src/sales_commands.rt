@@ -17,9 +17,10 @@ use bo_commands::{
 };
 use bo_draft::Draft;
 use bo_lists::Changes;
-use bo_orders::{add_many, add_position, create, drop_position, move_order};
+use bo_machine::decisions::{
+    add_many, add_position, create, decide_voucher, drop_position, move_order,
+};
 use bo_usage::Book;
-use bo_vouchers::decide_voucher;
 use std::alloc::{AllocError, Global};
 
 impl<B: Book> Office<B> {

@@ -17,9 +17,8 @@ use bo_commands::{
 };
 use bo_draft::Draft;
 use bo_lists::Changes;
-use bo_orders::periodic::{drop_dead_carts, expire_orders};
+use bo_machine::decisions::{change, drop_dead_carts, expire_orders, join, leave, send, serve_all};
 use bo_usage::Book;
-use bo_waiting::{change, join, leave, send, serve_all};
 use std::alloc::{AllocError, Global};
 
 impl<B: Book> Office<B> {
@@ -128,7 +127,7 @@ impl<B: Book> Office<B> {
 }
 
 // Expires orders, deletes dead cart positions, then serves. Without memory some of it is done.
-#[tactic(auto, unfolding(bo_orders::specs::Expired::orders_expired, bo_orders::specs::Expired::carts_dropped))]
+#[tactic(auto, unfolding(bo_machine::specs::PeriodicWork::orders_expired, bo_machine::specs::PeriodicWork::carts_dropped))]
 fn work_in<B: Book>(
     draft: &mut Draft<'_, B>,
     alloc: Global,
