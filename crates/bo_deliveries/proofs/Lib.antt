@@ -6,5 +6,4 @@ pub mod Again
 pub mod Apart
 pub mod OneEach
 pub mod Crashes
-pub mod NothingOver
 pub mod Running

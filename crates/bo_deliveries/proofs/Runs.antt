@@ -5,8 +5,8 @@ use Rattle.bo_base.specs.declared.draw.Draw.{Draw}
 use Rattle.bo_base.specs.Moments.{last_moment}
 use Rattle.bo_lists.specs.Lists.{State}
 use Rattle.bo_commands.specs.declared.replies.Reply.{Reply}
-use Rattle.bo_office.specs.Runs.{moment_at}
-use Rattle.bo_office.proofs.Runs.{stores_all}
+use Rattle.bo_machine.specs.Step.{moment_at}
+use Rattle.bo_machine.proofs.SoundSteps.{sound_step}
 use Rattle.bo_deliveries.specs.declared.arrival.Arrival.{Arrival}
 use Rattle.bo_kept.specs.declared.kept.Kept.{Kept}
 use Rattle.bo_deliveries.specs.declared.arrival.Request.{Request}
@@ -16,7 +16,7 @@ use Rattle.bo_deliveries.specs.Deliveries.{is_write, done, Delivery, Opening, Fi
 -- a write stores its moment
 pub stores : (words : Reply → Response) (request : Request) (clock : ℕ) (draw : Draw) (state : State) → is_write request ≡ true → (done words request (moment_at clock state) draw state).0.moment ≡ moment_at clock state
 unfolding done
-stores words (Write command) clock draw state is = (stores_all (record { clock = clock; draw = draw; command = command } ∷ []) state).0
+stores words (Write command) clock draw state is = (sound_step command draw (record state { moment = moment_at clock state })).moment
 stores words (WriteRefused response) clock draw state is = refl
 stores words (Read query) clock draw state is = absurd (let both : false ≡ true = is in cc)
 stores words (ReadRefused response) clock draw state is = absurd (let both : false ≡ true = is in cc)

@@ -8,8 +8,8 @@ use Rattle.bo_base.specs.declared.draw.Draw.{Draw}
 use Rattle.bo_base.specs.Moments.{last_moment}
 use Rattle.bo_lists.specs.Lists.{State}
 use Rattle.bo_commands.specs.declared.replies.Reply.{Reply}
-use Rattle.bo_office.specs.Answer.{answer}
-use Rattle.bo_office.specs.Step.{step}
+use Rattle.bo_machine.specs.Answer.{answer}
+pub use Rattle.bo_machine.specs.Step.{step}
 use Rattle.bo_deliveries.specs.declared.arrival.Arrival.{Arrival}
 use Rattle.bo_kept.specs.declared.kept.Kept.{Kept}
 use Rattle.bo_kept.specs.KeptAnswers.{has_key, lasts}

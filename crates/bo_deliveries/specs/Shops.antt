@@ -10,7 +10,7 @@ use Rattle.bo_kept.specs.declared.kept.Kept.{Kept}
 use Rattle.bo_deliveries.specs.Deliveries.{Opening, Delivery, First, came, turned_away, done, is_write, held_for, firsts, office, kept}
 use Rattle.bo_kept.specs.KeptAnswers.{AreOneForEachKey}
 use Rattle.bo_kept.specs.ShopView.{ShopView, own_row, with_kept}
-use Rattle.bo_office.specs.Runs.{moment_at}
+pub use Rattle.bo_machine.specs.Step.{moment_at}
 
 -- the moment of an arrival: the clock's, but never before the office's
 abbrev pub moment_of : ShopView → Arrival → ℕ

@@ -1,11 +1,9 @@
 //! Laws of every list of arrivals, and of every history with crashes.
 
 ghost use Rattle.std.specs.Prelude.{◌≡◌, ◌++◌, ℕ, List, [], IsPermutation};
-ghost use Rattle.std.specs.List.{AllByRecursion};
 ghost use Rattle.bo_base.specs.declared.answer.Answer.{Answer};
 ghost use Rattle.bo_base.specs.declared.answer.Response.{Response};
 ghost use Rattle.bo_lists.specs.Lists.{State};
-ghost use Rattle.bo_sound.specs.Sound.{IsSound};
 ghost use Rattle.bo_commands.specs.declared.replies.Reply.{Reply};
 ghost use Rattle.bo_deliveries.specs.declared.arrival.Arrival.{Arrival};
 ghost use Rattle.bo_kept.specs.declared.kept.Kept.{Kept};
@@ -13,8 +11,7 @@ ghost use Rattle.bo_deliveries.specs.Deliveries.{Delivery, Opening, firsts, kept
 ghost use Rattle.bo_kept.specs.KeptAnswers.{told_by, AreOneForEachKey};
 ghost use Rattle.bo_kept.specs.ShopView.{ShopView};
 ghost use Rattle.bo_deliveries.specs.Shops.{ServesAll, Stands, delivered_all, stood};
-ghost use Rattle.bo_deliveries.specs.Fit.{IsFitDelivery};
-ghost use Rattle.bo_deliveries.specs.Headline.{ToldAgain, ExecutedAnew, AreADayApart, TakesNothingTooMuch, steps};
+ghost use Rattle.bo_deliveries.specs.Headline.{ToldAgain, ExecutedAnew, AreADayApart};
 ghost use Rattle.bo_deliveries.specs.Histories.{Event, Running, Happens, ComesTo, MayLeave, IsRunning, Reopened, opened};
 
 use bo_kept::Tables;
@@ -51,13 +48,6 @@ pub fn executions_are_a_day_apart()
 /// No token has a key twice among what is kept, so that an arrival repeats one answer at most.
 pub fn one_answer_for_each_key()
     ensures { (words : Reply → Response) (p : Opening) (ds : List Delivery) → AreOneForEachKey p.kept → AreOneForEachKey (kept words p (firsts p ds)) }
-{}
-
-/// Whatever arrivals come to a sound office, each executed command takes too much of no quota, as the laws of the office say
-/// it, a bulk call by its entries; it uses no id again, and leaves the office sound; and so the office is after all of them.
-pub fn nothing_is_taken_too_much()
-    ensures each { (words : Reply → Response) (p : Opening) (ds : List Delivery) → AllByRecursion IsFitDelivery ds → IsSound p.state → AllByRecursion TakesNothingTooMuch (steps words p.state (firsts p ds)) }
-    ensures all { (words : Reply → Response) (p : Opening) (ds : List Delivery) → AllByRecursion IsFitDelivery ds → IsSound p.state → IsSound (office words p (firsts p ds)) }
 {}
 
 /// Whatever happens to a shop, with crashes at any moments, after each of which it is opened again: it stands for the list

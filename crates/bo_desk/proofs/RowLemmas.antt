@@ -12,9 +12,9 @@ use Rattle.bo_lists.specs.Lists.{State}
 use Rattle.bo_sound.specs.Sound.{IsSound}
 use Rattle.bo_sound.proofs.Sound.{sound_later}
 use Rattle.bo_commands.specs.declared.replies.Reply.{Reply}
-use Rattle.bo_office.specs.Runs.{Arrival as Coming, IsFitArrival as IsFitComing, moment_at}
-use Rattle.bo_office.proofs.Runs.{not_before, in_range, none_over_all, within_all, lowers_all, ids_all, sound_all}
-use Rattle.bo_office.proofs.BulkRuns.{entries_all}
+use Rattle.bo_runs.specs.Runs.{Arrival as Coming, IsFitArrival as IsFitComing}
+use Rattle.bo_runs.proofs.Runs.{not_before, in_range, none_over_all, within_all, lowers_all, ids_all, sound_all}
+use Rattle.bo_runs.proofs.BulkRuns.{entries_all}
 use Rattle.bo_kept.specs.declared.kept.Kept.{Kept}
 use Rattle.bo_kept.specs.ShopView.{ShopView}
 use Rattle.bo_deliveries.specs.declared.arrival.Arrival.{Arrival}
@@ -22,7 +22,7 @@ use Rattle.bo_deliveries.specs.declared.arrival.Request.{Request}
 use Rattle.bo_deliveries.specs.declared.arrival.Request.TheVariants.{Write, WriteRefused, Read, ReadRefused}
 use Rattle.bo_deliveries.specs.Deliveries.{is_write, done, held_for}
 use Rattle.bo_deliveries.specs.Fit.{IsFitRequest, IsFitArrival}
-use Rattle.bo_deliveries.specs.Shops.{Views, moment_of, acted_by, shown}
+use Rattle.bo_deliveries.specs.Shops.{Views, moment_of, acted_by, shown, moment_at}
 use Rattle.bo_deliveries.proofs.Runs.{stores}
 use Rattle.bo_connection.specs.declared.failure.Failure.{Failure}
 use Rattle.bo_connection.specs.Run.{Devices, with_desk, RunLeads}

@@ -7,12 +7,12 @@ use Rattle.bo_devices.specs.declared.device.Tick.{Tick}
 use Rattle.bo_base.specs.declared.draw.Draw.{Draw}
 use Rattle.bo_http.specs.Messages.{Message}
 use Rattle.bo_lists.specs.Lists.{State}
-use Rattle.bo_office.specs.Runs.{stepped}
+use Rattle.bo_runs.specs.Runs.{stepped}
 use Rattle.bo_deliveries.specs.declared.arrival.Arrival.{Arrival}
 use Rattle.bo_deliveries.specs.declared.arrival.Request.{Request}
 use Rattle.bo_deliveries.specs.declared.arrival.Request.TheVariants.{Write, WriteRefused, Read, ReadRefused}
 use Rattle.bo_deliveries.specs.Deliveries.{Opening, Delivery}
-use Rattle.bo_deliveries.specs.Headline.{TakesNothingTooMuch}
+use Rattle.bo_runs.specs.NothingTooMuch.{TakesNothingTooMuch}
 use Rattle.bo_deliveries.specs.Histories.{Running}
 use Rattle.bo_deliveries.specs.Shops.{executes}
 use Rattle.bo_kept.specs.ShopView.{ShopView}

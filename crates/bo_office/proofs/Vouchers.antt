@@ -10,16 +10,13 @@ use Rattle.bo_lists.specs.Change.{Changed, applied, after_all}
 use Rattle.bo_draft.specs.DraftState.{DraftState, now}
 use Rattle.bo_commands.specs.declared.vouchers.NewVoucher.{NewVoucher}
 use Rattle.bo_commands.specs.declared.vouchers.VoucherPatch.{VoucherPatch}
-use Rattle.bo_vouchers.specs.Made.{voucher_made}
-use Rattle.bo_vouchers.specs.Changed.{voucher_changed}
-use Rattle.bo_vouchers.proofs.Made.{made_is}
-use Rattle.bo_vouchers.proofs.Changed.{changed_is}
+use Rattle.bo_machine.specs.Step.{voucher_made, voucher_changed, step, voucher_step, voucher_change_step}
+use Rattle.bo_machine.proofs.SoundSteps.{made_is, changed_is}
 use Rattle.bo_commands.specs.declared.requests.Command.TheVariants.{AddVoucher, ChangeVoucher}
 use Rattle.bo_commands.specs.declared.replies.Reply.{Reply}
 use Rattle.bo_commands.specs.declared.replies.Reply.TheVariants.{Made, Found}
-use Rattle.bo_office.specs.Changes.{changes_of}
-use Rattle.bo_office.specs.ShownRows.{show_voucher}
-use Rattle.bo_office.specs.Step.{step, voucher_step, voucher_change_step}
+use Rattle.bo_machine.specs.Changes.{changes_of}
+use Rattle.bo_machine.specs.ShownRows.{show_voucher}
 
 pub made_shown : (new : NewVoucher) (draw : Draw) (before after : State) (row : Voucher) → voucher_made new draw before ≡ Ok (after, row) → show_voucher before.lists row ≡ show_voucher after.lists row
 unfolding show_voucher

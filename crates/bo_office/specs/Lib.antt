@@ -1,11 +1,1 @@
 pub mod OfficeView
-pub mod ShownRows
-pub mod PeriodicWork
-pub mod Step
-pub mod Pages
-pub mod Answer
-pub mod Takings
-pub mod NewIds
-pub mod Runs
-pub mod Doors
-pub mod Changes

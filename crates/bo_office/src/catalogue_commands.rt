@@ -4,8 +4,8 @@ ghost use Rattle.std.specs.Prelude.{◌≡◌, ℕ, IfOk};
 ghost use Rattle.bo_base.specs.declared.draw.Draw.{Draw};
 ghost use Rattle.bo_lists.specs.Change.{applied};
 ghost use Rattle.bo_lists.specs.Numbered.{puts_of};
-ghost use Rattle.bo_office.specs.Changes.{changes_of};
-ghost use Rattle.bo_office.specs.Step.{RefusesWithoutChange, step};
+ghost use Rattle.bo_machine.specs.Changes.{changes_of};
+ghost use Rattle.bo_machine.specs.Step.{RefusesWithoutChange, step};
 ghost use Rattle.bo_commands.specs.declared.requests.Command.{Command};
 
 use crate::office::Office;

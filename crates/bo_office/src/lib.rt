@@ -4,10 +4,8 @@
 mod catalogue_commands;
 mod door_commands;
 mod door_queries;
-pub mod laws;
 mod lists;
 pub mod office;
-mod pages;
 mod queries;
 mod sales_commands;
 mod shown_rows;

@@ -1,14 +1,14 @@
 //! Pages of lists.
 
 ghost use Rattle.std.specs.Prelude.{◌≡◌, IfOk, map};
-ghost use Rattle.bo_office.specs.Answer.{list_of};
-ghost use Rattle.bo_office.specs.Pages.{listed};
+ghost use Rattle.bo_machine.specs.Answer.{list_of};
+ghost use Rattle.bo_pages.specs.Pages.{listed};
 
 use crate::office::Office;
-use crate::pages::{is_page, page_rows, references, sparse_page_rows};
 use crate::shown_rows::ShownRow;
 use bo_base::List;
 use bo_commands::{Kind, Page, Refusal, Reply, Resource, Shown};
+use bo_pages::pages::{is_page, page_rows, references, sparse_page_rows};
 use bo_sorted::Row;
 use bo_sparse::Sparse;
 use bo_usage::Book;

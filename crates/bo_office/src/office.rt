@@ -5,9 +5,9 @@ ghost use Rattle.bo_base.specs.declared.draw.Draw.{Draw};
 ghost use Rattle.bo_lists.specs.Change.{applied};
 ghost use Rattle.bo_lists.specs.Weight.{weight};
 ghost use Rattle.bo_sound.specs.Sound.{IsSound};
-ghost use Rattle.bo_office.specs.Step.{RefusesWithoutChange, step, no_change};
-ghost use Rattle.bo_office.specs.Answer.{answer};
-ghost use Rattle.bo_office.specs.Changes.{changes_of};
+ghost use Rattle.bo_machine.specs.Step.{RefusesWithoutChange, step, no_change};
+ghost use Rattle.bo_machine.specs.Answer.{answer};
+ghost use Rattle.bo_machine.specs.Changes.{changes_of};
 
 use bo_base::{Draw, Known, Moment, Slug};
 use bo_commands::{Command, Kind, Query, Refusal, Reply};

@@ -2,8 +2,8 @@
 
 ghost use Rattle.std.specs.Prelude.{◌≡◌, ◌≤◌, IfOk};
 ghost use Rattle.bo_commands.specs.declared.requests.Query.{Query};
-ghost use Rattle.bo_office.specs.Answer.{answer, one_of};
-ghost use Rattle.bo_office.specs.ShownRows.{show_item, show_voucher, show_order};
+ghost use Rattle.bo_machine.specs.Answer.{answer, one_of};
+ghost use Rattle.bo_machine.specs.ShownRows.{show_item, show_voucher, show_order};
 
 use crate::office::Office;
 use bo_base::Moment;

@@ -5,8 +5,8 @@ ghost use Rattle.bo_base.specs.declared.draw.Draw.{Draw};
 ghost use Rattle.bo_draft.specs.DraftState.{now};
 ghost use Rattle.bo_lists.specs.Change.{applied};
 ghost use Rattle.bo_sound.specs.Sound.{IsSound};
-ghost use Rattle.bo_office.specs.Changes.{changes_of};
-ghost use Rattle.bo_office.specs.Step.{RefusesWithoutChange, step};
+ghost use Rattle.bo_machine.specs.Changes.{changes_of};
+ghost use Rattle.bo_machine.specs.Step.{RefusesWithoutChange, step};
 ghost use Rattle.bo_commands.specs.declared.requests.Command.{Command};
 
 use crate::office::Office;
@@ -17,9 +17,10 @@ use bo_commands::{
 };
 use bo_draft::Draft;
 use bo_lists::Changes;
-use bo_orders::{add_many, add_position, create, drop_position, move_order};
+use bo_machine::decisions::{
+    add_many, add_position, create, decide_voucher, drop_position, move_order,
+};
 use bo_usage::Book;
-use bo_vouchers::decide_voucher;
 use std::alloc::{AllocError, Global};
 
 impl<B: Book> Office<B> {

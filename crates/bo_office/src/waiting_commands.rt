@@ -5,9 +5,9 @@ ghost use Rattle.bo_base.specs.declared.draw.Draw.{Draw};
 ghost use Rattle.bo_draft.specs.DraftState.{now, Extends};
 ghost use Rattle.bo_lists.specs.Change.{applied};
 ghost use Rattle.bo_sound.specs.Sound.{IsSound};
-ghost use Rattle.bo_office.specs.PeriodicWork.{periodic_done, periodic_changes};
-ghost use Rattle.bo_office.specs.Changes.{changes_of};
-ghost use Rattle.bo_office.specs.Step.{RefusesWithoutChange, step};
+ghost use Rattle.bo_machine.specs.PeriodicWork.{periodic_done, periodic_changes};
+ghost use Rattle.bo_machine.specs.Changes.{changes_of};
+ghost use Rattle.bo_machine.specs.Step.{RefusesWithoutChange, step};
 ghost use Rattle.bo_commands.specs.declared.requests.Command.{Command};
 
 use crate::office::Office;
@@ -17,9 +17,8 @@ use bo_commands::{
 };
 use bo_draft::Draft;
 use bo_lists::Changes;
-use bo_orders::periodic::{drop_dead_carts, expire_orders};
+use bo_machine::decisions::{change, drop_dead_carts, expire_orders, join, leave, send, serve_all};
 use bo_usage::Book;
-use bo_waiting::{change, join, leave, send, serve_all};
 use std::alloc::{AllocError, Global};
 
 impl<B: Book> Office<B> {
@@ -128,7 +127,7 @@ impl<B: Book> Office<B> {
 }
 
 // Expires orders, deletes dead cart positions, then serves. Without memory some of it is done.
-#[tactic(auto, unfolding(bo_orders::specs::Expired::orders_expired, bo_orders::specs::Expired::carts_dropped))]
+#[tactic(auto, unfolding(bo_machine::specs::PeriodicWork::orders_expired, bo_machine::specs::PeriodicWork::carts_dropped))]
 fn work_in<B: Book>(
     draft: &mut Draft<'_, B>,
     alloc: Global,

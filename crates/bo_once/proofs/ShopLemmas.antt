@@ -14,15 +14,13 @@ use Rattle.bo_sound.specs.Sound.{IsSound}
 use Rattle.bo_sound.proofs.Sound.{sound_later}
 use Rattle.bo_commands.specs.declared.requests.Command.{Command}
 use Rattle.bo_commands.specs.declared.replies.Reply.{Reply}
-use Rattle.bo_office.specs.Runs.{moment_at}
-use Rattle.bo_office.specs.Step.{step}
 use Rattle.bo_deliveries.specs.declared.arrival.Arrival.{Arrival}
 use Rattle.bo_kept.specs.declared.kept.Kept.{Kept}
 use Rattle.bo_deliveries.specs.declared.arrival.Request.TheVariants.{Write, WriteRefused}
-use Rattle.bo_deliveries.specs.Deliveries.{Opening, Delivery, came, turned_away, is_write, done, held_for, firsts, told}
+use Rattle.bo_deliveries.specs.Deliveries.{Opening, Delivery, came, turned_away, is_write, done, held_for, firsts, told, step}
 use Rattle.bo_kept.specs.KeptAnswers.{has_key, told_by}
 use Rattle.bo_kept.specs.ShopView.{ShopView, IsSame, own_row, with_kept}
-use Rattle.bo_deliveries.specs.Shops.{Views, StandsFor, IsAnswered, moment_of, own, executed_at, acted_by, acted, shown, served, delivered, stood}
+use Rattle.bo_deliveries.specs.Shops.{Views, StandsFor, IsAnswered, moment_of, own, executed_at, acted_by, acted, shown, served, delivered, stood, moment_at}
 use Rattle.bo_deliveries.proofs.Stood.{is-stood}
 use Rattle.bo_deliveries.proofs.Whole.{one_more}
 use Rattle.bo_deliveries.proofs.OneEach.{one-next}

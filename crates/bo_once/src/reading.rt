@@ -1,11 +1,10 @@
 //! What a read is told.
 
 ghost use Rattle.std.specs.Prelude.{◌≡◌, ◌++◌, List, [], ◌∷◌, IfOk, false};
-ghost use Rattle.bo_office.specs.Runs.{moment_at};
 ghost use Rattle.bo_kept.specs.ShopView.{ShopView};
 ghost use Rattle.bo_deliveries.specs.Deliveries.{Opening, Delivery, is_write, done, told};
 ghost use Rattle.bo_deliveries.specs.Histories.{Running, IsRunning, TellsIt, after_act};
-ghost use Rattle.bo_deliveries.specs.Shops.{Views, StandsFor, IsAnswered, delivered};
+ghost use Rattle.bo_deliveries.specs.Shops.{Views, StandsFor, IsAnswered, delivered, moment_at};
 
 use crate::shop::Shop;
 use crate::wording::{Wording, worded};

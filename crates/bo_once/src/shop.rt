@@ -1,9 +1,8 @@
 //! A shop: an office, its tables and its wording.
 
 ghost use Rattle.std.specs.Prelude.{◌≡◌, ◌≤◌, ℕ, List, Option, IfOk};
-ghost use Rattle.bo_office.specs.Runs.{moment_at};
 ghost use Rattle.bo_kept.specs.ShopView.{ShopView};
-ghost use Rattle.bo_deliveries.specs.Shops.{Views};
+ghost use Rattle.bo_deliveries.specs.Shops.{Views, moment_at};
 
 use crate::wording::Wording;
 use bo_base::Moment;

@@ -2,10 +2,10 @@ use Rattle.std.proofs.Common.{rules, ◌≡◌, [], ◌∷◌, ◌++◌, sym, ap
 use Rattle.bo_lists.specs.Lists.{Lists}
 use Rattle.bo_lists.specs.declared.changes.Change.TheVariants.{PutVoucher}
 use Rattle.bo_lists.specs.Change.{applied}
-use Rattle.bo_vouchers.specs.Changed.{voucher_changed}
+use Rattle.bo_machine.specs.Step.{voucher_changed}
 use Rattle.bo_draft.specs.DraftState.{DraftState, now}
-use Rattle.bo_office.specs.Changes.{changes_of}
-use Rattle.bo_office.specs.ShownRows.{show_voucher}
+use Rattle.bo_machine.specs.Changes.{changes_of}
+use Rattle.bo_machine.specs.ShownRows.{show_voucher}
 use Rattle.bo_commands.specs.declared.replies.Shown.{Shown}
 use Rattle.bo_commands.specs.declared.replies.Reply.{Reply}
 use Rattle.bo_commands.specs.declared.replies.Reply.TheVariants.{Found}

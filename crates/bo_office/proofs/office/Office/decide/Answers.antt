@@ -5,7 +5,7 @@ use Rattle.bo_lists.specs.Lists.{State}
 use Rattle.bo_sound.specs.Sound.{IsSound}
 use Rattle.bo_office.specs.OfficeView.{OfficeView}
 use Rattle.bo_commands.specs.declared.replies.Reply.{Reply}
-use Rattle.bo_office.proofs.Runs.{step_sound}
+use Rattle.bo_machine.proofs.SoundSteps.{step_sound}
 use Rattle.bo_office.proofs.office.Office.decide.Goals as goal
 
 pub returns-clause-sound : goal.returns-clause-sound

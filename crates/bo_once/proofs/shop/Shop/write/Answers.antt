@@ -1,8 +1,7 @@
 use Rattle.std.proofs.Common.{◌⊎◌, sym, ap, ◌∙◌, subst}
 use Rattle.bo_lists.specs.Lists.{State}
-use Rattle.bo_office.specs.Runs.{moment_at}
 use Rattle.bo_kept.specs.ShopView.{ShopView, IsSame}
-use Rattle.bo_deliveries.specs.Shops.{Views, executed_at}
+use Rattle.bo_deliveries.specs.Shops.{Views, executed_at, moment_at}
 use Rattle.bo_once.proofs.ShopLemmas.{settled-same, none-held, crash-same}
 use Rattle.bo_once.proofs.shop.Shop.write.Goals as goal
 

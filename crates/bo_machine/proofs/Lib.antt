@@ -1,0 +1,3 @@
+pub mod Members
+pub mod Catalogue
+pub mod SoundSteps

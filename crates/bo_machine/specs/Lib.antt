@@ -1,0 +1,5 @@
+pub mod ShownRows
+pub mod PeriodicWork
+pub mod Step
+pub mod Answer
+pub mod Changes

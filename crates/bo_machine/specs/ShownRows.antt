@@ -1,0 +1,43 @@
+-- How each row is shown.
+use Rattle.bo_catalogue.specs.declared.rows.Item.{Item}
+use Rattle.bo_catalogue.specs.declared.rows.Quota.{Quota}
+use Rattle.bo_catalogue.specs.CatalogueLists.{with_variations}
+use Rattle.bo_lists.specs.declared.rows.CartPos.{CartPos}
+use Rattle.bo_lists.specs.declared.rows.Voucher.{Voucher}
+use Rattle.bo_lists.specs.declared.rows.Order.{Order}
+use Rattle.bo_lists.specs.declared.rows.OrderPos.{OrderPos}
+use Rattle.bo_lists.specs.declared.rows.Waiting.{Waiting}
+use Rattle.bo_lists.specs.declared.rows.CheckinList.{CheckinList}
+use Rattle.bo_lists.specs.Lists.{Lists, positions_of}
+use Rattle.bo_lists.specs.Usage.{redeemed}
+pub use Rattle.bo_door.specs.Status.{ticket_of}
+use Rattle.bo_commands.specs.declared.replies.Shown.{Shown}
+use Rattle.bo_commands.specs.declared.replies.Shown.TheVariants as rows
+
+-- an item with its variations
+abbrev pub show_item : Lists → Item → Shown
+show_item lists item = rows.Item (with_variations lists.catalogue item)
+
+abbrev pub show_quota : Quota → Shown
+show_quota quota = rows.Quota quota
+
+-- a voucher with the number of its uses in orders
+unfoldable pub show_voucher : Lists → Voucher → Shown
+show_voucher lists voucher = rows.Voucher voucher (redeemed voucher.id lists)
+
+abbrev pub show_cart : CartPos → Shown
+show_cart cart = rows.Cart cart
+
+-- an order with its positions
+abbrev pub show_order : Lists → Order → Shown
+show_order lists order = rows.Order (record { order = order; positions = positions_of order.id lists })
+
+abbrev pub show_waiting : Waiting → Shown
+show_waiting entry = rows.Waiting entry
+
+abbrev pub show_checkin_list : CheckinList → Shown
+show_checkin_list list = rows.CheckinList list
+
+-- a position that belongs to the check-in list, with its check-ins of it
+abbrev pub show_ticket : CheckinList → Lists → OrderPos → Shown
+show_ticket list lists position = rows.Ticket (ticket_of list lists position)

@@ -1,0 +1,4 @@
+//! The small box office: what a step of each command is, what each query is answered, and what a step changes.
+#![tactic(auto)]
+
+pub mod decisions;

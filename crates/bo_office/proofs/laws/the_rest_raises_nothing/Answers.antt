@@ -1,5 +1,0 @@
-use Rattle.bo_office.proofs.Runs.{lowers_all}
-use Rattle.bo_office.proofs.laws.the_rest_raises_nothing.Goals as goal
-
-pub returns : goal.returns
-returns c = lowers_all

@@ -1,0 +1,10 @@
+pub mod CatalogueLowers
+pub mod NewIds
+pub mod OrderSteps
+pub mod QuietSteps
+pub mod BulkRuns
+pub mod Runs
+pub mod DoorTables
+pub mod ScansAgain
+pub mod Changes
+pub mod NothingOver

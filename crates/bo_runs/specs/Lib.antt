@@ -1,0 +1,6 @@
+pub mod Takings
+pub mod NewIds
+pub mod Runs
+pub mod Doors
+pub mod Changes
+pub mod NothingTooMuch

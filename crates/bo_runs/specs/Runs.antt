@@ -1,0 +1,145 @@
+-- Runs of commands, and what holds of each step of a run.
+use Rattle.std.specs.Prelude.{◌≡◌, ℕ, ◌≤◌, false, nat_lt, List, [], ◌∷◌, length, map, Option, Some, None, if◌then◌else◌}
+use Rattle.std.specs.List.{AllByRecursion, list_any}
+use Rattle.bo_base.specs.Draws.{IsDraw}
+use Rattle.bo_base.specs.declared.draw.Draw.{Draw}
+use Rattle.bo_catalogue.specs.declared.rows.Quota.{Quota}
+use Rattle.bo_catalogue.specs.CatalogueLists.{quota_at}
+use Rattle.bo_lists.specs.Lists.{State}
+use Rattle.bo_lists.specs.Over.{first_over, ignores}
+use Rattle.bo_sound.specs.Sound.{IsSound}
+use Rattle.bo_lists.specs.Takes.{used, TakesNoMore}
+use Rattle.bo_commands.specs.declared.carts.Entry.{Entry}
+use Rattle.bo_commands.specs.declared.carts.Entry.TheVariants.{New, Faulty}
+use Rattle.bo_commands.specs.declared.carts.Outcome.{Outcome}
+use Rattle.bo_commands.specs.declared.carts.Outcome.TheVariants as outcomes
+use Rattle.bo_orders.specs.Bulk.{most_entries}
+use Rattle.bo_commands.specs.Fit.{IsFit}
+use Rattle.bo_commands.specs.declared.requests.Command.{Command}
+use Rattle.bo_commands.specs.declared.requests.Command.TheVariants.{AddCart, AddCarts}
+use Rattle.bo_commands.specs.declared.requests.Kind.{Kind}
+use Rattle.bo_commands.specs.declared.replies.Refusal.{Refusal}
+use Rattle.bo_commands.specs.declared.replies.Refusal.TheVariants as refusals
+use Rattle.bo_commands.specs.declared.replies.Reply.{Reply}
+use Rattle.bo_commands.specs.declared.replies.Reply.TheVariants.{Made, Results, Refused}
+use Rattle.bo_commands.specs.declared.replies.Shown.TheVariants as rows
+use Rattle.bo_machine.specs.Step.{step, moment_at}
+use Rattle.bo_runs.specs.Takings.{OwnRow, taken, may_raise}
+use Rattle.bo_runs.specs.NewIds.{AllIdsGoOn}
+
+-- a command as it comes: with the clock's moment and a draw
+pub record Arrival : Type 0 where
+  pub clock : ℕ
+  pub draw : Draw
+  pub command : Command
+
+-- what holds of every command that comes: what it asks is within its limits, and its draw is sixteen bytes
+pub record IsFitArrival (arrival : Arrival) : Type 0 where
+  pub command : IsFit arrival.command
+  pub draw : IsDraw arrival.draw
+
+-- a step of a run: the command and its draw, the office before it, its moment, the office after it, and the reply
+pub record Stepped : Type 0 where
+  pub command : Command
+  pub draw : Draw
+  pub before : State
+  pub at : ℕ
+  pub after : State
+  pub reply : Reply
+
+abbrev pub stepped : Arrival → State → Stepped
+stepped arrival state =
+    let at = moment_at arrival.clock state in
+    let made = step arrival.command at arrival.draw state in
+    record { command = arrival.command; draw = arrival.draw; before = state; at = at; after = made.0; reply = made.1 }
+
+-- the office before a step, at the step's moment
+abbrev pub office_at : Stepped → State
+office_at s = record s.before { moment = s.at }
+
+-- the steps of a run, each from the office that the one before it left
+abbrev pub trace : List Arrival → State → List Stepped
+trace [] state = []
+trace (arrival ∷ arrivals) state = stepped arrival state ∷ trace arrivals (stepped arrival state).after
+
+-- the office after a run
+abbrev pub after_run : List Arrival → State → State
+after_run [] state = state
+after_run (arrival ∷ arrivals) state = after_run arrivals (stepped arrival state).after
+
+-- an entry of a bulk call as a command of its own
+abbrev pub alone : ℕ → Draw → List Entry → List Arrival
+alone clock draw [] = []
+alone clock draw (New new ∷ more) = record { clock = clock; draw = draw; command = AddCart new } ∷ alone clock draw more
+alone clock draw (Faulty fault ∷ more) = alone clock draw more
+
+-- A step, or those that it consists of: a bulk call that isn't refused as a whole is its entries, each as a command of its
+-- own, at the call's moment and with its draw, after those before it; a faulty one asks nothing.
+abbrev pub steps_of : Command → Stepped → List Stepped
+steps_of (AddCarts entries) s = if nat_lt most_entries (length entries) then s ∷ [] else trace (alone s.at s.draw entries) (office_at s)
+steps_of other s = s ∷ []
+
+-- a law holds of a step by itself: of each of those that it consists of
+abbrev pub Each : (Stepped → Type 0) → Stepped → Type 0
+Each Law s = AllByRecursion Law (steps_of s.command s)
+
+-- where places were taken, no quota was taken too much of
+abbrev pub NoneOver : Stepped → Type 0
+NoneOver s = (own : List OwnRow) → taken s.command s.draw (office_at s) ≡ Some own → first_over s.before.lists s.after.lists s.at (map (λ r. r.own) own) ≡ None
+
+-- where places were taken and no own row's voucher ignores quotas, each quota's usage is within its size, or no more than
+-- before
+abbrev pub StaysWithin : Stepped → Type 0
+StaysWithin s =
+    (own : List OwnRow) → taken s.command s.draw (office_at s) ≡ Some own → list_any (λ r. ignores s.after.lists r.voucher) own ≡ false → TakesNoMore (office_at s) s.after
+
+-- any other step raises the usage of no quota that stood before, but for those that may
+abbrev pub RaisesNothing : Stepped → Type 0
+RaisesNothing s =
+    taken s.command s.draw (office_at s) ≡ None → may_raise s.command s.draw (office_at s) ≡ false →
+    (quota : Quota) → quota_at quota.id s.before.lists.catalogue ≡ Some quota → used s.after quota ≤ used (office_at s) quota
+
+-- what became of an entry, by what its own step was told
+abbrev pub outcome_told : Reply → Option Outcome
+outcome_told (Made (rows.Cart row)) = Some (outcomes.Added row)
+outcome_told (Refused kind (refusals.Order refusal)) = Some (outcomes.Refused refusal)
+outcome_told other = None
+
+-- what became of each entry, in order; a faulty one is told the fault that it was given
+abbrev pub outcomes_alone : ℕ → Draw → List Entry → State → List (Option Outcome)
+outcomes_alone clock draw [] state = []
+outcomes_alone clock draw (New new ∷ more) state =
+    let s = stepped (record { clock = clock; draw = draw; command = AddCart new }) state in
+    outcome_told s.reply ∷ outcomes_alone clock draw more s.after
+outcomes_alone clock draw (Faulty fault ∷ more) state = Some (outcomes.Faulty fault) ∷ outcomes_alone clock draw more state
+
+-- a bulk call leaves the office as the run of its entries does, and tells of each what its own step was told
+pub record IsItsEntries (entries : List Entry) (s : Stepped) : Type 0 where
+  pub after : s.after ≡ after_run (alone s.at s.draw entries) (office_at s)
+  pub told : List Outcome
+  pub reply : s.reply ≡ Results told
+  pub each : outcomes_alone s.at s.draw entries (office_at s) ≡ map (λ outcome. Some outcome) told
+
+abbrev pub RunsEntries : Command → Stepped → Type 0
+RunsEntries (AddCarts entries) s = length entries ≤ most_entries → IsItsEntries entries s
+RunsEntries other s = Unit {0}
+
+-- a bulk call of as many entries as it may have is its entries
+abbrev pub RunsItsEntries : Stepped → Type 0
+RunsItsEntries s = RunsEntries s.command s
+
+-- no next id falls, and no id is used again
+abbrev pub GivesNewIds : Stepped → Type 0
+GivesNewIds s = AllIdsGoOn s.before s.after
+
+abbrev pub LeavesSound : Stepped → Type 0
+LeavesSound s = IsSound s.after
+
+abbrev pub NeverGoesBack : Stepped → Type 0
+NeverGoesBack s = s.before.moment ≤ s.after.moment
+
+abbrev pub StoresItsMoment : Stepped → Type 0
+StoresItsMoment s = s.after.moment ≡ s.at
+
+abbrev pub ChangesNothingElse : Stepped → Type 0
+ChangesNothingElse s = (kind : Kind) (refusal : Refusal) → s.reply ≡ Refused kind refusal → s.after ≡ office_at s
