@@ -5,8 +5,8 @@ ghost use Rattle.bo_office.specs.Runs.{moment_at};
 ghost use Rattle.bo_kept.specs.ShopView.{ShopView};
 ghost use Rattle.bo_deliveries.specs.Shops.{Views};
 
-use crate::wording::Wording;
 use bo_base::Moment;
+use bo_deliveries::Wording;
 use bo_kept::{Tables, TablesError};
 use bo_office::Office;
 use bo_usage::Book;
