@@ -11,4 +11,4 @@ mod step;
 pub use desk::Desk;
 pub use failure::Failure;
 pub use room::Room;
-pub use run::run_stream;
+pub use run::{run_stream, serve_desk};

@@ -99,3 +99,26 @@ pub fn run_stream<R: Source, T: Ticks, D: Desk, W: Drain>(
     frames.clear();
     serve_all(alloc, frames, &mut room.piece, reader, ticks, desk, writer)
 }
+
+/// Answers a stream of requests at a desk that is there for it alone.
+pub fn serve_desk<R: Source, T: Ticks, D: Desk + Drop, W: Drain>(
+    alloc: Global,
+    reader: &mut R,
+    ticks: &mut T,
+    desk: D,
+    writer: &mut W,
+) -> Result<(), Failure>
+    ensures leads { (last : D) × RunLeads D.serves
+        (record { left = R.left reader.old; calls = R.calls reader.old; told = T.told ticks.old; desk = desk; taken = W.taken writer.old })
+        (record { left = R.left reader.new; calls = R.calls reader.new; told = T.told ticks.new; desk = last; taken = W.taken writer.new }) result }
+    ensures counted { CountedAll result
+        (record { clock = T.failures ticks.old; output = W.failures writer.old; input = R.failures reader.old; calls = R.calls reader.old })
+        (record { clock = T.failures ticks.new; output = W.failures writer.new; input = R.failures reader.new; calls = R.calls reader.new }) }
+    ensures calls { R.calls reader.new ≤ R.calls reader.old + 1000000 }
+{
+    let mut desk = desk;
+    let Ok(mut room) = Room::new(alloc) else {
+        return Err(Failure::Memory);
+    };
+    run_stream(alloc, &mut room, reader, ticks, &mut desk, writer)
+}

@@ -3,5 +3,7 @@
 
 pub mod arrival;
 pub mod laws;
+pub mod wording;
 
 pub use arrival::{Arrival, Request};
+pub use wording::Wording;

@@ -15,9 +15,9 @@ use Rattle.bo_deliveries.specs.Deliveries.{is_write}
 use Rattle.bo_deliveries.specs.Histories.{Running, MayLeave, IsRunning, IsAmong, also_undecided, after_none}
 use Rattle.bo_deliveries.specs.Shops.{Views}
 use Rattle.bo_once.proofs.ShopLemmas.{stands-same}
-use Rattle.bo_desk.specs.Coming.{arrival, arrival_with, number_of}
-use Rattle.bo_desk.specs.DeskView.{DeskView, Meaning, house_of, words_of, worded}
-use Rattle.bo_desk.specs.Served.{ServesOnce}
+use Rattle.bo_streams.specs.Coming.{arrival, arrival_with, number_of}
+use Rattle.bo_streams.specs.DeskView.{DeskView, Meaning, house_of, words_of, worded}
+use Rattle.bo_streams.specs.Served.{ServesOnce}
 
 -- ---- a write that isn't answered is undecided from then on
 

@@ -1,3 +1,1 @@
 pub mod DeskLemmas
-pub mod StreamLemmas
-pub mod RowLemmas

@@ -1,10 +1,9 @@
 //! A shop that answers messages.
 
 ghost use Rattle.std.specs.Prelude.{◌≡◌, IfOk};
-ghost use Rattle.bo_desk.specs.DeskView.{DeskView, meaning};
-ghost use Rattle.bo_desk.specs.Served.{Serves};
+ghost use Rattle.bo_streams.specs.DeskView.{DeskView, meaning};
+ghost use Rattle.bo_streams.specs.Served.{Serves};
 
-use crate::words::HouseWords;
 use bo_base::Answer;
 use bo_connection::Desk;
 use bo_devices::Tick;
@@ -13,6 +12,7 @@ use bo_http::Frame;
 use bo_kept::Tables;
 use bo_office::Office;
 use bo_once::Shop;
+use bo_streams::HouseWords;
 use bo_usage::Book;
 use std::alloc::{AllocError, Global};
 use std::marker::Model;
@@ -25,7 +25,7 @@ pub struct ShopDesk<T: Tables, B: Book> {
 }
 
 impl<T: Tables, B: Book> Model for ShopDesk<T, B> {
-    ghost use Rattle.bo_desk.specs.DeskView.{DeskView};
+    ghost use Rattle.bo_streams.specs.DeskView.{DeskView};
 
     ghost Value = { DeskView T };
 

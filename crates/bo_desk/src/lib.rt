@@ -2,9 +2,6 @@
 #![tactic(auto)]
 
 pub mod desk;
-pub mod laws;
 mod serving;
-pub mod words;
 
 pub use desk::ShopDesk;
-pub use words::HouseWords;

@@ -5,46 +5,18 @@ ghost use Rattle.bo_deliveries.specs.Deliveries.{Opening, Delivery, told};
 ghost use Rattle.bo_deliveries.specs.Histories.{Running, IsRunning, after_act};
 ghost use Rattle.bo_deliveries.specs.Shops.{Views, StandsFor, IsAnswered, delivered};
 ghost use Rattle.bo_kept.specs.ShopView.{ShopView};
-ghost use Rattle.bo_desk.specs.Coming.{arriving, arrival_of, arrival_with, number_of};
-ghost use Rattle.bo_desk.specs.DeskView.{meaning, worded};
-ghost use Rattle.bo_desk.specs.Served.{ServesOnce};
+ghost use Rattle.bo_streams.specs.Coming.{arrival_with, number_of};
+ghost use Rattle.bo_streams.specs.DeskView.{meaning, worded};
+ghost use Rattle.bo_streams.specs.Served.{ServesOnce};
 
 use crate::desk::ShopDesk;
-use bo_api::{Call, key_of};
-use bo_base::{Answer, Known, Response};
-use bo_deliveries::{Arrival, Request};
+use bo_base::{Answer, Known};
+use bo_deliveries::Arrival;
 use bo_devices::Tick;
 use bo_dues::Dues;
 use bo_http::Frame;
-use bo_kept::{Key, Tables, TablesError};
-use std::alloc::{AllocError, Global};
-
-// A request that comes at a tick.
-fn arriving(tick: Tick, token: u64, key: Key, request: Request) -> Arrival
-    ensures { result ≡ arriving tick token key request }
-{
-    Arrival {
-        clock: tick.clock,
-        draw: tick.draw,
-        token,
-        key,
-        request,
-    }
-}
-
-// The arrival that a call is, or else what is told without one.
-fn arrival_of(tick: Tick, token: u64, key: Key, call: Call) -> Result<Arrival, Response>
-    ensures { result ≡ arrival_of tick token key call }
-{
-    let request = match call {
-        Call::Unauthorized(response) => return Err(response),
-        Call::Read(query) => Request::Read(query),
-        Call::ReadRefused(response) => Request::ReadRefused(response),
-        Call::Write(command) => Request::Write(command),
-        Call::WriteRefused(response) => Request::WriteRefused(response),
-    };
-    Ok(arriving(tick, token, key, request))
-}
+use bo_kept::{Tables, TablesError};
+use std::alloc::Global;
 
 impl<T: Tables, B: Dues> ShopDesk<T, B> {
     // The number of the token that a message shows, if it is known. Nothing changes.
@@ -58,29 +30,10 @@ impl<T: Tables, B: Dues> ShopDesk<T, B> {
         ensures tokens { T.sure self.new.tables → (tokens : List ℕ → Option ℕ) → T.knows self.old.tables tokens → T.knows self.new.tables tokens }
         ensures crash { (left : ShopView) → T.may_leave self.new.tables left → T.may_leave self.old.tables left }
     {
-        match self.shop.wording().words.token_digest(frame) {
+        match self.shop.wording().token_digest(frame) {
             None => Ok(None),
             Some(digest) => self.shop.token_of(&digest),
         }
-    }
-
-    // The arrival that a message is, where its token has this number, or else what is told without one.
-    fn arrival(
-        &self,
-        alloc: Global,
-        tick: Tick,
-        frame: &Frame<'_>,
-        number: Option<u64>,
-    ) -> Result<Result<Arrival, Response>, AllocError>
-        ensures { IfOk result (λ r. r ≡ arrival_with self.now.organizer self.now.event number tick frame.now) }
-    {
-        let call = self
-            .shop
-            .wording()
-            .words
-            .read_request(alloc, frame, number)?;
-        let key = key_of(alloc, frame)?;
-        Ok(arrival_of(tick, number.unwrap_or(0), key, call))
     }
 
     // Has the shop answer an arrival.
@@ -117,7 +70,7 @@ impl<T: Tables, B: Dues> ShopDesk<T, B> {
         ensures once { T.sure self.new.tables
             → ServesOnce (meaning T.sure T.holds T.knows T.may_leave) (worded self.old) self.old (arrival_with self.old.organizer self.old.event number tick frame.now) result self.new }
     {
-        match self.arrival(alloc, tick, frame, number) {
+        match self.shop.wording().arrival(alloc, tick, frame, number) {
             Ok(Ok(arrival)) => {
                 arrival.known();
                 self.carry_out(alloc, arrival)

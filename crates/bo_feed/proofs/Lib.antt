@@ -1,5 +1,2 @@
-pub mod TickLemmas
 pub mod FedLemmas
-pub mod WordLemmas
-pub mod LineLaws
 pub mod FreshLemmas

@@ -1,19 +1,17 @@
 -- What `feed` does.
-use Rattle.std.specs.Prelude.{◌≡◌, ◌⊎◌, ℕ, ◌+◌, ◌≤◌, List, [], Option, Some, None, Result, Ok, Err, if◌then◌else◌, nat_le, ⊤}
+use Rattle.std.specs.Prelude.{◌≡◌, ◌⊎◌, ℕ, ◌+◌, ◌≤◌, List, Option, Some, None, Result, Err, ⊤}
 use Rattle.bo_devices.specs.declared.device.Tick.{Tick}
-use Rattle.bo_base.specs.declared.refusal.ValueRefusal.{ValueRefusal}
-use Rattle.bo_base.specs.Digits.{number_of}
-use Rattle.bo_base.specs.Moments.{moment_of}
 use Rattle.bo_connection.specs.declared.failure.Failure.{Failure}
 use Rattle.bo_connection.specs.declared.failure.Failure.TheVariants as failures
 use Rattle.bo_connection.specs.Run.{Counts, CountedAll, Devices, RunLeads}
-use Rattle.bo_desk.specs.DeskView.{DeskView, Meaning}
-use Rattle.bo_desk.specs.Served.{Serves}
+use Rattle.bo_streams.specs.DeskView.{DeskView, Meaning}
+use Rattle.bo_streams.specs.Served.{Serves}
 use Rattle.bo_feed.specs.Fresh.{IsFresh}
 use Rattle.bo_feed.specs.Stored.{MemoryDesk, in_memory}
-use Rattle.bo_feed.specs.declared.fault.RunFault.{RunFault}
-use Rattle.bo_feed.specs.declared.fault.RunFault.TheVariants as faults
-use Rattle.bo_feed.specs.FeedTicks.{feed_ticks}
+use Rattle.bo_line.specs.declared.fault.RunFault.{RunFault}
+use Rattle.bo_line.specs.declared.fault.RunFault.TheVariants as faults
+use Rattle.bo_line.specs.FeedTicks.{feed_ticks}
+use Rattle.bo_line.specs.Faults.{as_fault}
 
 -- where a reader and a writer stand: the bytes that are still to come and what was written, where they are known; the calls of
 -- the reader; and the failures of the reader and of the writer
@@ -54,25 +52,6 @@ abbrev pub Feeds : ℕ → ℕ → Ports → Ports → Result (Unit {0}) Failure
 Feeds from step old new result =
     ((first : MemoryDesk) × IsFresh in_memory first × FeedsDesk in_memory first from step old new result)
     ⊎ ((result ≡ Err failures.Memory) × (new ≡ old))
-
--- 0 to 31536000 seconds
-abbrev pub step_within : Option ℕ → Option ℕ
-step_within None = None
-step_within (Some step) = if nat_le step 31536000 then Some step else None
-
-abbrev pub both_values : Result ℕ ValueRefusal → Option ℕ → Option (ℕ × ℕ)
-both_values (Ok from) (Some step) = Some (from, step)
-both_values (Ok from) None = None
-both_values (Err refusal) step = None
-
--- the values of `--from`, a moment, and `--step`, plain digits
-abbrev pub feed_values : List ℕ → List ℕ → Option (ℕ × ℕ)
-feed_values from step = both_values (moment_of from) (step_within (number_of step))
-
--- the end of a run, as the program's
-abbrev pub as_fault : Result (Unit {0}) Failure → Result (Unit {0}) RunFault
-as_fault (Ok u) = Ok u
-as_fault (Err failure) = Err (faults.Run failure)
 
 -- a value that can't be read is found before anything is read or written
 abbrev pub FeedsTexts : Option (ℕ × ℕ) → Ports → Ports → Result (Unit {0}) RunFault → Type 0

@@ -1,40 +1,24 @@
 //! `feed`: requests from a reader, answers to a writer.
 
 ghost use Rattle.std.specs.Prelude.{◌≡◌, ◌<◌};
-ghost use Rattle.bo_desk.specs.DeskView.{meaning};
+ghost use Rattle.bo_streams.specs.DeskView.{meaning};
 ghost use Rattle.bo_feed.specs.Fresh.{desk_with};
-ghost use Rattle.bo_feed.specs.Feed.{Feeds, FeedsDesk, FeedsTexts, as_fault, feed_values};
+ghost use Rattle.bo_feed.specs.Feed.{Feeds, FeedsDesk, FeedsTexts};
+ghost use Rattle.bo_line.specs.Values.{feed_values};
 
-use crate::fault::RunFault;
 use crate::house::serve_office;
-use crate::ticks::{FeedTicks, Pace};
-use bo_base::{Moment, Steps, number_of, read_moment};
+use bo_base::{Moment, Steps};
 use bo_connection::Failure;
 use bo_counters::Counters;
-use bo_devices::{Device, Drain, Source};
+use bo_devices::{Drain, Source};
 use bo_fresh::open_memory;
 use bo_kept::Tables;
+use bo_line::fault::ended;
+use bo_line::{FeedTicks, Pace, RunFault, feed_values};
 use bo_office::Office;
 use std::alloc::Global;
 use std::marker::{Brand, PhantomData};
 use std::sync::ledger::{Blank, Ledger};
-
-/// The most seconds from one tick to the next, a year.
-const MOST_STEP: u64 = 31_536_000;
-
-/// A reader or a writer of std as a device that has counted nothing yet, with a ledger for each of its counts.
-pub fn counted<X, L: Ledger, M: Ledger>(inner: X, calls: Blank, failures: Blank) -> Device<X, L, M>
-    requires calls { (calls.name ≡ L.name) × (calls.parts ≡ L.parts) × (0 < L.parts) }
-    requires failures { (failures.name ≡ M.name) × (failures.parts ≡ M.parts) × (0 < M.parts) }
-    ensures inner { result.inner ≡ inner }
-    ensures counts { (result.calls ≡ 0) × (result.failures ≡ 0) }
-{
-    Device {
-        inner,
-        calls: Steps::<L>::new(calls),
-        failures: Steps::<M>::new(failures),
-    }
-}
 
 // The same as `feed_office`, with a ledger for the failures of its ticks.
 fn feed_with<P: Pace, E: Ledger, T: Tables + Drop, R: Source, W: Drain>(
@@ -109,29 +93,6 @@ pub fn feed<R: Source, W: Drain>(
     match open_memory(alloc) {
         Ok((tables, office)) => feed_office(alloc, tables, office, from, step, reader, writer),
         Err(_) => Err(Failure::Memory),
-    }
-}
-
-/// The values of `--from` and `--step`: a moment, and 0 to 31536000 seconds as plain digits.
-pub fn feed_values(from: &str, step: &str) -> Option<(Moment, u64)>
-    ensures { result ≡ feed_values from.now step.now }
-{
-    let Ok(from) = read_moment(from) else {
-        return None;
-    };
-    match number_of(step.as_bytes()) {
-        Some(step) if step <= MOST_STEP => Some((from, step)),
-        _ => None,
-    }
-}
-
-// The end of a run, as the program's.
-fn ended(run: Result<(), Failure>) -> Result<(), RunFault>
-    ensures { result ≡ as_fault run }
-{
-    match run {
-        Ok(()) => Ok(()),
-        Err(failure) => Err(RunFault::Run(failure)),
     }
 }
 

@@ -2,12 +2,12 @@
 
 ghost use Rattle.std.specs.Prelude.{◌+◌, ◌≤◌};
 ghost use Rattle.bo_connection.specs.Run.{RunLeads, CountedAll};
-ghost use Rattle.bo_desk.specs.DeskView.{DeskView, meaning};
-ghost use Rattle.bo_desk.specs.Served.{Serves};
+ghost use Rattle.bo_streams.specs.DeskView.{DeskView, meaning};
+ghost use Rattle.bo_streams.specs.Served.{Serves};
 ghost use Rattle.bo_feed.specs.Fresh.{desk_with};
 ghost use Rattle.bo_feed.specs.House.{ServesFresh, no_desk};
 
-use bo_connection::{Desk, Failure, Room, run_stream};
+use bo_connection::{Failure, serve_desk};
 use bo_counters::Counters;
 use bo_desk::ShopDesk;
 use bo_devices::{Drain, Source, Ticks};
@@ -15,29 +15,6 @@ use bo_fresh::open_memory;
 use bo_kept::Tables;
 use bo_office::Office;
 use std::alloc::Global;
-
-/// Answers a stream of requests at a desk that is there for it alone.
-pub fn serve_desk<R: Source, T: Ticks, D: Desk + Drop, W: Drain>(
-    alloc: Global,
-    reader: &mut R,
-    ticks: &mut T,
-    desk: D,
-    writer: &mut W,
-) -> Result<(), Failure>
-    ensures leads { (last : D) × RunLeads D.serves
-        (record { left = R.left reader.old; calls = R.calls reader.old; told = T.told ticks.old; desk = desk; taken = W.taken writer.old })
-        (record { left = R.left reader.new; calls = R.calls reader.new; told = T.told ticks.new; desk = last; taken = W.taken writer.new }) result }
-    ensures counted { CountedAll result
-        (record { clock = T.failures ticks.old; output = W.failures writer.old; input = R.failures reader.old; calls = R.calls reader.old })
-        (record { clock = T.failures ticks.new; output = W.failures writer.new; input = R.failures reader.new; calls = R.calls reader.new }) }
-    ensures calls { R.calls reader.new ≤ R.calls reader.old + 1000000 }
-{
-    let mut desk = desk;
-    let Ok(mut room) = Room::new(alloc) else {
-        return Err(Failure::Memory);
-    };
-    run_stream(alloc, &mut room, reader, ticks, &mut desk, writer)
-}
 
 /// Answers a stream of requests from the shop of an office over tables that hold it.
 pub fn serve_office<R: Source, K: Ticks, T: Tables + Drop, W: Drain>(

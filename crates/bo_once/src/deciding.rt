@@ -8,11 +8,11 @@ ghost use Rattle.bo_deliveries.specs.declared.arrival.Request.TheVariants.{Write
 ghost use Rattle.bo_deliveries.specs.Deliveries.{is_write, done};
 
 use crate::shop::Shop;
-use crate::wording::{Wording, worded};
+use crate::wording::worded;
 use bo_base::{Draw, Moment, Response};
 use bo_commands::Command;
 use bo_counts::counts_after;
-use bo_deliveries::Request;
+use bo_deliveries::{Request, Wording};
 use bo_dues::Dues;
 use bo_kept::Tables;
 use bo_lists::{Changes, CountRows};

@@ -4,8 +4,7 @@
 mod deciding;
 mod reading;
 pub mod shop;
-pub mod wording;
+mod wording;
 mod writing;
 
 pub use shop::Shop;
-pub use wording::Wording;

@@ -4,8 +4,8 @@ ghost use Rattle.std.specs.Prelude.{◌≡◌, ◌≤◌, ℕ, List, Option, IfO
 ghost use Rattle.bo_kept.specs.ShopView.{ShopView};
 ghost use Rattle.bo_deliveries.specs.Shops.{Views, moment_at};
 
-use crate::wording::Wording;
 use bo_base::Moment;
+use bo_deliveries::Wording;
 use bo_kept::{Tables, TablesError};
 use bo_office::Office;
 use bo_usage::Book;

@@ -8,9 +8,8 @@ ghost use Rattle.bo_deliveries.specs.Histories.{Running, IsRunning, TellsIt, aft
 ghost use Rattle.bo_deliveries.specs.Shops.{Views, StandsFor, IsAnswered, IsDecided, delivered, served, executes, executed_at};
 
 use crate::shop::Shop;
-use crate::wording::Wording;
 use bo_base::{Answer, Moment, Response};
-use bo_deliveries::Arrival;
+use bo_deliveries::{Arrival, Wording};
 use bo_dues::Dues;
 use bo_kept::{Kept, Tables, TablesError};
 use std::alloc::Global;

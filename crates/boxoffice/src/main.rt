@@ -3,7 +3,8 @@
 
 ghost use Rattle.std.specs.Prelude.{◌≡◌, ◌<◌};
 
-use bo_feed::{LineEnd, counted, report_words, run};
+use bo_feed::run;
+use bo_line::{LineEnd, counted, report_words};
 use std::io;
 use std::io::{Stdin, Stdout};
 use std::marker::Brand;

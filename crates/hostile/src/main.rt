@@ -12,7 +12,7 @@ use crate::failing::FailingReader;
 use crate::lines::show_lines;
 use crate::tried::{Tried, run_line, words};
 use bo_connection::Failure;
-use bo_feed::{LineEnd, RunFault};
+use bo_line::{LineEnd, RunFault};
 use std::io::Read;
 
 // What the line comes to where the reader fails at its call number `reads + 1`, and the writer at its call number

@@ -3,7 +3,8 @@
 ghost use Rattle.std.specs.Prelude.{◌≡◌, ◌<◌};
 
 use crate::failing::FailingWriter;
-use bo_feed::{LineEnd, counted, run};
+use bo_feed::run;
+use bo_line::{LineEnd, counted};
 use std::alloc::{AllocError, Global};
 use std::io::Read;
 use std::marker::Brand;

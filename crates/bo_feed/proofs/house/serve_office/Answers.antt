@@ -1,8 +1,8 @@
 use Rattle.std.proofs.Common.{subst}
 use Rattle.bo_connection.specs.Run.{RunLeads}
 use Rattle.bo_connection.proofs.RunLemmas.{unopened}
-use Rattle.bo_desk.specs.DeskView.{DeskView, meaning}
-use Rattle.bo_desk.specs.Served.{Serves}
+use Rattle.bo_streams.specs.DeskView.{DeskView, meaning}
+use Rattle.bo_streams.specs.Served.{Serves}
 use Rattle.bo_feed.specs.Fresh.{desk_with}
 use Rattle.bo_feed.proofs.house.serve_office.Goals as goal
 

@@ -1,4 +1,4 @@
-use Rattle.bo_desk.specs.DeskView.{meaning, worded}
+use Rattle.bo_streams.specs.DeskView.{meaning, worded}
 use Rattle.bo_desk.proofs.DeskLemmas.{unavailable}
 use Rattle.bo_desk.proofs.desk.ShopDesk.answer.Goals as goal
 

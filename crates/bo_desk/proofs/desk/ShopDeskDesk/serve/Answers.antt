@@ -1,6 +1,6 @@
 use Rattle.std.proofs.Common.{◌∙◌}
-use Rattle.bo_desk.specs.Coming.{arrival}
-use Rattle.bo_desk.specs.DeskView.{meaning, house_of, words_of}
+use Rattle.bo_streams.specs.Coming.{arrival}
+use Rattle.bo_streams.specs.DeskView.{meaning, house_of, words_of}
 use Rattle.bo_desk.proofs.DeskLemmas.{known, looked-up, unavailable}
 use Rattle.bo_desk.proofs.desk.ShopDeskDesk.serve.Goals as goal
 

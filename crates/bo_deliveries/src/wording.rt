@@ -1,0 +1,19 @@
+//! The words of replies.
+
+ghost use Rattle.std.specs.Prelude.{◌≡◌, IfOk};
+ghost use Rattle.bo_base.specs.declared.answer.Response.{Response};
+ghost use Rattle.bo_commands.specs.declared.replies.Reply.{Reply};
+
+use bo_base::Response;
+use bo_commands::Reply;
+use std::alloc::{AllocError, Global};
+
+/// The words of replies.
+pub trait Wording {
+    /// What is told for a reply.
+    ghost words: { Self → Reply → Response };
+
+    /// What is told for a reply.
+    fn words(&self, alloc: Global, reply: &Reply) -> Result<Response, AllocError>
+        ensures { IfOk result (λ response. response ≡ words self.now reply.now) };
+}

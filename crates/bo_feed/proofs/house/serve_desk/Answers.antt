@@ -1,5 +1,0 @@
-use Rattle.bo_connection.proofs.RunLemmas.{unopened}
-use Rattle.bo_feed.proofs.house.serve_desk.Goals as goal
-
-pub returns-in_default-clause-leads : goal.returns-in_default-clause-leads
-returns-in_default-clause-leads g c = (c.args.desk, unopened g.D.Desk.serves _)

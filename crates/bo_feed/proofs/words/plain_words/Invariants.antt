@@ -1,7 +1,0 @@
-use Rattle.std.proofs.Common.{◌≡◌, ◌++◌, drop, map, string_bytes}
-use Rattle.clap.specs.Walk.{texts}
-use Rattle.bo_feed.specs.Words.{plain_behind, plain_words}
-use Rattle.bo_feed.proofs.words.plain_words.Given as goal
-
-abbrev pub invariant-loop-word : goal.invariant-loop-word
-invariant-loop-word l = texts l.all.items ++ plain_behind l.is_step (map string_bytes (drop l.word-index l.words)) ≡ plain_words (map string_bytes l.words)

@@ -1,0 +1,3 @@
+pub mod TickLemmas
+pub mod WordLemmas
+pub mod LineLaws

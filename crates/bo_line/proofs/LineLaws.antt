@@ -1,0 +1,52 @@
+-- What lines ask for whose texts are not known.
+use Rattle.std.proofs.Common.{◌≡◌, ◌++◌, ℕ, List, [], ◌∷◌, codes, refl}
+use Rattle.clap.specs.declared.error.ErrorKind.TheVariants as kinds
+use Rattle.clap.proofs.OnLiterals.{clap_on_literals}
+use Rattle.bo_line.specs.Words.{asked, none, plain_words, runs}
+
+pub in_order : (program from step : List ℕ) → asked (program ∷ codes "feed" ∷ (codes "--from=" ++ from) ∷ (codes "--step=" ++ step) ∷ []) ≡ runs from step
+unfolding clap_on_literals asked
+in_order program from step = refl
+
+pub turned : (program from step : List ℕ) → asked (program ∷ codes "feed" ∷ (codes "--step=" ++ step) ∷ (codes "--from=" ++ from) ∷ []) ≡ runs from step
+unfolding clap_on_literals asked
+turned program from step = refl
+
+pub no_command : (program : List ℕ) → asked (program ∷ []) ≡ none (kinds.MissingSubcommand ∷ [])
+unfolding clap_on_literals asked
+no_command program = refl
+
+pub no_flags : (program : List ℕ) → asked (program ∷ codes "feed" ∷ []) ≡ none (kinds.MissingRequiredArgument ∷ [])
+unfolding clap_on_literals asked
+no_flags program = refl
+
+pub no_step : (program from : List ℕ) → asked (program ∷ codes "feed" ∷ (codes "--from=" ++ from) ∷ []) ≡ none (kinds.MissingRequiredArgument ∷ [])
+unfolding clap_on_literals asked
+no_step program from = refl
+
+pub no_from : (program step : List ℕ) → asked (program ∷ codes "feed" ∷ (codes "--step=" ++ step) ∷ []) ≡ none (kinds.MissingRequiredArgument ∷ [])
+unfolding clap_on_literals asked
+no_from program step = refl
+
+pub shows_help : (program : List ℕ) → asked (program ∷ codes "--help" ∷ []) ≡ none (kinds.DisplayHelp ∷ [])
+unfolding clap_on_literals asked
+shows_help program = refl
+
+pub shows_help_of_feed : (program : List ℕ) → asked (program ∷ codes "feed" ∷ codes "--help" ∷ []) ≡ none (kinds.DisplayHelp ∷ [])
+unfolding clap_on_literals asked
+shows_help_of_feed program = refl
+
+pub words_behind_flags : asked (plain_words (codes "boxoffice" ∷ codes "feed" ∷ codes "--from" ∷ codes "2026-05-01T10:00:00Z" ∷ codes "--step" ∷ codes "60" ∷ []))
+    ≡ runs (codes "2026-05-01T10:00:00Z") (codes "60")
+unfolding clap_on_literals asked
+words_behind_flags = refl
+
+pub signed_step : asked (plain_words (codes "boxoffice" ∷ codes "feed" ∷ codes "--from" ∷ codes "2026-05-01T10:00:00Z" ∷ codes "--step" ∷ codes "-1" ∷ []))
+    ≡ runs (codes "2026-05-01T10:00:00Z") []
+unfolding clap_on_literals asked
+signed_step = refl
+
+pub unknown_flag : asked (plain_words (codes "boxoffice" ∷ codes "feed" ∷ codes "--from" ∷ codes "2026-05-01T10:00:00Z" ∷ codes "--step" ∷ codes "-x" ∷ []))
+    ≡ none (kinds.UnknownArgument ∷ [])
+unfolding clap_on_literals asked
+unknown_flag = refl

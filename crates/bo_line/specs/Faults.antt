@@ -1,0 +1,16 @@
+-- Why the program ends with status 1, as a number.
+use Rattle.std.specs.Prelude.{ℕ, Result, Ok, Err}
+use Rattle.bo_connection.specs.declared.failure.Failure.{Failure}
+use Rattle.bo_connection.specs.Failures.{failure_number}
+use Rattle.bo_line.specs.declared.fault.RunFault.{RunFault}
+use Rattle.bo_line.specs.declared.fault.RunFault.TheVariants as faults
+
+abbrev pub fault_number : RunFault → ℕ
+fault_number faults.Memory = 6
+fault_number faults.Argument = 84
+fault_number (faults.Run failure) = failure_number failure
+
+-- the end of a run, as the program's
+abbrev pub as_fault : Result (Unit {0}) Failure → Result (Unit {0}) RunFault
+as_fault (Ok u) = Ok u
+as_fault (Err failure) = Err (faults.Run failure)

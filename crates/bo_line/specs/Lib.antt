@@ -1,0 +1,5 @@
+pub mod Faults
+pub mod FeedTicks
+pub mod Line
+pub mod Values
+pub mod Words

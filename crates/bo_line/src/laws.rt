@@ -1,0 +1,38 @@
+//! Laws of the command line.
+
+ghost use Rattle.std.specs.Prelude.{◌≡◌, ◌++◌, ℕ, List, [], ◌∷◌, codes};
+ghost use Rattle.clap.specs.declared.error.ErrorKind.TheVariants.{DisplayHelp, MissingRequiredArgument, MissingSubcommand, UnknownArgument};
+ghost use Rattle.bo_line.specs.Words.{asked, none, plain_words, runs};
+
+/// A line with both flags asks for a run with their texts, in either order, whatever the texts are.
+pub fn both_flags_ask_for_a_run()
+    ensures in_order { (program from step : List ℕ)
+        → asked (program ∷ codes "feed" ∷ (codes "--from=" ++ from) ∷ (codes "--step=" ++ step) ∷ []) ≡ runs from step }
+    ensures turned { (program from step : List ℕ)
+        → asked (program ∷ codes "feed" ∷ (codes "--step=" ++ step) ∷ (codes "--from=" ++ from) ∷ []) ≡ runs from step }
+{}
+
+/// Words behind the flags are their texts; but behind `--step` a number with a minus sign is read as none, and the line is a
+/// line of `feed` all the same, where any other word with a hyphen is a flag.
+pub fn words_behind_flags_are_their_texts()
+    ensures plain { asked (plain_words (codes "boxoffice" ∷ codes "feed" ∷ codes "--from" ∷ codes "2026-05-01T10:00:00Z" ∷ codes "--step" ∷ codes "60" ∷ []))
+        ≡ runs (codes "2026-05-01T10:00:00Z") (codes "60") }
+    ensures signed { asked (plain_words (codes "boxoffice" ∷ codes "feed" ∷ codes "--from" ∷ codes "2026-05-01T10:00:00Z" ∷ codes "--step" ∷ codes "-1" ∷ []))
+        ≡ runs (codes "2026-05-01T10:00:00Z") [] }
+    ensures flag { asked (plain_words (codes "boxoffice" ∷ codes "feed" ∷ codes "--from" ∷ codes "2026-05-01T10:00:00Z" ∷ codes "--step" ∷ codes "-x" ∷ []))
+        ≡ none (UnknownArgument ∷ []) }
+{}
+
+/// Help is shown where it is asked for.
+pub fn help_is_shown()
+    ensures { (program : List ℕ) → (asked (program ∷ codes "--help" ∷ []) ≡ none (DisplayHelp ∷ []))
+        × (asked (program ∷ codes "feed" ∷ codes "--help" ∷ []) ≡ none (DisplayHelp ∷ [])) }
+{}
+
+/// A line without a command, or without one of the two flags, is wrong.
+pub fn lines_that_lack_something_are_wrong()
+    ensures { (program text : List ℕ) → (asked (program ∷ []) ≡ none (MissingSubcommand ∷ []))
+        × (asked (program ∷ codes "feed" ∷ []) ≡ none (MissingRequiredArgument ∷ []))
+        × (asked (program ∷ codes "feed" ∷ (codes "--from=" ++ text) ∷ []) ≡ none (MissingRequiredArgument ∷ []))
+        × (asked (program ∷ codes "feed" ∷ (codes "--step=" ++ text) ∷ []) ≡ none (MissingRequiredArgument ∷ [])) }
+{}

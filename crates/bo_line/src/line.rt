@@ -1,0 +1,61 @@
+//! How a command line ends, and what it says of it.
+
+ghost use Rattle.std.specs.Prelude.{◌≡◌};
+ghost use Rattle.clap.specs.Words.{kind_of};
+ghost use Rattle.std.specs.IoError.{error_kind};
+ghost use Rattle.bo_line.specs.Line.{end_of_line, end_of_run, end_of_words};
+
+use crate::ended::LineEnd;
+use crate::fault::RunFault;
+use clap::Error;
+use clap::error::ErrorKind;
+use std::io;
+use std::io::{Eprint, Print};
+
+/// Says with which fault the program ends.
+pub fn report<O: Eprint>(rt: &O, fault: RunFault) -> LineEnd
+    ensures { result ≡ LineEnd.Failed fault }
+{
+    let _ = eprintln!(rt; "boxoffice: fault {}", fault.number());
+    LineEnd::Failed(fault)
+}
+
+/// Says why the words of the line can't be had: one of them isn't UTF-8, or there is no memory.
+pub fn report_words<O: Eprint>(rt: &O, error: &io::Error) -> LineEnd
+    ensures { result ≡ end_of_words (error_kind error.now) }
+{
+    match error.kind() {
+        io::ErrorKind::InvalidData => {
+            let _ = eprintln!(rt; "error: a word of the command line is not UTF-8");
+            LineEnd::Wrong
+        }
+        _ => report(rt, RunFault::Memory),
+    }
+}
+
+/// How a run ends, whose fault is told.
+pub fn report_run<O: Eprint>(rt: &O, run: Result<(), RunFault>) -> LineEnd
+    ensures { result ≡ end_of_run run }
+{
+    match run {
+        Ok(()) => LineEnd::Well,
+        Err(fault) => report(rt, fault),
+    }
+}
+
+/// Prints what is wrong with a line, or the help that it asks for.
+pub fn answer_line<O: Print + Eprint>(rt: &O, error: &Error) -> LineEnd
+    ensures { result ≡ end_of_line (kind_of error.now) }
+{
+    match error.kind() {
+        ErrorKind::OutOfMemory => report(rt, RunFault::Memory),
+        ErrorKind::DisplayHelp | ErrorKind::DisplayVersion => {
+            let _ = error.print(rt);
+            LineEnd::Helped
+        }
+        _ => {
+            let _ = error.print(rt);
+            LineEnd::Wrong
+        }
+    }
+}

@@ -1,0 +1,42 @@
+-- Messages as arrivals.
+use Rattle.std.specs.Prelude.{ℕ, List, Option, Some, None, Result, Ok, Err, unwrap_or, option_map}
+use Rattle.sha2.specs.Sha256.{sha256}
+use Rattle.bo_base.specs.declared.answer.Response.{Response}
+use Rattle.bo_devices.specs.declared.device.Tick.{Tick}
+use Rattle.bo_http.specs.Messages.{Message}
+use Rattle.bo_api.specs.declared.call.Call.{Call}
+use Rattle.bo_api.specs.declared.call.Call.TheVariants as calls
+use Rattle.bo_api.specs.Call.{call}
+use Rattle.bo_api.specs.Key.{key_of}
+use Rattle.bo_api.specs.Token.{token_of}
+use Rattle.bo_deliveries.specs.declared.arrival.Arrival.{Arrival}
+use Rattle.bo_deliveries.specs.declared.arrival.Request.{Request}
+use Rattle.bo_deliveries.specs.declared.arrival.Request.TheVariants as requests
+use Rattle.bo_streams.specs.DeskView.{House}
+
+abbrev pub number_by : (List ℕ → Option ℕ) → Option (List ℕ) → Option ℕ
+number_by tokens None = None
+number_by tokens (Some digest) = tokens digest
+
+-- the number of the token that a message shows, by the SHA-256 digest of its text
+abbrev pub number_of : (List ℕ → Option ℕ) → Message → Option ℕ
+number_of tokens m = number_by tokens (option_map sha256 (token_of m))
+
+abbrev pub arriving : Tick → ℕ → List ℕ → Request → Arrival
+arriving tick token key request = record { clock = tick.clock; draw = tick.draw; token = token; key = key; request = request }
+
+-- the arrival that a call is; 401 is none, and what is told without one
+abbrev pub arrival_of : Tick → ℕ → List ℕ → Call → Result Arrival Response
+arrival_of tick token key (calls.Unauthorized response) = Err response
+arrival_of tick token key (calls.Read query) = Ok (arriving tick token key (requests.Read query))
+arrival_of tick token key (calls.ReadRefused response) = Ok (arriving tick token key (requests.ReadRefused response))
+arrival_of tick token key (calls.Write command) = Ok (arriving tick token key (requests.Write command))
+arrival_of tick token key (calls.WriteRefused response) = Ok (arriving tick token key (requests.WriteRefused response))
+
+-- the arrival that a message is at a tick, where its token has this number, or none
+abbrev pub arrival_with : List ℕ → List ℕ → Option ℕ → Tick → Message → Result Arrival Response
+arrival_with organizer event number tick m = arrival_of tick (unwrap_or number 0) (key_of m) (call organizer event m number)
+
+-- the arrival that a message is at a tick, in this house
+abbrev pub arrival : House → Tick → Message → Result Arrival Response
+arrival house tick m = arrival_with house.organizer house.event (number_of house.tokens m) tick m

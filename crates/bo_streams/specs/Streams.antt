@@ -1,0 +1,69 @@
+-- Messages one after another, as a shop and as a list of arrivals see them, and what they do to the rows.
+use Rattle.std.specs.Prelude.{◌≡◌, ℕ, Bool, true, false, List, Result, Ok, Err}
+use Rattle.bo_base.specs.declared.answer.Answer.{Answer}
+use Rattle.bo_base.specs.declared.answer.Answer.TheVariants.{Decided, Unavailable}
+use Rattle.bo_base.specs.declared.answer.Response.{Response}
+use Rattle.bo_devices.specs.declared.device.Tick.{Tick}
+use Rattle.bo_base.specs.declared.draw.Draw.{Draw}
+use Rattle.bo_http.specs.Messages.{Message}
+use Rattle.bo_lists.specs.Lists.{State}
+use Rattle.bo_runs.specs.Runs.{stepped}
+use Rattle.bo_deliveries.specs.declared.arrival.Arrival.{Arrival}
+use Rattle.bo_deliveries.specs.declared.arrival.Request.{Request}
+use Rattle.bo_deliveries.specs.declared.arrival.Request.TheVariants.{Write, WriteRefused, Read, ReadRefused}
+use Rattle.bo_deliveries.specs.Deliveries.{Opening, Delivery}
+use Rattle.bo_runs.specs.NothingTooMuch.{TakesNothingTooMuch}
+use Rattle.bo_deliveries.specs.Histories.{Running}
+use Rattle.bo_deliveries.specs.Shops.{executes}
+use Rattle.bo_kept.specs.ShopView.{ShopView}
+use Rattle.bo_streams.specs.Coming.{arrival}
+use Rattle.bo_streams.specs.DeskView.{DeskView, Meaning, House, words_of}
+use Rattle.bo_streams.specs.Served.{IsServed, IsListed, Serves, after_message}
+
+-- the message is answered other than 503
+abbrev pub Decides : {T : Type 0} → Meaning T → DeskView T → Tick → Message → Answer → DeskView T → Type 0
+Decides tables old tick m answer new = Serves tables old tick m answer new × ((response : Response) × (answer ≡ Decided response))
+
+-- ---- what an arrival does to the rows
+
+-- an executed command makes its step, which takes too much of nothing; any other request changes the moment at most
+abbrev pub MakesItsStep : Request → ℕ → Draw → State → State → Type 0
+MakesItsStep (Write command) clock draw before after =
+    let made = stepped (record { clock = clock; draw = draw; command = command }) before in
+    (after ≡ made.after) × TakesNothingTooMuch made
+MakesItsStep (WriteRefused response) clock draw before after = after ≡ record before { moment = after.moment }
+MakesItsStep (Read query) clock draw before after = after ≡ before
+MakesItsStep (ReadRefused response) clock draw before after = after ≡ before
+
+-- a repeat and a read, which aren't executed, change nothing at all
+abbrev pub KeepsRows : Bool → Arrival → ShopView → ShopView → Type 0
+KeepsRows true a old new = MakesItsStep a.request a.clock a.draw old.state new.state
+KeepsRows false a old new = new ≡ old
+
+-- neither does a message that is no arrival
+abbrev pub KeepsComing : Result Arrival Response → ShopView → ShopView → Type 0
+KeepsComing (Ok a) old new = KeepsRows (executes a old) a old new
+KeepsComing (Err refusal) old new = new ≡ old
+
+module _ (house : House) where
+  -- a message, as the shop itself serves it
+  abbrev pub ServesShop : ShopView → Tick → Message → Answer → ShopView → Type 0
+  ServesShop old tick m answer new = IsServed (words_of house) (arrival house tick m) old answer (λ w. new ≡ w)
+
+  -- a message, as the list of arrivals till then has it
+  abbrev pub ServesList : Opening → List Delivery → Tick → Message → Answer → List Delivery → Type 0
+  ServesList p old tick m answer new = IsListed (words_of house) (arrival house tick m) p old answer (λ es. new ≡ es)
+
+  -- a message, as the running shop has it
+  abbrev pub ServesRunning : Running → Tick → Message → Answer → Running → Type 0
+  ServesRunning old tick m answer new =
+      IsServed (words_of house) (arrival house tick m) old.shop answer (λ w. new.shop ≡ w) × (new ≡ after_message (words_of house) (arrival house tick m) answer old)
+
+  -- what a message does to the rows: at 503 nothing
+  abbrev pub Keeps : ShopView → Tick → Message → Answer → ShopView → Type 0
+  Keeps old tick m (Decided response) new = KeepsComing (arrival house tick m) old new
+  Keeps old tick m Unavailable new = new ≡ old
+
+  -- a message is served, and keeps the rows so
+  abbrev pub ServesAndKeeps : ShopView → Tick → Message → Answer → ShopView → Type 0
+  ServesAndKeeps old tick m answer new = ServesShop old tick m answer new × Keeps old tick m answer new
