@@ -12,7 +12,7 @@ use Rattle.bo_columns.specs.declared.rows.ShopRow.{ShopRow}
 use Rattle.bo_columns.specs.declared.rows.Token.{Token}
 use Rattle.bo_columns.specs.Changes.{IsInside, Changes, with_shop, without_shop, with_token}
 use Rattle.bo_columns.specs.Tables.{Tables, Holds, no_rows}
-use Rattle.bo_make.specs.Blank.{blank_schema, IsEmptyOver}
+use Rattle.bo_schema.specs.Blank.{blank_schema, IsEmptyOver}
 use Rattle.bo_stand.specs.Free.{IsFree}
 use Rattle.bo_stand.specs.Stands.{Stand}
 use Rattle.bo_begins.specs.Begun.{first_tables, token_added, IsBegun, HasToken}

@@ -4,13 +4,12 @@ ghost use Rattle.std.specs.Prelude.{◌≡◌, OnOk, OnErr};
 ghost use Rattle.sqlite.specs.Held.{state};
 ghost use Rattle.sqlite.specs.State.{HasCleanDisk, Survives};
 ghost use Rattle.bo_schema.specs.Tables.{schema};
-ghost use Rattle.bo_transaction.specs.Whole.{IsOver, IsStill, IsWritten, MayBeWritten};
+ghost use Rattle.bo_schema.specs.Whole.{IsOver, IsStill, IsWritten, MayBeWritten};
 ghost use Rattle.bo_begins.specs.Begun.{HasToken};
 
 use bo_columns::{ShopRow, Token};
 use bo_rows::{Stored, put};
-use bo_schema::RowError;
-use bo_transaction::{Writing, write_whole};
+use bo_schema::{RowError, Writing, write_whole};
 use sqlite::{Alter, Connection, Transaction};
 
 // A token, and the shop's row with the id that the next one gets.

@@ -5,17 +5,15 @@ ghost use Rattle.sqlite.specs.Held.{state};
 ghost use Rattle.sqlite.specs.State.{HasCleanDisk, Survives};
 ghost use Rattle.bo_schema.specs.declared.error.RowError.TheVariants.{Foreign};
 ghost use Rattle.bo_lists.specs.Lists.{first_ids};
-ghost use Rattle.bo_make.specs.Blank.{blank_schema};
-ghost use Rattle.bo_transaction.specs.Whole.{IsStill, IsWritten, MayBeWritten};
+ghost use Rattle.bo_schema.specs.Blank.{blank_schema};
+ghost use Rattle.bo_schema.specs.Whole.{IsStill, IsWritten, MayBeWritten};
 ghost use Rattle.bo_begins.specs.Begun.{IsBegun};
 
 use bo_base::{Moment, Slug};
 use bo_columns::ShopRow;
 use bo_lists::NextIds;
-use bo_make::make_tables;
 use bo_rows::Stored;
-use bo_schema::RowError;
-use bo_transaction::{Writing, write_whole};
+use bo_schema::{RowError, Writing, make_tables, write_whole};
 use sqlite::{Alter, Connection, Transaction};
 use sqlite_schema::schema::Schema;
 

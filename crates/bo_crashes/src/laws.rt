@@ -10,7 +10,7 @@ ghost use Rattle.bo_commands.specs.declared.replies.Reply.{Reply};
 ghost use Rattle.bo_schema.specs.Tables.{schema};
 ghost use Rattle.bo_kept.specs.declared.kept.Kept.{Kept};
 ghost use Rattle.bo_kept.specs.ShopView.{ShopView, IsSame};
-ghost use Rattle.bo_transaction.specs.Whole.{MayBeWritten};
+ghost use Rattle.bo_schema.specs.Whole.{MayBeWritten};
 ghost use Rattle.bo_begins.specs.Begun.{HasToken};
 ghost use Rattle.bo_tables.specs.Shops.{HoldsWhileOpen, KnowsWhileOpen, Leaves};
 ghost use Rattle.bo_columns.specs.declared.rows.ShopRow.{ShopRow};

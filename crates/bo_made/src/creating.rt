@@ -5,8 +5,8 @@ ghost use Rattle.sqlite.specs.Held.{state};
 ghost use Rattle.sqlite.specs.State.{HasCleanDisk, Survives};
 ghost use Rattle.bo_schema.specs.declared.error.RowError.TheVariants.{Foreign};
 ghost use Rattle.bo_lists.specs.Lists.{empty};
-ghost use Rattle.bo_make.specs.Blank.{blank_schema};
-ghost use Rattle.bo_transaction.specs.Whole.{IsStill, IsWritten, MayBeWritten};
+ghost use Rattle.bo_schema.specs.Blank.{blank_schema};
+ghost use Rattle.bo_schema.specs.Whole.{IsStill, IsWritten, MayBeWritten};
 ghost use Rattle.bo_begins.specs.Begun.{IsBegun};
 ghost use Rattle.bo_made.specs.Made.{first_shop, IsMade};
 

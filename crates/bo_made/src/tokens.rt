@@ -10,7 +10,7 @@ ghost use Rattle.bo_kept.specs.declared.kept.Kept.{Kept};
 ghost use Rattle.bo_kept.specs.ShopView.{ShopView, IsSame};
 ghost use Rattle.bo_columns.specs.Fit.{IsDigest};
 ghost use Rattle.bo_columns.specs.Tables.{Tables, Holds};
-ghost use Rattle.bo_transaction.specs.Whole.{IsOver, IsStill, IsWritten, MayBeWritten};
+ghost use Rattle.bo_schema.specs.Whole.{IsOver, IsStill, IsWritten, MayBeWritten};
 ghost use Rattle.bo_tables.specs.Shops.{HoldsWhileOpen, KnowsWhileOpen, Leaves};
 ghost use Rattle.bo_begins.specs.Begun.{HasToken};
 ghost use Rattle.bo_made.specs.declared.error.TokenError.TheVariants.{Full};

@@ -4,9 +4,9 @@ use Rattle.sqlite.specs.Held.{state}
 use Rattle.sqlite.specs.State.{HasCleanDisk, Survives, Executes}
 use Rattle.sqlite.proofs.StateLemmas.{survives_then}
 use Rattle.bo_schema.proofs.Inside.{keeps_then}
-use Rattle.bo_make.specs.Blank.{IsEmptyOver, statement_texts}
-use Rattle.bo_make.proofs.Makes.{each, all_made}
-use Rattle.bo_make.proofs.run_each.Goals as goal
+use Rattle.bo_schema.specs.Blank.{IsEmptyOver, statement_texts}
+use Rattle.bo_schema.proofs.Makes.{each, all_made}
+use Rattle.bo_schema.proofs.make.run_each.Goals as goal
 
 pub statements-preserved : goal.statements-preserved
 statements-preserved g c =

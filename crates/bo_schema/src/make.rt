@@ -1,13 +1,12 @@
 //! The tables of a shop are made.
-#![tactic(auto)]
 
 ghost use Rattle.std.specs.Prelude.{◌≡◌, map, OnOk};
 ghost use Rattle.sqlite.specs.Held.{state};
 ghost use Rattle.sqlite.specs.State.{HasCleanDisk, Survives, KeepsCommit};
 ghost use Rattle.bo_schema.specs.Tables.{schema};
-ghost use Rattle.bo_make.specs.Blank.{IsEmptyOver, blank_schema, statement_texts};
+ghost use Rattle.bo_schema.specs.Blank.{IsEmptyOver, blank_schema, statement_texts};
 
-use bo_schema::{RowError, run};
+use crate::{RowError, run};
 use sqlite::{Alter, Transaction};
 
 // What makes the tables of a shop, each behind those to which it refers.

@@ -5,9 +5,9 @@ ghost use Rattle.sqlite_schema.specs.declared.schema.Schema.{Schema};
 ghost use Rattle.sqlite.specs.Effect.{Database};
 ghost use Rattle.sqlite.specs.Held.{state};
 ghost use Rattle.sqlite.specs.State.{HasCleanDisk, Survives, KeepsCommit, IsUnchanged};
-ghost use Rattle.bo_transaction.specs.Whole.{IsOver, IsStill, IsWritten, MayBeWritten};
+ghost use Rattle.bo_schema.specs.Whole.{IsOver, IsStill, IsWritten, MayBeWritten};
 
-use bo_schema::RowError;
+use crate::RowError;
 use sqlite::{Alter, Connection, Transaction};
 
 /// What is written in one transaction, and what that answers.

@@ -13,7 +13,7 @@ use Rattle.sqlite.specs.State.{State, Executes, HasCleanDisk, Survives}
 use Rattle.sqlite.proofs.Callers.{IsPlain, command_of, statement_of}
 use Rattle.bo_schema.specs.Tables.{schema, schema_of, shop_text, shop_table, items_text, items_table, variations_text, variations_table, quotas_text, quotas_table, quota_items_text, quota_items_table, quota_variations_text, quota_variations_table, vouchers_text, vouchers_table, cart_positions_text, cart_positions_table, orders_text, orders_table, order_positions_text, order_positions_table, waiting_text, waiting_table, checkin_lists_text, checkin_lists_table, list_items_text, list_items_table, checkins_text, checkins_table, quota_count_text, quota_count_table, tokens_text, tokens_table, kept_text, kept_table, kept_by_moment, kept_by_moment_text}
 use Rattle.bo_schema.proofs.Creating.{AreEmpty, creates, indexes}
-use Rattle.bo_make.specs.Blank.{IsEmptyOver, blank_schema, statement_texts}
+use Rattle.bo_schema.specs.Blank.{IsEmptyOver, blank_schema, statement_texts}
 
 -- over the first schema, with no row, the statement makes the next one, with no row
 abbrev pub Makes : Schema → List ℕ → Schema → Type 1

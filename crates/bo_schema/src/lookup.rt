@@ -4,10 +4,10 @@ ghost use Rattle.std.specs.Prelude.{◌≡◌, true, false, IsTrue, List, IfOk, 
 ghost use Rattle.sqlite.specs.Effect.{Database};
 ghost use Rattle.sqlite.specs.Held.{state};
 ghost use Rattle.sqlite.specs.State.{HasCleanDisk, Survives, KeepsCommit};
-ghost use Rattle.bo_transaction.specs.Whole.{IsStill};
+ghost use Rattle.bo_schema.specs.Whole.{IsStill};
 
+use crate::RowError;
 use crate::writing::test_open;
-use bo_schema::RowError;
 use sqlite::{Alter, Connection, Transaction};
 use std::alloc::Global;
 

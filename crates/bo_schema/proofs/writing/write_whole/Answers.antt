@@ -1,9 +1,9 @@
 use Rattle.std.proofs.Common.{◌≡◌, rules, subst, arith, refl}
 use Rattle.sqlite.specs.Held.{state}
 use Rattle.sqlite.specs.State.{HasCleanDisk, Survives}
-use Rattle.bo_transaction.specs.Whole.{IsStill, IsWritten, MayBeWritten}
-use Rattle.bo_transaction.proofs.WholeLemmas.{committed, crashes, undone}
-use Rattle.bo_transaction.proofs.writing.write_whole.Goals as goal
+use Rattle.bo_schema.specs.Whole.{IsStill, IsWritten, MayBeWritten}
+use Rattle.bo_schema.proofs.WholeLemmas.{committed, crashes, undone}
+use Rattle.bo_schema.proofs.writing.write_whole.Goals as goal
 
 pub returns-in-Ok-clause-all : goal.returns-in-Ok-clause-all
 returns-in-Ok-clause-all g c clean over =

@@ -10,7 +10,7 @@ use Rattle.sqlite.specs.State.{State, KeepsCommit, Shows, Survives, HasCleanDisk
 use Rattle.sqlite.specs.Steps.{FailsToCommit}
 use Rattle.sqlite.proofs.StateLemmas.{survives_then}
 use Rattle.sqlite.proofs.Callers.{survives_begin}
-use Rattle.bo_transaction.specs.Whole.{IsSame, IsStill, IsWritten, MayBeWritten}
+use Rattle.bo_schema.specs.Whole.{IsSame, IsStill, IsWritten, MayBeWritten}
 
 -- ---- a text that is only prepared
 

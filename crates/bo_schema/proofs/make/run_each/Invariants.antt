@@ -1,9 +1,9 @@
 use Rattle.std.proofs.Common.{◌≡◌}
 use Rattle.sqlite.specs.Held.{state}
 use Rattle.sqlite.specs.State.{HasCleanDisk, Survives, KeepsCommit}
-use Rattle.bo_make.specs.Blank.{IsEmptyOver, blank_schema}
-use Rattle.bo_make.proofs.Makes.{after}
-use Rattle.bo_make.proofs.run_each.Given as goal
+use Rattle.bo_schema.specs.Blank.{IsEmptyOver, blank_schema}
+use Rattle.bo_schema.proofs.Makes.{after}
+use Rattle.bo_schema.proofs.make.run_each.Given as goal
 
 abbrev pub invariant-statements : goal.invariant-statements
 invariant-statements g l =
