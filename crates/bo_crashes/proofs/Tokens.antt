@@ -6,7 +6,7 @@ use Rattle.bo_schema.specs.Tables.{schema}
 use Rattle.bo_columns.specs.declared.rows.ShopRow.{ShopRow}
 use Rattle.bo_columns.specs.Tables.{Tables, Holds}
 use Rattle.bo_schema.specs.Whole.{MayBeWritten}
-use Rattle.bo_begins.specs.Begun.{HasToken, token_added}
+use Rattle.bo_tables.specs.Begun.{HasToken, token_added}
 use Rattle.bo_tables.specs.Held.{number_of}
 use Rattle.bo_tables.specs.Shops.{Knows, KnowsWhileOpen}
 use Rattle.bo_made.specs.Tokens.{also_known, raised, next_one}

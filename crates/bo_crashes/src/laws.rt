@@ -11,7 +11,7 @@ ghost use Rattle.bo_schema.specs.Tables.{schema};
 ghost use Rattle.bo_kept.specs.declared.kept.Kept.{Kept};
 ghost use Rattle.bo_kept.specs.ShopView.{ShopView, IsSame};
 ghost use Rattle.bo_schema.specs.Whole.{MayBeWritten};
-ghost use Rattle.bo_begins.specs.Begun.{HasToken};
+ghost use Rattle.bo_tables.specs.Begun.{HasToken};
 ghost use Rattle.bo_tables.specs.Shops.{HoldsWhileOpen, KnowsWhileOpen, Leaves};
 ghost use Rattle.bo_columns.specs.declared.rows.ShopRow.{ShopRow};
 ghost use Rattle.bo_opens.specs.declared.error.OpenError.{OpenError};

@@ -4,7 +4,7 @@ use Rattle.sqlite.specs.State.{Survives}
 use Rattle.bo_columns.specs.declared.rows.ShopRow.{ShopRow}
 use Rattle.bo_schema.specs.Blank.{blank_schema}
 use Rattle.bo_schema.specs.Whole.{IsWritten, MayBeWritten}
-use Rattle.bo_begins.specs.Begun.{IsBegun}
+use Rattle.bo_tables.specs.Begun.{IsBegun}
 use Rattle.bo_made.proofs.creating.make.Goals as goal
 
 pub returns-in_err-begin-clause-blank : goal.returns-in_err-begin-clause-blank

@@ -5,7 +5,7 @@ ghost use Rattle.sqlite.specs.Held.{state};
 ghost use Rattle.sqlite.specs.State.{HasCleanDisk, Survives};
 ghost use Rattle.bo_schema.specs.Tables.{schema};
 ghost use Rattle.bo_schema.specs.Whole.{IsOver, IsStill, IsWritten, MayBeWritten};
-ghost use Rattle.bo_begins.specs.Begun.{HasToken};
+ghost use Rattle.bo_tables.specs.Begun.{HasToken};
 
 use bo_columns::{ShopRow, Token};
 use bo_rows::{Stored, put};

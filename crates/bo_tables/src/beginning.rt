@@ -7,7 +7,7 @@ ghost use Rattle.bo_schema.specs.declared.error.RowError.TheVariants.{Foreign};
 ghost use Rattle.bo_lists.specs.Lists.{first_ids};
 ghost use Rattle.bo_schema.specs.Blank.{blank_schema};
 ghost use Rattle.bo_schema.specs.Whole.{IsStill, IsWritten, MayBeWritten};
-ghost use Rattle.bo_begins.specs.Begun.{IsBegun};
+ghost use Rattle.bo_tables.specs.Begun.{IsBegun};
 
 use bo_base::{Moment, Slug};
 use bo_columns::ShopRow;

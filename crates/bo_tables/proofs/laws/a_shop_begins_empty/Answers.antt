@@ -1,5 +1,5 @@
-use Rattle.bo_begins.proofs.Begins.{begins_empty, begins_free}
-use Rattle.bo_begins.proofs.laws.a_shop_begins_empty.Goals as goal
+use Rattle.bo_tables.proofs.Begins.{begins_empty, begins_free}
+use Rattle.bo_tables.proofs.laws.a_shop_begins_empty.Goals as goal
 
 pub returns-clause-stands : goal.returns-clause-stands
 returns-clause-stands c = λ shop moment next. begins_empty shop moment next

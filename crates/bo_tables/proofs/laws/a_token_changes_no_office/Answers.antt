@@ -1,5 +1,5 @@
-use Rattle.bo_begins.proofs.Begins.{token_stands, token_free}
-use Rattle.bo_begins.proofs.laws.a_token_changes_no_office.Goals as goal
+use Rattle.bo_tables.proofs.Begins.{token_stands, token_free}
+use Rattle.bo_tables.proofs.laws.a_token_changes_no_office.Goals as goal
 
 pub returns-clause-stands : goal.returns-clause-stands
 returns-clause-stands c = λ old shop token t state answers moment next h. token_stands old shop token t state answers moment next h

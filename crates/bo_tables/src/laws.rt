@@ -8,7 +8,7 @@ ghost use Rattle.bo_columns.specs.declared.rows.Token.{Token};
 ghost use Rattle.bo_columns.specs.Tables.{Tables};
 ghost use Rattle.bo_stand.specs.Free.{IsFree};
 ghost use Rattle.bo_stand.specs.Stands.{Stand};
-ghost use Rattle.bo_begins.specs.Begun.{first_tables, token_added};
+ghost use Rattle.bo_tables.specs.Begun.{first_tables, token_added};
 
 /// The tables of a shop with its row alone hold the empty box office and no answer, and every row number is free.
 pub fn a_shop_begins_empty()

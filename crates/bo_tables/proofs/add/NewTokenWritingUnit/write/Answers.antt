@@ -1,7 +1,7 @@
 use Rattle.sqlite.specs.Held.{state}
 use Rattle.sqlite.specs.State.{HasCleanDisk}
-use Rattle.bo_begins.proofs.Begins.{before, inside_known, inside_after, has_token}
-use Rattle.bo_begins.proofs.add.NewTokenWritingUnit.write.Goals as goal
+use Rattle.bo_tables.proofs.Begins.{before, inside_known, inside_after, has_token}
+use Rattle.bo_tables.proofs.add.NewTokenWritingUnit.write.Goals as goal
 
 pub returns-clause-written : goal.returns-clause-written
 returns-clause-written g c clean inside known =

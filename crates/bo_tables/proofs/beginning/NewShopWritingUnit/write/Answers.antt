@@ -1,7 +1,7 @@
 use Rattle.sqlite.specs.Held.{state}
 use Rattle.sqlite.specs.State.{HasCleanDisk}
-use Rattle.bo_begins.proofs.Begins.{before, blank_inside, inside_empty, begun}
-use Rattle.bo_begins.proofs.beginning.NewShopWritingUnit.write.Goals as goal
+use Rattle.bo_tables.proofs.Begins.{before, blank_inside, inside_empty, begun}
+use Rattle.bo_tables.proofs.beginning.NewShopWritingUnit.write.Goals as goal
 
 pub returns-clause-written : goal.returns-clause-written
 returns-clause-written g c clean inside known =

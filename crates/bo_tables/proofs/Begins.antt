@@ -15,7 +15,7 @@ use Rattle.bo_columns.specs.Tables.{Tables, Holds, no_rows}
 use Rattle.bo_schema.specs.Blank.{blank_schema, IsEmptyOver}
 use Rattle.bo_stand.specs.Free.{IsFree}
 use Rattle.bo_stand.specs.Stands.{Stand}
-use Rattle.bo_begins.specs.Begun.{first_tables, token_added, IsBegun, HasToken}
+use Rattle.bo_tables.specs.Begun.{first_tables, token_added, IsBegun, HasToken}
 
 no_part : (db : Trees) (n : ℕ) → db n ≡ [] → IsPermutation [] (map (shown schema n) (db n))
 no_part db n none = subst (λ l. IsPermutation [] (map (shown schema n) l)) (sym none) (IsPermutation-refl [])
