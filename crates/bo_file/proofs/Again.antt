@@ -6,7 +6,7 @@ use Rattle.sqlite.specs.State.{State as Connected, Survives}
 use Rattle.bo_base.specs.declared.answer.Response.{Response}
 use Rattle.bo_commands.specs.declared.replies.Reply.{Reply}
 use Rattle.bo_deliveries.specs.Histories.{Event, Answered, Unanswered, Crashed, Running, after_answer, after_none, opened, Happens}
-use Rattle.bo_crashes.specs.Found.{IsFound}
+use Rattle.bo_file.specs.Found.{IsFound}
 
 pub happens_on : (words : Reply → Response) (r : Running) (es fs : List Event) (mid end : Running) → Happens words r es mid → Happens words mid fs end → Happens words r (es ++ fs) end
 happens_on words r [] fs mid end same more = subst (λ m. Happens words m fs end) same more

@@ -1,6 +1,6 @@
 use Rattle.sqlite.specs.Held.{state}
-use Rattle.bo_crashes.proofs.Again.{found_again}
-use Rattle.bo_crashes.proofs.laws.a_crash_while_opening_loses_nothing.Goals as goal
+use Rattle.bo_file.proofs.Again.{found_again}
+use Rattle.bo_file.proofs.crashes.a_crash_while_opening_loses_nothing.Goals as goal
 
 pub returns-clause-found : goal.returns-clause-found
 returns-clause-found g c = λ found is_open crash more.

@@ -1,6 +1,6 @@
 use Rattle.std.proofs.Common.{refl, inl}
 use Rattle.bo_made.specs.Made.{nothing_yet}
-use Rattle.bo_crashes.proofs.laws.a_made_shop_runs.Goals as goal
+use Rattle.bo_file.proofs.crashes.a_made_shop_runs.Goals as goal
 
 pub returns : goal.returns
 returns g c = λ words first made. record {

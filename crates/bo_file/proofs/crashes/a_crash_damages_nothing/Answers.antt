@@ -9,8 +9,8 @@ use Rattle.bo_opens.proofs.FitLemmas.{of_machine}
 use Rattle.bo_opens.proofs.LimitLemmas.{sound_fits}
 use Rattle.bo_reopen.proofs.Least.{clear}
 use Rattle.bo_reopen.proofs.Undamaged.{undamaged}
-use Rattle.bo_crashes.proofs.Damage.{leaves_some}
-use Rattle.bo_crashes.proofs.laws.a_crash_damages_nothing.Goals as goal
+use Rattle.bo_file.proofs.Damage.{leaves_some}
+use Rattle.bo_file.proofs.crashes.a_crash_damages_nothing.Goals as goal
 
 -- what can't be denied of an error of the machine is so
 settled : (e : OpenError) → ((IsOfMachine e → ⊥) → ⊥) → IsOfMachine e

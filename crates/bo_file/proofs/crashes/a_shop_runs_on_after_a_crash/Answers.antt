@@ -6,8 +6,8 @@ use Rattle.bo_deliveries.specs.Shops.{stood}
 use Rattle.bo_deliveries.specs.Histories.{Crashed, opened}
 use Rattle.bo_deliveries.proofs.Crashes.{come_from_opening}
 use Rattle.bo_deliveries.proofs.Running.{reopened}
-use Rattle.bo_crashes.proofs.Again.{happens_on}
-use Rattle.bo_crashes.proofs.laws.a_shop_runs_on_after_a_crash.Goals as goal
+use Rattle.bo_file.proofs.Again.{happens_on}
+use Rattle.bo_file.proofs.crashes.a_shop_runs_on_after_a_crash.Goals as goal
 
 pub returns-clause-reopened : goal.returns-clause-reopened
 returns-clause-reopened g c = λ found z o.

@@ -1,5 +1,5 @@
 use Rattle.std.proofs.Common.{inl, inr, refl}
-use Rattle.bo_crashes.proofs.laws.a_token_leaves_a_shop_running.Goals as goal
+use Rattle.bo_file.proofs.crashes.a_token_leaves_a_shop_running.Goals as goal
 
 pub returns : goal.returns
 returns g c = λ words s r running holds leaves. record {

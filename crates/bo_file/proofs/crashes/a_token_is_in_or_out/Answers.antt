@@ -1,8 +1,8 @@
 use Rattle.std.proofs.Common.{ap, sym, ◌∙◌, inl, inr}
 use Rattle.sqlite.specs.Effect.{Database}
 use Rattle.sqlite.specs.Held.{state}
-use Rattle.bo_crashes.proofs.Tokens.{known_as, token_out, token_in}
-use Rattle.bo_crashes.proofs.laws.a_token_is_in_or_out.Goals as goal
+use Rattle.bo_file.proofs.Tokens.{known_as, token_out, token_in}
+use Rattle.bo_file.proofs.crashes.a_token_is_in_or_out.Goals as goal
 
 pub returns : goal.returns
 returns g c = λ digest tokens s ks opened holds knows crash found z o.

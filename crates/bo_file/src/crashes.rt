@@ -22,7 +22,7 @@ ghost use Rattle.bo_deliveries.specs.Shops.{Stands, stood};
 ghost use Rattle.bo_deliveries.specs.Histories.{Event, Crashed, Running, MayLeave, Happens, ComesTo, IsRunning, Reopened, opened};
 ghost use Rattle.bo_made.specs.Made.{IsMade};
 ghost use Rattle.bo_made.specs.Tokens.{also_known, raised, next_one};
-ghost use Rattle.bo_crashes.specs.Found.{IsFound};
+ghost use Rattle.bo_file.specs.Found.{IsFound};
 
 use bo_kept::Tables;
 use bo_tables::SqlTables;
