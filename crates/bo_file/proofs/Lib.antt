@@ -1,1 +1,4 @@
 pub mod Opened
+pub mod Again
+pub mod Damage
+pub mod Tokens

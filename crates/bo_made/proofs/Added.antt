@@ -14,9 +14,9 @@ use Rattle.bo_columns.specs.declared.rows.Token.{Token}
 use Rattle.bo_columns.specs.Fit.{IsDigest}
 use Rattle.bo_columns.specs.Tables.{Tables, Holds}
 use Rattle.bo_loads.specs.Lookups.{has_digest}
-use Rattle.bo_transaction.specs.Whole.{IsOver, IsStill, IsWritten, MayBeWritten}
-use Rattle.bo_begins.specs.Begun.{HasToken, token_added}
-use Rattle.bo_begins.proofs.Begins.{token_stands, token_free}
+use Rattle.bo_schema.specs.Whole.{IsOver, IsStill, IsWritten, MayBeWritten}
+use Rattle.bo_tables.specs.Begun.{HasToken, token_added}
+use Rattle.bo_tables.proofs.Begins.{token_stands, token_free}
 use Rattle.bo_typed.proofs.Typed.{token_typed}
 use Rattle.bo_tables.specs.Held.{number_of}
 use Rattle.bo_tables.specs.Shops.{HoldsWhileOpen, Knows, KnowsWhileOpen, HoldNoOther, Leaves}

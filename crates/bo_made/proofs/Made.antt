@@ -6,9 +6,9 @@ use Rattle.sqlite.specs.State.{State as Connected}
 use Rattle.bo_base.specs.Slugs.{IsSlug}
 use Rattle.bo_columns.specs.declared.rows.ShopRow.{ShopRow}
 use Rattle.bo_columns.specs.Tables.{Holds}
-use Rattle.bo_transaction.specs.Whole.{IsWritten}
-use Rattle.bo_begins.specs.Begun.{IsBegun, first_tables}
-use Rattle.bo_begins.proofs.Begins.{begins_empty, begins_free}
+use Rattle.bo_schema.specs.Whole.{IsWritten}
+use Rattle.bo_tables.specs.Begun.{IsBegun, first_tables}
+use Rattle.bo_tables.proofs.Begins.{begins_empty, begins_free}
 use Rattle.bo_typed.specs.Typed.{IsTypedShop}
 use Rattle.bo_typed.proofs.Typed.{first_typed}
 use Rattle.bo_made.specs.Made.{first_shop, nothing_yet, IsMade}

@@ -5,7 +5,7 @@ use Rattle.bo_schema.specs.Tables.{schema}
 use Rattle.bo_lists.specs.Lists.{empty, first_ids}
 use Rattle.bo_columns.specs.declared.rows.ShopRow.{ShopRow}
 use Rattle.bo_columns.specs.Tables.{Holds}
-use Rattle.bo_begins.specs.Begun.{first_tables}
+use Rattle.bo_tables.specs.Begun.{first_tables}
 use Rattle.bo_kept.specs.ShopView.{ShopView, IsSame}
 use Rattle.bo_tables.specs.Shops.{HoldsWhileOpen, KnowsWhileOpen, Leaves}
 

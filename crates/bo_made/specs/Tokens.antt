@@ -3,7 +3,7 @@ use Rattle.std.specs.Prelude.{◌≡◌, ℕ, ◌+◌, ◌<◌, ◌≤◌, List,
 use Rattle.bo_columns.specs.declared.rows.ShopRow.{ShopRow}
 use Rattle.bo_columns.specs.declared.rows.Token.{Token}
 use Rattle.bo_columns.specs.Tables.{Tables}
-use Rattle.bo_begins.specs.Begun.{token_added}
+use Rattle.bo_tables.specs.Begun.{token_added}
 
 -- the most tokens that a shop's file has
 abbrev pub most_tokens : ℕ

@@ -5,19 +5,18 @@ ghost use Rattle.sqlite.specs.Held.{state};
 ghost use Rattle.sqlite.specs.State.{HasCleanDisk, Survives};
 ghost use Rattle.bo_schema.specs.declared.error.RowError.TheVariants.{Foreign};
 ghost use Rattle.bo_lists.specs.Lists.{empty};
-ghost use Rattle.bo_make.specs.Blank.{blank_schema};
-ghost use Rattle.bo_transaction.specs.Whole.{IsStill, IsWritten, MayBeWritten};
-ghost use Rattle.bo_begins.specs.Begun.{IsBegun};
+ghost use Rattle.bo_schema.specs.Blank.{blank_schema};
+ghost use Rattle.bo_schema.specs.Whole.{IsStill, IsWritten, MayBeWritten};
+ghost use Rattle.bo_tables.specs.Begun.{IsBegun};
 ghost use Rattle.bo_made.specs.Made.{first_shop, IsMade};
 
 use crate::error::HandedBack;
 use bo_base::Slug;
-use bo_begins::{begin, first_row, is_blank};
 use bo_columns::ShopRow;
 use bo_counters::Counters;
 use bo_office::Office;
 use bo_schema::RowError;
-use bo_tables::SqlTables;
+use bo_tables::{SqlTables, begin, first_row, is_blank};
 use sqlite::{Alter, Connection};
 use std::alloc::{AllocError, Global};
 

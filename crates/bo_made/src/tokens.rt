@@ -10,16 +10,15 @@ ghost use Rattle.bo_kept.specs.declared.kept.Kept.{Kept};
 ghost use Rattle.bo_kept.specs.ShopView.{ShopView, IsSame};
 ghost use Rattle.bo_columns.specs.Fit.{IsDigest};
 ghost use Rattle.bo_columns.specs.Tables.{Tables, Holds};
-ghost use Rattle.bo_transaction.specs.Whole.{IsOver, IsStill, IsWritten, MayBeWritten};
+ghost use Rattle.bo_schema.specs.Whole.{IsOver, IsStill, IsWritten, MayBeWritten};
 ghost use Rattle.bo_tables.specs.Shops.{HoldsWhileOpen, KnowsWhileOpen, Leaves};
-ghost use Rattle.bo_begins.specs.Begun.{HasToken};
+ghost use Rattle.bo_tables.specs.Begun.{HasToken};
 ghost use Rattle.bo_made.specs.declared.error.TokenError.TheVariants.{Full};
 ghost use Rattle.bo_made.specs.Tokens.{most_tokens, also_known, IsNumbered, HasNoRoom, raised, next_one, head_after, tables_after};
 
 use crate::error::TokenError;
-use bo_begins::put_token;
 use bo_columns::Token;
-use bo_tables::{SqlTables, find_number};
+use bo_tables::{SqlTables, find_number, put_token};
 use sqlite::Alter;
 
 const MOST_TOKENS: u64 = 1_000_000;

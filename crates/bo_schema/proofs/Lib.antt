@@ -8,3 +8,5 @@ pub mod Casts
 pub mod Parts
 pub mod Inside
 pub mod Creating
+pub mod Makes
+pub mod WholeLemmas

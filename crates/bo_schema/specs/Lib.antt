@@ -4,3 +4,5 @@ pub mod Plain
 pub mod Writes
 pub mod Parts
 pub mod Failures
+pub mod Blank
+pub mod Whole

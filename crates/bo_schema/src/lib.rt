@@ -1,8 +1,14 @@
-//! The schema of the file, and one statement on it inside a transaction.
+//! The schema of the file, how its tables are made, one statement on it inside a transaction, and whole transactions.
 #![tactic(auto)]
 
 pub mod error;
+pub mod lookup;
+pub mod make;
 pub mod statement;
+pub mod writing;
 
 pub use error::RowError;
+pub use lookup::{Lookup, look_up};
+pub use make::make_tables;
 pub use statement::run;
+pub use writing::{Writing, write_whole};

@@ -1,3 +1,4 @@
 pub mod Asked
 pub mod Told
 pub mod ShopLemmas
+pub mod Begins

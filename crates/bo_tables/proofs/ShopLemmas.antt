@@ -21,7 +21,7 @@ use Rattle.bo_stand.specs.Stands.{IsRising, Stand}
 use Rattle.bo_stand.proofs.Carried.{carried, free_done, tokens_stay}
 use Rattle.bo_typed.specs.Typed.{IsTypedChange, IsTypedKept, IsTypedShop, IsSameShop}
 use Rattle.bo_typed.proofs.Typed.{committed_typed}
-use Rattle.bo_transaction.specs.Whole.{IsStill, IsWritten, MayBeWritten}
+use Rattle.bo_schema.specs.Whole.{IsStill, IsWritten, MayBeWritten}
 use Rattle.bo_tables.specs.Held.{KnowsTokens, number_of}
 use Rattle.bo_tables.specs.Committed.{Turns}
 use Rattle.bo_tables.specs.Shops.{Keeps, HoldsWhileOpen, Knows, KnowsWhileOpen, HoldNoOther, Leaves}

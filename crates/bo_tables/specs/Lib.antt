@@ -2,3 +2,4 @@ pub mod Held
 pub mod Shops
 pub mod Committed
 pub mod Refusals
+pub mod Begun

@@ -8,14 +8,13 @@ ghost use Rattle.bo_kept.specs.KeptAnswers.{told_by};
 ghost use Rattle.bo_kept.specs.declared.kept.Kept.{Kept};
 ghost use Rattle.bo_columns.specs.Tables.{Tables, Holds};
 ghost use Rattle.bo_loads.specs.Lookups.{is_under};
-ghost use Rattle.bo_transaction.specs.Whole.{IsStill};
+ghost use Rattle.bo_schema.specs.Whole.{IsStill};
 ghost use Rattle.bo_tables.specs.Held.{KeepsAnswers};
 
 use bo_base::{Moment, Response};
 use bo_columns::KeptRow;
 use bo_loads::find_kept;
-use bo_schema::RowError;
-use bo_transaction::{Lookup, look_up};
+use bo_schema::{Lookup, RowError, look_up};
 use sqlite::{Alter, Connection, Transaction};
 use std::alloc::Global;
 

@@ -6,13 +6,12 @@ ghost use Rattle.sqlite.specs.State.{HasCleanDisk, Survives};
 ghost use Rattle.bo_schema.specs.Tables.{schema};
 ghost use Rattle.bo_columns.specs.Tables.{Tables, Holds};
 ghost use Rattle.bo_loads.specs.Lookups.{has_digest};
-ghost use Rattle.bo_transaction.specs.Whole.{IsStill};
+ghost use Rattle.bo_schema.specs.Whole.{IsStill};
 ghost use Rattle.bo_tables.specs.Held.{KnowsTokens};
 
 use bo_columns::Token;
 use bo_loads::find_token;
-use bo_schema::RowError;
-use bo_transaction::{Lookup, look_up};
+use bo_schema::{Lookup, RowError, look_up};
 use sqlite::{Alter, Connection, Transaction};
 use std::alloc::Global;
 

@@ -2,9 +2,9 @@ use Rattle.std.proofs.Common.{◌≡◌, rules, sym, subst, ◌∙◌, IsTrue}
 use Rattle.sqlite.specs.Held.{state}
 use Rattle.sqlite.specs.State.{Survives}
 use Rattle.bo_columns.specs.declared.rows.ShopRow.{ShopRow}
-use Rattle.bo_make.specs.Blank.{blank_schema}
-use Rattle.bo_transaction.specs.Whole.{IsWritten, MayBeWritten}
-use Rattle.bo_begins.specs.Begun.{IsBegun}
+use Rattle.bo_schema.specs.Blank.{blank_schema}
+use Rattle.bo_schema.specs.Whole.{IsWritten, MayBeWritten}
+use Rattle.bo_tables.specs.Begun.{IsBegun}
 use Rattle.bo_made.proofs.creating.make.Goals as goal
 
 pub returns-in_err-begin-clause-blank : goal.returns-in_err-begin-clause-blank

@@ -1,9 +1,0 @@
-use Rattle.std.proofs.Common.{refl, inl}
-use Rattle.bo_made.specs.Made.{nothing_yet}
-use Rattle.bo_crashes.proofs.laws.a_made_shop_runs.Goals as goal
-
-pub returns : goal.returns
-returns g c = λ words first made. record {
-  views = record { state_is = refl; held = made.holds; one = tt };
-  leaves = λ left may. (nothing_yet, inl refl, made.leaves left may);
-}

@@ -1,8 +1,0 @@
-use Rattle.std.proofs.Common.{inl, inr, refl}
-use Rattle.bo_crashes.proofs.laws.a_token_leaves_a_shop_running.Goals as goal
-
-pub returns : goal.returns
-returns g c = λ words s r running holds leaves. record {
-  views = record { state_is = running.views.state_is; held = holds r.shop.state r.shop.kept running.views.held; one = running.views.one };
-  leaves = λ left may. elim (leaves left may) [ inl was ↦ running.leaves left was | inr so ↦ (r.shop, inl refl, so r.shop.state r.shop.kept running.views.held) ];
-}

@@ -1,0 +1,130 @@
+//! Laws of a shop's file over crashes.
+
+ghost use Rattle.std.specs.Prelude.{◌≡◌, ◌⊎◌, ℕ, List, [], ◌∷◌, ◌++◌, map, Option, IsTrue};
+ghost use Rattle.sqlite.specs.Held.{state};
+ghost use Rattle.sqlite.specs.State.{Survives};
+ghost use Rattle.bo_base.specs.declared.answer.Response.{Response};
+ghost use Rattle.bo_lists.specs.Lists.{State, empty};
+ghost use Rattle.bo_sound.specs.Sound.{IsSound};
+ghost use Rattle.bo_commands.specs.declared.replies.Reply.{Reply};
+ghost use Rattle.bo_schema.specs.Tables.{schema};
+ghost use Rattle.bo_kept.specs.declared.kept.Kept.{Kept};
+ghost use Rattle.bo_kept.specs.ShopView.{ShopView, IsSame};
+ghost use Rattle.bo_schema.specs.Whole.{MayBeWritten};
+ghost use Rattle.bo_tables.specs.Begun.{HasToken};
+ghost use Rattle.bo_tables.specs.Shops.{HoldsWhileOpen, KnowsWhileOpen, Leaves};
+ghost use Rattle.bo_columns.specs.declared.rows.ShopRow.{ShopRow};
+ghost use Rattle.bo_opens.specs.declared.error.OpenError.{OpenError};
+ghost use Rattle.bo_opens.specs.Lawful.{IsOfMachine};
+ghost use Rattle.bo_reopen.specs.Opened.{IsReason, IsOpened};
+ghost use Rattle.bo_deliveries.specs.Deliveries.{Delivery, Opening};
+ghost use Rattle.bo_deliveries.specs.Shops.{Stands, stood};
+ghost use Rattle.bo_deliveries.specs.Histories.{Event, Crashed, Running, MayLeave, Happens, ComesTo, IsRunning, Reopened, opened};
+ghost use Rattle.bo_made.specs.Made.{IsMade};
+ghost use Rattle.bo_made.specs.Tokens.{also_known, raised, next_one};
+ghost use Rattle.bo_file.specs.Found.{IsFound};
+
+use bo_kept::Tables;
+use bo_tables::SqlTables;
+use sqlite::{Alter, Connection};
+
+/// A shop's file that was just made runs from the opening without rows and answers.
+pub fn a_made_shop_runs<S: Alter>(blank: &Connection<S>, made: &SqlTables<S>)
+    ensures { (words : Reply → Response) (first : ShopRow) → IsMade first (state S.Store blank.now) made.now.head made.now.next_row (state S.Store made.now.connection)
+        → IsRunning words ⟦<SqlTables<S> as Tables>⟧.holds ⟦<SqlTables<S> as Tables>⟧.may_leave made.now empty (opened words (stood words (record { state = empty; kept = [] }) [])) }
+{
+    let _ = blank;
+    let _ = made;
+}
+
+/// What is opened of a file after a crash is one of the shops that the crash may have left, with its answers, and nothing else: the
+/// premise of the law of histories. So a shop that was running is running again, as it was or with one undecided write carried
+/// out; and whatever happened to it before, it stands for the list of arrivals that its history comes to, with this crash in it.
+pub fn a_shop_runs_on_after_a_crash<S: Alter>(
+    before: &SqlTables<S>,
+    fresh: &Connection<S>,
+    after: &SqlTables<S>,
+)
+    ensures reopened { IsFound (state S.Store before.now.connection) (state S.Store fresh.now) → (z : State) (o : IsOpened (state S.Store fresh.now).now.trees after.now.head after.now.next_row z (state S.Store after.now.connection))
+        → Reopened ⟦<SqlTables<S> as Tables>⟧.holds ⟦<SqlTables<S> as Tables>⟧.may_leave before.now after.now (record { state = z; kept = map (λ r. r.kept) o.tables.kept }) }
+    ensures runs { (words : Reply → Response) (s : State) (r : Running) → IsRunning words ⟦<SqlTables<S> as Tables>⟧.holds ⟦<SqlTables<S> as Tables>⟧.may_leave before.now s r
+        → IsFound (state S.Store before.now.connection) (state S.Store fresh.now) → (z : State) → IsOpened (state S.Store fresh.now).now.trees after.now.head after.now.next_row z (state S.Store after.now.connection)
+        → (x : ShopView) × MayLeave words r x × IsRunning words ⟦<SqlTables<S> as Tables>⟧.holds ⟦<SqlTables<S> as Tables>⟧.may_leave after.now z (opened words x) }
+    ensures stands { (words : Reply → Response) (p : Opening) (events : List Event) (s : State) (r : Running) → Happens words (opened words (stood words p [])) events r
+        → IsRunning words ⟦<SqlTables<S> as Tables>⟧.holds ⟦<SqlTables<S> as Tables>⟧.may_leave before.now s r
+        → IsFound (state S.Store before.now.connection) (state S.Store fresh.now) → (z : State) → IsOpened (state S.Store fresh.now).now.trees after.now.head after.now.next_row z (state S.Store after.now.connection)
+        → (x : ShopView) × Happens words (opened words (stood words p [])) (events ++ Crashed ∷ []) (opened words x)
+        × IsRunning words ⟦<SqlTables<S> as Tables>⟧.holds ⟦<SqlTables<S> as Tables>⟧.may_leave after.now z (opened words x)
+        × ((whole : List Delivery) × ComesTo words p [] [] (events ++ Crashed ∷ []) whole × Stands words p whole x) }
+{
+    let _ = before;
+    let _ = fresh;
+    let _ = after;
+}
+
+/// A crash while a shop's file is opened loses nothing: what `open_file` promises of a crash is that it leaves only what stood. Where the
+/// file was found after a crash, is being opened, whether that came to an end or not, and the crash comes again, what is found then is
+/// what was found before, and so what the first crash may have left, however often that happens. So what is opened of it in the end is
+/// the shop that was running, as it was or with one undecided write carried out.
+pub fn a_crash_while_opening_loses_nothing<S: Alter>(
+    before: &SqlTables<S>,
+    fresh: &Connection<S>,
+    tried: &Connection<S>,
+    again: &Connection<S>,
+    after: &SqlTables<S>,
+)
+    ensures found { IsFound (state S.Store before.now.connection) (state S.Store fresh.now) → IsTrue (state S.Store fresh.now).is_open → Survives (state S.Store fresh.now) (state S.Store tried.now) (λ _. ⊥)
+        → IsFound (state S.Store tried.now) (state S.Store again.now) → IsFound (state S.Store before.now.connection) (state S.Store again.now) × ((state S.Store again.now).now ≡ (state S.Store fresh.now).now) }
+    ensures runs { (words : Reply → Response) (s : State) (r : Running) → IsRunning words ⟦<SqlTables<S> as Tables>⟧.holds ⟦<SqlTables<S> as Tables>⟧.may_leave before.now s r
+        → IsFound (state S.Store before.now.connection) (state S.Store fresh.now) → IsTrue (state S.Store fresh.now).is_open → Survives (state S.Store fresh.now) (state S.Store tried.now) (λ _. ⊥)
+        → IsFound (state S.Store tried.now) (state S.Store again.now) → (z : State) → IsOpened (state S.Store again.now).now.trees after.now.head after.now.next_row z (state S.Store after.now.connection)
+        → (x : ShopView) × MayLeave words r x × IsRunning words ⟦<SqlTables<S> as Tables>⟧.holds ⟦<SqlTables<S> as Tables>⟧.may_leave after.now z (opened words x) }
+{
+    let _ = fresh;
+    let _ = tried;
+    a_shop_runs_on_after_a_crash(before, again, after);
+}
+
+/// After a crash of a running shop its file holds a shop, and so is opened, or refused for want of memory or because the store
+/// fails, and never with 60, 61 or 62: where each shop is sound that the crash may have left.
+pub fn a_crash_damages_nothing<S: Alter>(before: &SqlTables<S>, fresh: &Connection<S>)
+    ensures { (words : Reply → Response) (s : State) (r : Running) → IsRunning words ⟦<SqlTables<S> as Tables>⟧.holds ⟦<SqlTables<S> as Tables>⟧.may_leave before.now s r
+        → IsFound (state S.Store before.now.connection) (state S.Store fresh.now) → ((x : ShopView) → MayLeave words r x → IsSound x.state)
+        → (error : OpenError) → IsReason (state S.Store fresh.now).now error → IsOfMachine error }
+{
+    let _ = before;
+    let _ = fresh;
+}
+
+/// A token that is added changes nothing of a running shop: what `add_token` promises of the office and the answers, and of what a crash in
+/// it may leave, keeps it running.
+pub fn a_token_leaves_a_shop_running<S: Alter>(old: &SqlTables<S>, new: &SqlTables<S>)
+    ensures { (words : Reply → Response) (s : State) (r : Running) → IsRunning words ⟦<SqlTables<S> as Tables>⟧.holds ⟦<SqlTables<S> as Tables>⟧.may_leave old.now s r
+        → ((z : State) (ks : List Kept) → HoldsWhileOpen old.now.head old.now.next_row (state S.Store old.now.connection) z ks → HoldsWhileOpen new.now.head new.now.next_row (state S.Store new.now.connection) z ks)
+        → ((left : ShopView) → Leaves (state S.Store new.now.connection) left → Leaves (state S.Store old.now.connection) left
+        ⊎ ((z : State) (ks : List Kept) → HoldsWhileOpen old.now.head old.now.next_row (state S.Store old.now.connection) z ks → IsSame left (record { state = z; kept = ks })))
+        → IsRunning words ⟦<SqlTables<S> as Tables>⟧.holds ⟦<SqlTables<S> as Tables>⟧.may_leave new.now s r }
+{
+    let _ = old;
+    let _ = new;
+}
+
+/// After a crash while a token is added it is wholly in or out: the tables that are opened know the tokens that were known, or these and
+/// the new one.
+pub fn a_token_is_in_or_out<S: Alter>(
+    old: &SqlTables<S>,
+    new: &SqlTables<S>,
+    fresh: &Connection<S>,
+    after: &SqlTables<S>,
+)
+    ensures { (digest : List ℕ) (tokens : List ℕ → Option ℕ) (s : State) (ks : List Kept) → IsTrue (state S.Store old.now.connection).is_open
+        → HoldsWhileOpen old.now.head old.now.next_row (state S.Store old.now.connection) s ks → KnowsWhileOpen old.now.next_row (state S.Store old.now.connection) tokens
+        → Survives (state S.Store old.now.connection) (state S.Store new.now.connection) (MayBeWritten schema (λ (_ : Unit {0}). HasToken (raised old.now.head) (next_one old.now.head digest)) (state S.Store old.now.connection))
+        → IsFound (state S.Store new.now.connection) (state S.Store fresh.now) → (z : State) → IsOpened (state S.Store fresh.now).now.trees after.now.head after.now.next_row z (state S.Store after.now.connection)
+        → KnowsWhileOpen after.now.next_row (state S.Store after.now.connection) tokens ⊎ KnowsWhileOpen after.now.next_row (state S.Store after.now.connection) (also_known digest old.now.head.next_token tokens) }
+{
+    let _ = old;
+    let _ = new;
+    let _ = fresh;
+    let _ = after;
+}

@@ -1,0 +1,71 @@
+//! The first row of a shop.
+
+ghost use Rattle.std.specs.Prelude.{◌≡◌, true, IsTrue, OnOk, OnErr, Err};
+ghost use Rattle.sqlite.specs.Held.{state};
+ghost use Rattle.sqlite.specs.State.{HasCleanDisk, Survives};
+ghost use Rattle.bo_schema.specs.declared.error.RowError.TheVariants.{Foreign};
+ghost use Rattle.bo_lists.specs.Lists.{first_ids};
+ghost use Rattle.bo_schema.specs.Blank.{blank_schema};
+ghost use Rattle.bo_schema.specs.Whole.{IsStill, IsWritten, MayBeWritten};
+ghost use Rattle.bo_tables.specs.Begun.{IsBegun};
+
+use bo_base::{Moment, Slug};
+use bo_columns::ShopRow;
+use bo_lists::NextIds;
+use bo_rows::Stored;
+use bo_schema::{RowError, Writing, make_tables, write_whole};
+use sqlite::{Alter, Connection, Transaction};
+use sqlite_schema::schema::Schema;
+
+/// The row of a shop before its first change: version 1 of its tables, moment 0, and each id begins with 1.
+pub fn first_row(organizer: Slug, event: Slug) -> ShopRow
+    ensures { result ≡ record { version = 1; organizer = organizer; event = event; moment = 0; next = first_ids; next_token = 1 } }
+{
+    ShopRow {
+        version: 1,
+        organizer,
+        event,
+        moment: Moment::new(0),
+        next: NextIds::first(),
+        next_token: 1,
+    }
+}
+
+// The tables of a shop with its row alone.
+#[derive(Drop)]
+struct NewShop<'a> {
+    shop: &'a ShopRow,
+}
+
+impl Writing<()> for NewShop<'_> {
+    ghost over = { blank_schema };
+
+    ghost turns = { λ what _ db after. IsBegun what.shop.now after };
+
+    fn write<S: Alter>(&self, tx: &mut Transaction<'_, S>) -> Result<(), RowError> {
+        make_tables(tx)?;
+        self.shop.insert(tx)
+    }
+}
+
+/// Whether there is no table, no index and no view.
+pub fn is_blank(schema: &Schema) -> bool
+    ensures yes { IsTrue result → schema.now ≡ blank_schema }
+    ensures no { schema.now ≡ blank_schema → result ≡ true }
+{
+    schema.tables.is_empty() && schema.indexes.is_empty() && schema.views.is_empty()
+}
+
+/// Makes the tables of a shop in a database that has none, and puts the shop's row, all of it or nothing. Refusals: 60 where the
+/// database has a table already, 6, and 63 where a transaction is open, the connection is shut or the store fails.
+pub fn begin<S: Alter>(connection: &mut Connection<S>, shop: &ShopRow) -> Result<(), RowError>
+    ensures all { HasCleanDisk (state S.Store connection.new) → OnOk result (IsWritten (λ db after. IsBegun shop.now after) (state S.Store connection.old) (state S.Store connection.new)) }
+    ensures none { HasCleanDisk (state S.Store connection.new) → OnErr result (IsStill (state S.Store connection.old) (state S.Store connection.new)) }
+    ensures blank { ¬ ((state S.Store connection.old).now.schema ≡ blank_schema) → result ≡ Err Foreign }
+    ensures crash { Survives (state S.Store connection.old) (state S.Store connection.new) (MayBeWritten blank_schema (λ (_ : Unit {0}) db after. IsBegun shop.now after) (state S.Store connection.old)) }
+{
+    if !is_blank(connection.schema()) {
+        return Err(RowError::Foreign);
+    }
+    write_whole(connection, &NewShop { shop })
+}
