@@ -1,1 +1,2 @@
 pub mod DeskLemmas
+mod FedLemmas

@@ -2,6 +2,10 @@
 #![tactic(auto)]
 
 pub mod desk;
+pub mod feeding;
+pub mod office;
 mod serving;
 
 pub use desk::ShopDesk;
+pub use feeding::feed_office;
+pub use office::serve_office;

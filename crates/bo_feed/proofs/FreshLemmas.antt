@@ -14,16 +14,17 @@ use Rattle.bo_connection.specs.declared.failure.Failure.{Failure}
 use Rattle.bo_connection.specs.declared.failure.Failure.TheVariants as failures
 use Rattle.bo_connection.specs.Run.{RunLeads}
 use Rattle.bo_connection.proofs.RunLemmas.{unopened}
-use Rattle.bo_streams.specs.DeskView.{DeskView, Meaning, words_of}
+use Rattle.bo_streams.specs.DeskView.{DeskView, Meaning, desk_with, words_of}
 use Rattle.bo_streams.specs.Streams.{ServesAndKeeps, ServesList}
 use Rattle.bo_streams.proofs.RowLemmas.{nothing-too-much}
 use Rattle.bo_streams.proofs.StreamLemmas.{told-once}
 use Rattle.bo_tables.specs.declared.sql.SqlTables.{SqlTables}
 use Rattle.bo_fresh.specs.House.{IsFreshShop}
 use Rattle.bo_fresh.proofs.Sure.{memory_sure}
-use Rattle.bo_feed.specs.Feed.{Feeds, FeedsDesk, Ports, devices}
+use Rattle.bo_desk.specs.Fed.{FeedsDesk, Ports, devices}
+use Rattle.bo_feed.specs.Feed.{Feeds}
 use Rattle.bo_line.specs.FeedTicks.{feed_ticks}
-use Rattle.bo_feed.specs.Fresh.{IsFresh, desk_with, feed_house}
+use Rattle.bo_feed.specs.Fresh.{IsFresh, feed_house}
 use Rattle.bo_feed.specs.House.{fresh_opening, fresh_shop}
 use Rattle.bo_feed.specs.Stored.{in_memory, in_store}
 

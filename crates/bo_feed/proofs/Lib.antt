@@ -1,2 +1,1 @@
-pub mod FedLemmas
-pub mod FreshLemmas
+mod FreshLemmas

@@ -1,16 +1,12 @@
 -- The desk that `feed` begins with.
-use Rattle.std.specs.Prelude.{◌≡◌, List, ℕ, [], codes}
-use Rattle.bo_lists.specs.Lists.{State, empty}
+use Rattle.std.specs.Prelude.{◌≡◌, [], codes}
+use Rattle.bo_lists.specs.Lists.{empty}
 use Rattle.bo_streams.specs.DeskView.{DeskView, House, IsOf, Meaning}
 use Rattle.bo_fresh.specs.House.{feed_tokens}
 
 -- organizer `house`, event `hall`, and the token `feed`: by what its messages are read
 abbrev pub feed_house : House
 feed_house = record { organizer = codes "house"; event = codes "hall"; tokens = feed_tokens }
-
--- the desk of an office over tables
-abbrev pub desk_with : {T : Type 0} → T → List ℕ → List ℕ → State → DeskView T
-desk_with tables organizer event state = record { organizer = organizer; event = event; tables = tables; state = state }
 
 -- a desk of this house that has no rows, over tables that hold none, keep no answer, and know that token
 pub record IsFresh {T : Type 0} (tables : Meaning T) (desk : DeskView T) : Type 0 where

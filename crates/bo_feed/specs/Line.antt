@@ -9,7 +9,8 @@ use Rattle.bo_line.specs.declared.fault.RunFault.TheVariants as faults
 use Rattle.bo_line.specs.Line.{end_of_line, end_of_run}
 use Rattle.bo_line.specs.Values.{feed_values}
 use Rattle.bo_line.specs.Words.{Asked, asked, none, plain_words, runs}
-use Rattle.bo_feed.specs.Feed.{Ports, FeedsTexts}
+use Rattle.bo_desk.specs.Fed.{Ports}
+use Rattle.bo_feed.specs.Feed.{FeedsTexts}
 
 -- What is done is what a line asks for: a run with the texts of its two flags; or no run for one of the reasons, and then nothing
 -- is read and nothing written.

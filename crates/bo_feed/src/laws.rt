@@ -10,7 +10,8 @@ ghost use Rattle.bo_connection.specs.Run.{RunLeads};
 ghost use Rattle.bo_streams.specs.DeskView.{DeskView, meaning, words_of};
 ghost use Rattle.bo_streams.specs.Streams.{ServesAndKeeps, ServesList};
 ghost use Rattle.bo_feed.specs.Fresh.{IsFresh, feed_house};
-ghost use Rattle.bo_feed.specs.Feed.{Feeds, FeedsDesk, Ports, devices};
+ghost use Rattle.bo_desk.specs.Fed.{FeedsDesk, Ports, devices};
+ghost use Rattle.bo_feed.specs.Feed.{Feeds};
 ghost use Rattle.bo_line.specs.FeedTicks.{feed_ticks};
 ghost use Rattle.bo_feed.specs.House.{fresh_opening, fresh_shop};
 

@@ -6,6 +6,6 @@ pub mod house;
 pub mod laws;
 pub mod line;
 
-pub use feeding::{feed, feed_office, feed_texts};
-pub use house::{serve_house, serve_office};
+pub use feeding::{feed, feed_texts};
+pub use house::serve_house;
 pub use line::run;

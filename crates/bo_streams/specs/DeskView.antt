@@ -47,3 +47,7 @@ pub record IsOf {T : Type 0} (tables : Meaning T) (house : House) (desk : DeskVi
   pub organizer : desk.organizer ≡ house.organizer
   pub event : desk.event ≡ house.event
   pub tokens : tables.knows desk.tables house.tokens
+
+-- the desk of an office over tables
+abbrev pub desk_with : {T : Type 0} → T → List ℕ → List ℕ → State → DeskView T
+desk_with tables organizer event state = record { organizer = organizer; event = event; tables = tables; state = state }

@@ -1,7 +1,7 @@
 use Rattle.std.proofs.Common.{ℕ, subst}
 use Rattle.bo_connection.specs.Run.{CountedAll}
-use Rattle.bo_feed.proofs.FedLemmas.{ends_ticks}
-use Rattle.bo_feed.proofs.feeding.feed_with.Goals as goal
+use Rattle.bo_desk.proofs.FedLemmas.{ends_ticks}
+use Rattle.bo_desk.proofs.feeding.feed_with.Goals as goal
 
 pub returns : goal.returns
 returns g c =

@@ -1,4 +1,4 @@
-use Rattle.bo_feed.proofs.feeding.feed_office.Given as goal
+use Rattle.bo_desk.proofs.feeding.feed_office.Given as goal
 
 abbrev pub ghosts-feed_with-P-Pace : goal.ghosts-feed_with-P-Pace
 ghosts-feed_with-P-Pace g a = record { from = a.from; step = a.step }

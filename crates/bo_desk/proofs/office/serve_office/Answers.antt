@@ -1,10 +1,9 @@
 use Rattle.std.proofs.Common.{subst}
 use Rattle.bo_connection.specs.Run.{RunLeads}
 use Rattle.bo_connection.proofs.RunLemmas.{unopened}
-use Rattle.bo_streams.specs.DeskView.{DeskView, meaning}
+use Rattle.bo_streams.specs.DeskView.{DeskView, desk_with, meaning}
 use Rattle.bo_streams.specs.Served.{Serves}
-use Rattle.bo_feed.specs.Fresh.{desk_with}
-use Rattle.bo_feed.proofs.house.serve_office.Goals as goal
+use Rattle.bo_desk.proofs.office.serve_office.Goals as goal
 
 pub returns-in_default-clause-leads : goal.returns-in_default-clause-leads
 returns-in_default-clause-leads g c =

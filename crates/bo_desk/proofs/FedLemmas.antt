@@ -3,7 +3,7 @@ use Rattle.std.proofs.Common.{◌≡◌, ℕ, ◌<◌, Result, Ok, Err, subst}
 use Rattle.bo_connection.specs.declared.failure.Failure.{Failure}
 use Rattle.bo_connection.specs.declared.failure.Failure.TheVariants as failures
 use Rattle.bo_connection.specs.Run.{Counts, CountedAll}
-use Rattle.bo_feed.specs.Feed.{EndsTicks}
+use Rattle.bo_desk.specs.Fed.{EndsTicks}
 
 pub ends_ticks : (result : Result (Unit {0}) Failure) (count : ℕ) (old new : Counts) → old.clock ≡ 0 → (0 < new.clock → count ≡ 18446744073709551615)
     → CountedAll result old new → EndsTicks count result
