@@ -6,5 +6,6 @@ pub mod laws;
 mod serving;
 pub mod words;
 
+pub use bo_once::Office;
 pub use desk::ShopDesk;
 pub use words::HouseWords;

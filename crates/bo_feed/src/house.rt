@@ -9,11 +9,10 @@ ghost use Rattle.bo_feed.specs.House.{ServesFresh, no_desk};
 
 use bo_connection::{Desk, Failure, Room, run_stream};
 use bo_counters::Counters;
-use bo_desk::ShopDesk;
+use bo_desk::{Office, ShopDesk};
 use bo_devices::{Drain, Source, Ticks};
 use bo_fresh::open_memory;
 use bo_kept::Tables;
-use bo_office::Office;
 use std::alloc::Global;
 
 /// Answers a stream of requests at a desk that is there for it alone.

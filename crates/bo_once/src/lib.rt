@@ -7,5 +7,6 @@ pub mod shop;
 pub mod wording;
 mod writing;
 
+pub use bo_office::Office;
 pub use shop::Shop;
 pub use wording::Wording;
