@@ -11,7 +11,7 @@ use bo_devices::{Drain, Source};
 use bo_dues::Dues;
 use bo_kept::Tables;
 use bo_line::{FeedTicks, Pace};
-use bo_office::Office;
+use bo_once::Office;
 use std::alloc::Global;
 use std::marker::{Brand, PhantomData};
 use std::sync::ledger::{Blank, Ledger};

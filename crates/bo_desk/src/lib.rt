@@ -6,6 +6,7 @@ pub mod feeding;
 pub mod office;
 mod serving;
 
+pub use bo_once::Office;
 pub use desk::ShopDesk;
 pub use feeding::feed_office;
 pub use office::serve_office;

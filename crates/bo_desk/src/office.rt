@@ -10,7 +10,7 @@ use bo_connection::{Failure, serve_desk};
 use bo_devices::{Drain, Source, Ticks};
 use bo_dues::Dues;
 use bo_kept::Tables;
-use bo_office::Office;
+use bo_once::Office;
 use std::alloc::Global;
 
 /// Answers a stream of requests from the shop of an office over tables that hold it.

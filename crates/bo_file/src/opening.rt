@@ -13,8 +13,7 @@ ghost use Rattle.bo_opens.specs.Lawful.{IsOfMachine};
 ghost use Rattle.bo_reopen.specs.Opened.{IsReason, IsOpened};
 
 use bo_counters::Counters;
-use bo_made::HandedBack;
-use bo_office::Office;
+use bo_made::{HandedBack, Office};
 use bo_opens::OpenError;
 use bo_reopen::{Reopened, reopen};
 use bo_tables::SqlTables;

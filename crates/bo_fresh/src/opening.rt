@@ -10,8 +10,7 @@ ghost use Rattle.bo_fresh.specs.House.{IsFreshShop, feed_digest, feed_tokens};
 
 use bo_base::Slug;
 use bo_counters::Counters;
-use bo_made::{add_token, create};
-use bo_office::Office;
+use bo_made::{Office, add_token, create};
 use bo_tables::SqlTables;
 use sha2::{Digest, Sha256};
 use sqlite::{Alter, Connection, MemStore};

@@ -7,4 +7,5 @@ pub mod shop;
 mod wording;
 mod writing;
 
+pub use bo_office::Office;
 pub use shop::Shop;
