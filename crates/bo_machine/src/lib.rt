@@ -2,3 +2,6 @@
 #![tactic(auto)]
 
 pub mod decisions;
+pub mod opening;
+
+pub use opening::{open, refused, show_voucher};

@@ -5,12 +5,13 @@ ghost use Rattle.bo_base.specs.declared.draw.Draw.{Draw};
 ghost use Rattle.bo_lists.specs.Change.{applied};
 ghost use Rattle.bo_lists.specs.Weight.{weight};
 ghost use Rattle.bo_sound.specs.Sound.{IsSound};
-ghost use Rattle.bo_machine.specs.Step.{RefusesWithoutChange, step, no_change};
+ghost use Rattle.bo_machine.specs.Step.{RefusesWithoutChange, step};
 ghost use Rattle.bo_machine.specs.Answer.{answer};
 ghost use Rattle.bo_machine.specs.Changes.{changes_of};
 
+use crate::deciding::decide_over;
 use bo_base::{Draw, Known, Moment, Slug};
-use bo_commands::{Command, Kind, Query, Refusal, Reply};
+use bo_commands::{Command, Query, Reply};
 use bo_lists::Changes;
 use bo_usage::Book;
 use std::alloc::{AllocError, Global};
@@ -104,56 +105,10 @@ impl<B: Book> Office<B> {
         ensures sound { IfOk result (λ r. IsSound (applied r.0 at self.now.state)) }
         ensures refused { IfOk result (RefusesWithoutChange self.now.state) }
     {
-        let _ = &self.book;
+        let book = self.book();
         command.known();
         draw.known();
-        self.decided(alloc, at, draw, command)
-    }
-
-    fn decided(
-        &self,
-        alloc: Global,
-        at: Moment,
-        draw: Draw,
-        command: &Command,
-    ) -> Result<(Changes, Reply), AllocError>
-        requires { self.now.state.moment ≤ at }
-        ensures step { IfOk result (λ r. (applied r.0 at self.now.state, r.1) ≡ step command.now at draw self.now.state) }
-        ensures changes { IfOk result (λ r. r.0.list ≡ changes_of command.now draw (record self.now.state { moment = at }) r.1) }
-        ensures refused { IfOk result (RefusesWithoutChange self.now.state) }
-    {
-        match command {
-            Command::AddItem(new) => self.add_item(alloc, new),
-            Command::ChangeItem(id, patch) => self.change_item(alloc, *id, patch),
-            Command::AddVariation(item, new) => self.add_variation(alloc, *item, new),
-            Command::AddQuota(new) => self.add_quota(alloc, new),
-            Command::ResizeQuota(id, patch) => self.resize_quota(alloc, *id, *patch),
-            Command::AddVoucher(new) => self.add_voucher(alloc, at, draw, new),
-            Command::ChangeVoucher(id, patch) => self.change_voucher(alloc, at, *id, patch),
-            Command::DropVoucher(id) => self.drop_voucher(alloc, at, *id),
-            Command::AddCart(new) => self.add_cart(alloc, at, draw, new),
-            Command::AddCarts(entries) => self.add_carts(alloc, at, draw, entries.as_slice()),
-            Command::DropCart(id) => self.drop_cart(alloc, at, *id),
-            Command::AddOrder(new) => self.add_order(alloc, at, draw, new),
-            Command::MoveOrder(number, change) => self.move_order(alloc, at, *number, *change),
-            Command::AddWaiting(new) => self.add_waiting(alloc, at, new),
-            Command::ChangeWaiting(id, patch) => self.change_waiting(alloc, at, *id, *patch),
-            Command::DropWaiting(id) => self.drop_waiting(alloc, at, *id),
-            Command::SendVoucher(id) => self.send_voucher(alloc, at, draw, *id),
-            Command::Periodic => self.work(alloc, at, draw),
-            Command::AddCheckinList(new) => self.add_checkin_list(alloc, at, new),
-            Command::Redeem(list, ticket, scan) => self.redeem(alloc, at, *list, ticket, scan),
-        }
-    }
-
-    // No change, and a refusal.
-    pub(crate) fn refused(&self, alloc: Global, kind: Kind, refusal: Refusal) -> (Changes, Reply)
-        ensures { result ≡ (no_change self.now.state, Reply.Refused kind refusal) }
-    {
-        (
-            Changes::new(Vec::new(alloc), self.book.next_ids()),
-            Reply::Refused(kind, refusal),
-        )
+        decide_over(book, alloc, at, draw, command)
     }
 
     /// What a query is answered at a moment that isn't before the office's.

@@ -12,6 +12,7 @@ use bo_commands::{
     Kind, OrderRefusal, Refusal, Reply, Resource, Shown, VoucherRefusal, WaitingRefusal,
 };
 use bo_lists::{Order, OrderRows, Voucher};
+use bo_machine::show_voucher;
 use bo_usage::{Book, availability};
 use std::alloc::{AllocError, Global};
 
@@ -31,16 +32,7 @@ impl<B: Book> Office<B> {
     ) -> Result<Shown, AllocError>
         ensures { IfOk result (λ shown. shown ≡ show_voucher self.now.state.lists voucher.now) }
     {
-        Ok(self.show_voucher(voucher.copy(alloc)?))
-    }
-
-    // A voucher as it is shown.
-    #[tactic(auto, unfolding(crate::specs::ShownRows::show_voucher))]
-    pub(crate) fn show_voucher(&self, row: Voucher) -> Shown
-        ensures { result ≡ show_voucher self.now.state.lists row }
-    {
-        let redeemed = self.book().redeemed(row.id);
-        Shown::Voucher(row, redeemed)
+        Ok(show_voucher(self.book(), voucher.copy(alloc)?))
     }
 
     // An order with its positions.

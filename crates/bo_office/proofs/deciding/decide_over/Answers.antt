@@ -1,5 +1,5 @@
 use Rattle.std.proofs.lemmas.Result.{IfOk-weaker}
-use Rattle.bo_office.proofs.office.Office.decided.Goals as goal
+use Rattle.bo_office.proofs.deciding.decide_over.Goals as goal
 
 pub returns-in-AddItem-clause-step : goal.returns-in-AddItem-clause-step
 returns-in-AddItem-clause-step g c = rw c.in-AddItem.is (IfOk-weaker c.add_item.result _ _ (λ r h. h c.args.at c.args.draw) c.add_item.ensures.step)

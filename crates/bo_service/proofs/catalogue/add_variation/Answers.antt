@@ -1,7 +1,7 @@
 use Rattle.std.proofs.Common.{◌≤◌, arith}
 use Rattle.bo_catalogue.specs.Limits.{last_id}
 use Rattle.bo_machine.proofs.Catalogue.{variation_id_small}
-use Rattle.bo_office.proofs.office.Office.add_variation.Goals as goal
+use Rattle.bo_service.proofs.catalogue.add_variation.Goals as goal
 
 pub overflow_add-next : goal.overflow_add-next
 overflow_add-next g c =

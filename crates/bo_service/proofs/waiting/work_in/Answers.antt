@@ -1,7 +1,7 @@
 use Rattle.std.proofs.Common.{sym, subst}
 use Rattle.bo_sound.specs.Sound.{IsSound}
 use Rattle.bo_machine.proofs.SoundSteps.{expired_sound, dropped_carts_sound}
-use Rattle.bo_office.proofs.waiting_commands.work_in.Goals as goal
+use Rattle.bo_service.proofs.waiting.work_in.Goals as goal
 
 pub serve_all-requires-clause-sound : goal.serve_all-requires-clause-sound
 serve_all-requires-clause-sound g c =

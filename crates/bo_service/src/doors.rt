@@ -1,0 +1,63 @@
+//! Commands of the doors. None of them depends on its draw.
+
+ghost use Rattle.std.specs.Prelude.{◌≡◌, ◌≤◌, IfOk};
+ghost use Rattle.bo_base.specs.declared.draw.Draw.{Draw};
+ghost use Rattle.bo_lists.specs.Change.{applied};
+ghost use Rattle.bo_sound.specs.Sound.{IsSound};
+ghost use Rattle.bo_machine.specs.Changes.{changes_of};
+ghost use Rattle.bo_machine.specs.Step.{RefusesWithoutChange, step};
+ghost use Rattle.bo_commands.specs.declared.requests.Command.{Command};
+
+use bo_base::Moment;
+use bo_commands::{DoorRefusal, Kind, NewCheckinList, Refusal, Reply, Scan, Shown, Ticket};
+use bo_lists::Changes;
+use bo_machine::decisions::{self, add_list};
+use bo_machine::open;
+use bo_usage::Book;
+use std::alloc::{AllocError, Global};
+
+/// Adds a check-in list.
+pub fn add_checkin_list<B: Book>(
+    book: &B,
+    alloc: Global,
+    at: Moment,
+    new: &NewCheckinList,
+) -> Result<(Changes, Reply), AllocError>
+    requires moment { (B.state book.now).moment ≤ at }
+    requires sound { IsSound (B.state book.now) }
+    ensures step { IfOk result (λ r. (draw : Draw) → (applied r.0 at (B.state book.now), r.1) ≡ step (Command.AddCheckinList new.now) at draw (B.state book.now)) }
+    ensures changes { IfOk result (λ r. (draw : Draw) → r.0.list ≡ changes_of (Command.AddCheckinList new.now) draw (record (B.state book.now) { moment = at }) r.1) }
+    ensures refused { IfOk result (RefusesWithoutChange (B.state book.now)) }
+{
+    let mut draft = open(book, alloc, at)?;
+    let reply = match add_list(&mut draft, alloc, new) {
+        Ok(row) => Reply::Made(Shown::CheckinList(row)),
+        Err(DoorRefusal::Memory) => return Err(AllocError),
+        Err(refusal) => Reply::Refused(Kind::AddCheckinList, Refusal::Door(refusal)),
+    };
+    Ok((draft.finish(), reply))
+}
+
+/// Checks a ticket in or out.
+pub fn redeem<B: Book>(
+    book: &B,
+    alloc: Global,
+    at: Moment,
+    list: u64,
+    ticket: &Ticket,
+    scan: &Scan,
+) -> Result<(Changes, Reply), AllocError>
+    requires moment { (B.state book.now).moment ≤ at }
+    requires sound { IsSound (B.state book.now) }
+    ensures step { IfOk result (λ r. (draw : Draw) → (applied r.0 at (B.state book.now), r.1) ≡ step (Command.Redeem list ticket.now scan.now) at draw (B.state book.now)) }
+    ensures changes { IfOk result (λ r. (draw : Draw) → r.0.list ≡ changes_of (Command.Redeem list ticket.now scan.now) draw (record (B.state book.now) { moment = at }) r.1) }
+    ensures refused { IfOk result (RefusesWithoutChange (B.state book.now)) }
+{
+    let mut draft = open(book, alloc, at)?;
+    let reply = match decisions::redeem(&mut draft, alloc, list, ticket, scan) {
+        Ok(position) => Reply::Admitted(position),
+        Err(DoorRefusal::Memory) => return Err(AllocError),
+        Err(refusal) => Reply::Refused(Kind::Redeem, Refusal::Door(refusal)),
+    };
+    Ok((draft.finish(), reply))
+}
