@@ -7,8 +7,7 @@ ghost use Rattle.bo_sound.specs.Checkins.{has_item, HasItems, IsCheckedIn, IsDoo
 use bo_alike::are_once;
 use bo_alike::rising::are_rising;
 use bo_lists::{Checkin, CheckinList};
-use bo_stock::Catalogue;
-use bo_usage::Book;
+use bo_usage::{Book, Catalogue};
 use std::alloc::{AllocError, Global};
 
 // Whether the item of each id stands.

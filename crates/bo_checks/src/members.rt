@@ -9,8 +9,7 @@ ghost use Rattle.bo_sound.specs.Members.{HasMembers, AllHaveMembers};
 use bo_alike::rising::are_rising;
 use bo_catalogue::Quota;
 use bo_sorted::Ids;
-use bo_stock::Catalogue;
-use bo_usage::Book;
+use bo_usage::{Book, Catalogue};
 use std::alloc::{AllocError, Global};
 
 // Whether each item that the quota lists stands.

@@ -8,9 +8,8 @@ ghost use Rattle.bo_sound.specs.Varied.{is_of_varied, is_named_as_sold, IsProduc
 ghost use Rattle.bo_lists.specs.Fits.{is_fit, AllFit};
 
 use bo_catalogue::{Product, Variation};
-use bo_stock::Catalogue;
-use bo_usage::Book;
 use bo_usage::rules::fits;
+use bo_usage::{Book, Catalogue};
 
 // Whether a variation is of the item, if one is named.
 fn is_of_item(item: Option<u64>, variation: &Variation) -> bool

@@ -6,8 +6,7 @@ ghost use Rattle.bo_sound.specs.Varied.{is_plain, is_whole, AllWhole};
 
 use crate::products::variation_stands;
 use bo_lists::Voucher;
-use bo_stock::Catalogue;
-use bo_usage::Book;
+use bo_usage::{Book, Catalogue};
 
 // Whether the item that is named stands.
 fn item_stands(catalogue: &Catalogue, item: Option<u64>) -> bool

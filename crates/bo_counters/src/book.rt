@@ -12,8 +12,7 @@ use bo_lists::{
     CartPos, Changes, Checkin, CheckinList, NextIds, Order, OrderPos, Usage, Voucher, Waiting,
 };
 use bo_sparse::Sparse;
-use bo_stock::Catalogue;
-use bo_usage::{Book, LookUps, PositionTest};
+use bo_usage::{Book, Catalogue, LookUps, PositionTest};
 use std::alloc::{AllocError, Global};
 use std::sync::ledger::Ledger;
 

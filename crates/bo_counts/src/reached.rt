@@ -10,8 +10,7 @@ use crate::touched::TouchedRows;
 use crate::view::View;
 use bo_catalogue::Product;
 use bo_lists::Voucher;
-use bo_stock::Catalogue;
-use bo_usage::{Book, LookUps};
+use bo_usage::{Book, Catalogue, LookUps};
 use std::alloc::{AllocError, Global};
 
 impl<'v, B: Book> View<'v, B> {

@@ -10,10 +10,7 @@ use Rattle.bo_commands.specs.declared.replies.Reply.{Reply}
 use Rattle.bo_kept.specs.declared.kept.Kept.{Kept}
 use Rattle.bo_kept.specs.ShopView.{ShopView}
 use Rattle.bo_words.specs.Replies.{words}
-use Rattle.bo_deliveries.specs.declared.arrival.Arrival.{Arrival}
-use Rattle.bo_deliveries.specs.Deliveries.{is_write}
-use Rattle.bo_deliveries.specs.Histories.{Running, MayLeave, IsRunning, IsAmong, also_undecided, after_none}
-use Rattle.bo_deliveries.specs.Shops.{Views}
+use Rattle.bo_streams.specs.Deliveries.{Arrival, is_write, Running, MayLeave, IsRunning, IsAmong, also_undecided, after_none, Views}
 use Rattle.bo_once.proofs.ShopLemmas.{stands-same}
 use Rattle.bo_streams.specs.Coming.{arrival, arrival_with, number_of}
 use Rattle.bo_streams.specs.DeskView.{DeskView, Meaning, house_of, words_of, worded}

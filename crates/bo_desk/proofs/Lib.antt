@@ -1,2 +1,3 @@
 pub mod DeskLemmas
 mod FedLemmas
+pub mod Streams

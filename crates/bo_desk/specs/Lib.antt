@@ -1,1 +1,3 @@
 pub mod Fed
+pub mod Streams
+pub mod Deliveries

@@ -1,9 +1,7 @@
 //! What becomes of one message, step by step.
 
 ghost use Rattle.std.specs.Prelude.{◌≡◌, ◌++◌, ℕ, List, [], ◌∷◌, Option, Ok, IfOk};
-ghost use Rattle.bo_deliveries.specs.Deliveries.{Opening, Delivery, told};
-ghost use Rattle.bo_deliveries.specs.Histories.{Running, IsRunning, after_act};
-ghost use Rattle.bo_deliveries.specs.Shops.{Views, StandsFor, IsAnswered, delivered};
+ghost use Rattle.bo_streams.specs.Deliveries.{Opening, Delivery, told, Running, IsRunning, after_act, Views, StandsFor, IsAnswered, delivered};
 ghost use Rattle.bo_kept.specs.ShopView.{ShopView};
 ghost use Rattle.bo_streams.specs.Coming.{arrival_with, number_of};
 ghost use Rattle.bo_streams.specs.DeskView.{meaning, worded};
@@ -11,11 +9,11 @@ ghost use Rattle.bo_streams.specs.Served.{ServesOnce};
 
 use crate::desk::ShopDesk;
 use bo_base::{Answer, Known};
-use bo_deliveries::Arrival;
 use bo_devices::Tick;
 use bo_dues::Dues;
 use bo_http::Frame;
 use bo_kept::{Tables, TablesError};
+use bo_streams::Arrival;
 use std::alloc::Global;
 
 impl<T: Tables, B: Dues> ShopDesk<T, B> {

@@ -10,8 +10,7 @@ use bo_commands::{DoorRefusal, NewCheckinList};
 use bo_draft::Draft;
 use bo_lists::CheckinList;
 use bo_sorted::Ids;
-use bo_stock::Catalogue;
-use bo_usage::Book;
+use bo_usage::{Book, Catalogue};
 use std::alloc::{AllocError, Global};
 
 /// Adds a check-in list, in a draft that has changed none of them, and answers a copy of it. Item ids that are given

@@ -3,7 +3,7 @@ use Rattle.std.proofs.Common.{◌≡◌, ap, ◌∙◌}
 use Rattle.bo_lists.specs.declared.changes.Change.{Change}
 use Rattle.bo_lists.specs.Change.{changed}
 use Rattle.bo_draft.specs.DraftState.{DraftState, Extends, now, with_change}
-use Rattle.bo_overlay.proofs.Steps.{after_all-push}
+use Rattle.bo_shares.proofs.Logs.{after_all-push}
 
 -- it goes on after what went on
 pub extends_both : {a b c : DraftState} → Extends a b → Extends b c → Extends a c

@@ -9,8 +9,8 @@ use Rattle.bo_lists.specs.Change.{after_change}
 use Rattle.bo_lists.specs.Headroom.{AllHaveHeadroom}
 use Rattle.bo_lists.specs.Kept.{IsKept}
 use Rattle.bo_lists.specs.Lists.{Lists, State}
-use Rattle.bo_overlay.specs.Logs.{Log, rows_of}
-use Rattle.bo_overlay.proofs.Steps.{after_all-push}
+use Rattle.bo_shares.specs.Logs.{Log, rows_of}
+use Rattle.bo_shares.proofs.Logs.{after_all-push}
 use Rattle.bo_tally.specs.declared.tally.Count.{Count}
 use Rattle.bo_tally.specs.Counts.{GoesOn}
 use Rattle.bo_tally.proofs.Newest.{on_longer, on_front}

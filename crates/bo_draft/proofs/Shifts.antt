@@ -16,7 +16,7 @@ use Rattle.bo_lists.specs.Change.{after_change}
 use Rattle.bo_lists.specs.Usage.{usage_of, cart_counts, blocked_by, waits_for}
 use Rattle.bo_lists.proofs.Lowers.{checkin_list_apart, checkin_apart}
 use Rattle.bo_usage.specs.Shares.{cart_share, waiting_share}
-use Rattle.bo_overlay.specs.Logs.{Log, rows_of}
+use Rattle.bo_shares.specs.Logs.{Log, rows_of}
 use Rattle.bo_shares.specs.Shift.{come_of, gone_of}
 use Rattle.bo_draft.specs.CanCome.{CanCome}
 use Rattle.bo_draft.specs.Used.{used}

@@ -5,7 +5,7 @@ use Rattle.bo_lists.specs.declared.changes.Change.TheVariants.{PutItem, PutVaria
 use Rattle.bo_lists.specs.Change.{after_change}
 use Rattle.bo_lists.specs.Headroom.{AllHaveHeadroom}
 use Rattle.bo_lists.specs.Lists.{Lists, position_at}
-use Rattle.bo_overlay.specs.Logs.{Log, rows_of}
+use Rattle.bo_shares.specs.Logs.{Log, rows_of}
 
 -- no voucher is used too often, before the change and after it
 pub record KeepsHeadroom (at : ℕ) (change : Change) (lists : Lists) : Type 0 where

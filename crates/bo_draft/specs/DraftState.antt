@@ -6,7 +6,7 @@ use Rattle.bo_lists.specs.declared.changes.Change.{Change}
 use Rattle.bo_lists.specs.Change.{after_change}
 use Rattle.bo_lists.specs.Lists.{Lists, State}
 use Rattle.bo_lists.specs.Headroom.{AllHaveHeadroom}
-use Rattle.bo_overlay.specs.Logs.{Log, rows_of}
+use Rattle.bo_shares.specs.Logs.{Log, rows_of}
 use Rattle.bo_tally.specs.declared.tally.Count.{Count}
 use Rattle.bo_tally.specs.Counts.{came, went}
 use Rattle.bo_shares.specs.declared.tallies.Reach.{Reach}

@@ -9,7 +9,7 @@ ghost use Rattle.bo_sorted.specs.Tables.{AreInOrder};
 ghost use Rattle.bo_lists.specs.Over.{first_over};
 ghost use Rattle.bo_lists.specs.Change.{changed};
 ghost use Rattle.bo_draft.specs.DraftState.{DraftState, MarkState, IsMarkOf, Extends, now, back, with_change};
-ghost use Rattle.bo_overlay.specs.Logs.{rows_of};
+ghost use Rattle.bo_shares.specs.Logs.{rows_of};
 ghost use Rattle.bo_draft.specs.CanCome.{CanCome};
 ghost use Rattle.bo_lists.specs.Usage.{redeemed, usage_of, waits_for};
 ghost use Rattle.bo_lists.specs.Total.{total};
@@ -23,8 +23,7 @@ use bo_catalogue::{LAST_ID, MOST_ROWS, Quota, takes_rows};
 use bo_lists::{
     CartPos, Change, Changes, Checkin, CheckinList, NextIds, Order, OrderPos, Own, Voucher, Waiting,
 };
-use bo_overlay::Overlay;
-use bo_shares::Tallies;
+use bo_shares::{Overlay, Tallies};
 use bo_usage::{Book, LookUps};
 use std::alloc::{AllocError, Global};
 use std::marker::Model;

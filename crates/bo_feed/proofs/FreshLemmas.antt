@@ -8,16 +8,13 @@ use Rattle.bo_lists.specs.Lists.{State}
 use Rattle.bo_sound.specs.Sound.{IsSound}
 use Rattle.bo_sound.proofs.Sound.{sound_empty}
 use Rattle.bo_kept.specs.ShopView.{ShopView}
-use Rattle.bo_deliveries.specs.Deliveries.{Delivery}
-use Rattle.bo_deliveries.specs.Shops.{StandsFor, Views}
+use Rattle.bo_desk.specs.Deliveries.{Delivery, StandsFor, Views}
 use Rattle.bo_connection.specs.declared.failure.Failure.{Failure}
 use Rattle.bo_connection.specs.declared.failure.Failure.TheVariants as failures
 use Rattle.bo_connection.specs.Run.{RunLeads}
 use Rattle.bo_connection.proofs.RunLemmas.{unopened}
-use Rattle.bo_streams.specs.DeskView.{DeskView, Meaning, desk_with, words_of}
-use Rattle.bo_streams.specs.Streams.{ServesAndKeeps, ServesList}
-use Rattle.bo_streams.proofs.RowLemmas.{nothing-too-much}
-use Rattle.bo_streams.proofs.StreamLemmas.{told-once}
+use Rattle.bo_desk.specs.Streams.{DeskView, Meaning, desk_with, words_of, ServesAndKeeps, ServesList}
+use Rattle.bo_desk.proofs.Streams.{nothing-too-much, told-once}
 use Rattle.bo_tables.specs.declared.sql.SqlTables.{SqlTables}
 use Rattle.bo_fresh.specs.House.{IsFreshShop}
 use Rattle.bo_fresh.proofs.Sure.{memory_sure}

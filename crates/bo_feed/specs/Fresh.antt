@@ -1,7 +1,7 @@
 -- The desk that `feed` begins with.
 use Rattle.std.specs.Prelude.{◌≡◌, [], codes}
 use Rattle.bo_lists.specs.Lists.{empty}
-use Rattle.bo_streams.specs.DeskView.{DeskView, House, IsOf, Meaning}
+use Rattle.bo_desk.specs.Streams.{DeskView, House, IsOf, Meaning}
 use Rattle.bo_fresh.specs.House.{feed_tokens}
 
 -- organizer `house`, event `hall`, and the token `feed`: by what its messages are read

@@ -2,11 +2,11 @@
 use Rattle.std.specs.Prelude.{◌≡◌, ◌⊎◌, List, [], Result, Err}
 use Rattle.bo_lists.specs.Lists.{empty}
 use Rattle.bo_kept.specs.ShopView.{ShopView}
-use Rattle.bo_deliveries.specs.Deliveries.{Opening}
+use Rattle.bo_desk.specs.Deliveries.{Opening}
 use Rattle.bo_connection.specs.declared.failure.Failure.{Failure}
 use Rattle.bo_connection.specs.declared.failure.Failure.TheVariants as failures
 use Rattle.bo_connection.specs.Run.{Devices, RunLeads, with_desk}
-use Rattle.bo_streams.specs.Served.{Serves}
+use Rattle.bo_desk.specs.Streams.{Serves}
 use Rattle.bo_feed.specs.Fresh.{IsFresh}
 use Rattle.bo_feed.specs.Stored.{MemoryDesk, in_memory}
 

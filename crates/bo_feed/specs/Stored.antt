@@ -6,7 +6,7 @@ use Rattle.sqlite.specs.State.{HasCleanDisk}
 use Rattle.sqlite.specs.Steps.{over_memory}
 use Rattle.bo_tables.specs.declared.sql.SqlTables.{SqlTables}
 use Rattle.bo_tables.specs.Shops.{HoldsWhileOpen, KnowsWhileOpen, Leaves}
-use Rattle.bo_streams.specs.DeskView.{DeskView, Meaning, meaning}
+use Rattle.bo_desk.specs.Streams.{DeskView, Meaning, meaning}
 
 -- whatever SQLite keeps them in
 abbrev pub in_store : {S : Type 0} → Ghosts S → Meaning (SqlTables S)

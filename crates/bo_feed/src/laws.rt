@@ -3,12 +3,10 @@
 ghost use Rattle.std.specs.Prelude.{ℕ, List, [], Result};
 ghost use Rattle.bo_sound.specs.Sound.{IsSound};
 ghost use Rattle.bo_kept.specs.ShopView.{ShopView};
-ghost use Rattle.bo_deliveries.specs.Deliveries.{Delivery};
-ghost use Rattle.bo_deliveries.specs.Shops.{StandsFor, Views};
+ghost use Rattle.bo_desk.specs.Deliveries.{Delivery, StandsFor, Views};
 ghost use Rattle.bo_connection.specs.declared.failure.Failure.{Failure};
 ghost use Rattle.bo_connection.specs.Run.{RunLeads};
-ghost use Rattle.bo_streams.specs.DeskView.{DeskView, meaning, words_of};
-ghost use Rattle.bo_streams.specs.Streams.{ServesAndKeeps, ServesList};
+ghost use Rattle.bo_desk.specs.Streams.{DeskView, meaning, words_of, ServesAndKeeps, ServesList};
 ghost use Rattle.bo_feed.specs.Fresh.{IsFresh, feed_house};
 ghost use Rattle.bo_desk.specs.Fed.{FeedsDesk, Ports, devices};
 ghost use Rattle.bo_feed.specs.Feed.{Feeds};

@@ -3,3 +3,4 @@ pub mod PeriodicWork
 pub mod Step
 pub mod Answer
 pub mod Changes
+pub mod Drafts

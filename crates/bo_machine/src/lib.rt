@@ -1,7 +1,7 @@
 //! The small box office: what a step of each command is, what each query is answered, and what a step changes.
 #![tactic(auto)]
 
-pub mod decisions;
 pub mod opening;
 
+pub use bo_orders::{Book, Draft};
 pub use opening::{open, refused, show_voucher};

@@ -2,16 +2,15 @@
 
 ghost use Rattle.std.specs.Prelude.{◌≡◌, ◌≤◌, [], IfOk};
 ghost use Rattle.bo_commands.specs.declared.replies.Reply.{Reply};
-ghost use Rattle.bo_draft.specs.DraftState.{now};
+ghost use Rattle.bo_machine.specs.Drafts.{now};
 ghost use Rattle.bo_sound.specs.Sound.{IsSound};
 ghost use Rattle.bo_machine.specs.ShownRows.{show_voucher};
 ghost use Rattle.bo_machine.specs.Step.{no_change};
 
 use bo_base::Moment;
 use bo_commands::{Kind, Refusal, Reply, Shown};
-use bo_draft::Draft;
 use bo_lists::{Changes, Voucher};
-use bo_usage::Book;
+use bo_orders::{Book, Draft};
 use std::alloc::{AllocError, Global};
 
 /// A draft of the book at a moment.

@@ -3,8 +3,7 @@
 ghost use Rattle.std.specs.Prelude.{◌≡◌, ◌≤◌, IfOk};
 ghost use Rattle.bo_lists.specs.Change.{applied};
 ghost use Rattle.bo_sound.specs.Sound.{IsSound};
-ghost use Rattle.bo_machine.specs.Step.{RefusesWithoutChange, step};
-ghost use Rattle.bo_machine.specs.Changes.{changes_of};
+ghost use Rattle.bo_service.specs.Machine.{RefusesWithoutChange, step, changes_of};
 
 use bo_base::{Draw, Moment};
 use bo_commands::{Command, Reply};

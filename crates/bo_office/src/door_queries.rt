@@ -1,16 +1,15 @@
 //! Queries of check-in lists, and of the positions that belong to them.
 
 ghost use Rattle.std.specs.Prelude.{◌≡◌, IfOk, map, take, drop};
-ghost use Rattle.bo_machine.specs.Answer.{list_of, one_of, status_told, ticket_if, belonging};
+ghost use Rattle.bo_service.specs.Machine.{list_of, one_of, status_told, ticket_if, belonging, show_ticket};
 ghost use Rattle.bo_lists.specs.Lists.{checkin_list_at};
-ghost use Rattle.bo_machine.specs.ShownRows.{show_ticket};
 
 use crate::lists::no_page;
 use crate::office::Office;
 use bo_base::List;
 use bo_commands::{DoorRefusal, Kind, ListedTicket, Page, Refusal, Reply, Resource, Shown};
+use bo_door::{belongs, position_count, positions, status, ticket_of};
 use bo_lists::{CheckinList, OrderPos};
-use bo_machine::decisions::{belongs, position_count, positions, status, ticket_of};
 use bo_pages::pages::{is_page, rows_before};
 use bo_usage::Book;
 use std::alloc::{AllocError, Global};

@@ -1,7 +1,7 @@
 //! Pages of lists.
 
 ghost use Rattle.std.specs.Prelude.{◌≡◌, IfOk, map};
-ghost use Rattle.bo_machine.specs.Answer.{list_of};
+ghost use Rattle.bo_service.specs.Machine.{list_of};
 ghost use Rattle.bo_pages.specs.Pages.{listed};
 
 use crate::office::Office;

@@ -5,9 +5,7 @@ ghost use Rattle.bo_base.specs.declared.draw.Draw.{Draw};
 ghost use Rattle.bo_lists.specs.Change.{applied};
 ghost use Rattle.bo_lists.specs.Weight.{weight};
 ghost use Rattle.bo_sound.specs.Sound.{IsSound};
-ghost use Rattle.bo_machine.specs.Step.{RefusesWithoutChange, step};
-ghost use Rattle.bo_machine.specs.Answer.{answer};
-ghost use Rattle.bo_machine.specs.Changes.{changes_of};
+ghost use Rattle.bo_service.specs.Machine.{RefusesWithoutChange, step, answer, changes_of};
 
 use crate::deciding::decide_over;
 use bo_base::{Draw, Known, Moment, Slug};

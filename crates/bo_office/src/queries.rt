@@ -2,8 +2,7 @@
 
 ghost use Rattle.std.specs.Prelude.{◌≡◌, ◌≤◌, IfOk};
 ghost use Rattle.bo_commands.specs.declared.requests.Query.{Query};
-ghost use Rattle.bo_machine.specs.Answer.{answer, one_of};
-ghost use Rattle.bo_machine.specs.ShownRows.{show_item, show_voucher, show_order};
+ghost use Rattle.bo_service.specs.Machine.{answer, one_of, show_item, show_voucher, show_order};
 
 use crate::office::Office;
 use bo_base::Moment;
@@ -12,7 +11,7 @@ use bo_commands::{
     Kind, OrderRefusal, Refusal, Reply, Resource, Shown, VoucherRefusal, WaitingRefusal,
 };
 use bo_lists::{Order, OrderRows, Voucher};
-use bo_machine::show_voucher;
+use bo_service::show_voucher;
 use bo_usage::{Book, availability};
 use std::alloc::{AllocError, Global};
 

@@ -3,7 +3,7 @@
 ghost use Rattle.std.specs.Prelude.{◌≡◌, IfOk};
 ghost use Rattle.bo_commands.specs.declared.replies.Shown.{Shown};
 ghost use Rattle.bo_lists.specs.Lists.{Lists};
-ghost use Rattle.bo_machine.specs.ShownRows.{show_item, show_quota, show_voucher, show_cart, show_order, show_waiting, show_checkin_list};
+ghost use Rattle.bo_service.specs.Machine.{show_item, show_quota, show_voucher, show_cart, show_order, show_waiting, show_checkin_list};
 
 use crate::office::Office;
 use bo_catalogue::{Item, Quota};

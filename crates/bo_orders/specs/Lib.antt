@@ -8,3 +8,4 @@ pub mod Moves
 pub mod Dropped
 pub mod Expired
 pub mod Places
+pub mod Drafts

@@ -12,6 +12,8 @@ pub mod places;
 pub mod sold;
 pub mod usability;
 
+pub use bo_draft::Draft;
+pub use bo_usage::Book;
 pub use bulk::add_many;
 pub use carts::{add_position, drop_position};
 pub use creating::create;

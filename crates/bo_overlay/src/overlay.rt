@@ -30,9 +30,8 @@ use bo_log::rows::{
     voucher_in, waiting_after, waiting_in,
 };
 use bo_log::{ChangeLog, KeyLog, Table, code_key, digest};
-use bo_stock::Catalogue;
 use bo_usage::rules::is_in_force;
-use bo_usage::{Book, LookUps, PositionTest};
+use bo_usage::{Book, Catalogue, LookUps, PositionTest};
 use std::alloc::{AllocError, Global};
 use std::marker::Model;
 

@@ -16,9 +16,8 @@ use bo_lists::{
 };
 use bo_sorted::Rows;
 use bo_sparse::Sparse;
-use bo_stock::Catalogue;
 use bo_usage::rules::{cart_counts, is_paid_in, is_pending_in, left_of, uses};
-use bo_usage::{Book, LookUps, PositionTest};
+use bo_usage::{Book, Catalogue, LookUps, PositionTest};
 use std::alloc::{AllocError, Global};
 use std::marker::Model;
 use std::sync::ledger::Ledger;

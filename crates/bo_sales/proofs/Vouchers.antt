@@ -7,7 +7,7 @@ use Rattle.bo_lists.specs.declared.changes.Change.{Change}
 use Rattle.bo_lists.specs.declared.changes.Change.TheVariants.{PutVoucher}
 use Rattle.bo_lists.specs.Lists.{Lists, State}
 use Rattle.bo_lists.specs.Change.{Changed, applied, after_all}
-use Rattle.bo_draft.specs.DraftState.{DraftState, now}
+use Rattle.bo_machine.specs.Drafts.{DraftState, now}
 use Rattle.bo_commands.specs.declared.vouchers.NewVoucher.{NewVoucher}
 use Rattle.bo_commands.specs.declared.vouchers.VoucherPatch.{VoucherPatch}
 use Rattle.bo_machine.specs.Step.{voucher_made, voucher_changed, step, voucher_step, voucher_change_step}

@@ -14,9 +14,9 @@ use bo_commands::{
     VoucherPatch, VoucherRefusal,
 };
 use bo_lists::Changes;
-use bo_machine::decisions::{self, add_many, add_position, create, decide_voucher, drop_position};
-use bo_machine::{open, show_voucher};
-use bo_usage::Book;
+use bo_machine::{Book, open, show_voucher};
+use bo_orders::{add_many, add_position, create, drop_position};
+use bo_vouchers::decide_voucher;
 use std::alloc::{AllocError, Global};
 
 /// Makes a voucher.
@@ -171,7 +171,7 @@ pub fn move_order<B: Book>(
     ensures refused { IfOk result (RefusesWithoutChange (B.state book.now)) }
 {
     let mut draft = open(book, alloc, at)?;
-    let reply = match decisions::move_order(&mut draft, alloc, number, change) {
+    let reply = match bo_orders::move_order(&mut draft, alloc, number, change) {
         Ok(rows) => Reply::Found(Shown::Order(rows)),
         Err(OrderRefusal::Memory) => return Err(AllocError),
         Err(refusal) => Reply::Refused(Kind::MoveOrder, Refusal::Order(refusal)),

@@ -13,8 +13,7 @@ use bo_catalogue::{
 };
 use bo_commands::{Kind, Refusal, Reply, Shown};
 use bo_lists::{Change, Changes, NextIds};
-use bo_machine::refused;
-use bo_usage::Book;
+use bo_machine::{Book, refused};
 use std::alloc::{AllocError, Global};
 
 /// Adds an item with its variations.

@@ -10,10 +10,9 @@ ghost use Rattle.bo_commands.specs.declared.requests.Command.{Command};
 
 use bo_base::Moment;
 use bo_commands::{DoorRefusal, Kind, NewCheckinList, Refusal, Reply, Scan, Shown, Ticket};
+use bo_door::add_list;
 use bo_lists::Changes;
-use bo_machine::decisions::{self, add_list};
-use bo_machine::open;
-use bo_usage::Book;
+use bo_machine::{Book, open};
 use std::alloc::{AllocError, Global};
 
 /// Adds a check-in list.
@@ -54,7 +53,7 @@ pub fn redeem<B: Book>(
     ensures refused { IfOk result (RefusesWithoutChange (B.state book.now)) }
 {
     let mut draft = open(book, alloc, at)?;
-    let reply = match decisions::redeem(&mut draft, alloc, list, ticket, scan) {
+    let reply = match bo_door::redeem(&mut draft, alloc, list, ticket, scan) {
         Ok(position) => Reply::Admitted(position),
         Err(DoorRefusal::Memory) => return Err(AllocError),
         Err(refusal) => Reply::Refused(Kind::Redeem, Refusal::Door(refusal)),

@@ -4,3 +4,5 @@
 pub mod catalogue;
 pub mod doors;
 pub mod waiting;
+
+pub use bo_machine::show_voucher;

@@ -2,7 +2,7 @@
 
 ghost use Rattle.std.specs.Prelude.{◌≡◌, ◌≤◌, [], IfOk, OnOk};
 ghost use Rattle.bo_base.specs.declared.draw.Draw.{Draw};
-ghost use Rattle.bo_draft.specs.DraftState.{now, Extends};
+ghost use Rattle.bo_machine.specs.Drafts.{now, Extends};
 ghost use Rattle.bo_lists.specs.Change.{applied};
 ghost use Rattle.bo_sound.specs.Sound.{IsSound};
 ghost use Rattle.bo_machine.specs.PeriodicWork.{periodic_done, periodic_changes};
@@ -14,11 +14,10 @@ use bo_base::{Draw, Moment};
 use bo_commands::{
     Kind, NewWaiting, PeriodicCounts, Refusal, Reply, Shown, WaitingPatch, WaitingRefusal,
 };
-use bo_draft::Draft;
 use bo_lists::Changes;
-use bo_machine::decisions::{change, drop_dead_carts, expire_orders, join, leave, send, serve_all};
-use bo_machine::open;
-use bo_usage::Book;
+use bo_machine::{Book, Draft, open};
+use bo_orders::{drop_dead_carts, expire_orders};
+use bo_waiting::{change, join, leave, send, serve_all};
 use std::alloc::{AllocError, Global};
 
 /// Adds an entry to the waiting list, with whatever draw.

@@ -5,3 +5,4 @@ mod UseShifts
 mod UseCounts
 mod Turned
 mod Unsold
+pub mod Logs

@@ -3,3 +3,4 @@ pub mod Uses
 pub mod Shift
 pub mod Touched
 pub mod Tallied
+pub mod Logs

@@ -8,4 +8,5 @@ mod touched;
 mod use_shift;
 mod uses;
 
+pub use bo_overlay::Overlay;
 pub use tallies::{Reach, Standing, Tallies};

@@ -9,8 +9,8 @@ ghost use Rattle.bo_shares.specs.Touched.{NoneElse, Keeps, among, at_id};
 
 use bo_catalogue::Quota;
 use bo_sorted::{Ids, place_of};
-use bo_stock::Catalogue;
 use bo_tally::Tally;
+use bo_usage::Catalogue;
 use std::alloc::{AllocError, Global};
 
 /// How much comes to a quota, and how much goes.

@@ -22,10 +22,9 @@ use bo_base::Moment;
 use bo_catalogue::{Product, Quota};
 use bo_lists::{CartPos, Change, Order, OrderPos, Voucher, Waiting};
 use bo_overlay::{Overlay, Purchase, count_if};
-use bo_stock::Catalogue;
 use bo_tally::Tally;
 use bo_usage::rules::{self, blocks, is_in_force};
-use bo_usage::{Book, LookUps};
+use bo_usage::{Book, Catalogue, LookUps};
 use std::alloc::{AllocError, Global};
 
 /// Adds what a change brings to the quotas and takes from them to the counts. Where there is no memory for it, they are as

@@ -17,9 +17,8 @@ use crate::uses::count_uses;
 use bo_base::Moment;
 use bo_lists::Change;
 use bo_overlay::{Overlay, Purchase};
-use bo_stock::Catalogue;
 use bo_tally::{Count, Tally};
-use bo_usage::Book;
+use bo_usage::{Book, Catalogue};
 use std::alloc::{AllocError, Global};
 use std::marker::Model;
 

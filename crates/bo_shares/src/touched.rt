@@ -9,7 +9,7 @@ ghost use Rattle.bo_shares.specs.Touched.{NoOther, Keeps};
 
 use bo_catalogue::Product;
 use bo_lists::Voucher;
-use bo_stock::Catalogue;
+use bo_usage::Catalogue;
 use std::alloc::{AllocError, Global};
 
 /// Adds the ids of the quotas that a product is in.

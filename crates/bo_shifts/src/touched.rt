@@ -11,7 +11,7 @@ use bo_catalogue::{Product, Quota};
 use bo_index::Found;
 use bo_lists::{Usage, Voucher};
 use bo_sorted::place_of;
-use bo_stock::Catalogue;
+use bo_usage::Catalogue;
 
 // Shifts the usage of the quota of an id, if it stands.
 fn shift_one<S: Shift>(quotas: &[Quota], usages: &mut Vec<Usage>, id: u64, shift: &S)

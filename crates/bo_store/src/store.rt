@@ -12,8 +12,7 @@ use bo_indexed::Indexed;
 use bo_lists::{CartPos, Change, Checkin, CheckinList, NextIds, Order, OrderPos, Voucher, Waiting};
 use bo_sorted::Rows;
 use bo_sparse::Sparse;
-use bo_stock::Catalogue;
-use bo_usage::LookUps;
+use bo_usage::{Catalogue, LookUps};
 use std::alloc::{AllocError, Global};
 use std::marker::Model;
 

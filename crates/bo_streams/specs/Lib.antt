@@ -2,3 +2,4 @@ pub mod DeskView
 pub mod Coming
 pub mod Served
 pub mod Streams
+pub mod Deliveries

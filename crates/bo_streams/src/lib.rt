@@ -5,4 +5,5 @@ mod coming;
 pub mod laws;
 pub mod words;
 
+pub use bo_deliveries::Arrival;
 pub use words::HouseWords;

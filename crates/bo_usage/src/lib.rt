@@ -7,5 +7,6 @@ pub mod look_ups;
 pub mod rules;
 
 pub use available::availability;
+pub use bo_stock::Catalogue;
 pub use book::{Book, PositionTest};
 pub use look_ups::LookUps;

@@ -2,7 +2,7 @@ use Rattle.std.proofs.Common.{◌≡◌, List, sym, ap, ◌∙◌, subst, arith}
 use Rattle.bo_catalogue.specs.declared.rows.Quota.{Quota}
 use Rattle.bo_lists.specs.Lists.{Lists}
 use Rattle.bo_lists.specs.Over.{is_over}
-use Rattle.bo_overlay.specs.Logs.{rows_of, rows_at}
+use Rattle.bo_shares.specs.Logs.{rows_of, rows_at}
 use Rattle.bo_tally.proofs.Earlier.{same_at_mark}
 use Rattle.bo_shares.specs.Counts.{value_at}
 use Rattle.bo_draft.specs.Least.{found_at}

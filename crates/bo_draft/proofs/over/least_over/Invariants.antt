@@ -1,5 +1,5 @@
 use Rattle.bo_lists.specs.Over.{is_over}
-use Rattle.bo_overlay.specs.Logs.{rows_of, rows_at}
+use Rattle.bo_shares.specs.Logs.{rows_of, rows_at}
 use Rattle.bo_draft.specs.Least.{found_at, IsLeast}
 use Rattle.bo_draft.proofs.over.least_over.Given as goal
 

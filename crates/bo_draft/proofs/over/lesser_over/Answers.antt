@@ -1,7 +1,7 @@
 use Rattle.std.proofs.Common.{ℕ, Option, sym, ap, ◌∙◌}
 use Rattle.std.specs.Prelude.{is_some}
 use Rattle.bo_lists.specs.Over.{is_over}
-use Rattle.bo_overlay.specs.Logs.{rows_of, rows_at}
+use Rattle.bo_shares.specs.Logs.{rows_of, rows_at}
 use Rattle.bo_tally.specs.declared.tally.Count.{Count}
 use Rattle.bo_tally.proofs.Newest.{nothing}
 use Rattle.bo_draft.specs.Least.{found_at}

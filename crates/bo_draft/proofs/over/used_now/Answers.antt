@@ -4,7 +4,7 @@ use Rattle.bo_sorted.proofs.Places.{row_at_place, row_at_gap}
 use Rattle.bo_catalogue.specs.declared.rows.Quota.{Quota}
 use Rattle.bo_catalogue.specs.CatalogueLists.{CatalogueLists}
 use Rattle.bo_lists.specs.Lists.{Lists}
-use Rattle.bo_overlay.specs.Logs.{rows_of}
+use Rattle.bo_shares.specs.Logs.{rows_of}
 use Rattle.bo_shares.specs.Counts.{value_at}
 use Rattle.bo_draft.specs.Used.{used}
 use Rattle.bo_shares.proofs.Values.{value_here}

@@ -1,4 +1,4 @@
-use Rattle.bo_streams.specs.DeskView.{meaning}
+use Rattle.bo_desk.specs.Streams.{meaning}
 use Rattle.bo_feed.proofs.FreshLemmas.{fed_once}
 use Rattle.bo_feed.proofs.laws.what_is_fed_is_told_once.Goals as goal
 

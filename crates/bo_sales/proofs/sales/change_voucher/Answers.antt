@@ -3,7 +3,7 @@ use Rattle.bo_lists.specs.Lists.{Lists}
 use Rattle.bo_lists.specs.declared.changes.Change.TheVariants.{PutVoucher}
 use Rattle.bo_lists.specs.Change.{applied}
 use Rattle.bo_machine.specs.Step.{voucher_changed}
-use Rattle.bo_draft.specs.DraftState.{DraftState, now}
+use Rattle.bo_machine.specs.Drafts.{DraftState, now}
 use Rattle.bo_machine.specs.Changes.{changes_of}
 use Rattle.bo_machine.specs.ShownRows.{show_voucher}
 use Rattle.bo_commands.specs.declared.replies.Shown.{Shown}

@@ -1,5 +1,5 @@
 use Rattle.std.proofs.Common.{subst}
-use Rattle.bo_deliveries.specs.Histories.{Running, IsRunning, after_act}
+use Rattle.bo_streams.specs.Deliveries.{Running, IsRunning, after_act}
 use Rattle.bo_streams.specs.DeskView.{DeskView, worded}
 use Rattle.bo_desk.proofs.desk.ShopDesk.carry_out.Goals as goal
 

@@ -1,5 +1,5 @@
 use Rattle.std.proofs.Common.{◌≤◌, length, take, sym, ap, subst, arith}
-use Rattle.bo_overlay.specs.Logs.{Log}
+use Rattle.bo_shares.specs.Logs.{Log}
 use Rattle.bo_shares.specs.Tallied.{Tallied}
 use Rattle.bo_draft.specs.DraftState.{DraftState, MarkState, IsDraft}
 use Rattle.bo_draft.proofs.Reaches.{draft_back}

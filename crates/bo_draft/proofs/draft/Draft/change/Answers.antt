@@ -3,8 +3,8 @@ use Rattle.bo_catalogue.specs.declared.rows.Quota.{Quota}
 use Rattle.bo_catalogue.specs.CatalogueLists.{CatalogueLists}
 use Rattle.bo_lists.specs.Lists.{Lists}
 use Rattle.bo_lists.specs.Change.{changed}
-use Rattle.bo_overlay.specs.Logs.{Log, rows_of}
-use Rattle.bo_overlay.proofs.CodeKeys.{when_ok}
+use Rattle.bo_shares.specs.Logs.{Log, rows_of}
+use Rattle.bo_shares.proofs.Logs.{when_ok}
 use Rattle.bo_shares.specs.Tallied.{IsNext}
 use Rattle.bo_draft.specs.Used.{AreBases}
 use Rattle.bo_draft.specs.CanCome.{CanCome}

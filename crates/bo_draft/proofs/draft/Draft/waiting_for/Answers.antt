@@ -1,7 +1,7 @@
 use Rattle.std.proofs.Common.{sym, ap, ◌∙◌}
 use Rattle.bo_catalogue.specs.CatalogueLists.{CatalogueLists, quota_at}
 use Rattle.bo_lists.specs.Lists.{Lists}
-use Rattle.bo_overlay.proofs.Sales.{sales_catalogue}
+use Rattle.bo_shares.proofs.Logs.{sales_catalogue}
 use Rattle.bo_draft.specs.DraftState.{DraftState, now}
 use Rattle.bo_draft.proofs.draft.Draft.waiting_for.Goals as goal
 

@@ -5,9 +5,8 @@ use Rattle.bo_lists.specs.Lists.{State}
 use Rattle.bo_lists.specs.Change.{applied}
 use Rattle.bo_sound.specs.Sound.{IsSound}
 use Rattle.bo_commands.specs.declared.replies.Reply.{Reply}
-use Rattle.bo_machine.specs.Step.{RefusesWithoutChange, step}
-use Rattle.bo_machine.specs.Changes.{changes_of}
-use Rattle.bo_machine.proofs.SoundSteps.{step_sound}
+use Rattle.bo_service.specs.Machine.{RefusesWithoutChange, step, changes_of}
+use Rattle.bo_service.proofs.Machine.{step_sound}
 use Rattle.bo_office.proofs.office.Office.decide.Goals as goal
 
 pub returns-clause-step : goal.returns-clause-step

@@ -3,8 +3,7 @@ use Rattle.bo_lists.specs.declared.rows.OrderPos.{OrderPos}
 use Rattle.bo_lists.specs.Lists.{State}
 use Rattle.bo_commands.specs.declared.doors.ListedTicket.{ListedTicket}
 use Rattle.bo_commands.specs.declared.replies.Shown.TheVariants.{Ticket}
-use Rattle.bo_machine.specs.Answer.{belonging}
-use Rattle.bo_machine.specs.ShownRows.{ticket_of, show_ticket}
+use Rattle.bo_service.specs.Machine.{belonging, ticket_of, show_ticket}
 use Rattle.bo_pages.proofs.PageRows.{map_twice}
 use Rattle.bo_office.proofs.office.Office.shown_tickets.Goals as goal
 
