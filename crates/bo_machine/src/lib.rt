@@ -4,4 +4,4 @@
 pub mod opening;
 
 pub use bo_orders::{Book, Draft};
-pub use opening::{open, refused, show_voucher};
+pub use opening::{close, open, refused, show_voucher};

@@ -1,6 +1,6 @@
-//! How a command begins and how it is refused, and how a voucher is shown.
+//! How a command begins, how it ends or is refused, and how a voucher is shown.
 
-ghost use Rattle.std.specs.Prelude.{◌≡◌, ◌≤◌, [], IfOk};
+ghost use Rattle.std.specs.Prelude.{◌≡◌, ◌≤◌, [], Ok, IfOk};
 ghost use Rattle.bo_commands.specs.declared.replies.Reply.{Reply};
 ghost use Rattle.bo_machine.specs.Drafts.{now};
 ghost use Rattle.bo_sound.specs.Sound.{IsSound};
@@ -25,6 +25,21 @@ pub fn open<B: Book>(book: &B, alloc: Global, at: Moment) -> Result<Draft<'_, B>
     ensures sound { IfOk result (λ d. IsSound (now d)) }
 {
     Draft::new(alloc, book, at)
+}
+
+/// The changes of a draft, with what is answered, unless there was no memory for it.
+pub fn close<B: Book>(
+    draft: Draft<'_, B>,
+    reply: Result<Reply, AllocError>,
+) -> Result<(Changes, Reply), AllocError>
+    ensures reply { IfOk result (λ r. reply ≡ Ok r.1) }
+    ensures list { IfOk result (λ r. r.0.list ≡ draft.entry.log.changes) }
+    ensures next { IfOk result (λ r. r.0.next ≡ draft.entry.next) }
+{
+    match reply {
+        Ok(reply) => Ok((draft.finish(), reply)),
+        Err(error) => Err(error),
+    }
 }
 
 /// No change, and a refusal.

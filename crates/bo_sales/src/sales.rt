@@ -14,7 +14,7 @@ use bo_commands::{
     VoucherPatch, VoucherRefusal,
 };
 use bo_lists::Changes;
-use bo_machine::{Book, open, show_voucher};
+use bo_machine::{Book, close, open, show_voucher};
 use bo_orders::{add_many, add_position, create, drop_position};
 use bo_vouchers::decide_voucher;
 use std::alloc::{AllocError, Global};
@@ -35,11 +35,11 @@ pub fn add_voucher<B: Book>(
 {
     let mut draft = open(book, alloc, at)?;
     let reply = match decide_voucher::make(&mut draft, alloc, draw, new) {
-        Ok(row) => Reply::Made(show_voucher(book, row)),
-        Err(VoucherRefusal::Memory) => return Err(AllocError),
-        Err(refusal) => Reply::Refused(Kind::AddVoucher, Refusal::Voucher(refusal)),
+        Ok(row) => Ok(Reply::Made(show_voucher(book, row))),
+        Err(VoucherRefusal::Memory) => Err(AllocError),
+        Err(refusal) => Ok(Reply::Refused(Kind::AddVoucher, Refusal::Voucher(refusal))),
     };
-    Ok((draft.finish(), reply))
+    close(draft, reply)
 }
 
 /// Changes a voucher, with whatever draw.
@@ -58,11 +58,11 @@ pub fn change_voucher<B: Book>(
 {
     let mut draft = open(book, alloc, at)?;
     let reply = match decide_voucher::patch(&mut draft, alloc, id, patch) {
-        Ok(row) => Reply::Found(show_voucher(book, row)),
-        Err(VoucherRefusal::Memory) => return Err(AllocError),
-        Err(refusal) => Reply::Refused(Kind::ChangeVoucher, Refusal::Voucher(refusal)),
+        Ok(row) => Ok(Reply::Found(show_voucher(book, row))),
+        Err(VoucherRefusal::Memory) => Err(AllocError),
+        Err(refusal) => Ok(Reply::Refused(Kind::ChangeVoucher, Refusal::Voucher(refusal))),
     };
-    Ok((draft.finish(), reply))
+    close(draft, reply)
 }
 
 /// Deletes a voucher, with whatever draw.
@@ -80,11 +80,11 @@ pub fn drop_voucher<B: Book>(
 {
     let mut draft = open(book, alloc, at)?;
     let reply = match decide_voucher::delete(&mut draft, alloc, id) {
-        Ok(()) => Reply::Gone,
-        Err(VoucherRefusal::Memory) => return Err(AllocError),
-        Err(refusal) => Reply::Refused(Kind::DropVoucher, Refusal::Voucher(refusal)),
+        Ok(()) => Ok(Reply::Gone),
+        Err(VoucherRefusal::Memory) => Err(AllocError),
+        Err(refusal) => Ok(Reply::Refused(Kind::DropVoucher, Refusal::Voucher(refusal))),
     };
-    Ok((draft.finish(), reply))
+    close(draft, reply)
 }
 
 /// Adds a cart position.
@@ -103,11 +103,11 @@ pub fn add_cart<B: Book>(
 {
     let mut draft = open(book, alloc, at)?;
     let reply = match add_position(&mut draft, alloc, draw, new) {
-        Ok(row) => Reply::Made(Shown::Cart(row)),
-        Err(OrderRefusal::Memory) => return Err(AllocError),
-        Err(refusal) => Reply::Refused(Kind::AddCart, Refusal::Order(refusal)),
+        Ok(row) => Ok(Reply::Made(Shown::Cart(row))),
+        Err(OrderRefusal::Memory) => Err(AllocError),
+        Err(refusal) => Ok(Reply::Refused(Kind::AddCart, Refusal::Order(refusal))),
     };
-    Ok((draft.finish(), reply))
+    close(draft, reply)
 }
 
 /// Adds a cart position for each entry.
@@ -126,11 +126,11 @@ pub fn add_carts<B: Book>(
 {
     let mut draft = open(book, alloc, at)?;
     let reply = match add_many(&mut draft, alloc, draw, entries) {
-        Ok(outcomes) => Reply::Results(outcomes),
-        Err(OrderRefusal::Memory) => return Err(AllocError),
-        Err(refusal) => Reply::Refused(Kind::AddCarts, Refusal::Order(refusal)),
+        Ok(outcomes) => Ok(Reply::Results(outcomes)),
+        Err(OrderRefusal::Memory) => Err(AllocError),
+        Err(refusal) => Ok(Reply::Refused(Kind::AddCarts, Refusal::Order(refusal))),
     };
-    Ok((draft.finish(), reply))
+    close(draft, reply)
 }
 
 /// Makes an order.
@@ -149,11 +149,11 @@ pub fn add_order<B: Book>(
 {
     let mut draft = open(book, alloc, at)?;
     let reply = match create(&mut draft, alloc, draw, new) {
-        Ok(rows) => Reply::Made(Shown::Order(rows)),
-        Err(OrderRefusal::Memory) => return Err(AllocError),
-        Err(refusal) => Reply::Refused(Kind::AddOrder, Refusal::Order(refusal)),
+        Ok(rows) => Ok(Reply::Made(Shown::Order(rows))),
+        Err(OrderRefusal::Memory) => Err(AllocError),
+        Err(refusal) => Ok(Reply::Refused(Kind::AddOrder, Refusal::Order(refusal))),
     };
-    Ok((draft.finish(), reply))
+    close(draft, reply)
 }
 
 /// Moves an order, with whatever draw.
@@ -172,11 +172,11 @@ pub fn move_order<B: Book>(
 {
     let mut draft = open(book, alloc, at)?;
     let reply = match bo_orders::move_order(&mut draft, alloc, number, change) {
-        Ok(rows) => Reply::Found(Shown::Order(rows)),
-        Err(OrderRefusal::Memory) => return Err(AllocError),
-        Err(refusal) => Reply::Refused(Kind::MoveOrder, Refusal::Order(refusal)),
+        Ok(rows) => Ok(Reply::Found(Shown::Order(rows))),
+        Err(OrderRefusal::Memory) => Err(AllocError),
+        Err(refusal) => Ok(Reply::Refused(Kind::MoveOrder, Refusal::Order(refusal))),
     };
-    Ok((draft.finish(), reply))
+    close(draft, reply)
 }
 
 /// Deletes a cart position, with whatever draw.
@@ -194,9 +194,9 @@ pub fn drop_cart<B: Book>(
 {
     let mut draft = open(book, alloc, at)?;
     let reply = match drop_position(&mut draft, alloc, id) {
-        Ok(()) => Reply::Gone,
-        Err(OrderRefusal::Memory) => return Err(AllocError),
-        Err(refusal) => Reply::Refused(Kind::DropCart, Refusal::Order(refusal)),
+        Ok(()) => Ok(Reply::Gone),
+        Err(OrderRefusal::Memory) => Err(AllocError),
+        Err(refusal) => Ok(Reply::Refused(Kind::DropCart, Refusal::Order(refusal))),
     };
-    Ok((draft.finish(), reply))
+    close(draft, reply)
 }

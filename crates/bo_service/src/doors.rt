@@ -12,7 +12,7 @@ use bo_base::Moment;
 use bo_commands::{DoorRefusal, Kind, NewCheckinList, Refusal, Reply, Scan, Shown, Ticket};
 use bo_door::add_list;
 use bo_lists::Changes;
-use bo_machine::{Book, open};
+use bo_machine::{Book, close, open};
 use std::alloc::{AllocError, Global};
 
 /// Adds a check-in list.
@@ -30,11 +30,11 @@ pub fn add_checkin_list<B: Book>(
 {
     let mut draft = open(book, alloc, at)?;
     let reply = match add_list(&mut draft, alloc, new) {
-        Ok(row) => Reply::Made(Shown::CheckinList(row)),
-        Err(DoorRefusal::Memory) => return Err(AllocError),
-        Err(refusal) => Reply::Refused(Kind::AddCheckinList, Refusal::Door(refusal)),
+        Ok(row) => Ok(Reply::Made(Shown::CheckinList(row))),
+        Err(DoorRefusal::Memory) => Err(AllocError),
+        Err(refusal) => Ok(Reply::Refused(Kind::AddCheckinList, Refusal::Door(refusal))),
     };
-    Ok((draft.finish(), reply))
+    close(draft, reply)
 }
 
 /// Checks a ticket in or out.
@@ -54,9 +54,9 @@ pub fn redeem<B: Book>(
 {
     let mut draft = open(book, alloc, at)?;
     let reply = match bo_door::redeem(&mut draft, alloc, list, ticket, scan) {
-        Ok(position) => Reply::Admitted(position),
-        Err(DoorRefusal::Memory) => return Err(AllocError),
-        Err(refusal) => Reply::Refused(Kind::Redeem, Refusal::Door(refusal)),
+        Ok(position) => Ok(Reply::Admitted(position)),
+        Err(DoorRefusal::Memory) => Err(AllocError),
+        Err(refusal) => Ok(Reply::Refused(Kind::Redeem, Refusal::Door(refusal))),
     };
-    Ok((draft.finish(), reply))
+    close(draft, reply)
 }

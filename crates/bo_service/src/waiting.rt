@@ -15,7 +15,7 @@ use bo_commands::{
     Kind, NewWaiting, PeriodicCounts, Refusal, Reply, Shown, WaitingPatch, WaitingRefusal,
 };
 use bo_lists::Changes;
-use bo_machine::{Book, Draft, open};
+use bo_machine::{Book, Draft, close, open};
 use bo_orders::{drop_dead_carts, expire_orders};
 use bo_waiting::{change, join, leave, send, serve_all};
 use std::alloc::{AllocError, Global};
@@ -35,11 +35,11 @@ pub fn add_waiting<B: Book>(
 {
     let mut draft = open(book, alloc, at)?;
     let reply = match join(&mut draft, alloc, new) {
-        Ok(row) => Reply::Made(Shown::Waiting(row)),
-        Err(WaitingRefusal::Memory) => return Err(AllocError),
-        Err(refusal) => Reply::Refused(Kind::AddWaiting, Refusal::Waiting(refusal)),
+        Ok(row) => Ok(Reply::Made(Shown::Waiting(row))),
+        Err(WaitingRefusal::Memory) => Err(AllocError),
+        Err(refusal) => Ok(Reply::Refused(Kind::AddWaiting, Refusal::Waiting(refusal))),
     };
-    Ok((draft.finish(), reply))
+    close(draft, reply)
 }
 
 /// Changes an entry of the waiting list, with whatever draw.
@@ -58,11 +58,11 @@ pub fn change_waiting<B: Book>(
 {
     let mut draft = open(book, alloc, at)?;
     let reply = match change(&mut draft, alloc, id, patch) {
-        Ok(row) => Reply::Found(Shown::Waiting(row)),
-        Err(WaitingRefusal::Memory) => return Err(AllocError),
-        Err(refusal) => Reply::Refused(Kind::ChangeWaiting, Refusal::Waiting(refusal)),
+        Ok(row) => Ok(Reply::Found(Shown::Waiting(row))),
+        Err(WaitingRefusal::Memory) => Err(AllocError),
+        Err(refusal) => Ok(Reply::Refused(Kind::ChangeWaiting, Refusal::Waiting(refusal))),
     };
-    Ok((draft.finish(), reply))
+    close(draft, reply)
 }
 
 /// Deletes an entry of the waiting list, with whatever draw.
@@ -80,11 +80,11 @@ pub fn drop_waiting<B: Book>(
 {
     let mut draft = open(book, alloc, at)?;
     let reply = match leave(&mut draft, alloc, id) {
-        Ok(()) => Reply::Gone,
-        Err(WaitingRefusal::Memory) => return Err(AllocError),
-        Err(refusal) => Reply::Refused(Kind::DropWaiting, Refusal::Waiting(refusal)),
+        Ok(()) => Ok(Reply::Gone),
+        Err(WaitingRefusal::Memory) => Err(AllocError),
+        Err(refusal) => Ok(Reply::Refused(Kind::DropWaiting, Refusal::Waiting(refusal))),
     };
-    Ok((draft.finish(), reply))
+    close(draft, reply)
 }
 
 /// Sends a voucher to an entry of the waiting list.
@@ -103,11 +103,11 @@ pub fn send_voucher<B: Book>(
 {
     let mut draft = open(book, alloc, at)?;
     let reply = match send(&mut draft, alloc, draw, id) {
-        Ok(_) => Reply::Gone,
-        Err(WaitingRefusal::Memory) => return Err(AllocError),
-        Err(refusal) => Reply::Refused(Kind::SendVoucher, Refusal::Waiting(refusal)),
+        Ok(_) => Ok(Reply::Gone),
+        Err(WaitingRefusal::Memory) => Err(AllocError),
+        Err(refusal) => Ok(Reply::Refused(Kind::SendVoucher, Refusal::Waiting(refusal))),
     };
-    Ok((draft.finish(), reply))
+    close(draft, reply)
 }
 
 /// Ends what is overdue, then serves the waiting list.
@@ -124,8 +124,11 @@ pub fn work<B: Book>(
     ensures refused { IfOk result (RefusesWithoutChange (B.state book.now)) }
 {
     let mut draft = open(book, alloc, at)?;
-    let counts = work_in(&mut draft, alloc, draw)?;
-    Ok((draft.finish(), Reply::Periodic(counts)))
+    let reply = match work_in(&mut draft, alloc, draw) {
+        Ok(counts) => Ok(Reply::Periodic(counts)),
+        Err(error) => Err(error),
+    };
+    close(draft, reply)
 }
 
 // Expires orders, deletes dead cart positions, then serves. Without memory some of it is done.
