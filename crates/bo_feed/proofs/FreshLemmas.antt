@@ -16,8 +16,8 @@ use Rattle.bo_connection.proofs.RunLemmas.{unopened}
 use Rattle.bo_desk.specs.Streams.{DeskView, Meaning, desk_with, words_of, ServesAndKeeps, ServesList}
 use Rattle.bo_desk.proofs.Streams.{nothing-too-much, told-once}
 use Rattle.bo_tables.specs.declared.sql.SqlTables.{SqlTables}
-use Rattle.bo_fresh.specs.House.{IsFreshShop}
-use Rattle.bo_fresh.proofs.Sure.{memory_sure}
+use Rattle.bo_feed.specs.Opened.{IsFreshShop}
+use Rattle.bo_feed.proofs.Sure.{memory_sure}
 use Rattle.bo_desk.specs.Fed.{FeedsDesk, Ports, devices}
 use Rattle.bo_feed.specs.Feed.{Feeds}
 use Rattle.bo_line.specs.FeedTicks.{feed_ticks}

@@ -1,1 +1,4 @@
 mod FreshLemmas
+mod Added
+mod Ended
+mod Sure

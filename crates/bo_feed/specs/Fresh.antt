@@ -2,7 +2,7 @@
 use Rattle.std.specs.Prelude.{◌≡◌, [], codes}
 use Rattle.bo_lists.specs.Lists.{empty}
 use Rattle.bo_desk.specs.Streams.{DeskView, House, IsOf, Meaning}
-use Rattle.bo_fresh.specs.House.{feed_tokens}
+use Rattle.bo_feed.specs.Opened.{feed_tokens}
 
 -- organizer `house`, event `hall`, and the token `feed`: by what its messages are read
 abbrev pub feed_house : House

@@ -3,3 +3,4 @@ pub mod House
 pub mod Line
 pub mod Fresh
 pub mod Stored
+pub mod Opened

@@ -3,11 +3,11 @@
 ghost use Rattle.bo_feed.specs.Feed.{Feeds, FeedsTexts};
 ghost use Rattle.bo_line.specs.Values.{feed_values};
 
+use crate::opening::open_memory;
 use bo_base::Moment;
 use bo_connection::Failure;
 use bo_desk::feed_office;
 use bo_devices::{Drain, Source};
-use bo_fresh::open_memory;
 use bo_line::fault::ended;
 use bo_line::{RunFault, feed_values};
 use std::alloc::Global;

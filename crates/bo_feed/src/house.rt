@@ -4,10 +4,10 @@ ghost use Rattle.std.specs.Prelude.{◌+◌, ◌≤◌};
 ghost use Rattle.bo_connection.specs.Run.{CountedAll};
 ghost use Rattle.bo_feed.specs.House.{ServesFresh, no_desk};
 
+use crate::opening::open_memory;
 use bo_connection::Failure;
 use bo_desk::serve_office;
 use bo_devices::{Drain, Source, Ticks};
-use bo_fresh::open_memory;
 use std::alloc::Global;
 
 /// Answers a stream of requests from the shop that `feed` begins with, which is opened for it in SQLite's memory.

@@ -1,4 +1,4 @@
-//! Laws of what is fed.
+//! Laws of what is fed, and of SQLite's memory as what a shop's tables stand in.
 
 ghost use Rattle.std.specs.Prelude.{ℕ, List, [], Result};
 ghost use Rattle.bo_sound.specs.Sound.{IsSound};
@@ -12,6 +12,11 @@ ghost use Rattle.bo_desk.specs.Fed.{FeedsDesk, Ports, devices};
 ghost use Rattle.bo_feed.specs.Feed.{Feeds};
 ghost use Rattle.bo_line.specs.FeedTicks.{feed_ticks};
 ghost use Rattle.bo_feed.specs.House.{fresh_opening, fresh_shop};
+ghost use Rattle.sqlite_trees.specs.declared.memory.MemStore.{MemStore};
+ghost use Rattle.sqlite.specs.Held.{state};
+ghost use Rattle.sqlite.specs.State.{HasCleanDisk};
+ghost use Rattle.sqlite.specs.Steps.{over_memory};
+ghost use Rattle.bo_tables.specs.declared.sql.SqlTables.{SqlTables};
 
 use bo_kept::Tables;
 
@@ -47,4 +52,9 @@ pub fn what_feed_is_fed_takes_nothing_too_much()
 pub fn what_feed_is_fed_is_told_once()
     ensures { (from step : ℕ) (old new : Ports) (result : Result (Unit {0}) Failure) → Feeds from step old new result
         → (count : ℕ) × (es : List Delivery) × RunLeads (ServesList feed_house fresh_opening) (devices old [] []) (devices new (feed_ticks from step count) es) result }
+{}
+
+/// SQLite's memory has always returned what was written, so that what is said of a shop over sure tables holds of one in it.
+pub fn memory_is_sure()
+    ensures { (tables : SqlTables MemStore) → HasCleanDisk (state over_memory tables.connection) }
 {}

@@ -5,7 +5,9 @@ pub mod feeding;
 pub mod house;
 pub mod laws;
 pub mod line;
+pub mod opening;
 
 pub use feeding::{feed, feed_texts};
 pub use house::serve_house;
 pub use line::run;
+pub use opening::{open_memory, open_store};

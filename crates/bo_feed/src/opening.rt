@@ -6,7 +6,7 @@ ghost use Rattle.sqlite.specs.State.{HasCleanDisk};
 ghost use Rattle.sqlite.specs.Steps.{over_memory};
 ghost use Rattle.bo_lists.specs.Lists.{empty};
 ghost use Rattle.bo_tables.specs.Shops.{HoldsWhileOpen, KnowsWhileOpen};
-ghost use Rattle.bo_fresh.specs.House.{IsFreshShop, feed_digest, feed_tokens};
+ghost use Rattle.bo_feed.specs.Opened.{IsFreshShop, feed_digest, feed_tokens};
 
 use bo_base::Slug;
 use bo_counters::Counters;
@@ -17,7 +17,7 @@ use sqlite::{Alter, Connection, MemStore};
 use std::alloc::{AllocError, Global};
 
 // The digest of the token `feed`.
-#[tactic(auto, unfolding(crate::specs::House::feed_digest))]
+#[tactic(auto, unfolding(crate::specs::Opened::feed_digest))]
 fn digest_of_feed() -> [u8; 32]
     ensures { result ≡ feed_digest }
 {

@@ -1,5 +1,5 @@
-use Rattle.bo_fresh.proofs.Ended.{once_well, well}
-use Rattle.bo_fresh.proofs.opening.open_store.Goals as goal
+use Rattle.bo_feed.proofs.Ended.{once_well, well}
+use Rattle.bo_feed.proofs.opening.open_store.Goals as goal
 
 pub returns : goal.returns
 returns g c = once_well c.if_well.result _ c.add_feed-ended.result _ c.if_well.ensures.same c.if_well.ensures.well (λ is clean.

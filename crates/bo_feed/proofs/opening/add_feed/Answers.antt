@@ -1,6 +1,6 @@
 use Rattle.sqlite.specs.Held.{state}
-use Rattle.bo_fresh.proofs.Added.{knows_feed}
-use Rattle.bo_fresh.proofs.opening.add_feed.Goals as goal
+use Rattle.bo_feed.proofs.Added.{knows_feed}
+use Rattle.bo_feed.proofs.opening.add_feed.Goals as goal
 
 pub returns-in-Ok-clause-knows : goal.returns-in-Ok-clause-knows
 returns-in-Ok-clause-knows g c clean first knows =
