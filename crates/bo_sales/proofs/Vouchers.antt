@@ -1,5 +1,6 @@
 -- A voucher that is made or changed is shown by the orders as they were before: they stay.
-use Rattle.std.proofs.Common.{◌≡◌, ℕ, List, [], ◌∷◌, Ok, refl, sym, ap, ◌∙◌}
+use Rattle.std.proofs.Common.{◌≡◌, ℕ, List, [], ◌∷◌, Result, Ok, Err, IfOk, refl, sym, ap, ◌∙◌, subst}
+use Rattle.std.specs.declared.alloc.AllocError.{AllocError}
 use Rattle.bo_base.specs.declared.draw.Draw.{Draw}
 use Rattle.bo_lists.specs.declared.rows.Voucher.{Voucher}
 use Rattle.bo_lists.specs.declared.rows.NextIds.{NextIds}
@@ -50,3 +51,16 @@ made_changes new draw state lists row = refl
 pub changed_changes : (id : ℕ) (patch : VoucherPatch) (draw : Draw) (state : State) (lists : Lists) (row : Voucher) → changes_of (ChangeVoucher id patch) draw state (Found (show_voucher lists row)) ≡ PutVoucher row ∷ []
 unfolding show_voucher
 changed_changes id patch draw state lists row = refl
+
+abbrev answered : Reply → Result Reply AllocError
+answered reply = Ok reply
+
+same_told : {a b : Reply} → answered a ≡ answered b → a ≡ b
+same_told e = cc
+
+-- what comes of a draft that is closed with an answer
+pub closed_with : (result : Result (Changed × Reply) AllocError) (reply : Result Reply AllocError) (told : Reply) (draft : DraftState) (P : Changed × Reply → Type 0)
+    → IfOk result (λ r. reply ≡ Ok r.1) → IfOk result (λ r. r.0.list ≡ draft.log.changes) → IfOk result (λ r. r.0.next ≡ draft.next) → reply ≡ Ok told
+    → ((made : Changed) → made.list ≡ draft.log.changes → made.next ≡ draft.next → P (made, told)) → IfOk result P
+closed_with (Ok (made, said)) reply told draft P same list next is holds = subst (λ (t : Reply). P (made, t)) (same_told (sym is ∙ same)) (holds made list next)
+closed_with (Err e) reply told draft P same list next is holds = tt
