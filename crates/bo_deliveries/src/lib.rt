@@ -6,4 +6,4 @@ pub mod laws;
 pub mod wording;
 
 pub use arrival::{Arrival, Request};
-pub use wording::Wording;
+pub use wording::{Wording, worded};

@@ -17,3 +17,10 @@ pub trait Wording {
     fn words(&self, alloc: Global, reply: &Reply) -> Result<Response, AllocError>
         ensures { IfOk result (λ response. response ≡ words self.now reply.now) };
 }
+
+/// The words of a reply, which is let go.
+pub fn worded<W: Wording>(wording: &W, alloc: Global, reply: Reply) -> Result<Response, AllocError>
+    ensures { IfOk result (λ response. response ≡ W.words wording.now reply) }
+{
+    wording.words(alloc, &reply)
+}

@@ -8,11 +8,10 @@ ghost use Rattle.bo_deliveries.specs.declared.arrival.Request.TheVariants.{Write
 ghost use Rattle.bo_deliveries.specs.Deliveries.{is_write, done};
 
 use crate::shop::Shop;
-use crate::wording::worded;
 use bo_base::{Draw, Moment, Response};
 use bo_commands::Command;
 use bo_counts::counts_after;
-use bo_deliveries::{Request, Wording};
+use bo_deliveries::{Request, Wording, worded};
 use bo_dues::Dues;
 use bo_kept::Tables;
 use bo_lists::{Changes, CountRows};

@@ -4,7 +4,6 @@
 mod deciding;
 mod reading;
 pub mod shop;
-mod wording;
 mod writing;
 
 pub use bo_office::Office;

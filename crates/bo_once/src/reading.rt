@@ -7,9 +7,8 @@ ghost use Rattle.bo_deliveries.specs.Histories.{Running, IsRunning, TellsIt, aft
 ghost use Rattle.bo_deliveries.specs.Shops.{Views, StandsFor, IsAnswered, delivered, moment_at};
 
 use crate::shop::Shop;
-use crate::wording::worded;
 use bo_base::{Answer, Response};
-use bo_deliveries::{Arrival, Request, Wording};
+use bo_deliveries::{Arrival, Request, Wording, worded};
 use bo_kept::Tables;
 use bo_usage::Book;
 use std::alloc::{AllocError, Global};
