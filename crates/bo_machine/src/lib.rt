@@ -1,4 +1,5 @@
-//! The small box office: what a step of each command is, what each query is answered, and what a step changes.
+//! The small box office: what a step of each command is, what each query is answered, and what a step changes; and how each command
+//! begins and ends.
 #![tactic(auto)]
 
 pub mod opening;

@@ -1,4 +1,6 @@
-//! Commands on vouchers, carts and orders.
+//! Commands on vouchers, carts and orders. A refusal is a reply, with the number that its decision gives it: see `make`, `patch`
+//! and `delete` of bo_vouchers, and `add_position`, `add_many`, `create`, `move_order` and `drop_position` of bo_orders. The error
+//! is want of memory alone.
 
 ghost use Rattle.std.specs.Prelude.{◌≡◌, ◌≤◌, IfOk};
 ghost use Rattle.bo_base.specs.declared.draw.Draw.{Draw};

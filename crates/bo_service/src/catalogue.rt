@@ -1,4 +1,5 @@
-//! Commands on the catalogue. None of them depends on its moment or its draw.
+//! Commands on the catalogue. None of them depends on its moment or its draw. A refusal is a reply, with the number that its
+//! decision in bo_items gives it; the error is want of memory alone.
 
 ghost use Rattle.std.specs.Prelude.{◌≡◌, ℕ, IfOk};
 ghost use Rattle.bo_base.specs.declared.draw.Draw.{Draw};

@@ -1,4 +1,5 @@
-//! Commands of the doors. None of them depends on its draw.
+//! Commands of the doors. None of them depends on its draw. A refusal is a reply, with the number that `add_list` or `redeem` of
+//! bo_door gives it; the error is want of memory alone.
 
 ghost use Rattle.std.specs.Prelude.{◌≡◌, ◌≤◌, IfOk};
 ghost use Rattle.bo_base.specs.declared.draw.Draw.{Draw};

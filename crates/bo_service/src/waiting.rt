@@ -1,4 +1,5 @@
-//! Commands on the waiting list, and periodic work.
+//! Commands on the waiting list, and periodic work. A refusal is a reply, with the number that `join`, `change`, `leave` or `send` of
+//! bo_waiting gives it; the error is want of memory alone. Periodic work is never refused.
 
 ghost use Rattle.std.specs.Prelude.{◌≡◌, ◌≤◌, [], IfOk, OnOk};
 ghost use Rattle.bo_base.specs.declared.draw.Draw.{Draw};
