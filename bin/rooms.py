@@ -22,6 +22,8 @@ TOP = os.path.dirname(os.path.dirname(os.path.abspath(__file__)))
 PARTS = ("src", "specs", "proofs")
 # What a check of one crate was seen to take, in bytes, at most.
 CHECK = 3_500_000_000
+# Held while the kit's rt is read: several threads may ask for it at once.
+KIT = threading.Lock()
 
 
 def folder(name, top=TOP):
@@ -82,6 +84,25 @@ def link_or_copy(source, target):
         shutil.copy2(source, target)
 
 
+def copy_parts(source, target):
+    """Copies a crate's sources, definitions and proofs."""
+    for part in PARTS:
+        if os.path.isdir(f"{source}/{part}"):
+            shutil.copytree(f"{source}/{part}", f"{target}/{part}")
+
+
+def copy_kept(source, target):
+    """Copies what checks kept: a check writes a module that it proves as a new file, so a link to the one that stands will do."""
+    shutil.copytree(source, target, copy_function=lambda one, other: (link_or_copy if one.endswith(".oantt") else shutil.copy2)(one, other))
+
+
+def write_texts(texts, target):
+    """Writes texts of a crate in the place of those that stand in a copy of it."""
+    for path, text in texts.items():
+        with open(f"{target}/{path}", "w", encoding="utf-8") as it:
+            it.write(text)
+
+
 class Room:
     """A folder with one crate and the libraries below it. Where it takes the crate's own out/ it gives it back at its end."""
 
@@ -97,9 +118,7 @@ class Room:
             for name in names:
                 it.write(f"{name}: {' '.join(crates[name])}\n")
         for name in names:
-            for part in PARTS:
-                if os.path.isdir(f"{folder(name, self.top)}/{part}"):
-                    shutil.copytree(f"{folder(name, self.top)}/{part}", f"{self.room}/crates/{name}/{part}")
+            copy_parts(folder(name, self.top), f"{self.room}/crates/{name}")
         for name in names[:-1]:
             rlib = f"{folder(name, self.top)}/out/rlib"
             if os.path.isdir(rlib):
@@ -110,12 +129,10 @@ class Room:
                 os.rename(kept, f"{kept}.taken")
                 shutil.move(f"{kept}.taken", f"{self.crate}/out")
             elif os.path.isdir(f"{kept}/incremental"):
-                shutil.copytree(f"{kept}/incremental", f"{self.crate}/out/incremental")
+                copy_kept(f"{kept}/incremental", f"{self.crate}/out/incremental")
         if os.path.isdir(f"{folder(self.name, self.top)}/data"):
             shutil.copytree(f"{folder(self.name, self.top)}/data", f"{self.crate}/data", copy_function=link_or_copy)
-        for path, text in self.texts.items():
-            with open(f"{self.crate}/{path}", "w", encoding="utf-8") as it:
-                it.write(text)
+        write_texts(self.texts, self.crate)
         return self
 
     def rt(self, *words, **how):
@@ -209,6 +226,20 @@ def side_by_side(tasks, work, most=None):
     return given
 
 
+def checked(name, texts, jobs=1, top=TOP):
+    """Checks a copy of a crate with these texts in the place of its own, over its libraries as they stand, which have to be built, and
+    what earlier checks of it kept. Rattle's status, and what it said."""
+    rtlib = kit().rtlib
+    with tempfile.TemporaryDirectory(prefix=f"boxoffice-{name}-", ignore_cleanup_errors=True) as room:
+        copy_parts(folder(name, top), room)
+        write_texts(texts, room)
+        if os.path.isdir(f"{folder(name, top)}/out/incremental"):
+            copy_kept(f"{folder(name, top)}/out/incremental", f"{room}/kept")
+        words = rtlib.Crate(folder(name, top), top, {}).words(["--jobs", str(jobs)], keeps=False)
+        ran = Running(["check", *words, "--incremental", f"{room}/kept"], room, program=(rtlib.RATTLE,))
+        return ran.status, ran.said
+
+
 class Clock:
     """Lines with the time so far, from several threads."""
 
@@ -226,8 +257,12 @@ class Clock:
 
 def kit():
     """The kit's rt as a module, which reads each crate once for a sum of its sources."""
-    if "rt" in sys.modules:
-        return sys.modules["rt"]
+    with KIT:
+        return sys.modules["rt"] if "rt" in sys.modules else read_kit()
+
+
+def read_kit():
+    """Reads the kit's rt, and has it read each crate once for a sum."""
     loader = importlib.machinery.SourceFileLoader("rt", os.path.realpath(shutil.which("rt")))
     made = importlib.util.module_from_spec(importlib.util.spec_from_loader("rt", loader))
     sys.modules["rt"] = made
