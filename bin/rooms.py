@@ -97,8 +97,9 @@ def copy_kept(source, target):
 
 
 def write_texts(texts, target):
-    """Writes texts of a crate in the place of those that stand in a copy of it."""
+    """Writes texts of a crate in the place of those that stand in a copy of it, or beside them."""
     for path, text in texts.items():
+        os.makedirs(os.path.dirname(f"{target}/{path}"), exist_ok=True)
         with open(f"{target}/{path}", "w", encoding="utf-8") as it:
             it.write(text)
 
@@ -224,6 +225,13 @@ def side_by_side(tasks, work, most=None):
             end_all()
             raise
     return given
+
+
+def proved_functions(name, top=TOP):
+    """The functions of a crate of which what checks kept has a proof, by their paths below the crate with dots."""
+    kept = re.compile(rf"Rattle-{name}-proofs\.(.*)\.Statement\.oantt")
+    found = (kept.fullmatch(it) for _, _, files in os.walk(f"{folder(name, top)}/out/incremental") for it in files)
+    return {it[1] for it in found if it}
 
 
 def checked(name, texts, jobs=1, top=TOP):
