@@ -1,5 +1,5 @@
 -- A desk that `feed` begins with, as a shop and as one that stands for no arrivals; and what is told of a run from it.
-use Rattle.std.proofs.Common.{◌≡◌, ◌⊎◌, inl, inr, ℕ, List, [], Result, Err, sym, subst₂}
+use Rattle.std.proofs.Common.{◌≡◌, inl, inr, ℕ, List, [], Result, Err, sym, subst₂}
 use Rattle.sqlite_trees.specs.declared.store.Store.{Ghosts}
 use Rattle.bo_base.specs.declared.answer.Answer.{Answer}
 use Rattle.bo_devices.specs.declared.device.Tick.{Tick}

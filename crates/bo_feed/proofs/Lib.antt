@@ -1,4 +1,5 @@
 mod FreshLemmas
 mod Added
 mod Ended
+mod SayLemmas
 mod Sure

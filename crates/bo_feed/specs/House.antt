@@ -1,5 +1,5 @@
 -- The shop of `feed`: what it is at first, and where it is served.
-use Rattle.std.specs.Prelude.{◌≡◌, ◌⊎◌, List, [], Result, Err}
+use Rattle.std.specs.Prelude.{◌≡◌, ◌⊎◌, [], Result, Err}
 use Rattle.bo_lists.specs.Lists.{empty}
 use Rattle.bo_kept.specs.ShopView.{ShopView}
 use Rattle.bo_desk.specs.Deliveries.{Opening}

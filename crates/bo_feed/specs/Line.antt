@@ -2,22 +2,35 @@
 use Rattle.std.specs.Prelude.{◌≡◌, ◌⊎◌, List, Result}
 use Rattle.clap.specs.Words.{IsAmong, Text}
 use Rattle.clap.specs.declared.error.kind.ErrorKind.{ErrorKind}
+use Rattle.bo_http.specs.Written.{Page}
 use Rattle.bo_line.specs.declared.ended.LineEnd.{LineEnd}
 use Rattle.bo_line.specs.declared.ended.LineEnd.TheVariants as ends
 use Rattle.bo_line.specs.declared.fault.RunFault.{RunFault}
 use Rattle.bo_line.specs.declared.fault.RunFault.TheVariants as faults
+use Rattle.bo_line.specs.Asked.{Asked, adds, asked, makes, none, plain_words, runs}
 use Rattle.bo_line.specs.Line.{end_of_line, end_of_run}
 use Rattle.bo_line.specs.Values.{feed_values}
-use Rattle.bo_line.specs.Words.{Asked, asked, none, plain_words, runs}
 use Rattle.bo_desk.specs.Fed.{Ports}
 use Rattle.bo_feed.specs.Feed.{FeedsTexts}
+use Rattle.bo_feed.specs.Saying.{Adding, AddsToken, Making, MakesShop}
 
--- What is done is what a line asks for: a run with the texts of its two flags; or no run for one of the reasons, and then nothing
--- is read and nothing written.
-abbrev pub Does : Asked → Ports → Ports → LineEnd → Type 0
-Does (runs from step) old new ended = (run : Result (Unit {0}) RunFault) × FeedsTexts (feed_values from step) old new run × (ended ≡ end_of_run run)
-Does (none reasons) old new ended = (reason : ErrorKind) × IsAmong reason reasons × (ended ≡ end_of_line reason) × (new ≡ old)
+-- what the writer took, and how many of its calls failed
+abbrev pub page_of : Ports → Page
+page_of ports = record { taken = ports.taken; failures = ports.output }
+
+-- the writer alone went on
+abbrev pub OnlyWrites : Ports → Ports → Type 0
+OnlyWrites old new = new ≡ record old { taken = new.taken; output = new.output }
+
+-- What is done is what a line asks for: a run with the texts of its two flags; a shop that is made in a file, or a token that is added
+-- to one, and then nothing is read; or nothing, for one of the reasons, and then nothing is read and nothing written.
+abbrev pub Does : Making → Adding → Asked → Ports → Ports → LineEnd → Type 0
+Does made added (runs from step) old new ended = (run : Result (Unit {0}) RunFault) × FeedsTexts (feed_values from step) old new run × (ended ≡ end_of_run run)
+Does made added (makes file organizer event) old new ended =
+    (run : Result (Unit {0}) RunFault) × MakesShop made file organizer event (page_of old) (page_of new) run × OnlyWrites old new × (ended ≡ end_of_run run)
+Does made added (adds file token) old new ended = (run : Result (Unit {0}) RunFault) × AddsToken added file token (page_of old) (page_of new) run × OnlyWrites old new × (ended ≡ end_of_run run)
+Does made added (none reasons) old new ended = (reason : ErrorKind) × IsAmong reason reasons × (ended ≡ end_of_line reason) × (new ≡ old)
 
 -- what these words ask for is done, or there is no memory to read them, and then nothing is read and nothing written
-abbrev pub Ran : List Text → Ports → Ports → LineEnd → Type 0
-Ran words old new ended = Does (asked (plain_words words)) old new ended ⊎ ((ended ≡ ends.Failed faults.Memory) × (new ≡ old))
+abbrev pub Ran : Making → Adding → List Text → Ports → Ports → LineEnd → Type 0
+Ran made added words old new ended = Does made added (asked (plain_words words)) old new ended ⊎ ((ended ≡ ends.Failed faults.Memory) × (new ≡ old))

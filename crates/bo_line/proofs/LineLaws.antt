@@ -2,7 +2,7 @@
 use Rattle.std.proofs.Common.{◌≡◌, ◌++◌, ℕ, List, [], ◌∷◌, codes, refl}
 use Rattle.clap.specs.declared.error.ErrorKind.TheVariants as kinds
 use Rattle.clap.proofs.OnLiterals.{clap_on_literals}
-use Rattle.bo_line.specs.Words.{asked, none, plain_words, runs}
+use Rattle.bo_line.specs.Asked.{adds, asked, makes, none, plain_words, runs}
 
 pub in_order : (program from step : List ℕ) → asked (program ∷ codes "feed" ∷ (codes "--from=" ++ from) ∷ (codes "--step=" ++ step) ∷ []) ≡ runs from step
 unfolding clap_on_literals asked
@@ -50,3 +50,25 @@ pub unknown_flag : asked (plain_words (codes "boxoffice" ∷ codes "feed" ∷ co
     ≡ none (kinds.UnknownArgument ∷ [])
 unfolding clap_on_literals asked
 unknown_flag = refl
+
+pub makes_shop : (program organizer event : List ℕ) → asked (program ∷ codes "init" ∷ codes "hall.db" ∷ (codes "--organizer=" ++ organizer) ∷ (codes "--event=" ++ event) ∷ [])
+    ≡ makes (codes "hall.db") organizer event
+unfolding clap_on_literals asked
+makes_shop program organizer event = refl
+
+pub makes_turned : (program organizer event : List ℕ) → asked (program ∷ codes "init" ∷ (codes "--event=" ++ event) ∷ (codes "--organizer=" ++ organizer) ∷ codes "hall.db" ∷ [])
+    ≡ makes (codes "hall.db") organizer event
+unfolding clap_on_literals asked
+makes_turned program organizer event = refl
+
+pub adds_token : (program : List ℕ) → asked (program ∷ codes "token-add" ∷ codes "hall.db" ∷ codes "secret" ∷ []) ≡ adds (codes "hall.db") (codes "secret")
+unfolding clap_on_literals asked
+adds_token program = refl
+
+pub no_organizer : (program text : List ℕ) → asked (program ∷ codes "init" ∷ codes "hall.db" ∷ (codes "--event=" ++ text) ∷ []) ≡ none (kinds.MissingRequiredArgument ∷ [])
+unfolding clap_on_literals asked
+no_organizer program text = refl
+
+pub no_token : (program : List ℕ) → asked (program ∷ codes "token-add" ∷ codes "hall.db" ∷ []) ≡ none (kinds.MissingRequiredArgument ∷ [])
+unfolding clap_on_literals asked
+no_token program = refl

@@ -1,5 +1,7 @@
 -- What a parse says of the words of a command line.
-use Rattle.std.proofs.Common.{◌≡◌, ◌⊎◌, ◌∙◌, ap, ap₂, refl, sym, subst, inl, inr, true, Option, List, [], ◌∷◌, option_map}
+use Rattle.std.proofs.Common.{◌≡◌, ◌⊎◌, ◌∙◌, ◌&&◌, Bool, not, ap, ap₂, refl, sym, subst, inl, inr, true, false, true≢false, Option, Some, None, List, [], ◌∷◌, option_map}
+use Rattle.std.specs.Prelude.{unwrap_or}
+use Rattle.std.proofs.lemmas.Option.{none-some}
 use Rattle.clap.specs.Kinds.{Kinds, HasKind, IsAmong}
 use Rattle.clap.specs.Values.{kind_of}
 use Rattle.clap.specs.Walk.{Row, Text}
@@ -8,7 +10,8 @@ use Rattle.clap.specs.Faults.{fault_of, is_simple_and_free}
 use Rattle.clap.specs.declared.Error.{Error}
 use Rattle.clap.specs.declared.error.ErrorKind.{ErrorKind}
 use Rattle.clap.proofs.OnLiterals.{clap_on_literals}
-use Rattle.bo_line.specs.Words.{HasReason, IsReason, asked, asked_by, program}
+use Rattle.bo_line.specs.Asked.{HasReason, IsReason, asked, asked_by}
+use Rattle.bo_line.specs.Words.{program}
 
 pub program_is_simple : is_simple program ≡ true
 unfolding clap_on_literals
@@ -18,34 +21,47 @@ pub program_is_free : is_simple_and_free program ≡ true
 unfolding clap_on_literals
 program_is_free = refl
 
-abbrev pub rows_in : Option (Text × List Row) → Option (List Row)
-rows_in = option_map (λ command. command.1)
+-- what stands third of four that hold together, negated, is false
+pub third_is_false : (a b c rest : Bool) → (a && (b && (not c && rest))) ≡ true → c ≡ false
+third_is_false true true false rest h = refl
+third_is_false true true true rest h = sym h
+third_is_false true false c rest h = absurd (true≢false (sym h))
+third_is_false false b c rest h = absurd (true≢false (sym h))
 
--- where a parse found these rows, the words ask for their texts
-pub asked_rows : (app : App) (words : List Text) (R : Type 0) (found : Option (Text × List Row)) (rows : Option (List Row)) → app ≡ program
+-- what a parse found is what the words ask for
+pub asked_found : (app : App) (words : List Text) (R : Type 0) (found : Option (Text × List Row)) → app ≡ program
     → (is_simple_and_free app ≡ true → fault_of app words ≡ []) → (is_simple app ≡ true → R × (found ≡ subcommand_of app words))
-    → rows ≡ rows_in found → asked words ≡ asked_by [] rows
+    → asked words ≡ asked_by [] found
 unfolding asked
-asked_rows app words R found rows is none matches read =
+asked_found app words R found is none matches =
     let free : is_simple_and_free app ≡ true = ap is_simple_and_free is ∙ program_is_free in
     let simple : is_simple app ≡ true = ap is_simple is ∙ program_is_simple in
     let no_fault : fault_of program words ≡ [] = ap (λ (a : App). fault_of a words) (sym is) ∙ none free in
     let command : subcommand_of program words ≡ found = ap (λ (a : App). subcommand_of a words) (sym is) ∙ sym (matches simple).1 in
-    ap₂ asked_by no_fault (ap rows_in command ∙ sym read)
+    ap₂ asked_by no_fault command
 
-among : (kinds : Kinds) (rows : Option (List Row)) (kind : ErrorKind) → IsAmong kind kinds → HasReason (asked_by kinds rows) kind
-among [] rows kind h = h
-among (first ∷ kinds) rows kind h = h
+-- the name and the rows of a command, each of which is told by itself
+pub told_both : {X : Type 0} (f : X → Text × List Row) (found : Option X) (name : Text) (rows : List Row) → Some name ≡ option_map (λ x. (f x).0) found
+    → Some rows ≡ option_map (λ p. p.1) (option_map f found) → option_map f found ≡ Some (name, rows)
+told_both f None name rows named shown = absurd (none-some name (sym named))
+told_both f (Some x) name rows named shown =
+    let name_is : (f x).0 ≡ name = sym (ap (λ (o : Option Text). unwrap_or o []) named) in
+    let rows_are : (f x).1 ≡ rows = sym (ap (λ (o : Option (List Row)). unwrap_or o []) shown) in
+    ap₂ (λ a b. Some (a, b)) name_is rows_are
 
-reason_by : (kinds : Kinds) (rows : Option (List Row)) (kind : ErrorKind) (Memory : Type 0) → Memory ⊎ IsAmong kind kinds → Memory ⊎ HasReason (asked_by kinds rows) kind
-reason_by kinds rows kind Memory (inl memory) = inl memory
-reason_by kinds rows kind Memory (inr h) = inr (among kinds rows kind h)
+among : (kinds : Kinds) (found : Option (Text × List Row)) (kind : ErrorKind) → IsAmong kind kinds → HasReason (asked_by kinds found) kind
+among [] found kind h = absurd h
+among (first ∷ kinds) found kind h = h
 
--- where it failed, the words ask for no run, for that reason
+reason_by : (kinds : Kinds) (found : Option (Text × List Row)) (kind : ErrorKind) (Memory : Type 0) → Memory ⊎ IsAmong kind kinds → Memory ⊎ HasReason (asked_by kinds found) kind
+reason_by kinds found kind Memory (inl memory) = inl memory
+reason_by kinds found kind Memory (inr h) = inr (among kinds found kind h)
+
+-- where it failed, the words ask for nothing, for that reason
 pub reason_of : (app : App) (words : List Text) (e : Error) → app ≡ program → (is_simple_and_free app ≡ true → HasKind (fault_of app words) e)
     → IsReason (asked words) (kind_of e)
 unfolding asked
 reason_of app words e is fails =
     let free : is_simple_and_free app ≡ true = ap is_simple_and_free is ∙ program_is_free in
     let has : HasKind (fault_of program words) e = subst (λ (a : App). HasKind (fault_of a words) e) is (fails free) in
-    reason_by (fault_of program words) (rows_in (subcommand_of program words)) (kind_of e) _ has
+    reason_by (fault_of program words) (subcommand_of program words) (kind_of e) _ has

@@ -7,6 +7,12 @@ use Rattle.bo_line.specs.declared.fault.RunFault.TheVariants as faults
 
 abbrev pub fault_number : RunFault → ℕ
 fault_number faults.Memory = 6
+fault_number faults.Full = 16
+fault_number faults.NotAShop = 60
+fault_number faults.Version = 61
+fault_number (faults.Damaged rule) = 62
+fault_number faults.Store = 63
+fault_number faults.File = 80
 fault_number faults.Argument = 84
 fault_number (faults.Run failure) = failure_number failure
 

@@ -1,5 +1,6 @@
--- The values of a line's two flags.
-use Rattle.std.specs.Prelude.{ℕ, List, Option, Some, None, Result, Ok, Err, if◌then◌else◌, nat_le}
+-- The values of a line.
+use Rattle.std.specs.Prelude.{◌≡◌, ℕ, Bool, true, ◌&&◌, List, length, Option, Some, None, Result, Ok, Err, if◌then◌else◌, nat_le}
+use Rattle.std.specs.List.{list_all}
 use Rattle.bo_base.specs.declared.refusal.ValueRefusal.{ValueRefusal}
 use Rattle.bo_base.specs.Digits.{number_of}
 use Rattle.bo_base.specs.Moments.{moment_of}
@@ -17,3 +18,14 @@ both_values (Err refusal) step = None
 -- the values of `--from`, a moment, and `--step`, plain digits
 abbrev pub feed_values : List ℕ → List ℕ → Option (ℕ × ℕ)
 feed_values from step = both_values (moment_of from) (step_within (number_of step))
+
+-- an ASCII letter, digit or sign, and no space
+abbrev pub is_token_byte : ℕ → Bool
+is_token_byte b = nat_le 33 b && nat_le b 126
+
+-- 1 to 254 of them
+unfoldable pub is_token : List ℕ → Bool
+is_token text = nat_le 1 (length text) && (nat_le (length text) 254 && list_all is_token_byte text)
+
+abbrev pub IsToken : List ℕ → Type 0
+IsToken text = is_token text ≡ true

@@ -4,12 +4,27 @@ ghost use Rattle.std.specs.Prelude.{◌≡◌};
 ghost use Rattle.bo_line.specs.Faults.{as_fault, fault_number};
 
 use bo_connection::Failure;
+use bo_rules::Rule;
+use std::alloc::AllocError;
+use std::fmt;
 
 /// Why the program ends with status 1.
 #[derive(Clone, Copy, Debug, PartialEq, Eq)]
 pub enum RunFault {
-    /// There is no memory to read the command line.
+    /// There is no memory to read the command line, or for a shop.
     Memory,
+    /// The shop has all the tokens that it may have.
+    Full,
+    /// The file isn't a shop's; or it stands already, where a shop is to be made.
+    NotAShop,
+    /// The file's tables are of another version.
+    Version,
+    /// The file's rows break this rule.
+    Damaged(Rule),
+    /// The store failed, or refused the file.
+    Store,
+    /// The file can't be opened, or can't be made.
+    File,
     /// The value of an argument can't be read, or is out of its range.
     Argument,
     /// The run failed.
@@ -17,14 +32,43 @@ pub enum RunFault {
 }
 
 impl RunFault {
-    /// Its number: 6 for want of memory, 84 for an argument, and that of the failure.
+    /// Its number: 6 for want of memory, 16 where there are too many tokens, 60 to 63 for what a file holds, 80 for a file that can't be
+    /// opened, 84 for an argument, and that of the failure.
     pub fn number(self) -> u8
         ensures { result ≡ fault_number self }
     {
         match self {
             RunFault::Memory => 6,
+            RunFault::Full => 16,
+            RunFault::NotAShop => 60,
+            RunFault::Version => 61,
+            RunFault::Damaged(_) => 62,
+            RunFault::Store => 63,
+            RunFault::File => 80,
             RunFault::Argument => 84,
             RunFault::Run(failure) => failure.number(),
+        }
+    }
+}
+
+impl From<AllocError> for RunFault {
+    fn from(_error: AllocError) -> RunFault {
+        RunFault::Memory
+    }
+}
+
+/// Its number; of damage with the rule that is broken behind it, as `62.4`.
+impl fmt::Display for RunFault {
+    fn fmt<W: fmt::Write>(&self, f: &mut fmt::Formatter<W>) -> fmt::Result {
+        match self {
+            RunFault::Damaged(rule) => {
+                let rule = rule.number();
+                write!(f, "62.{rule}")
+            }
+            _ => {
+                let number = self.number();
+                write!(f, "{number}")
+            }
         }
     }
 }

@@ -2,7 +2,7 @@
 
 ghost use Rattle.std.specs.Prelude.{◌≡◌, ◌++◌, ℕ, List, [], ◌∷◌, codes};
 ghost use Rattle.clap.specs.declared.error.ErrorKind.TheVariants.{DisplayHelp, MissingRequiredArgument, MissingSubcommand, UnknownArgument};
-ghost use Rattle.bo_line.specs.Words.{asked, none, plain_words, runs};
+ghost use Rattle.bo_line.specs.Asked.{adds, asked, makes, none, plain_words, runs};
 
 /// A line with both flags asks for a run with their texts, in either order, whatever the texts are.
 pub fn both_flags_ask_for_a_run()
@@ -21,6 +21,17 @@ pub fn words_behind_flags_are_their_texts()
         ≡ runs (codes "2026-05-01T10:00:00Z") [] }
     ensures flag { asked (plain_words (codes "boxoffice" ∷ codes "feed" ∷ codes "--from" ∷ codes "2026-05-01T10:00:00Z" ∷ codes "--step" ∷ codes "-x" ∷ []))
         ≡ none (UnknownArgument ∷ []) }
+{}
+
+/// A line of `init` names its file by its place, and organizer and event behind their flags, in either order; one of `token-add` names
+/// its file and the token by their places.
+pub fn files_and_tokens_are_known_by_their_places()
+    ensures made { (program organizer event : List ℕ)
+        → (asked (program ∷ codes "init" ∷ codes "hall.db" ∷ (codes "--organizer=" ++ organizer) ∷ (codes "--event=" ++ event) ∷ []) ≡ makes (codes "hall.db") organizer event)
+        × (asked (program ∷ codes "init" ∷ (codes "--event=" ++ event) ∷ (codes "--organizer=" ++ organizer) ∷ codes "hall.db" ∷ []) ≡ makes (codes "hall.db") organizer event) }
+    ensures added { (program : List ℕ) → asked (program ∷ codes "token-add" ∷ codes "hall.db" ∷ codes "secret" ∷ []) ≡ adds (codes "hall.db") (codes "secret") }
+    ensures lacking { (program text : List ℕ) → (asked (program ∷ codes "init" ∷ codes "hall.db" ∷ (codes "--event=" ++ text) ∷ []) ≡ none (MissingRequiredArgument ∷ []))
+        × (asked (program ∷ codes "token-add" ∷ codes "hall.db" ∷ []) ≡ none (MissingRequiredArgument ∷ [])) }
 {}
 
 /// Help is shown where it is asked for.

@@ -15,5 +15,5 @@ pub use ended::LineEnd;
 pub use fault::RunFault;
 pub use line::{answer_line, report, report_run, report_words};
 pub use ticks::{FeedTicks, Pace};
-pub use values::feed_values;
-pub use words::{FeedLine, plain_words, read_line};
+pub use values::{feed_values, is_token};
+pub use words::{FeedLine, InitLine, Line, TokenLine, plain_words, read_line};

@@ -16,7 +16,7 @@ use std::io::{Eprint, Print};
 pub fn report<O: Eprint>(rt: &O, fault: RunFault) -> LineEnd
     ensures { result ≡ LineEnd.Failed fault }
 {
-    let _ = eprintln!(rt; "boxoffice: fault {}", fault.number());
+    let _ = eprintln!(rt; "boxoffice: fault {fault}");
     LineEnd::Failed(fault)
 }
 

@@ -1,7 +1,8 @@
-//! The values of a line's two flags.
+//! The values of a line.
 
 ghost use Rattle.std.specs.Prelude.{◌≡◌};
-ghost use Rattle.bo_line.specs.Values.{feed_values};
+ghost use Rattle.std.specs.List.{list_all};
+ghost use Rattle.bo_line.specs.Values.{feed_values, is_token, is_token_byte};
 
 use bo_base::{Moment, number_of, read_moment};
 
@@ -19,4 +20,26 @@ pub fn feed_values(from: &str, step: &str) -> Option<(Moment, u64)>
         Some(step) if step <= MOST_STEP => Some((from, step)),
         _ => None,
     }
+}
+
+/// Whether a text is a token: 1 to 254 ASCII letters, digits and signs, none of them a space.
+#[tactic(auto, unfolding(crate::specs::Values::is_token))]
+pub fn is_token(text: &str) -> bool
+    ensures { result ≡ is_token text.now }
+{
+    let bytes = text.as_bytes();
+    !bytes.is_empty() && bytes.len() <= 254 && are_token_bytes(bytes)
+}
+
+// Whether each byte is a letter, a digit or a sign.
+fn are_token_bytes(bytes: &[u8]) -> bool
+    ensures { result ≡ list_all is_token_byte bytes.now }
+{
+    bytes.iter().all(|b| is_token_byte(*b))
+}
+
+fn is_token_byte(b: u8) -> bool
+    ensures { result ≡ is_token_byte b }
+{
+    matches!(b, 33..=126)
 }

@@ -1,12 +1,24 @@
 //! The words of a command line: what they ask for.
 
-ghost use Rattle.std.specs.Prelude.{◌≡◌, IfOk, IfErr, Some, map, string_bytes};
-ghost use Rattle.clap.specs.Walk.{texts};
+ghost use Rattle.std.specs.Prelude.{◌≡◌, IfOk, IfErr, Some, map, string_bytes, false};
+ghost use Rattle.clap.specs.Walk.{rule_of, texts};
 ghost use Rattle.clap.specs.Words.{app_of, found_of, kind_of, rows_of};
-ghost use Rattle.bo_line.specs.Words.{IsReason, asked, is_signed, plain_words, program, runs, text_of};
+ghost use Rattle.bo_line.specs.Asked.{IsReason, asked, asked_by_line, asked_of, is_signed, plain_words, text_of};
+ghost use Rattle.bo_line.specs.Words.{feed_app, flag, init_app, program, token_app, word};
 
 use clap::{Arg, ArgMatches, Command, Error};
 use std::alloc::{AllocError, Global};
+
+/// What a command line asks for.
+#[derive(Clone, Copy, Debug)]
+pub enum Line<'a> {
+    /// `feed`: a run over a box office in memory.
+    Feed(FeedLine<'a>),
+    /// `init`: a shop in a new file.
+    Init(InitLine<'a>),
+    /// `token-add`: a token for the shop in a file.
+    TokenAdd(TokenLine<'a>),
+}
 
 /// The texts that follow `--from` and `--step`.
 #[derive(Clone, Copy, Debug)]
@@ -17,28 +29,114 @@ pub struct FeedLine<'a> {
     pub step: &'a str,
 }
 
+/// The texts of a line of `init`.
+#[derive(Clone, Copy, Debug)]
+pub struct InitLine<'a> {
+    /// The name of the file.
+    pub file: &'a str,
+    /// The text of `--organizer`.
+    pub organizer: &'a str,
+    /// The text of `--event`.
+    pub event: &'a str,
+}
+
+/// The texts of a line of `token-add`.
+#[derive(Clone, Copy, Debug)]
+pub struct TokenLine<'a> {
+    /// The name of the file.
+    pub file: &'a str,
+    /// The token.
+    pub token: &'a str,
+}
+
+// A flag with a text, which has to be there.
+fn flag<'a>(alloc: Global, name: &'a str, text: &'a str, help: &'a str) -> Arg<'a>
+    ensures rule { rule_of result ≡ flag name.entry.now }
+    ensures global { result.global ≡ false }
+{
+    word(alloc, name, text, help).long(name)
+}
+
+// A word that is known by its place, which has to be there.
+fn word<'a>(alloc: Global, name: &'a str, text: &'a str, help: &'a str) -> Arg<'a>
+    ensures rule { rule_of result ≡ word name.entry.now }
+    ensures global { result.global ≡ false }
+{
+    Arg::new(alloc, name)
+        .value_name(text)
+        .help(help)
+        .required(true)
+}
+
+// `feed`, with its help.
+fn feed_command<'a>(alloc: Global) -> Result<Command<'a>, AllocError>
+    ensures { IfOk result (λ command. app_of command ≡ feed_app) }
+{
+    Command::new(alloc, "feed")
+        .about("Answers raw HTTP requests from standard input, over a box office in memory")
+        .arg(flag(
+            alloc,
+            "from",
+            "MOMENT",
+            "The moment of the first request, as 2026-05-01T10:00:00Z",
+        ))?
+        .arg(flag(
+            alloc,
+            "step",
+            "SECONDS",
+            "The seconds from one request to the next, 0 to 31536000",
+        ))
+}
+
+// `init`, with its help.
+fn init_command<'a>(alloc: Global) -> Result<Command<'a>, AllocError>
+    ensures { IfOk result (λ command. app_of command ≡ init_app) }
+{
+    Command::new(alloc, "init")
+        .about("Makes a shop in a new file")
+        .arg(word(alloc, "file", "FILE", "The file that is made"))?
+        .arg(flag(
+            alloc,
+            "organizer",
+            "SLUG",
+            "The organizer's short name: 1 to 50 letters, digits, -, . and _",
+        ))?
+        .arg(flag(
+            alloc,
+            "event",
+            "SLUG",
+            "The event's short name, of the same letters",
+        ))
+}
+
+// `token-add`, with its help.
+fn token_command<'a>(alloc: Global) -> Result<Command<'a>, AllocError>
+    ensures { IfOk result (λ command. app_of command ≡ token_app) }
+{
+    Command::new(alloc, "token-add")
+        .about("Adds a token to a shop's file, by which requests are let in")
+        .arg(word(alloc, "file", "FILE", "The shop's file"))?
+        .arg(word(
+            alloc,
+            "token",
+            "TOKEN",
+            "The token: 1 to 254 ASCII letters, digits and signs, without spaces",
+        ))
+}
+
 // The commands of the program, with their help.
 fn commands<'a>(alloc: Global) -> Result<Command<'a>, AllocError>
     ensures { IfOk result (λ command. app_of command ≡ program) }
 {
-    let from = Arg::new(alloc, "from")
-        .long("from")
-        .value_name("MOMENT")
-        .help("The moment of the first request, as 2026-05-01T10:00:00Z")
-        .required(true);
-    let step = Arg::new(alloc, "step")
-        .long("step")
-        .value_name("SECONDS")
-        .help("The seconds from one request to the next, 0 to 31536000")
-        .required(true);
-    let feed = Command::new(alloc, "feed")
-        .about("Answers raw HTTP requests from standard input, over a box office in memory")
-        .arg(from)?
-        .arg(step)?;
+    let feed = feed_command(alloc)?;
+    let init = init_command(alloc)?;
+    let token_add = token_command(alloc)?;
     Command::new(alloc, "boxoffice")
         .about("A ticket shop for one event")
         .subcommand_required(true)
-        .subcommand(feed)
+        .subcommand(feed)?
+        .subcommand(init)?
+        .subcommand(token_add)
 }
 
 // Whether a word begins with a minus sign and a digit.
@@ -62,27 +160,47 @@ pub fn plain_words<'a>(alloc: Global, words: &'a [String]) -> Result<Vec<&'a str
     Ok(all)
 }
 
-// The text of a flag, which is empty where there is none.
-fn text_of<'a>(matches: &ArgMatches<'a>, flag: &str) -> &'a str
-    ensures { result.now ≡ text_of flag.now (Some (rows_of (found_of matches.now))) }
+// The text of an argument, which is empty where there is none.
+fn text_of<'a>(matches: &ArgMatches<'a>, name: &str) -> &'a str
+    ensures { result.now ≡ text_of name.now (rows_of (found_of matches.now)) }
 {
-    match matches.get_str(flag) {
+    match matches.get_str(name) {
         Some(text) => text,
         None => "",
     }
 }
 
+// What a command with these matches asks for.
+fn line_of<'a>(command: &str, matches: &ArgMatches<'a>) -> Line<'a>
+    ensures { asked_by_line result ≡ asked_of command.now (rows_of (found_of matches.now)) }
+{
+    if command == "init" {
+        return Line::Init(InitLine {
+            file: text_of(matches, "file"),
+            organizer: text_of(matches, "organizer"),
+            event: text_of(matches, "event"),
+        });
+    }
+    if command == "token-add" {
+        return Line::TokenAdd(TokenLine {
+            file: text_of(matches, "file"),
+            token: text_of(matches, "token"),
+        });
+    }
+    Line::Feed(FeedLine {
+        from: text_of(matches, "from"),
+        step: text_of(matches, "step"),
+    })
+}
+
 /// Reads a command line, whose first word is the program.
-pub fn read_line<'a>(alloc: Global, words: &'a [&'a str]) -> Result<FeedLine<'a>, Error>
-    ensures ok { IfOk result (λ line. asked (texts words.now) ≡ runs line.from.now line.step.now) }
+pub fn read_line<'a>(alloc: Global, words: &'a [&'a str]) -> Result<Line<'a>, Error>
+    ensures ok { IfOk result (λ line. asked (texts words.now) ≡ asked_by_line line) }
     ensures err { IfErr result (λ error. IsReason (asked (texts words.now)) (kind_of error)) }
 {
     let matches = commands(alloc)?.try_get_matches_from(words)?;
     match matches.subcommand() {
-        Some((_, feed)) => Ok(FeedLine {
-            from: text_of(feed, "from"),
-            step: text_of(feed, "step"),
-        }),
-        None => Ok(FeedLine { from: "", step: "" }),
+        Some((command, found)) => Ok(line_of(command, found)),
+        None => Ok(Line::Feed(FeedLine { from: "", step: "" })),
     }
 }

@@ -66,6 +66,7 @@ pub fn add_token<S: Alter>(tables: &mut SqlTables<S>, digest: &[u8; 32]) -> Resu
         → OnOk result (tables.new.head ≡ head_after (tokens digest.now) tables.old.head) }
     ensures head_none { OnErr result (tables.new.head ≡ tables.old.head) }
     ensures next_row { tables.new.next_row ≡ tables.old.next_row }
+    ensures was_open { HasCleanDisk (state S.Store tables.new.connection) → OnOk result (IsTrue (state S.Store tables.old.connection).is_open) }
     ensures tables { HasCleanDisk (state S.Store tables.new.connection) → (tokens : List ℕ → Option ℕ) → KnowsWhileOpen tables.old.next_row (state S.Store tables.old.connection) tokens → IsTrue (state S.Store tables.new.connection).is_open
         → OnOk result ((t : Tables) → Holds (state S.Store tables.old.connection).now.trees t → Holds (state S.Store tables.new.connection).now.trees (tables_after (tokens digest.now) tables.old.head digest.now t)) }
     ensures knows { HasCleanDisk (state S.Store tables.new.connection) → (tokens : List ℕ → Option ℕ) → KnowsWhileOpen tables.old.next_row (state S.Store tables.old.connection) tokens

@@ -3,6 +3,9 @@
 
 ghost use Rattle.std.specs.Prelude.{◌≡◌, ◌<◌};
 
+mod files;
+
+use crate::files::HostFiles;
 use bo_feed::run;
 use bo_line::{LineEnd, counted, report_words};
 use std::io;
@@ -16,7 +19,7 @@ fn words(rt: &HostRuntime) -> io::Result<Vec<String>> {
     Ok(std::env::args(rt)?.collect(rt.alloc())?)
 }
 
-// Runs a command line over standard input and output, with a ledger for each count of theirs.
+// Runs a command line over standard input and output and the files of this machine, with a ledger for each count of theirs.
 fn run_words<A: Ledger, B: Ledger, C: Ledger, D: Ledger>(
     rt: &HostRuntime,
     words: &[String],
@@ -32,7 +35,14 @@ fn run_words<A: Ledger, B: Ledger, C: Ledger, D: Ledger>(
 {
     let mut reader = counted::<Stdin, A, B>(rt.stdin(), reads, read_failures);
     let mut writer = counted::<Stdout, C, D>(rt.stdout(), writes, write_failures);
-    run(rt, rt.alloc(), words, &mut reader, &mut writer)
+    run(
+        rt,
+        rt.alloc(),
+        &HostFiles { rt },
+        words,
+        &mut reader,
+        &mut writer,
+    )
 }
 
 fn main(rt: HostRuntime) -> ExitCode {

@@ -5,7 +5,7 @@ use crate::tried::{run_line, words};
 use bo_line::LineEnd;
 
 /// The lines, each with its words.
-static LINES: [&str; 10] = [
+static LINES: [&str; 17] = [
     "boxoffice feed --from 2027-01-31T23:00:00Z --step 3600",
     "boxoffice feed --step=0 --from=1970-01-01T00:00:00Z",
     "boxoffice feed --from noon --step 60",
@@ -15,6 +15,13 @@ static LINES: [&str; 10] = [
     "boxoffice feed --from 2026-05-01T10:00:00Z --step 60 more",
     "boxoffice fed",
     "boxoffice",
+    "boxoffice init new.db --organizer house --event hall",
+    "boxoffice init hall.db --organizer house --event hall",
+    "boxoffice init new.db --organizer house --event hall/1",
+    "boxoffice init --event=hall new.db",
+    "boxoffice token-add hall.db secret",
+    "boxoffice token-add new.db secret",
+    "boxoffice token-add hall.db caf\u{e9}",
     "boxoffice --help",
 ];
 

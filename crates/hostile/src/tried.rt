@@ -1,10 +1,10 @@
 //! A command line over devices that fail.
 
-ghost use Rattle.std.specs.Prelude.{◌≡◌, ◌<◌};
+ghost use Rattle.std.specs.Prelude.{⊤, ◌≡◌, ◌<◌};
 
 use crate::failing::FailingWriter;
-use bo_feed::run;
-use bo_line::{LineEnd, counted};
+use bo_feed::{HouseFiles, run};
+use bo_line::{LineEnd, RunFault, counted};
 use std::alloc::{AllocError, Global};
 use std::io::Read;
 use std::marker::Brand;
@@ -17,6 +17,38 @@ pub struct Tried {
     pub ended: LineEnd,
     /// What was written.
     pub written: Vec<u8>,
+}
+
+/// The files of a machine that has one shop's file, `hall.db`, whose next token is the seventh.
+#[derive(Clone, Copy)]
+struct OneFile;
+
+impl HouseFiles for OneFile {
+    ghost made = { λ _ _ _ _. ⊤ };
+
+    ghost added = { λ _ _ _. ⊤ };
+
+    fn make(
+        &self,
+        _alloc: Global,
+        file: &str,
+        _organizer: &str,
+        _event: &str,
+    ) -> Result<(), RunFault> {
+        if file == "hall.db" {
+            Err(RunFault::NotAShop)
+        } else {
+            Ok(())
+        }
+    }
+
+    fn add_token(&self, _alloc: Global, file: &str, _token: &str) -> Result<u64, RunFault> {
+        if file == "hall.db" {
+            Ok(7)
+        } else {
+            Err(RunFault::File)
+        }
+    }
 }
 
 /// The words of a line, with a space between two.
@@ -47,7 +79,7 @@ fn run_line_with<A: Ledger, B: Ledger, C: Ledger, D: Ledger, R: Read + Drop>(
     let output = FailingWriter::new(rt.alloc(), writes);
     let mut reader = counted::<R, A, B>(input, reads, read_failures);
     let mut writer = counted::<FailingWriter, C, D>(output, written, write_failures);
-    let ended = run(rt, rt.alloc(), words, &mut reader, &mut writer);
+    let ended = run(rt, rt.alloc(), &OneFile, words, &mut reader, &mut writer);
     Tried {
         ended,
         written: writer.inner.into_taken(),

@@ -1,6 +1,6 @@
 use Rattle.std.proofs.Common.{◌≡◌, ◌++◌, drop, map, string_bytes}
 use Rattle.clap.specs.Walk.{texts}
-use Rattle.bo_line.specs.Words.{plain_behind, plain_words}
+use Rattle.bo_line.specs.Asked.{plain_behind, plain_words}
 use Rattle.bo_line.proofs.words.plain_words.Given as goal
 
 abbrev pub invariant-loop-word : goal.invariant-loop-word

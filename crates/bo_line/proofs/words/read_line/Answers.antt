@@ -1,7 +1,7 @@
-use Rattle.std.proofs.Common.{◌∙◌, ap₂, sym}
+use Rattle.std.proofs.Common.{◌∙◌, [], ap, sym}
 use Rattle.std.proofs.lemmas.Result.{err_from_is_err_and}
-use Rattle.bo_line.specs.Words.{runs}
-use Rattle.bo_line.proofs.WordLemmas.{asked_rows, reason_of}
+use Rattle.bo_line.specs.Asked.{asked_by}
+use Rattle.bo_line.proofs.WordLemmas.{asked_found, reason_of, told_both}
 use Rattle.bo_line.proofs.words.read_line.Goals as goal
 
 pub returns-in_err-matches-clause-err : goal.returns-in_err-matches-clause-err
@@ -12,4 +12,5 @@ returns-in_err-matches-clause-err c =
 pub returns-in-Some-clause-ok : goal.returns-in-Some-clause-ok
 returns-in-Some-clause-ok c =
     let parse = c.in_ok-matches.ensures in
-    asked_rows _ _ _ _ _ c.in_ok-commands.ensures parse.kinds parse.matches c.in-Some.ensures.rows ∙ ap₂ runs (sym c.text_of.ensures) (sym c.text_of-in-Some.ensures)
+    let found = told_both _ _ _ _ c.in-Some.ensures.name c.in-Some.ensures.rows in
+    asked_found _ _ _ _ c.in_ok-commands.ensures parse.kinds parse.matches ∙ (ap (asked_by []) found ∙ sym c.line_of.ensures)

@@ -1,0 +1,53 @@
+-- What the commands on a shop's file say.
+use Rattle.std.specs.Prelude.{◌≡◌, ℕ, Bool, true, false, ◌&&◌, List, [], ◌∷◌, ◌++◌, Result, Ok, Err, codes}
+use Rattle.std.specs.Fmt.{decimal}
+use Rattle.bo_base.specs.Slugs.{is_slug}
+use Rattle.bo_connection.specs.declared.failure.Failure.TheVariants as failures
+use Rattle.bo_devices.specs.declared.device.Refused.{Refused}
+use Rattle.bo_http.specs.Written.{Page, Writes}
+use Rattle.bo_line.specs.declared.fault.RunFault.{RunFault}
+use Rattle.bo_line.specs.declared.fault.RunFault.TheVariants as faults
+use Rattle.bo_line.specs.Values.{is_token}
+
+-- how a command ends that was done, by whether what it says was written
+abbrev pub said : Result (Unit {0}) Refused → Result (Unit {0}) RunFault
+said (Ok u) = Ok u
+said (Err e) = Err (faults.Run failures.Output)
+
+-- What came of a command is told: where it was done, by its line, of which a part was written where the writer failed; a fault by
+-- nothing that is written.
+abbrev pub Tells : {A : Type 0} → (A → List ℕ) → Result A RunFault → Page → Page → Result (Unit {0}) RunFault → Type 0
+Tells line (Ok a) old new result = (written : Result (Unit {0}) Refused) × Writes written (line a) old new × (result ≡ said written)
+Tells line (Err fault) old new result = (result ≡ Err fault) × (new ≡ old)
+
+-- the line of a shop that was made
+abbrev pub ready_line : Unit {0} → List ℕ
+ready_line u = codes "ready" ++ 10 ∷ []
+
+-- and of a token that has this number
+abbrev pub token_line : ℕ → List ℕ
+token_line number = codes "token " ++ (decimal number ++ 10 ∷ [])
+
+-- what making a shop in a file may come to, by the file's name and the names of organizer and event
+abbrev pub Making : Type 1
+Making = List ℕ → List ℕ → List ℕ → Result (Unit {0}) RunFault → Type 0
+
+-- what adding a token may come to, by the file's name and the token
+abbrev pub Adding : Type 1
+Adding = List ℕ → List ℕ → Result ℕ RunFault → Type 0
+
+abbrev pub MakesWhere : Bool → Making → List ℕ → List ℕ → List ℕ → Page → Page → Result (Unit {0}) RunFault → Type 0
+MakesWhere true made file organizer event old new result = (came : Result (Unit {0}) RunFault) × made file organizer event came × Tells ready_line came old new result
+MakesWhere false made file organizer event old new result = (result ≡ Err faults.Argument) × (new ≡ old)
+
+-- `init`: a shop is made in the file, and that is told; or one of the two names can't be read, and nothing is asked of a file
+abbrev pub MakesShop : Making → List ℕ → List ℕ → List ℕ → Page → Page → Result (Unit {0}) RunFault → Type 0
+MakesShop made file organizer event = MakesWhere (is_slug organizer && is_slug event) made file organizer event
+
+abbrev pub AddsWhere : Bool → Adding → List ℕ → List ℕ → Page → Page → Result (Unit {0}) RunFault → Type 0
+AddsWhere true added file token old new result = (came : Result ℕ RunFault) × added file token came × Tells token_line came old new result
+AddsWhere false added file token old new result = (result ≡ Err faults.Argument) × (new ≡ old)
+
+-- `token-add`: the token is added, and its number told; or it can't be read, and nothing is asked of a file
+abbrev pub AddsToken : Adding → List ℕ → List ℕ → Page → Page → Result (Unit {0}) RunFault → Type 0
+AddsToken added file token = AddsWhere (is_token token) added file token

@@ -1,0 +1,63 @@
+//! The commands on a shop's file.
+
+ghost use Rattle.std.specs.Prelude.{◌≡◌, ◌&&◌};
+ghost use Rattle.bo_base.specs.Slugs.{is_slug};
+ghost use Rattle.bo_feed.specs.Saying.{AddsToken, MakesShop};
+
+use crate::files::HouseFiles;
+use crate::saying::{said, say};
+use bo_base::is_slug;
+use bo_devices::Drain;
+use bo_line::{RunFault, is_token};
+use itoa::Buffer;
+use std::alloc::Global;
+
+// Whether both are short names.
+fn are_slugs(organizer: &str, event: &str) -> bool
+    ensures { result ≡ (is_slug organizer.now && is_slug event.now) }
+{
+    is_slug(organizer) & is_slug(event)
+}
+
+/// `init`: makes a shop in a new file and says `ready`. A name that is no slug is fault 84, and then no file is asked for.
+pub fn make_shop<F: HouseFiles, W: Drain>(
+    alloc: Global,
+    files: &F,
+    file: &str,
+    organizer: &str,
+    event: &str,
+    writer: &mut W,
+) -> Result<(), RunFault>
+    ensures { MakesShop F.made file.now organizer.now event.now (record { taken = W.taken writer.old; failures = W.failures writer.old }) (record { taken = W.taken writer.new; failures = W.failures writer.new }) result }
+{
+    if !are_slugs(organizer, event) {
+        return Err(RunFault::Argument);
+    }
+    match files.make(alloc, file, organizer, event) {
+        Ok(()) => said(say(writer, b"ready", b"")),
+        Err(fault) => Err(fault),
+    }
+}
+
+/// `token-add`: adds a token to the shop in a file and says `token N`, its number. A text that is no token is fault 84, and then no
+/// file is asked for.
+pub fn add_token<F: HouseFiles, W: Drain>(
+    alloc: Global,
+    files: &F,
+    file: &str,
+    token: &str,
+    writer: &mut W,
+) -> Result<(), RunFault>
+    ensures { AddsToken F.added file.now token.now (record { taken = W.taken writer.old; failures = W.failures writer.old }) (record { taken = W.taken writer.new; failures = W.failures writer.new }) result }
+{
+    if !is_token(token) {
+        return Err(RunFault::Argument);
+    }
+    match files.add_token(alloc, file, token) {
+        Ok(number) => {
+            let mut buffer = Buffer::new();
+            said(say(writer, b"token ", buffer.format(number).as_bytes()))
+        }
+        Err(fault) => Err(fault),
+    }
+}

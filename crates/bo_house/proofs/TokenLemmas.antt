@@ -1,0 +1,123 @@
+-- A token that tables got.
+use Rattle.std.proofs.Common.{◌≡◌, ◌∙◌, ℕ, List, Option, Result, Ok, Err, IfOk, OnErr, OnOk, IsTrue, Bool, true, false, ap, map, refl, sym, subst}
+use Rattle.std.proofs.lemmas.Bool.{false≢true}
+use Rattle.sqlite.specs.Effect.{Database}
+use Rattle.sqlite_trees.specs.Tree.{Trees}
+use Rattle.sqlite.specs.State.{State as Connected, HasCleanDisk}
+use Rattle.bo_lists.specs.Lists.{State}
+use Rattle.bo_kept.specs.declared.kept.Kept.{Kept}
+use Rattle.bo_columns.specs.declared.rows.ShopRow.{ShopRow}
+use Rattle.bo_line.specs.declared.fault.RunFault.{RunFault}
+use Rattle.bo_line.specs.declared.fault.RunFault.TheVariants as faults
+use Rattle.bo_made.specs.Tokens.{HasNoRoom, IsNumbered, also_known, head_after}
+use Rattle.bo_made.specs.declared.error.TokenError.{TokenError}
+use Rattle.bo_made.specs.declared.error.TokenError.TheVariants as tokens
+use Rattle.bo_opens.specs.declared.error.OpenError.{OpenError}
+use Rattle.bo_opens.specs.declared.error.OpenError.TheVariants as opening
+use Rattle.bo_schema.specs.declared.error.RowError.{RowError}
+use Rattle.bo_schema.specs.declared.error.RowError.TheVariants as rows
+use Rattle.bo_opens.specs.Rests.{IsAt, Rests}
+use Rattle.bo_reopen.specs.Opened.{IsOpened}
+use Rattle.bo_schema.specs.Tables.{schema}
+use Rattle.bo_schema.specs.Whole.{IsOver, IsStill}
+use Rattle.bo_tables.specs.Held.{number_of}
+use Rattle.bo_tables.specs.Shops.{HoldsWhileOpen, KnowsWhileOpen}
+use Rattle.bo_house.specs.Faults.{fault_of_opening, fault_of_rows, told_of_token}
+use Rattle.bo_house.specs.Filed.{GetsToken, IsFullFor, KnowsToken}
+
+-- what holds of a number that was given holds of one that is told
+pub told_number : (added : Result ℕ TokenError) (told : Result ℕ RunFault) (P : ℕ → Type 0) → told ≡ told_of_token added → IfOk added P → IfOk told P
+told_number (Ok number) told P is h = subst (λ r. IfOk r P) (sym is) h
+told_number (Err error) told P is h = subst (λ r. IfOk r P) (sym is) tt
+
+-- and what holds where none was given
+pub told_none : (added : Result ℕ TokenError) (told : Result ℕ RunFault) (P : Type 0) → told ≡ told_of_token added → OnErr added P → OnErr told P
+told_none (Ok number) told P is h = subst (λ r. OnErr r P) (sym is) h
+told_none (Err error) told P is h = subst (λ r. OnErr r P) (sym is) h
+
+-- 16 is told of no other refusal than that there are too many tokens
+abbrev is_full : RunFault → Bool
+is_full faults.Full = true
+is_full _ = false
+
+abbrev is_full_in : Result ℕ RunFault → Bool
+is_full_in (Ok number) = false
+is_full_in (Err fault) = is_full fault
+
+full_rows : (error : RowError) → is_full (fault_of_rows error) ≡ false
+full_rows rows.Memory = refl
+full_rows rows.Foreign = refl
+full_rows rows.Damaged = refl
+full_rows rows.Store = refl
+
+full_opening : (error : OpenError) → is_full (fault_of_opening error) ≡ false
+full_opening opening.Memory = refl
+full_opening opening.NotAShop = refl
+full_opening (opening.Version version) = refl
+full_opening (opening.Damaged rule) = refl
+full_opening opening.Store = refl
+
+pub told_full : (added : Result ℕ TokenError) → told_of_token added ≡ Err faults.Full → added ≡ Err tokens.Full
+told_full (Ok number) is = absurd (false≢true (ap is_full_in is))
+told_full (Err tokens.Full) is = refl
+told_full (Err (tokens.Rows error)) is = absurd (false≢true (sym (full_rows error) ∙ ap is_full_in is))
+
+pub never_full : (error : OpenError) (fault : RunFault) (P : Type 0) → fault ≡ fault_of_opening error → ◌≡◌ {A = Result ℕ RunFault} (Err fault) (Err faults.Full) → P
+never_full error fault P told is = absurd (false≢true (sym (full_opening error) ∙ (ap is_full (sym told) ∙ ap is_full_in is)))
+
+-- of a file that was opened, and whose tables had no room for the token
+pub full_by : (told : Result ℕ RunFault) (db : Database) (head : ShopRow) (next : ℕ) (office : State) (digest : List ℕ) (old mid new : Connected) → told ≡ Err faults.Full
+    → Rests old mid → HasCleanDisk mid → IsTrue new.is_open → IsAt db old → db.schema ≡ schema → (IsOver schema mid → OnErr told (IsStill mid new))
+    → (IsTrue mid.is_open → IsOpened db.trees head next office mid)
+    → ((known : List ℕ → Option ℕ) → KnowsWhileOpen next mid known → HasNoRoom (known digest) head.next_token) → IsFullFor db.trees digest
+full_by (Ok number) db head next office digest old mid new is rests clean is_open at known still opens full = absurd (false≢true (ap is_full_in is))
+full_by (Err fault) db head next office digest old mid new is rests clean is_open at known still opens full =
+    let over : IsOver schema mid = λ was_open. ap (λ (d : Database). d.schema) ((rests clean was_open).stays db at).now ∙ known in
+    let o = opens ((still over).same is_open).was_open in
+    record { tables = o.tables; held = o.held; head = head; office = office; stand = o.stand; full = full (number_of o.tables.tokens) (o.knows o.tables o.held) }
+
+-- a file that was opened, and whose tables took no token, shows what it showed
+pub stays_at : (told : Result ℕ RunFault) (db : Database) (old mid new : Connected) → Rests old mid → HasCleanDisk mid → IsTrue new.is_open → IsAt db old → db.schema ≡ schema
+    → (IsOver schema mid → OnErr told (IsStill mid new)) → OnErr told (IsAt db new)
+stays_at (Ok number) db old mid new rests clean is_open at known still = tt
+stays_at (Err fault) db old mid new rests clean is_open at known still =
+    let over : IsOver schema mid = λ was_open. ap (λ (d : Database). d.schema) ((rests clean was_open).stays db at).now ∙ known in
+    let same = (still over).same is_open in
+    let between = (rests clean same.was_open).stays db at in
+    record { now = same.now ∙ between.now; committed = same.committed ∙ between.committed }
+
+-- what adding a token promises, as one record
+pub got : (added : Result ℕ TokenError) (head later : ShopRow) (next after : ℕ) (digest : List ℕ) (old new : Connected) → (HasCleanDisk new → HasCleanDisk old)
+    → (HasCleanDisk new → OnOk added (IsTrue old.is_open)) → after ≡ next
+    → (HasCleanDisk new → (tokens : List ℕ → Option ℕ) → KnowsWhileOpen next old tokens → IfOk added (IsNumbered (tokens digest) head.next_token))
+    → (HasCleanDisk new → (tokens : List ℕ → Option ℕ) → KnowsWhileOpen next old tokens → OnOk added (later ≡ head_after (tokens digest) head))
+    → (HasCleanDisk new → (tokens : List ℕ → Option ℕ) → KnowsWhileOpen next old tokens → IfOk added (λ number. KnowsWhileOpen after new (also_known digest number tokens)))
+    → (HasCleanDisk new → (s : State) (ks : List Kept) → HoldsWhileOpen head next old s ks → HoldsWhileOpen later after new s ks)
+    → IfOk added (λ number. HasCleanDisk new → GetsToken head next digest number old new)
+got (Ok number) head later next after digest old new cleans opened stays numbered goes_on knows holds = λ clean. record {
+  clean = cleans clean;
+  was_open = opened clean;
+  numbered = λ tokens known. numbered clean tokens known;
+  knows = λ tokens known. subst (λ (n : ℕ). KnowsWhileOpen n new (also_known digest number tokens)) stays (knows clean tokens known);
+  holds = λ tokens known s ks held.
+      subst (λ (h : ShopRow). HoldsWhileOpen h next new s ks) (goes_on clean tokens known) (subst (λ (n : ℕ). HoldsWhileOpen later n new s ks) stays (holds clean s ks held));
+}
+got (Err error) head later next after digest old new cleans opened stays numbered goes_on knows holds = tt
+
+-- tables that were opened of a file, and then got a token
+pub known_by : (db : Trees) (head : ShopRow) (next : ℕ) (office : State) (digest : List ℕ) (number : ℕ) (old new : Connected) → IsOpened db head next office old
+    → GetsToken head next digest number old new → KnowsToken db digest number new
+known_by db head next office digest number old new o gets =
+    let tokens = number_of o.tables.tokens in
+    let known = o.knows o.tables o.held in
+    record {
+      tables = o.tables;
+      held = o.held;
+      head = head;
+      next = next;
+      office = office;
+      stand = o.stand;
+      numbered = gets.numbered tokens known;
+      holds = gets.holds tokens known office (map (λ r. r.kept) o.tables.kept) o.holds;
+      knows = gets.knows tokens known;
+    }

@@ -1,0 +1,38 @@
+use Rattle.std.proofs.Common.{◌≡◌, ◌∙◌, List, ℕ, IfOk, OnErr, ap, arith, sym, subst}
+use Rattle.sha2.specs.Sha256.{sha256}
+use Rattle.sqlite.specs.Held.{state}
+use Rattle.sqlite.specs.State.{HasCleanDisk}
+use Rattle.bo_made.specs.Tokens.{HasNoRoom}
+use Rattle.bo_house.specs.Filed.{GetsToken}
+use Rattle.bo_schema.specs.Tables.{schema}
+use Rattle.bo_schema.specs.Whole.{IsOver, IsStill}
+use Rattle.bo_house.proofs.TokenLemmas.{got, told_full, told_none, told_number}
+use Rattle.bo_house.proofs.adding.add_over.Goals as goal
+
+pub returns-clause-gets : goal.returns-clause-gets
+returns-clause-gets g c =
+    let tables = c.args.opened.0 in
+    let later = c.add_token-added.new.tables in
+    let old = state g.S.Store tables.connection in
+    let new = state g.S.Store later.connection in
+    let e = c.add_token-added.ensures in
+    let digest_is : c.digest.result ≡ sha256 c.args.token.now = c.digest.ensures ∙ ap sha256 c.as_bytes.ensures.value in
+    let cleans : HasCleanDisk new → HasCleanDisk old = λ clean. omega (arith, clean, e.crash.clean) in
+    let all = got c.add_token-added.result tables.head later.head tables.next_row later.next_row c.digest.result old new cleans e.was_open e.next_row e.number e.head e.knows e.holds in
+    let by_digest : IfOk c.add_token-added.result (λ number. HasCleanDisk new → GetsToken tables.head tables.next_row (sha256 c.args.token.now) number old new) =
+    subst (λ (d : List ℕ). IfOk c.add_token-added.result (λ number. HasCleanDisk new → GetsToken tables.head tables.next_row d number old new)) digest_is all in
+    told_number c.add_token-added.result c.told.result _ c.told.ensures
+    (subst (λ it. IfOk c.add_token-added.result (λ number. HasCleanDisk (state g.S.Store it) → GetsToken tables.head tables.next_row (sha256 c.args.token.now) number old (state g.S.Store it))) (sym c.connection_of.ensures) by_digest)
+
+pub returns-clause-none : goal.returns-clause-none
+returns-clause-none g c =
+    let old = state g.S.Store c.args.opened.0.connection in
+    subst (λ it. HasCleanDisk (state g.S.Store it) → IsOver schema old → OnErr c.told.result (IsStill old (state g.S.Store it))) (sym c.connection_of.ensures)
+    (λ clean over. told_none c.add_token-added.result c.told.result _ c.told.ensures (c.add_token-added.ensures.none clean over))
+
+pub returns-clause-full : goal.returns-clause-full
+returns-clause-full g c = λ is clean known knows.
+    let digest_is : c.digest.result ≡ sha256 c.args.token.now = c.digest.ensures ∙ ap sha256 c.as_bytes.ensures.value in
+    let cleared : HasCleanDisk (state g.S.Store c.add_token-added.new.tables.connection) = subst (λ it. HasCleanDisk (state g.S.Store it)) c.connection_of.ensures clean in
+    subst (λ (d : List ℕ). HasNoRoom (known d) c.args.opened.0.head.next_token) digest_is
+    (c.add_token-added.ensures.full cleared known knows (told_full c.add_token-added.result (sym c.told.ensures ∙ is)))

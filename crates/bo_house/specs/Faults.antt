@@ -1,0 +1,34 @@
+-- Refusals of a shop's file as the program tells them.
+use Rattle.std.specs.Prelude.{ℕ, Result, Ok, Err}
+use Rattle.bo_line.specs.declared.fault.RunFault.{RunFault}
+use Rattle.bo_line.specs.declared.fault.RunFault.TheVariants as faults
+use Rattle.bo_made.specs.declared.error.TokenError.{TokenError}
+use Rattle.bo_made.specs.declared.error.TokenError.TheVariants as tokens
+use Rattle.bo_opens.specs.declared.error.OpenError.{OpenError}
+use Rattle.bo_opens.specs.declared.error.OpenError.TheVariants as opening
+use Rattle.bo_rules.specs.declared.rule.Rule.TheVariants as rules
+use Rattle.bo_schema.specs.declared.error.RowError.{RowError}
+use Rattle.bo_schema.specs.declared.error.RowError.TheVariants as rows
+
+-- a value that is none is told as the rule of limits
+abbrev pub fault_of_rows : RowError → RunFault
+fault_of_rows rows.Memory = faults.Memory
+fault_of_rows rows.Foreign = faults.NotAShop
+fault_of_rows rows.Damaged = faults.Damaged rules.Limits
+fault_of_rows rows.Store = faults.Store
+
+abbrev pub fault_of_opening : OpenError → RunFault
+fault_of_opening opening.Memory = faults.Memory
+fault_of_opening opening.NotAShop = faults.NotAShop
+fault_of_opening (opening.Version version) = faults.Version
+fault_of_opening (opening.Damaged rule) = faults.Damaged rule
+fault_of_opening opening.Store = faults.Store
+
+abbrev pub fault_of_token : TokenError → RunFault
+fault_of_token tokens.Full = faults.Full
+fault_of_token (tokens.Rows error) = fault_of_rows error
+
+-- what is told of a token: its number, or the fault
+abbrev pub told_of_token : Result ℕ TokenError → Result ℕ RunFault
+told_of_token (Ok number) = Ok number
+told_of_token (Err error) = Err (fault_of_token error)

@@ -1,0 +1,80 @@
+//! A token is added to the shop in a database.
+
+ghost use Rattle.std.specs.Prelude.{◌≡◌, ℕ, List, Option, Err, IfOk, IfErr, OnErr, IsTrue};
+ghost use Rattle.sha2.specs.Sha256.{sha256};
+ghost use Rattle.sqlite.specs.Effect.{Database};
+ghost use Rattle.sqlite.specs.Held.{state};
+ghost use Rattle.sqlite.specs.State.{HasCleanDisk};
+ghost use Rattle.bo_schema.specs.Tables.{schema};
+ghost use Rattle.bo_schema.specs.Whole.{IsOver, IsStill};
+ghost use Rattle.bo_opens.specs.Rests.{IsAt};
+ghost use Rattle.bo_line.specs.declared.fault.RunFault.TheVariants.{Full};
+ghost use Rattle.bo_made.specs.Tokens.{HasNoRoom};
+ghost use Rattle.bo_made.specs.declared.error.TokenError.{TokenError};
+ghost use Rattle.bo_house.specs.Faults.{fault_of_token, told_of_token};
+ghost use Rattle.bo_tables.specs.Shops.{KnowsWhileOpen};
+ghost use Rattle.bo_house.specs.Filed.{GetsToken, IsFullFor, IsToldFor, KnowsToken};
+
+use crate::faults::{fault_of_opening, fault_of_token};
+use crate::filed::{Filed, connection_of};
+use bo_file::open_file;
+use bo_line::RunFault;
+use bo_made::{HandedBack, TokenError, add_token};
+use bo_tables::SqlTables;
+use sha2::{Digest, Sha256};
+use sqlite::{Alter, Connection};
+use std::alloc::Global;
+
+// What is told of a token.
+fn told(added: Result<u64, TokenError>) -> Result<u64, RunFault>
+    ensures { result ≡ told_of_token added }
+{
+    match added {
+        Ok(number) => Ok(number),
+        Err(error) => Err(fault_of_token(error)),
+    }
+}
+
+// Adds a token to tables that were opened together with something else, which is let go.
+fn add_over<S: Alter + Drop, O: Drop>(opened: (SqlTables<S>, O), token: &str) -> Filed<S, u64>
+    ensures gets { IfOk result.outcome (λ number. HasCleanDisk (state S.Store result.connection)
+        → GetsToken opened.0.head opened.0.next_row (sha256 token.now) number (state S.Store opened.0.connection) (state S.Store result.connection)) }
+    ensures cause { IfErr result.outcome (λ fault. (error : TokenError) × (fault ≡ fault_of_token error)) }
+    ensures full { result.outcome ≡ Err Full → HasCleanDisk (state S.Store result.connection) → (tokens : List ℕ → Option ℕ) → KnowsWhileOpen opened.0.next_row (state S.Store opened.0.connection) tokens
+        → HasNoRoom (tokens (sha256 token.now)) opened.0.head.next_token }
+    ensures clean { HasCleanDisk (state S.Store result.connection) → HasCleanDisk (state S.Store opened.0.connection) }
+    ensures none { HasCleanDisk (state S.Store result.connection) → IsOver schema (state S.Store opened.0.connection) → OnErr result.outcome (IsStill (state S.Store opened.0.connection) (state S.Store result.connection)) }
+{
+    let mut made = opened;
+    let added = add_token(&mut made.0, &Sha256::digest(token.as_bytes()));
+    Filed {
+        connection: connection_of(made),
+        outcome: told(added),
+    }
+}
+
+/// `token-add`: opens the shop in a database and adds a token, which is known by its SHA-256 alone; tells the token's number. One that was
+/// added before keeps its number, and nothing changes. Faults: 60, 61 and 62 where the database holds no shop that is whole, each for its
+/// cause alone; 16 where the token is new and the shop has 1,000,000 of them; 6 and 63. Beside a fault nothing has changed.
+pub fn add_shop_token<S: Alter + Drop>(
+    alloc: Global,
+    connection: Connection<S>,
+    token: &str,
+) -> Filed<S, u64>
+    ensures added { IfOk result.outcome (λ number. HasCleanDisk (state S.Store result.connection) → (db : Database) → IsAt db (state S.Store connection) → db.schema ≡ schema
+        → KnowsToken db.trees (sha256 token.now) number (state S.Store result.connection)) }
+    ensures cause { IfErr result.outcome (λ fault. HasCleanDisk (state S.Store result.connection) → IsTrue (state S.Store result.connection).is_open → (db : Database) → IsAt db (state S.Store connection)
+        → IsToldFor db fault) }
+    ensures none { HasCleanDisk (state S.Store result.connection) → IsTrue (state S.Store result.connection).is_open → (db : Database) → IsAt db (state S.Store connection) → db.schema ≡ schema
+        → OnErr result.outcome (IsAt db (state S.Store result.connection)) }
+    ensures full { result.outcome ≡ Err Full → HasCleanDisk (state S.Store result.connection) → IsTrue (state S.Store result.connection).is_open → (db : Database) → IsAt db (state S.Store connection) → db.schema ≡ schema
+        → IsFullFor db.trees (sha256 token.now) }
+{
+    match open_file(alloc, connection) {
+        Ok(opened) => add_over(opened, token),
+        Err(HandedBack { connection, error }) => Filed {
+            connection,
+            outcome: Err(fault_of_opening(error)),
+        },
+    }
+}

@@ -1,0 +1,45 @@
+//! Refusals of a shop's file as the program tells them.
+
+ghost use Rattle.std.specs.Prelude.{◌≡◌};
+ghost use Rattle.bo_house.specs.Faults.{fault_of_opening, fault_of_rows, fault_of_token};
+
+use bo_line::RunFault;
+use bo_made::TokenError;
+use bo_opens::OpenError;
+use bo_rules::Rule;
+use bo_schema::RowError;
+
+/// Why rows weren't read or written, as the program tells it. A value that is none is told as the rule of limits, 62.2.
+pub fn fault_of_rows(error: RowError) -> RunFault
+    ensures { result ≡ fault_of_rows error }
+{
+    match error {
+        RowError::Memory => RunFault::Memory,
+        RowError::Foreign => RunFault::NotAShop,
+        RowError::Damaged => RunFault::Damaged(Rule::Limits),
+        RowError::Store => RunFault::Store,
+    }
+}
+
+/// Why a file isn't opened, as the program tells it.
+pub fn fault_of_opening(error: OpenError) -> RunFault
+    ensures { result ≡ fault_of_opening error }
+{
+    match error {
+        OpenError::Memory => RunFault::Memory,
+        OpenError::NotAShop => RunFault::NotAShop,
+        OpenError::Version(_) => RunFault::Version,
+        OpenError::Damaged(rule) => RunFault::Damaged(rule),
+        OpenError::Store => RunFault::Store,
+    }
+}
+
+/// Why a token isn't added, as the program tells it.
+pub fn fault_of_token(error: TokenError) -> RunFault
+    ensures { result ≡ fault_of_token error }
+{
+    match error {
+        TokenError::Full => RunFault::Full,
+        TokenError::Rows(error) => fault_of_rows(error),
+    }
+}

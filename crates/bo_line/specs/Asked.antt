@@ -1,0 +1,65 @@
+-- What the words of a command line ask for.
+use Rattle.std.specs.Prelude.{◌≡◌, ◌==◌, ◌&&◌, Bool, false, List, [], ◌∷◌, Option, Some, None, codes, ◌⊎◌, unwrap_or, nat_le, if◌then◌else◌}
+use Rattle.std.specs.Str.{bytes_eq}
+use Rattle.clap.specs.declared.error.ErrorKind.{ErrorKind}
+use Rattle.clap.specs.declared.error.ErrorKind.TheVariants.{OutOfMemory}
+use Rattle.clap.specs.Words.{IsAmong, Kinds, Row, Text, fault_of, first_of, subcommand_of}
+use Rattle.bo_line.specs.Words.{program}
+use Rattle.bo_line.specs.declared.words.Line.{Line}
+use Rattle.bo_line.specs.declared.words.Line.TheVariants as lines
+
+-- a minus sign and a digit begin the word
+abbrev pub is_signed : Text → Bool
+is_signed (sign ∷ digit ∷ rest) = sign == 45 && (nat_le 48 digit && nat_le digit 57)
+is_signed _ = false
+
+-- The words as they are read, and whether `--step` stands before them: a number with a minus sign behind it is read as the
+-- empty text, which is no number either. By itself it would be a flag.
+abbrev pub plain_behind : Bool → List Text → List Text
+plain_behind is_step [] = []
+plain_behind is_step (word ∷ rest) = (if is_step && is_signed word then [] else word) ∷ plain_behind (bytes_eq word (codes "--step")) rest
+
+abbrev pub plain_words : List Text → List Text
+plain_words words = plain_behind false words
+
+-- What a line asks for: a run of `feed` with the texts of `--from` and `--step`; a shop in a new file of this name, for this
+-- organizer and this event; this token for the shop in the file of this name; or nothing, for a reason among these.
+pub data Asked : Type 0 where
+  runs : Text → Text → Asked
+  makes : Text → Text → Text → Asked
+  adds : Text → Text → Asked
+  none : Kinds → Asked
+
+-- the text of an argument among the matches of the command, which is empty where there is none
+abbrev pub text_of : Text → List Row → Text
+text_of name rows = unwrap_or (first_of name rows) []
+
+-- what a command with these matches asks for
+abbrev pub asked_of : Text → List Row → Asked
+asked_of command rows =
+    if bytes_eq command (codes "init") then makes (text_of (codes "file") rows) (text_of (codes "organizer") rows) (text_of (codes "event") rows)
+    else (if bytes_eq command (codes "token-add") then adds (text_of (codes "file") rows) (text_of (codes "token") rows)
+    else runs (text_of (codes "from") rows) (text_of (codes "step") rows))
+
+abbrev pub asked_by : Kinds → Option (Text × List Row) → Asked
+asked_by [] None = runs [] []
+asked_by [] (Some (command, rows)) = asked_of command rows
+asked_by (kind ∷ kinds) found = none (kind ∷ kinds)
+
+-- what these words ask for, of which the first is the program
+unfoldable pub asked : List Text → Asked
+asked words = asked_by (fault_of program words) (subcommand_of program words)
+
+-- what a line that was read asks for
+abbrev pub asked_by_line : Line → Asked
+asked_by_line (lines.Feed line) = runs line.from.now line.step.now
+asked_by_line (lines.Init line) = makes line.file.now line.organizer.now line.event.now
+asked_by_line (lines.TokenAdd line) = adds line.file.now line.token.now
+
+abbrev pub HasReason : Asked → ErrorKind → Type 0
+HasReason (none kinds) kind = IsAmong kind kinds
+HasReason _ kind = ⊥
+
+-- an error says that there is no memory, or why the line asks for nothing
+abbrev pub IsReason : Asked → ErrorKind → Type 0
+IsReason asked kind = (kind ≡ OutOfMemory) ⊎ HasReason asked kind

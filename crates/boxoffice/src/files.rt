@@ -1,0 +1,81 @@
+//! Shops' files on the disk, by their names.
+
+ghost use Rattle.std.specs.Prelude.{⊤};
+
+use bo_base::Slug;
+use bo_feed::HouseFiles;
+use bo_house::{Filed, add_shop_token, make_new_shop};
+use bo_line::RunFault;
+use sqlite::{Connection, Error, ErrorCode, File, FileStore};
+use std::alloc::Global;
+use std::fs;
+
+/// The files of this machine.
+#[derive(Clone, Copy)]
+pub(crate) struct HostFiles<'a> {
+    pub(crate) rt: &'a HostRuntime,
+}
+
+// Why the store doesn't open a file, as the program tells it.
+fn unopened(error: Error) -> RunFault {
+    match error {
+        Error::SqliteFailure(ErrorCode::OutOfMemory) => RunFault::Memory,
+        Error::SqliteFailure(ErrorCode::CannotOpen) => RunFault::File,
+        Error::SqliteFailure(ErrorCode::NotADatabase) => RunFault::NotAShop,
+        _ => RunFault::Store,
+    }
+}
+
+// What became of a command. The file is closed behind it; what was committed stands in the file and its log, also where that fails.
+fn ended<T: Drop>(filed: Filed<FileStore<File>, T>) -> Result<T, RunFault> {
+    let Filed {
+        connection,
+        outcome,
+    } = filed;
+    let _ = connection.close();
+    outcome
+}
+
+impl HostFiles<'_> {
+    // Whether there is a file, or something else, of this name.
+    fn stands(&self, file: &str) -> bool {
+        fs::symlink_metadata(self.rt, file).is_ok()
+    }
+
+    fn opened(&self, file: &str) -> Result<Connection<FileStore<File>>, RunFault> {
+        match Connection::open(self.rt, file) {
+            Ok(connection) => Ok(connection),
+            Err(error) => Err(unopened(error)),
+        }
+    }
+}
+
+impl HouseFiles for HostFiles<'_> {
+    ghost made = { λ _ _ _ _. ⊤ };
+
+    ghost added = { λ _ _ _. ⊤ };
+
+    fn make(
+        &self,
+        alloc: Global,
+        file: &str,
+        organizer: &str,
+        event: &str,
+    ) -> Result<(), RunFault> {
+        if self.stands(file) {
+            return Err(RunFault::NotAShop);
+        }
+        let organizer = Slug::copy_of(alloc, organizer)?;
+        let event = Slug::copy_of(alloc, event)?;
+        let connection = self.opened(file)?;
+        ended(make_new_shop(alloc, connection, organizer, event))
+    }
+
+    fn add_token(&self, alloc: Global, file: &str, token: &str) -> Result<u64, RunFault> {
+        if !self.stands(file) {
+            return Err(RunFault::File);
+        }
+        let connection = self.opened(file)?;
+        ended(add_shop_token(alloc, connection, token))
+    }
+}
