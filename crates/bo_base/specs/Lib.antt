@@ -7,7 +7,6 @@ pub mod Refusals
 pub mod Digits
 pub mod Money
 pub mod Moments
-pub mod Civil
 pub mod Percent
 pub mod Price
 pub mod Codes

@@ -1,19 +1,12 @@
 //! Laws of texts: what was written reads back.
 
 ghost use Rattle.std.specs.Prelude.{◌≡◌, ◌≤◌, ℕ, List, Ok};
-ghost use Rattle.bo_base.specs.Civil.{moment_text};
 ghost use Rattle.bo_base.specs.Codes.{last_order, number_of_code, order_code};
 ghost use Rattle.bo_base.specs.Money.{cents_text, last_cents, money_of};
-ghost use Rattle.bo_base.specs.Moments.{last_moment, moment_of};
 
 /// The text of an amount reads as that amount.
 pub fn money_reads_back()
     ensures { (cents : ℕ) → cents ≤ last_cents → money_of (cents_text cents) ≡ Ok cents }
-{}
-
-/// The text of a moment reads as that moment.
-pub fn moments_read_back()
-    ensures { (second : ℕ) → second ≤ last_moment → moment_of (moment_text second) ≡ Ok second }
 {}
 
 /// The code of an order's number reads as that number.

@@ -27,7 +27,7 @@ pub use digits::number_of;
 pub use draw::Draw;
 pub use known::Known;
 pub use list::List;
-pub use moment::{Moment, moment_text, read_day, read_moment};
+pub use moment::Moment;
 pub use percent::Percent;
 pub use price_mode::{PriceMode, price};
 pub use refusal::ValueRefusal;

@@ -3,7 +3,7 @@ use Rattle.std.specs.Prelude.{ℕ, ◌*◌, ◌==◌, ◌&&◌, ℤ, int_le, Boo
 use Rattle.serde_json.specs.Data.{Data, Members, no_members, member}
 use Rattle.serde_json.specs.Find.{as_bool, as_str, as_number, as_u64, as_i64, as_integer, as_object}
 use Rattle.bo_base.specs.Money.{money_of}
-use Rattle.bo_base.specs.Moments.{moment_of, day_of}
+use Rattle.bo_times.specs.Moments.{moment_of, day_of}
 use Rattle.bo_base.specs.Texts.{same_text, is_text}
 use Rattle.bo_base.specs.declared.price_mode.PriceMode.{PriceMode}
 use Rattle.bo_base.specs.declared.price_mode.PriceMode.TheVariants as modes

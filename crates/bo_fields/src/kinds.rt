@@ -9,8 +9,9 @@ ghost use Rattle.bo_fields.specs.Kinds.{truth, whole, signed, id, fit, loose_tex
 ghost use Rattle.serde_json.specs.View.{view, members_view};
 
 use crate::error::{BodyFault, fault};
-use bo_base::{Cents, Moment, PriceMode, ValueRefusal, is_text, read_cents, read_day, read_moment};
+use bo_base::{Cents, Moment, PriceMode, ValueRefusal, is_text, read_cents};
 use bo_faults::{Field, Problem};
+use bo_times::{read_day, read_moment};
 use serde_json::{Map, Number, Value};
 
 /// A truth value.

@@ -3,7 +3,7 @@ use Rattle.std.specs.Prelude.{◌≡◌, ℕ, Bool, true, ◌&&◌, List, length
 use Rattle.std.specs.List.{list_all}
 use Rattle.bo_base.specs.declared.refusal.ValueRefusal.{ValueRefusal}
 use Rattle.bo_base.specs.Digits.{number_of}
-use Rattle.bo_base.specs.Moments.{moment_of}
+use Rattle.bo_times.specs.Moments.{moment_of}
 
 -- 0 to 31536000 seconds
 abbrev pub step_within : Option ℕ → Option ℕ

@@ -4,7 +4,8 @@ ghost use Rattle.std.specs.Prelude.{◌≡◌};
 ghost use Rattle.std.specs.List.{list_all};
 ghost use Rattle.bo_line.specs.Values.{feed_values, is_token, is_token_byte};
 
-use bo_base::{Moment, number_of, read_moment};
+use bo_base::{Moment, number_of};
+use bo_times::read_moment;
 
 /// The most seconds from one tick to the next, a year.
 const MOST_STEP: u64 = 31_536_000;

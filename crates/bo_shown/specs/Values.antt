@@ -4,7 +4,7 @@ use Rattle.serde_json.specs.Data.{Data, number, unsigned, string, null, array}
 use Rattle.serde_json.specs.Find.{of_integer}
 use Rattle.serde_json.specs.View.{items_of}
 use Rattle.bo_base.specs.Money.{cents_text}
-use Rattle.bo_base.specs.Civil.{moment_text}
+use Rattle.bo_times.specs.Civil.{moment_text}
 
 abbrev pub count : ℕ → Data
 count n = number (unsigned n)

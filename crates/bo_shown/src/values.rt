@@ -5,7 +5,8 @@ ghost use Rattle.serde_json.specs.View.{view};
 ghost use Rattle.bo_shown.specs.Values.{count, count_or_null, money, money_or_null, moment, moment_or_null, text_or_null};
 
 use crate::pieces::{WriteRow, append_value};
-use bo_base::{Cents, Moment, Size, Text, cents_text, moment_text};
+use bo_base::{Cents, Moment, Size, Text, cents_text};
+use bo_times::moment_text;
 use serde_json::Value;
 use std::alloc::{AllocError, Global};
 

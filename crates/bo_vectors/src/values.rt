@@ -1,9 +1,10 @@
 //! Money, moments, prices, codes, secrets and days.
 
 use bo_base::{
-    Cents, Draw, Moment, PriceMode, ValueRefusal, cents_text, moment_text, order_code, price,
-    read_cents, read_code, read_day, read_moment, secret,
+    Cents, Draw, Moment, PriceMode, ValueRefusal, cents_text, order_code, price, read_cents,
+    read_code, secret,
 };
+use bo_times::{moment_text, read_day, read_moment};
 use std::test::Fail;
 
 #[test]

@@ -4,10 +4,11 @@ ghost use Rattle.std.specs.Prelude.{◌≡◌, ◌<◌};
 
 use crate::cut::Cut;
 use crate::listed::Listed;
-use bo_base::{Moment, Steps, read_moment};
+use bo_base::{Moment, Steps};
 use bo_connection::Failure;
 use bo_devices::Device;
 use bo_feed::serve_house;
+use bo_times::read_moment;
 use std::alloc::{AllocError, Global};
 use std::io::Write;
 use std::marker::Brand;

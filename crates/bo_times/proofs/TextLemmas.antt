@@ -5,9 +5,9 @@ use Rattle.jiff.proofs.Family.{civil_nanos-parts, time_nanos_bound}
 use Rattle.jiff.specs.Words.{civil_nanos, time_nanos, epoch_day, iso_datetime_text}
 use Rattle.jiff_core.specs.declared.civil.time.Time.{Time}
 use Rattle.jiff_core.specs.declared.civil.datetime.DateTime.{DateTime}
-use Rattle.bo_base.specs.Civil.{moment_text}
+use Rattle.bo_times.specs.Civil.{moment_text}
 use Rattle.bo_base.specs.Moments.{last_moment}
-use Rattle.bo_base.proofs.CivilLemmas.{same_date}
+use Rattle.bo_times.proofs.CivilLemmas.{same_date}
 
 day_and_time : (n e : ℤ) (t s : ℕ) → n ≡ pos (s * 1000000000) → n ≡ e *ℤ pos 86400000000000 +ℤ pos t → t < 86400000000000
     → (e ≡ pos (s / 86400)) × (t ≡ (s % 86400) * 1000000000)

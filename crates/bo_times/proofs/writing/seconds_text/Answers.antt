@@ -2,8 +2,8 @@ use Rattle.std.proofs.Common.{◌≡◌, ◌*◌, pos, arith, ◌∙◌}
 use Rattle.std.proofs.lemmas.Result.{IfOk-weaker}
 use Rattle.std.proofs.lemmas.Int.{ints}
 use Rattle.jiff.specs.Words.{civil_nanos}
-use Rattle.bo_base.proofs.TextLemmas.{shown}
-use Rattle.bo_base.proofs.moment.seconds_text.Goals as goal
+use Rattle.bo_times.proofs.TextLemmas.{shown}
+use Rattle.bo_times.proofs.writing.seconds_text.Goals as goal
 
 pub returns : goal.returns
 returns c =

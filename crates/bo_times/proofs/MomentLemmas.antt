@@ -12,10 +12,11 @@ use Rattle.jiff_core.specs.declared.timestamp.Timestamp.{Timestamp}
 use Rattle.jiff_fmt.specs.Temporal.{parse_timestamp}
 use Rattle.bo_base.specs.declared.refusal.ValueRefusal.{ValueRefusal}
 use Rattle.bo_base.specs.declared.refusal.ValueRefusal.TheVariants.{OutOfRange}
-use Rattle.bo_base.specs.Civil.{civil_of, moment_text}
-use Rattle.bo_base.specs.Moments.{last_moment, in_range, moment_at, moment_of}
-use Rattle.bo_base.proofs.CivilLemmas.{civil_found}
-use Rattle.bo_base.proofs.TextLemmas.{shown}
+use Rattle.bo_times.specs.Civil.{civil_of, moment_text}
+use Rattle.bo_base.specs.Moments.{last_moment}
+use Rattle.bo_times.specs.Moments.{in_range, moment_at, moment_of}
+use Rattle.bo_times.proofs.CivilLemmas.{civil_found}
+use Rattle.bo_times.proofs.TextLemmas.{shown}
 
 -- ---- what a clock in UTC shows
 

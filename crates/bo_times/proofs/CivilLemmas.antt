@@ -9,7 +9,7 @@ use Rattle.jiff_core.proofs.DateLemmas.{days_from_civil-day, days_from_civil-nex
 use Rattle.jiff_core.proofs.StandardFacts.{known_days}
 use Rattle.jiff_core.specs.Date.{epoch_day}
 use Rattle.jiff_core.specs.declared.civil.date.Date.{Date}
-use Rattle.bo_base.specs.Civil.{year_from, month_from, Civil, civil_of}
+use Rattle.bo_times.specs.Civil.{year_from, month_from, Civil, civil_of}
 
 pub year_long : (y : ℤ) → 365 ≤ days_in_year y
 year_long y = by (is_leap_year y) refl

@@ -1,0 +1,3 @@
+mod CivilLemmas
+mod TextLemmas
+mod MomentLemmas
