@@ -18,16 +18,35 @@ pub record Follows {D E : Type 0} (Serves : D → Tick → Message → Answer �
 abbrev pub seen_as : {D E : Type 0} → Cursor D → E → Cursor E
 seen_as place desk = cursor place.left place.told desk place.taken
 
-module _ {D E : Type 0} (Serves : D → Tick → Message → Answer → D → Type 0) (Other : E → Tick → Message → Answer → E → Type 0) (Sure : D → Type 0) (Seen : D → E → Type 0)
-    (follows : Follows Serves Other Sure Seen) where
+-- where a desk is sure after a run, it was so before it
+module _ {D : Type 0} (Serves : D → Tick → Message → Answer → D → Type 0) (Sure : D → Type 0)
+    (was_sure : (old : D) (tick : Tick) (m : Message) (answer : Answer) (new : D) → Serves old tick m answer new → Sure new → Sure old) where
   runs_sure : (old : D) (ticks : List Tick) (items : List Item) (written : List ℕ) (new : D) → Runs Serves old ticks items written new → Sure new → Sure old
   runs_sure old [] [] written new (none, same) sure = subst Sure same sure
   runs_sure old [] (Err f ∷ items) written new (is, same, last) sure = subst Sure same sure
   runs_sure old [] (Ok m ∷ items) written new x sure = absurd x
   runs_sure old (t ∷ ts) [] written new x sure = absurd x
   runs_sure old (t ∷ ts) (Err f ∷ items) written new x sure = absurd x
-  runs_sure old (t ∷ ts) (Ok m ∷ items) written new (mid, answer, rest, serves, is, x) sure = follows.was_sure old t m answer mid serves (runs_sure mid ts items rest new x sure)
+  runs_sure old (t ∷ ts) (Ok m ∷ items) written new (mid, answer, rest, serves, is, x) sure = was_sure old t m answer mid serves (runs_sure mid ts items rest new x sure)
 
+  breaks_sure : (e : Failure) (mid new : Cursor D) → BreaksOff Serves e mid new → Sure new.desk → Sure mid.desk
+  breaks_sure failures.Output mid new cut sure = runs_sure mid.desk cut.ticks (cut.item ∷ []) (cut.part ++ cut.rest) new.desk cut.runs sure
+  breaks_sure failures.Clock mid new (stopped, next) sure = subst Sure stopped.desk sure
+  breaks_sure failures.Input mid new (stopped, none) sure = subst Sure stopped.desk sure
+  breaks_sure failures.Limit mid new (stopped, none) sure = subst Sure stopped.desk sure
+  breaks_sure failures.Memory mid new (stopped, loses) sure = subst Sure stopped.desk sure
+
+  streams_sure : (after : Option (List ℕ)) (old new : Cursor D) (result : Result (Unit {0}) Failure) → Streams Serves after old new result → Sure new.desk → Sure old.desk
+  streams_sure after old new (Ok u) f sure = runs_sure old.desk f.ticks f.items f.written new.desk f.runs sure
+  streams_sure after old new (Err e) broken sure =
+      let before = broken.before in
+      runs_sure old.desk before.ticks (map whole before.messages) before.written broken.mid.desk before.runs (breaks_sure e broken.mid new broken.last sure)
+
+  pub run_sure : (old new : Devices D) (result : Result (Unit {0}) Failure) → RunLeads Serves old new result → Sure new.desk → Sure old.desk
+  run_sure old new result run sure = streams_sure new.left (cursor run.bytes old.told old.desk old.taken) (cursor [] new.told new.desk new.taken) result run.streams sure
+
+module _ {D E : Type 0} (Serves : D → Tick → Message → Answer → D → Type 0) (Other : E → Tick → Message → Answer → E → Type 0) (Sure : D → Type 0) (Seen : D → E → Type 0)
+    (follows : Follows Serves Other Sure Seen) where
   pub runs_follow : (old : D) (ticks : List Tick) (items : List Item) (written : List ℕ) (new : D) (seen : E) → Runs Serves old ticks items written new → Sure new → Seen old seen
       → (left : E) × Runs Other seen ticks items written left × Seen new left
   runs_follow old [] [] written new seen (none, same) sure is = (seen, (none, refl), subst (λ (d : D). Seen d seen) (sym same) is)
@@ -36,7 +55,7 @@ module _ {D E : Type 0} (Serves : D → Tick → Message → Answer → D → Ty
   runs_follow old (t ∷ ts) [] written new seen x sure is = absurd x
   runs_follow old (t ∷ ts) (Err f ∷ items) written new seen x sure is = absurd x
   runs_follow old (t ∷ ts) (Ok m ∷ items) written new seen (mid, answer, rest, serves, text_is, x) sure is =
-      let one = follows.one old t m answer mid seen serves (runs_sure mid ts items rest new x sure) is in
+      let one = follows.one old t m answer mid seen serves (runs_sure Serves Sure follows.was_sure mid ts items rest new x sure) is in
       let others = runs_follow mid ts items rest new one.0 x sure one.2 in
       (others.0, (one.0, answer, rest, one.1, text_is, others.1), others.2)
 
@@ -70,18 +89,11 @@ module _ {D E : Type 0} (Serves : D → Tick → Message → Answer → D → Ty
   breaks_follow failures.Limit mid new seen (stopped, none) sure is = let x = stopped_follows mid new seen stopped is in (seen, (x.0, none), x.1)
   breaks_follow failures.Memory mid new seen (stopped, loses) sure is = let x = stopped_follows mid new seen stopped is in (seen, (x.0, loses), x.1)
 
-  breaks_sure : (e : Failure) (mid new : Cursor D) → BreaksOff Serves e mid new → Sure new.desk → Sure mid.desk
-  breaks_sure failures.Output mid new cut sure = runs_sure mid.desk cut.ticks (cut.item ∷ []) (cut.part ++ cut.rest) new.desk cut.runs sure
-  breaks_sure failures.Clock mid new (stopped, next) sure = subst Sure stopped.desk sure
-  breaks_sure failures.Input mid new (stopped, none) sure = subst Sure stopped.desk sure
-  breaks_sure failures.Limit mid new (stopped, none) sure = subst Sure stopped.desk sure
-  breaks_sure failures.Memory mid new (stopped, loses) sure = subst Sure stopped.desk sure
-
   streams_follow : (after : Option (List ℕ)) (old new : Cursor D) (result : Result (Unit {0}) Failure) (seen : E) → Streams Serves after old new result → Sure new.desk → Seen old.desk seen
       → (left : E) × Streams Other after (seen_as old seen) (seen_as new left) result × Seen new.desk left
   streams_follow after old new (Ok u) seen f sure is = finished_follows _ old new seen f sure is
   streams_follow after old new (Err e) seen broken sure is =
-      let before = progress_follows old broken.mid seen broken.before (breaks_sure e broken.mid new broken.last sure) is in
+      let before = progress_follows old broken.mid seen broken.before (breaks_sure Serves Sure follows.was_sure e broken.mid new broken.last sure) is in
       let last = breaks_follow e broken.mid new before.0 broken.last sure before.2 in
       (last.0, record { mid = seen_as broken.mid before.0; before = before.1; last = last.1 }, last.2)
 

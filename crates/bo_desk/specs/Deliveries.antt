@@ -1,2 +1,2 @@
 -- Arrivals and what they lead to, passed on.
-pub use Rattle.bo_streams.specs.Deliveries.{Delivery, Opening, StandsFor, Views}
+pub use Rattle.bo_streams.specs.Deliveries.{Delivery, IsRunning, Opening, Running, StandsFor, Views}

@@ -42,8 +42,16 @@ impl<T: Tables + Drop, B: Book + Drop> ShopDesk<T, B> {
         ensures { IfOk result (λ desk. desk ≡ record { organizer = office.organizer; event = office.event; tables = tables; state = office.state }) }
     {
         let words = HouseWords::new(alloc, office.organizer(), office.event())?;
-        let shop = Shop::over(tables, office, words);
-        Ok(ShopDesk { shop })
+        Ok(ShopDesk::with_words(tables, office, words))
+    }
+
+    /// The same where the words of its answers were made before.
+    pub fn with_words(tables: T, office: Office<B>, words: HouseWords) -> Self
+        ensures { result ≡ record { organizer = words.organizer; event = words.event; tables = tables; state = office.state } }
+    {
+        ShopDesk {
+            shop: Shop::over(tables, office, words),
+        }
     }
 
     /// The tables.

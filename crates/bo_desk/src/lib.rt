@@ -7,6 +7,7 @@ pub mod office;
 mod serving;
 
 pub use bo_once::Office;
+pub use bo_streams::HouseWords;
 pub use desk::ShopDesk;
 pub use feeding::feed_office;
 pub use office::serve_office;

@@ -3,7 +3,7 @@ use Rattle.std.proofs.Common.{◌≡◌, ℕ, Bool, true, false, List, Result}
 use Rattle.std.proofs.lemmas.Bool.{false≢true}
 use Rattle.bo_http.specs.Written.{Page}
 use Rattle.bo_line.specs.declared.fault.RunFault.{RunFault}
-use Rattle.bo_feed.specs.Saying.{Adding, AddsWhere, Making, MakesWhere, Tells, ready_line, token_line}
+use Rattle.bo_line.specs.Saying.{Adding, AddsWhere, Making, MakesWhere, Tells, ready_line, token_line}
 
 pub makes_there : (made : Making) (well : Bool) (file organizer event : List ℕ) (old new : Page) (came result : Result (Unit {0}) RunFault) → well ≡ true
     → made file organizer event came → Tells ready_line came old new result → MakesWhere well made file organizer event old new result

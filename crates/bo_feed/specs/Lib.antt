@@ -4,4 +4,3 @@ pub mod Line
 pub mod Fresh
 pub mod Stored
 pub mod Opened
-pub mod Saying

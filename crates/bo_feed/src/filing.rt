@@ -1,14 +1,12 @@
 //! The commands on a shop's file.
 
-ghost use Rattle.std.specs.Prelude.{◌≡◌, ◌&&◌};
+ghost use Rattle.std.specs.Prelude.{◌≡◌, ◌&&◌, option_map};
 ghost use Rattle.bo_base.specs.Slugs.{is_slug};
-ghost use Rattle.bo_feed.specs.Saying.{AddsToken, MakesShop};
+ghost use Rattle.bo_line.specs.Saying.{AddsToken, MakesShop, ServesShop};
 
-use crate::files::HouseFiles;
-use crate::saying::{said, say};
 use bo_base::is_slug;
 use bo_devices::Drain;
-use bo_line::{RunFault, is_token};
+use bo_line::{HouseFiles, Place, RunFault, is_token, said, say, serve_values};
 use itoa::Buffer;
 use std::alloc::Global;
 
@@ -60,4 +58,27 @@ pub fn add_token<F: HouseFiles, W: Drain>(
         }
         Err(fault) => Err(fault),
     }
+}
+
+/// `serve`: serves the shop in a file at an address, and says `listening on ADDR` once callers can come. A value that can't be read is
+/// fault 84, and then no file is asked for.
+pub fn serve_shop<F: HouseFiles, W: Drain>(
+    alloc: Global,
+    files: &F,
+    file: &str,
+    listen: &str,
+    connections: Option<&str>,
+    writer: &mut W,
+) -> Result<(), RunFault>
+    ensures { ServesShop F.served file.now listen.now (option_map (λ t. t.now) connections.entry) (record { taken = W.taken writer.old; failures = W.failures writer.old }) (record { taken = W.taken writer.new; failures = W.failures writer.new }) result }
+{
+    let Some((addr, connections)) = serve_values(listen, connections) else {
+        return Err(RunFault::Argument);
+    };
+    let place = Place {
+        addr,
+        text: listen,
+        connections,
+    };
+    files.serve(alloc, file, &place, writer)
 }

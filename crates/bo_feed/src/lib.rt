@@ -3,17 +3,14 @@
 #![tactic(auto)]
 
 pub mod feeding;
-pub mod files;
 pub mod filing;
 pub mod house;
 pub mod laws;
 pub mod line;
 pub mod opening;
-pub mod saying;
 
 pub use feeding::{feed, feed_texts};
-pub use files::HouseFiles;
-pub use filing::{add_token, make_shop};
+pub use filing::{add_token, make_shop, serve_shop};
 pub use house::serve_house;
 pub use line::run;
 pub use opening::{open_memory, open_store};

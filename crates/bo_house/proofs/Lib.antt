@@ -1,1 +1,2 @@
+mod ServeLemmas
 mod TokenLemmas

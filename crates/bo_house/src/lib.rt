@@ -1,12 +1,14 @@
-//! What becomes of a shop's database when a command makes a shop in it, or adds a token.
+//! What becomes of a shop's database when a command makes a shop in it, adds a token, or serves it.
 #![tactic(auto)]
 
 pub mod adding;
 pub mod faults;
 pub mod filed;
 pub mod making;
+pub mod serving;
 
 pub use adding::add_shop_token;
 pub use faults::{fault_of_opening, fault_of_rows, fault_of_token};
 pub use filed::Filed;
 pub use making::make_new_shop;
+pub use serving::serve_shop;

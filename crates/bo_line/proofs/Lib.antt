@@ -1,3 +1,4 @@
 pub mod TickLemmas
 pub mod WordLemmas
 pub mod LineLaws
+pub mod SayLemmas

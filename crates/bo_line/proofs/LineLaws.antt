@@ -1,8 +1,8 @@
 -- What lines ask for whose texts are not known.
-use Rattle.std.proofs.Common.{◌≡◌, ◌++◌, ℕ, List, [], ◌∷◌, codes, refl}
+use Rattle.std.proofs.Common.{◌≡◌, ◌++◌, ℕ, List, [], ◌∷◌, Some, None, codes, refl}
 use Rattle.clap.specs.declared.error.ErrorKind.TheVariants as kinds
 use Rattle.clap.proofs.OnLiterals.{clap_on_literals}
-use Rattle.bo_line.specs.Asked.{adds, asked, makes, none, plain_words, runs}
+use Rattle.bo_line.specs.Asked.{adds, asked, makes, none, plain_words, runs, serves}
 
 pub in_order : (program from step : List ℕ) → asked (program ∷ codes "feed" ∷ (codes "--from=" ++ from) ∷ (codes "--step=" ++ step) ∷ []) ≡ runs from step
 unfolding clap_on_literals asked
@@ -72,3 +72,21 @@ no_organizer program text = refl
 pub no_token : (program : List ℕ) → asked (program ∷ codes "token-add" ∷ codes "hall.db" ∷ []) ≡ none (kinds.MissingRequiredArgument ∷ [])
 unfolding clap_on_literals asked
 no_token program = refl
+
+pub serves_shop : (program listen : List ℕ) → asked (program ∷ codes "serve" ∷ codes "hall.db" ∷ (codes "--listen=" ++ listen) ∷ []) ≡ serves (codes "hall.db") listen None
+unfolding clap_on_literals asked
+serves_shop program listen = refl
+
+pub serves_so_many : (program listen connections : List ℕ)
+    → asked (program ∷ codes "serve" ∷ codes "hall.db" ∷ (codes "--listen=" ++ listen) ∷ (codes "--connections=" ++ connections) ∷ []) ≡ serves (codes "hall.db") listen (Some connections)
+unfolding clap_on_literals asked
+serves_so_many program listen connections = refl
+
+pub signed_connections : asked (plain_words (codes "boxoffice" ∷ codes "serve" ∷ codes "hall.db" ∷ codes "--listen" ∷ codes "[::1]:80" ∷ codes "--connections" ∷ codes "-1" ∷ []))
+    ≡ serves (codes "hall.db") (codes "[::1]:80") (Some [])
+unfolding clap_on_literals asked
+signed_connections = refl
+
+pub no_listen : (program : List ℕ) → asked (program ∷ codes "serve" ∷ codes "hall.db" ∷ []) ≡ none (kinds.MissingRequiredArgument ∷ [])
+unfolding clap_on_literals asked
+no_listen program = refl

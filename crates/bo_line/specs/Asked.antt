@@ -1,5 +1,5 @@
 -- What the words of a command line ask for.
-use Rattle.std.specs.Prelude.{◌≡◌, ◌==◌, ◌&&◌, Bool, false, List, [], ◌∷◌, Option, Some, None, codes, ◌⊎◌, unwrap_or, nat_le, if◌then◌else◌}
+use Rattle.std.specs.Prelude.{◌≡◌, ◌==◌, ◌&&◌, ◌||◌, Bool, false, List, [], ◌∷◌, Option, Some, None, option_map, codes, ◌⊎◌, unwrap_or, nat_le, if◌then◌else◌}
 use Rattle.std.specs.Str.{bytes_eq}
 use Rattle.clap.specs.declared.error.ErrorKind.{ErrorKind}
 use Rattle.clap.specs.declared.error.ErrorKind.TheVariants.{OutOfMemory}
@@ -13,21 +13,27 @@ abbrev pub is_signed : Text → Bool
 is_signed (sign ∷ digit ∷ rest) = sign == 45 && (nat_le 48 digit && nat_le digit 57)
 is_signed _ = false
 
--- The words as they are read, and whether `--step` stands before them: a number with a minus sign behind it is read as the
+-- a number follows the word
+abbrev pub takes_number : Text → Bool
+takes_number word = bytes_eq word (codes "--step") || bytes_eq word (codes "--connections")
+
+-- The words as they are read, and whether a number follows what stands before them: one with a minus sign is read there as the
 -- empty text, which is no number either. By itself it would be a flag.
 abbrev pub plain_behind : Bool → List Text → List Text
-plain_behind is_step [] = []
-plain_behind is_step (word ∷ rest) = (if is_step && is_signed word then [] else word) ∷ plain_behind (bytes_eq word (codes "--step")) rest
+plain_behind is_number [] = []
+plain_behind is_number (word ∷ rest) = (if is_number && is_signed word then [] else word) ∷ plain_behind (takes_number word) rest
 
 abbrev pub plain_words : List Text → List Text
 plain_words words = plain_behind false words
 
 -- What a line asks for: a run of `feed` with the texts of `--from` and `--step`; a shop in a new file of this name, for this
--- organizer and this event; this token for the shop in the file of this name; or nothing, for a reason among these.
+-- organizer and this event; this token for the shop in the file of this name; the shop in the file of this name at the text of
+-- `--listen`, with the text of `--connections` where it is there; or nothing, for a reason among these.
 pub data Asked : Type 0 where
   runs : Text → Text → Asked
   makes : Text → Text → Text → Asked
   adds : Text → Text → Asked
+  serves : Text → Text → Option Text → Asked
   none : Kinds → Asked
 
 -- the text of an argument among the matches of the command, which is empty where there is none
@@ -39,7 +45,8 @@ abbrev pub asked_of : Text → List Row → Asked
 asked_of command rows =
     if bytes_eq command (codes "init") then makes (text_of (codes "file") rows) (text_of (codes "organizer") rows) (text_of (codes "event") rows)
     else (if bytes_eq command (codes "token-add") then adds (text_of (codes "file") rows) (text_of (codes "token") rows)
-    else runs (text_of (codes "from") rows) (text_of (codes "step") rows))
+    else (if bytes_eq command (codes "serve") then serves (text_of (codes "file") rows) (text_of (codes "listen") rows) (first_of (codes "connections") rows)
+    else runs (text_of (codes "from") rows) (text_of (codes "step") rows)))
 
 abbrev pub asked_by : Kinds → Option (Text × List Row) → Asked
 asked_by [] None = runs [] []
@@ -55,6 +62,7 @@ abbrev pub asked_by_line : Line → Asked
 asked_by_line (lines.Feed line) = runs line.from.now line.step.now
 asked_by_line (lines.Init line) = makes line.file.now line.organizer.now line.event.now
 asked_by_line (lines.TokenAdd line) = adds line.file.now line.token.now
+asked_by_line (lines.Serve line) = serves line.file.now line.listen.now (option_map (λ t. t.now) line.connections)
 
 abbrev pub HasReason : Asked → ErrorKind → Type 0
 HasReason (none kinds) kind = IsAmong kind kinds

@@ -13,6 +13,7 @@ fault_number faults.Version = 61
 fault_number (faults.Damaged rule) = 62
 fault_number faults.Store = 63
 fault_number faults.File = 80
+fault_number faults.Listen = 81
 fault_number faults.Argument = 84
 fault_number (faults.Run failure) = failure_number failure
 

@@ -2,5 +2,6 @@ pub mod Asked
 pub mod Faults
 pub mod FeedTicks
 pub mod Line
+pub mod Saying
 pub mod Values
 pub mod Words

@@ -1,6 +1,8 @@
 -- The values of a line.
-use Rattle.std.specs.Prelude.{◌≡◌, ℕ, Bool, true, ◌&&◌, List, length, Option, Some, None, Result, Ok, Err, if◌then◌else◌, nat_le}
+use Rattle.std.specs.Prelude.{◌≡◌, ◌⊎◌, ℕ, Bool, true, ◌&&◌, List, length, Option, Some, None, Result, Ok, Err, if◌then◌else◌, nat_le}
 use Rattle.std.specs.List.{list_all}
+use Rattle.std.specs.Net.Grammar.{IsSocketText}
+use Rattle.std.specs.declared.net.socket_addr.SocketAddr.{SocketAddr}
 use Rattle.bo_base.specs.declared.refusal.ValueRefusal.{ValueRefusal}
 use Rattle.bo_base.specs.Digits.{number_of}
 use Rattle.bo_times.specs.Moments.{moment_of}
@@ -18,6 +20,21 @@ both_values (Err refusal) step = None
 -- the values of `--from`, a moment, and `--step`, plain digits
 abbrev pub feed_values : List ℕ → List ℕ → Option (ℕ × ℕ)
 feed_values from step = both_values (moment_of from) (step_within (number_of step))
+
+-- 0 to 1000000 connections
+abbrev pub connections_within : Option ℕ → Option ℕ
+connections_within None = None
+connections_within (Some n) = if nat_le n 1000000 then Some n else None
+
+-- the value of `--connections`, plain digits; left out it is 0
+abbrev pub connections_of : Option (List ℕ) → Option ℕ
+connections_of None = Some 0
+connections_of (Some text) = connections_within (number_of text)
+
+-- the values of `--listen`, an IP address with a port in std's spelling, and `--connections`; there are none where one of them can't be read
+abbrev pub AreServeValues : List ℕ → Option (List ℕ) → Option (SocketAddr × ℕ) → Type 0
+AreServeValues listen connections (Some (addr, n)) = IsSocketText listen addr × (connections_of connections ≡ Some n)
+AreServeValues listen connections None = ((addr : SocketAddr) → ¬ (IsSocketText listen addr)) ⊎ (connections_of connections ≡ None)
 
 -- an ASCII letter, digit or sign, and no space
 abbrev pub is_token_byte : ℕ → Bool

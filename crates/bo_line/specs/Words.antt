@@ -11,6 +11,10 @@ word name = record (new_rule name) { value_names = 1; required = true }
 abbrev pub flag : Text → Rule
 flag name = record (word name) { long = Some name }
 
+-- `--NAME TEXT`, which may be left out
+abbrev pub choice : Text → Rule
+choice name = record (new_rule name) { value_names = 1; long = Some name }
+
 -- `feed --from MOMENT --step SECONDS`
 abbrev pub feed_app : App
 feed_app = with_rule (with_rule (new_app (codes "feed")) (flag (codes "from"))) (flag (codes "step"))
@@ -23,10 +27,15 @@ init_app = with_rule (with_rule (with_rule (new_app (codes "init")) (word (codes
 abbrev pub token_app : App
 token_app = with_rule (with_rule (new_app (codes "token-add")) (word (codes "file"))) (word (codes "token"))
 
+-- `serve FILE --listen ADDR [--connections N]`
+abbrev pub serve_app : App
+serve_app = with_rule (with_rule (with_rule (new_app (codes "serve")) (word (codes "file"))) (flag (codes "listen"))) (choice (codes "connections"))
+
 -- a command has to be there
 abbrev pub needs_command : Shape → Shape
 needs_command top = record top { subcommand_required = true }
 
--- the program, with its three commands
+-- the program, with its four commands
 abbrev pub program : App
-program = with_subcommand (with_subcommand (with_subcommand (on_top needs_command (new_app (codes "boxoffice"))) feed_app.top) init_app.top) token_app.top
+program =
+    with_subcommand (with_subcommand (with_subcommand (with_subcommand (on_top needs_command (new_app (codes "boxoffice"))) feed_app.top) init_app.top) token_app.top) serve_app.top

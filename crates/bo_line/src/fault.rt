@@ -25,6 +25,8 @@ pub enum RunFault {
     Store,
     /// The file can't be opened, or can't be made.
     File,
+    /// The address can't be listened at, or takes no callers any more.
+    Listen,
     /// The value of an argument can't be read, or is out of its range.
     Argument,
     /// The run failed.
@@ -33,7 +35,7 @@ pub enum RunFault {
 
 impl RunFault {
     /// Its number: 6 for want of memory, 16 where there are too many tokens, 60 to 63 for what a file holds, 80 for a file that can't be
-    /// opened, 84 for an argument, and that of the failure.
+    /// opened, 81 for an address, 84 for an argument, and that of the failure.
     pub fn number(self) -> u8
         ensures { result ≡ fault_number self }
     {
@@ -45,6 +47,7 @@ impl RunFault {
             RunFault::Damaged(_) => 62,
             RunFault::Store => 63,
             RunFault::File => 80,
+            RunFault::Listen => 81,
             RunFault::Argument => 84,
             RunFault::Run(failure) => failure.number(),
         }

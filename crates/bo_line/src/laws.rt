@@ -1,8 +1,8 @@
 //! Laws of the command line.
 
-ghost use Rattle.std.specs.Prelude.{◌≡◌, ◌++◌, ℕ, List, [], ◌∷◌, codes};
+ghost use Rattle.std.specs.Prelude.{◌≡◌, ◌++◌, ℕ, List, [], ◌∷◌, Some, None, codes};
 ghost use Rattle.clap.specs.declared.error.ErrorKind.TheVariants.{DisplayHelp, MissingRequiredArgument, MissingSubcommand, UnknownArgument};
-ghost use Rattle.bo_line.specs.Asked.{adds, asked, makes, none, plain_words, runs};
+ghost use Rattle.bo_line.specs.Asked.{adds, asked, makes, none, plain_words, runs, serves};
 
 /// A line with both flags asks for a run with their texts, in either order, whatever the texts are.
 pub fn both_flags_ask_for_a_run()
@@ -32,6 +32,16 @@ pub fn files_and_tokens_are_known_by_their_places()
     ensures added { (program : List ℕ) → asked (program ∷ codes "token-add" ∷ codes "hall.db" ∷ codes "secret" ∷ []) ≡ adds (codes "hall.db") (codes "secret") }
     ensures lacking { (program text : List ℕ) → (asked (program ∷ codes "init" ∷ codes "hall.db" ∷ (codes "--event=" ++ text) ∷ []) ≡ none (MissingRequiredArgument ∷ []))
         × (asked (program ∷ codes "token-add" ∷ codes "hall.db" ∷ []) ≡ none (MissingRequiredArgument ∷ [])) }
+{}
+
+/// A line of `serve` names its file by its place, and the address behind a flag; how many connections there are may be left out.
+pub fn a_served_file_is_known_by_its_place()
+    ensures served { (program listen : List ℕ) → asked (program ∷ codes "serve" ∷ codes "hall.db" ∷ (codes "--listen=" ++ listen) ∷ []) ≡ serves (codes "hall.db") listen None }
+    ensures counted { (program listen connections : List ℕ)
+        → asked (program ∷ codes "serve" ∷ codes "hall.db" ∷ (codes "--listen=" ++ listen) ∷ (codes "--connections=" ++ connections) ∷ []) ≡ serves (codes "hall.db") listen (Some connections) }
+    ensures signed { asked (plain_words (codes "boxoffice" ∷ codes "serve" ∷ codes "hall.db" ∷ codes "--listen" ∷ codes "[::1]:80" ∷ codes "--connections" ∷ codes "-1" ∷ []))
+        ≡ serves (codes "hall.db") (codes "[::1]:80") (Some []) }
+    ensures lacking { (program : List ℕ) → asked (program ∷ codes "serve" ∷ codes "hall.db" ∷ []) ≡ none (MissingRequiredArgument ∷ []) }
 {}
 
 /// Help is shown where it is asked for.

@@ -1,11 +1,14 @@
-//! What a command line asks for, when the requests of its run come, and how it ends.
+//! What a command line asks for, when the requests of its run come, what it says, and how it ends; and what the commands on a shop's file
+//! ask of whoever has the files.
 #![tactic(auto)]
 
 pub mod devices;
 pub mod ended;
 pub mod fault;
+pub mod files;
 pub mod laws;
 pub mod line;
+pub mod saying;
 pub mod ticks;
 pub mod values;
 pub mod words;
@@ -13,7 +16,9 @@ pub mod words;
 pub use devices::counted;
 pub use ended::LineEnd;
 pub use fault::RunFault;
+pub use files::{HouseFiles, Place};
 pub use line::{answer_line, report, report_run, report_words};
+pub use saying::{said, say};
 pub use ticks::{FeedTicks, Pace};
-pub use values::{feed_values, is_token};
-pub use words::{FeedLine, InitLine, Line, TokenLine, plain_words, read_line};
+pub use values::{feed_values, is_token, serve_values};
+pub use words::{FeedLine, InitLine, Line, ServeLine, TokenLine, plain_words, read_line};

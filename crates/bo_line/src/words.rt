@@ -1,10 +1,10 @@
 //! The words of a command line: what they ask for.
 
-ghost use Rattle.std.specs.Prelude.{◌≡◌, IfOk, IfErr, Some, map, string_bytes, false};
+ghost use Rattle.std.specs.Prelude.{◌≡◌, IfOk, IfErr, Some, map, option_map, string_bytes, false};
 ghost use Rattle.clap.specs.Walk.{rule_of, texts};
-ghost use Rattle.clap.specs.Words.{app_of, found_of, kind_of, rows_of};
-ghost use Rattle.bo_line.specs.Asked.{IsReason, asked, asked_by_line, asked_of, is_signed, plain_words, text_of};
-ghost use Rattle.bo_line.specs.Words.{feed_app, flag, init_app, program, token_app, word};
+ghost use Rattle.clap.specs.Words.{app_of, first_of, found_of, kind_of, rows_of};
+ghost use Rattle.bo_line.specs.Asked.{IsReason, asked, asked_by_line, asked_of, is_signed, plain_words, takes_number, text_of};
+ghost use Rattle.bo_line.specs.Words.{choice, feed_app, flag, init_app, program, serve_app, token_app, word};
 
 use clap::{Arg, ArgMatches, Command, Error};
 use std::alloc::{AllocError, Global};
@@ -18,6 +18,8 @@ pub enum Line<'a> {
     Init(InitLine<'a>),
     /// `token-add`: a token for the shop in a file.
     TokenAdd(TokenLine<'a>),
+    /// `serve`: the shop in a file, at an address.
+    Serve(ServeLine<'a>),
 }
 
 /// The texts that follow `--from` and `--step`.
@@ -47,6 +49,25 @@ pub struct TokenLine<'a> {
     pub file: &'a str,
     /// The token.
     pub token: &'a str,
+}
+
+/// The texts of a line of `serve`.
+#[derive(Clone, Copy, Debug)]
+pub struct ServeLine<'a> {
+    /// The name of the file.
+    pub file: &'a str,
+    /// The text of `--listen`.
+    pub listen: &'a str,
+    /// The text of `--connections`, where it is there.
+    pub connections: Option<&'a str>,
+}
+
+// A flag with a text, which may be left out.
+fn choice<'a>(alloc: Global, name: &'a str, text: &'a str, help: &'a str) -> Arg<'a>
+    ensures rule { rule_of result ≡ choice name.entry.now }
+    ensures global { result.global ≡ false }
+{
+    Arg::new(alloc, name).long(name).value_name(text).help(help)
 }
 
 // A flag with a text, which has to be there.
@@ -124,6 +145,29 @@ fn token_command<'a>(alloc: Global) -> Result<Command<'a>, AllocError>
         ))
 }
 
+// `serve`, with its help.
+fn serve_command<'a>(alloc: Global) -> Result<Command<'a>, AllocError>
+    ensures { IfOk result (λ command. app_of command ≡ serve_app) }
+{
+    Command::new(alloc, "serve")
+        .about(
+            "Answers HTTP requests at an address, one connection after another, from a shop's file",
+        )
+        .arg(word(alloc, "file", "FILE", "The shop's file"))?
+        .arg(flag(
+            alloc,
+            "listen",
+            "ADDR",
+            "The IP address and port, as 127.0.0.1:8080 or [::1]:8080",
+        ))?
+        .arg(choice(
+            alloc,
+            "connections",
+            "N",
+            "Ends after N connections, 0 to 1000000; without it, or with 0, never",
+        ))
+}
+
 // The commands of the program, with their help.
 fn commands<'a>(alloc: Global) -> Result<Command<'a>, AllocError>
     ensures { IfOk result (λ command. app_of command ≡ program) }
@@ -131,12 +175,14 @@ fn commands<'a>(alloc: Global) -> Result<Command<'a>, AllocError>
     let feed = feed_command(alloc)?;
     let init = init_command(alloc)?;
     let token_add = token_command(alloc)?;
+    let serve = serve_command(alloc)?;
     Command::new(alloc, "boxoffice")
         .about("A ticket shop for one event")
         .subcommand_required(true)
         .subcommand(feed)?
         .subcommand(init)?
-        .subcommand(token_add)
+        .subcommand(token_add)?
+        .subcommand(serve)
 }
 
 // Whether a word begins with a minus sign and a digit.
@@ -146,18 +192,37 @@ fn is_signed(word: &str) -> bool
     matches!(word.as_bytes(), [b'-', b'0'..=b'9', ..])
 }
 
-/// The words as they are read: behind `--step` a number with a minus sign is the empty text, which is no number either.
+// Whether a number follows the word: it is `--step` or `--connections`.
+fn takes_number(word: &str) -> bool
+    ensures { result ≡ takes_number word.now }
+{
+    word == "--step" || word == "--connections"
+}
+
+/// The words as they are read: behind `--step` and `--connections` a number with a minus sign is the empty text, which is no number
+/// either.
 pub fn plain_words<'a>(alloc: Global, words: &'a [String]) -> Result<Vec<&'a str>, AllocError>
     ensures { IfOk result (λ all. texts all.items ≡ plain_words (map string_bytes words.now)) }
 {
     let mut all = Vec::new(alloc);
-    let mut is_step = false;
+    let mut is_number = false;
     for word in words {
         let text = word.as_str();
-        all.push(if is_step && is_signed(text) { "" } else { text })?;
-        is_step = text == "--step";
+        all.push(if is_number && is_signed(text) {
+            ""
+        } else {
+            text
+        })?;
+        is_number = takes_number(text);
     }
     Ok(all)
+}
+
+// The text of an argument, if it is there.
+fn given<'a>(matches: &ArgMatches<'a>, name: &str) -> Option<&'a str>
+    ensures { option_map (λ t. t.now) result ≡ first_of name.now (rows_of (found_of matches.now)) }
+{
+    matches.get_str(name)
 }
 
 // The text of an argument, which is empty where there is none.
@@ -185,6 +250,13 @@ fn line_of<'a>(command: &str, matches: &ArgMatches<'a>) -> Line<'a>
         return Line::TokenAdd(TokenLine {
             file: text_of(matches, "file"),
             token: text_of(matches, "token"),
+        });
+    }
+    if command == "serve" {
+        return Line::Serve(ServeLine {
+            file: text_of(matches, "file"),
+            listen: text_of(matches, "listen"),
+            connections: given(matches, "connections"),
         });
     }
     Line::Feed(FeedLine {

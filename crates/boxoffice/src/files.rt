@@ -1,11 +1,11 @@
 //! Shops' files on the disk, by their names.
 
-ghost use Rattle.std.specs.Prelude.{⊤};
+ghost use Rattle.std.specs.Prelude.{⊤, ◌≡◌};
 
 use bo_base::Slug;
-use bo_feed::HouseFiles;
-use bo_house::{Filed, add_shop_token, make_new_shop};
-use bo_line::RunFault;
+use bo_devices::Drain;
+use bo_house::{Filed, add_shop_token, make_new_shop, serve_shop};
+use bo_line::{HouseFiles, Place, RunFault};
 use sqlite::{Connection, Error, ErrorCode, File, FileStore};
 use std::alloc::Global;
 use std::fs;
@@ -27,7 +27,9 @@ fn unopened(error: Error) -> RunFault {
 }
 
 // What became of a command. The file is closed behind it; what was committed stands in the file and its log, also where that fails.
-fn ended<T: Drop>(filed: Filed<FileStore<File>, T>) -> Result<T, RunFault> {
+fn ended<T: Drop>(filed: Filed<FileStore<File>, T>) -> Result<T, RunFault>
+    ensures { result ≡ filed.outcome }
+{
     let Filed {
         connection,
         outcome,
@@ -55,6 +57,8 @@ impl HouseFiles for HostFiles<'_> {
 
     ghost added = { λ _ _ _. ⊤ };
 
+    ghost served = { λ _ _ _ _. ⊤ };
+
     fn make(
         &self,
         alloc: Global,
@@ -77,5 +81,21 @@ impl HouseFiles for HostFiles<'_> {
         }
         let connection = self.opened(file)?;
         ended(add_shop_token(alloc, connection, token))
+    }
+
+    fn serve<W: Drain>(
+        &self,
+        alloc: Global,
+        file: &str,
+        place: &Place<'_>,
+        writer: &mut W,
+    ) -> Result<(), RunFault> {
+        if !self.stands(file) {
+            return Err(RunFault::File);
+        }
+        match self.opened(file) {
+            Ok(connection) => ended(serve_shop(self.rt, alloc, connection, place, writer)),
+            Err(fault) => Err(fault),
+        }
     }
 }

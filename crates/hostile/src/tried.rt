@@ -3,8 +3,9 @@
 ghost use Rattle.std.specs.Prelude.{⊤, ◌≡◌, ◌<◌};
 
 use crate::failing::FailingWriter;
-use bo_feed::{HouseFiles, run};
-use bo_line::{LineEnd, RunFault, counted};
+use bo_devices::Drain;
+use bo_feed::run;
+use bo_line::{HouseFiles, LineEnd, Place, RunFault, counted, said, say};
 use std::alloc::{AllocError, Global};
 use std::io::Read;
 use std::marker::Brand;
@@ -28,6 +29,8 @@ impl HouseFiles for OneFile {
 
     ghost added = { λ _ _ _. ⊤ };
 
+    ghost served = { λ _ _ _ _. ⊤ };
+
     fn make(
         &self,
         _alloc: Global,
@@ -47,6 +50,23 @@ impl HouseFiles for OneFile {
             Ok(7)
         } else {
             Err(RunFault::File)
+        }
+    }
+
+    // Nobody comes.
+    fn serve<W: Drain>(
+        &self,
+        _alloc: Global,
+        file: &str,
+        place: &Place<'_>,
+        writer: &mut W,
+    ) -> Result<(), RunFault> {
+        if file != "hall.db" {
+            return Err(RunFault::File);
+        }
+        match say(writer, b"listening on ", place.text.as_bytes()) {
+            Ok(()) => Ok(()),
+            Err(refused) => said(Err(refused)),
         }
     }
 }

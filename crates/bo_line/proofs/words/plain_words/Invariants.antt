@@ -4,4 +4,4 @@ use Rattle.bo_line.specs.Asked.{plain_behind, plain_words}
 use Rattle.bo_line.proofs.words.plain_words.Given as goal
 
 abbrev pub invariant-loop-word : goal.invariant-loop-word
-invariant-loop-word l = texts l.all.items ++ plain_behind l.is_step (map string_bytes (drop l.word-index l.words)) ≡ plain_words (map string_bytes l.words)
+invariant-loop-word l = texts l.all.items ++ plain_behind l.is_number (map string_bytes (drop l.word-index l.words)) ≡ plain_words (map string_bytes l.words)

@@ -1,13 +1,14 @@
 -- What the commands on a shop's file say.
-use Rattle.std.specs.Prelude.{◌≡◌, ℕ, Bool, true, false, ◌&&◌, List, [], ◌∷◌, ◌++◌, Result, Ok, Err, codes}
+use Rattle.std.specs.Prelude.{◌≡◌, ◌⊎◌, ℕ, Bool, true, false, ◌&&◌, List, [], ◌∷◌, ◌++◌, Option, Some, None, Result, Ok, Err, OnErr, codes}
 use Rattle.std.specs.Fmt.{decimal}
+use Rattle.std.specs.declared.net.socket_addr.SocketAddr.{SocketAddr}
 use Rattle.bo_base.specs.Slugs.{is_slug}
 use Rattle.bo_connection.specs.declared.failure.Failure.TheVariants as failures
 use Rattle.bo_devices.specs.declared.device.Refused.{Refused}
 use Rattle.bo_http.specs.Written.{Page, Writes}
 use Rattle.bo_line.specs.declared.fault.RunFault.{RunFault}
 use Rattle.bo_line.specs.declared.fault.RunFault.TheVariants as faults
-use Rattle.bo_line.specs.Values.{is_token}
+use Rattle.bo_line.specs.Values.{AreServeValues, is_token}
 
 -- how a command ends that was done, by whether what it says was written
 abbrev pub said : Result (Unit {0}) Refused → Result (Unit {0}) RunFault
@@ -51,3 +52,25 @@ AddsWhere false added file token old new result = (result ≡ Err faults.Argumen
 -- `token-add`: the token is added, and its number told; or it can't be read, and nothing is asked of a file
 abbrev pub AddsToken : Adding → List ℕ → List ℕ → Page → Page → Result (Unit {0}) RunFault → Type 0
 AddsToken added file token = AddsWhere (is_token token) added file token
+
+-- the line of an address that is listened at
+abbrev pub listening_line : List ℕ → List ℕ
+listening_line listen = codes "listening on " ++ (listen ++ 10 ∷ [])
+
+-- That the address is listened at is told once callers can come, and nothing else is written; where the writer fails, a part of the line
+-- was, and the command ends with that. Nothing is written only beside a fault.
+abbrev pub TellsListening : List ℕ → Page → Page → Result (Unit {0}) RunFault → Type 0
+TellsListening listen old new result =
+    ((written : Result (Unit {0}) Refused) × Writes written (listening_line listen) old new × OnErr written (result ≡ said written))
+    ⊎ ((new ≡ old) × ((fault : RunFault) × (result ≡ Err fault)))
+
+-- what serving the shop in a file may come to, by the file's name, the address, and how many connections are answered
+abbrev pub Serving : Type 1
+Serving = List ℕ → SocketAddr → ℕ → Result (Unit {0}) RunFault → Type 0
+
+-- `serve`: the shop in the file is served at the address, and that is told; or one of the two values can't be read, and nothing is asked of
+-- a file
+abbrev pub ServesShop : Serving → List ℕ → List ℕ → Option (List ℕ) → Page → Page → Result (Unit {0}) RunFault → Type 0
+ServesShop served file listen connections old new result =
+    ((addr : SocketAddr) × (n : ℕ) × AreServeValues listen connections (Some (addr, n)) × served file addr n result × TellsListening listen old new result)
+    ⊎ (AreServeValues listen connections None × (result ≡ Err faults.Argument) × (new ≡ old))

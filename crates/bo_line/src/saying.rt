@@ -2,12 +2,12 @@
 
 ghost use Rattle.std.specs.Prelude.{◌≡◌, ◌++◌, [], ◌∷◌};
 ghost use Rattle.bo_http.specs.Written.{Writes};
-ghost use Rattle.bo_feed.specs.Saying.{said};
+ghost use Rattle.bo_line.specs.Saying.{said};
 
+use crate::fault::RunFault;
 use bo_connection::Failure;
 use bo_devices::{Drain, Refused};
 use bo_http::write_all;
-use bo_line::RunFault;
 
 // Writes a text, and ends the line.
 fn end_line<W: Drain>(writer: &mut W, text: &[u8]) -> Result<(), Refused>
@@ -20,7 +20,7 @@ fn end_line<W: Drain>(writer: &mut W, text: &[u8]) -> Result<(), Refused>
 }
 
 /// Writes a line of two texts. Where the writer refuses, a part of it was written, and the writer has counted it.
-pub(crate) fn say<W: Drain>(writer: &mut W, first: &[u8], second: &[u8]) -> Result<(), Refused>
+pub fn say<W: Drain>(writer: &mut W, first: &[u8], second: &[u8]) -> Result<(), Refused>
     ensures { Writes result (first.now ++ (second.now ++ 10 ∷ [])) (record { taken = W.taken writer.old; failures = W.failures writer.old }) (record { taken = W.taken writer.new; failures = W.failures writer.new }) }
 {
     match write_all(writer, first) {
@@ -30,7 +30,7 @@ pub(crate) fn say<W: Drain>(writer: &mut W, first: &[u8], second: &[u8]) -> Resu
 }
 
 /// How a command ends that was done, by whether what it says was written.
-pub(crate) fn said(written: Result<(), Refused>) -> Result<(), RunFault>
+pub fn said(written: Result<(), Refused>) -> Result<(), RunFault>
     ensures { result ≡ said written }
 {
     match written {

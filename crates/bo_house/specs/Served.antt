@@ -1,0 +1,47 @@
+-- What becomes of a shop's database that is served.
+use Rattle.std.specs.Prelude.{◌≡◌, ℕ, None, Result, Err, IsTrue}
+use Rattle.sqlite_trees.specs.declared.store.Store.{Ghosts}
+use Rattle.sqlite.specs.Effect.{Database}
+use Rattle.sqlite.specs.Held.{state}
+use Rattle.sqlite.specs.State.{State as Connected, HasCleanDisk, Survives}
+use Rattle.sqlite.specs.declared.connection.Connection.{Connection}
+use Rattle.bo_schema.specs.Tables.{schema}
+use Rattle.bo_sound.specs.Sound.{IsSound}
+use Rattle.bo_opens.specs.Rests.{IsAt, Rests}
+use Rattle.bo_opens.specs.declared.error.OpenError.{OpenError}
+use Rattle.bo_reopen.specs.Opened.{IsOpened, IsReason}
+use Rattle.bo_tables.specs.declared.sql.SqlTables.{SqlTables}
+use Rattle.bo_desk.specs.Streams.{DeskView, Meaning, Serves}
+use Rattle.bo_line.specs.declared.fault.RunFault.{RunFault}
+use Rattle.bo_serve.specs.Visits.{Serving, between, most_of}
+use Rattle.bo_house.specs.Faults.{fault_of_opening}
+
+-- The desk is that of the shop in the database: where the disk returned what was written and the connection is open, its tables and its
+-- office are what the rows are opened as. The office is sound, and opening changed nothing, in a crash too.
+pub record OpensAs {S : Type 0} (g : Ghosts S) (old : Connected) (desk : DeskView (SqlTables S)) : Type 0 where
+  pub opened : HasCleanDisk (state g desk.tables.connection) → IsTrue (state g desk.tables.connection).is_open → (db : Database) → IsAt db old → db.schema ≡ schema
+      → IsOpened db.trees desk.tables.head desk.tables.next_row desk.state (state g desk.tables.connection)
+  pub organizer : desk.organizer ≡ desk.tables.head.organizer
+  pub event : desk.event ≡ desk.tables.head.event
+  pub sound : IsSound desk.state
+  pub rests : Rests old (state g desk.tables.connection)
+  pub crash : Survives old (state g desk.tables.connection) (λ _. ⊥)
+
+-- from this desk callers are answered, at most so many, and the connection is that of the desk as the last one left it
+pub record LeadsFrom {S : Type 0} (tables : Meaning (SqlTables S)) (most : ℕ) (first : DeskView (SqlTables S)) (left : Connection S) (outcome : Result (Unit {0}) RunFault) : Type 0 where
+  pub last : DeskView (SqlTables S)
+  pub serving : Serving (Serves tables) (most_of most) (between None first) (between None last) outcome
+  pub connection : left ≡ last.tables.connection
+
+-- the shop in the database is served, from the desk that it is opened as
+pub record IsServed {S : Type 0} (g : Ghosts S) (tables : Meaning (SqlTables S)) (most : ℕ) (old : Connected) (left : Connection S) (outcome : Result (Unit {0}) RunFault) : Type 0 where
+  pub desk : DeskView (SqlTables S)
+  pub opens : OpensAs g old desk
+  pub leads : LeadsFrom tables most desk left outcome
+
+-- the database isn't opened, for its cause alone, and nobody is answered
+pub record IsRefused {S : Type 0} (g : Ghosts S) (old : Connected) (left : Connection S) (outcome : Result (Unit {0}) RunFault) : Type 0 where
+  pub error : OpenError
+  pub told : outcome ≡ Err (fault_of_opening error)
+  pub cause : HasCleanDisk (state g left) → IsTrue (state g left).is_open → (db : Database) → IsAt db old → IsReason db error
+  pub rests : Rests old (state g left)

@@ -1,0 +1,107 @@
+//! The shop in a database is served.
+
+ghost use Rattle.std.specs.Prelude.{◌⊎◌};
+ghost use Rattle.sqlite.specs.Held.{state};
+ghost use Rattle.bo_desk.specs.Streams.{DeskView, desk_with, meaning};
+ghost use Rattle.bo_line.specs.Saying.{TellsListening};
+ghost use Rattle.bo_house.specs.Served.{IsRefused, IsServed, LeadsFrom};
+
+use crate::faults::fault_of_opening;
+use crate::filed::{Filed, connection_of};
+use bo_desk::{HouseWords, Office, ShopDesk};
+use bo_devices::Drain;
+use bo_dues::Dues;
+use bo_file::open_file;
+use bo_kept::Tables;
+use bo_line::{Place, RunFault};
+use bo_made::HandedBack;
+use bo_serve::serve_at;
+use bo_tables::SqlTables;
+use sqlite::{Alter, Connection};
+use std::alloc::Global;
+use std::net::{Net, TcpListener, TcpStream};
+use std::random::RandomSource;
+use std::time::Clock;
+
+// Serves a desk, and hands back the connection of its tables.
+fn serve_desk<
+    R: Net<Listener = TcpListener, Stream = TcpStream> + Clock + RandomSource,
+    S: Alter + Drop,
+    B: Dues + Drop,
+    W: Drain,
+>(
+    rt: &R,
+    alloc: Global,
+    place: &Place<'_>,
+    mut desk: ShopDesk<SqlTables<S>, B>,
+    writer: &mut W,
+) -> Filed<S, ()>
+    ensures said { TellsListening place.now.text.now (record { taken = W.taken writer.old; failures = W.failures writer.old }) (record { taken = W.taken writer.new; failures = W.failures writer.new }) result.outcome }
+    ensures leads { LeadsFrom (meaning ⟦<SqlTables<S> as Tables>⟧.sure ⟦<SqlTables<S> as Tables>⟧.holds ⟦<SqlTables<S> as Tables>⟧.knows ⟦<SqlTables<S> as Tables>⟧.may_leave)
+        place.now.connections desk result.connection result.outcome }
+{
+    let outcome = serve_at(rt, alloc, place, &mut desk, writer);
+    Filed {
+        connection: desk.into_tables().into_connection(),
+        outcome,
+    }
+}
+
+// Serves tables that were opened together with their office.
+fn serve_opened<
+    R: Net<Listener = TcpListener, Stream = TcpStream> + Clock + RandomSource,
+    S: Alter + Drop,
+    B: Dues + Drop,
+    W: Drain,
+>(
+    rt: &R,
+    alloc: Global,
+    place: &Place<'_>,
+    opened: (SqlTables<S>, Office<B>),
+    writer: &mut W,
+) -> Filed<S, ()>
+    ensures said { TellsListening place.now.text.now (record { taken = W.taken writer.old; failures = W.failures writer.old }) (record { taken = W.taken writer.new; failures = W.failures writer.new }) result.outcome }
+    ensures leads { LeadsFrom (meaning ⟦<SqlTables<S> as Tables>⟧.sure ⟦<SqlTables<S> as Tables>⟧.holds ⟦<SqlTables<S> as Tables>⟧.knows ⟦<SqlTables<S> as Tables>⟧.may_leave)
+        place.now.connections (desk_with opened.0 opened.1.organizer opened.1.event opened.1.state) result.connection result.outcome }
+{
+    match HouseWords::new(alloc, opened.1.organizer(), opened.1.event()) {
+        Ok(words) => {
+            let (tables, office) = opened;
+            let desk = ShopDesk::with_words(tables, office, words);
+            serve_desk(rt, alloc, place, desk, writer)
+        }
+        Err(_) => Filed {
+            connection: connection_of(opened),
+            outcome: Err(RunFault::Memory),
+        },
+    }
+}
+
+/// `serve`: opens the shop in a database, listens at an address, says so, and answers the callers that come, one after another, each from
+/// the shop as the one before left it. Faults: 60, 61 and 62 where the database holds no shop that is whole, each for its cause alone, 63
+/// and 6, and then nothing is said and nothing has changed; 81 where the address can't be listened at or takes no callers any more; 83
+/// where that it listens couldn't be said.
+pub fn serve_shop<
+    R: Net<Listener = TcpListener, Stream = TcpStream> + Clock + RandomSource,
+    S: Alter + Drop,
+    W: Drain,
+>(
+    rt: &R,
+    alloc: Global,
+    connection: Connection<S>,
+    place: &Place<'_>,
+    writer: &mut W,
+) -> Filed<S, ()>
+    ensures said { TellsListening place.now.text.now (record { taken = W.taken writer.old; failures = W.failures writer.old }) (record { taken = W.taken writer.new; failures = W.failures writer.new }) result.outcome }
+    ensures served { IsServed S.Store (meaning ⟦<SqlTables<S> as Tables>⟧.sure ⟦<SqlTables<S> as Tables>⟧.holds ⟦<SqlTables<S> as Tables>⟧.knows ⟦<SqlTables<S> as Tables>⟧.may_leave)
+        place.now.connections (state S.Store connection) result.connection result.outcome
+        ⊎ IsRefused S.Store (state S.Store connection) result.connection result.outcome }
+{
+    match open_file(alloc, connection) {
+        Ok(opened) => serve_opened(rt, alloc, place, opened, writer),
+        Err(HandedBack { connection, error }) => Filed {
+            connection,
+            outcome: Err(fault_of_opening(error)),
+        },
+    }
+}

@@ -1,0 +1,62 @@
+//! Shops' files, as the commands that make and change one ask for them.
+
+ghost use Rattle.std.specs.Prelude.{ℕ, List, Result};
+ghost use Rattle.std.specs.declared.net.socket_addr.SocketAddr.{SocketAddr};
+ghost use Rattle.bo_base.specs.Slugs.{IsSlug};
+ghost use Rattle.bo_line.specs.Saying.{TellsListening};
+ghost use Rattle.bo_line.specs.Values.{IsToken};
+ghost use Rattle.bo_line.specs.declared.fault.RunFault.{RunFault};
+
+use crate::fault::RunFault;
+use bo_devices::Drain;
+use std::alloc::Global;
+use std::net::SocketAddr;
+
+/// Where a shop is served, and how long.
+#[derive(Clone, Copy)]
+pub struct Place<'a> {
+    /// The address that is listened at.
+    pub addr: SocketAddr,
+    /// Its text, as it was given.
+    pub text: &'a str,
+    /// How many connections are answered; 0 is without end.
+    pub connections: u64,
+}
+
+/// What the commands on a shop's file ask for, each by the file's name. What a file holds no clause can say: what becomes of it is the
+/// implementor's to say (`made`, `added`, `served`), and what becomes of its tables `bo_house` and `bo_serve` say.
+pub trait HouseFiles {
+    // what it may come to that a shop is made in the file of this name, for this organizer and this event
+    ghost made: { List ℕ → List ℕ → List ℕ → Result (Unit {0}) RunFault → Type 0 };
+
+    // what it may come to that the shop in the file of this name gets this token, with the token's number
+    ghost added: { List ℕ → List ℕ → Result ℕ RunFault → Type 0 };
+
+    // what it may come to that the shop in the file of this name is served at this address, for so many connections
+    ghost served: { List ℕ → SocketAddr → ℕ → Result (Unit {0}) RunFault → Type 0 };
+
+    /// Makes a shop in a new file. Faults: 60 where the file stands already, 80 where it can't be made, 6 and 63.
+    fn make(&self, alloc: Global, file: &str, organizer: &str, event: &str) -> Result<(), RunFault>
+        requires organizer { IsSlug organizer.now }
+        requires event { IsSlug event.now }
+        ensures { made file.now organizer.now event.now result };
+
+    /// Adds a token to the shop in a file, and tells the token's number. Faults: 80 where the file can't be opened, 60 to 63 where it
+    /// isn't a shop's that is whole, 16 where the shop has all the tokens that it may have, and 6.
+    fn add_token(&self, alloc: Global, file: &str, token: &str) -> Result<u64, RunFault>
+        requires { IsToken token.now }
+        ensures { added file.now token.now result };
+
+    /// Serves the shop in a file: says that it listens once callers can come, and then answers them, one connection after another.
+    /// Faults: 80 where the file can't be opened, 60 to 63 where it isn't a shop's that is whole, 81 where the address can't be listened
+    /// at or takes no callers any more, 83 where the writer fails, and 6.
+    fn serve<W: Drain>(
+        &self,
+        alloc: Global,
+        file: &str,
+        place: &Place<'_>,
+        writer: &mut W,
+    ) -> Result<(), RunFault>
+        ensures served { served file.now place.now.addr place.now.connections result }
+        ensures said { TellsListening place.now.text.now (record { taken = W.taken writer.old; failures = W.failures writer.old }) (record { taken = W.taken writer.new; failures = W.failures writer.new }) result };
+}

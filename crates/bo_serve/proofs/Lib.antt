@@ -1,0 +1,2 @@
+mod LawLemmas
+mod VisitLemmas

@@ -1,0 +1,64 @@
+//! A desk at an address.
+
+ghost use Rattle.std.specs.Prelude.{◌≡◌, ◌<◌, None};
+ghost use Rattle.bo_line.specs.Saying.{TellsListening};
+ghost use Rattle.bo_serve.specs.Visits.{Serving, between, most_of};
+
+use crate::clock::ClockTicks;
+use crate::serving::serve_callers;
+use bo_base::Steps;
+use bo_connection::Desk;
+use bo_devices::Drain;
+use bo_line::{Place, RunFault, said, say};
+use std::alloc::Global;
+use std::marker::Brand;
+use std::net::{Net, TcpListener, TcpStream};
+use std::random::RandomSource;
+use std::sync::ledger::{Blank, Ledger};
+use std::time::Clock;
+
+// Answers the callers of a listener by the system's clock, with a ledger for the failures of its ticks.
+fn serve_listener<M: Ledger, R: Clock + RandomSource, D: Desk>(
+    rt: &R,
+    alloc: Global,
+    listener: &TcpListener,
+    connections: u64,
+    desk: &mut D,
+    blank: Blank,
+) -> Result<(), RunFault>
+    requires blank { (blank.name ≡ M.name) × (blank.parts ≡ M.parts) × (0 < M.parts) }
+    ensures { Serving D.serves (most_of connections) (between None desk.old) (between None desk.new) result }
+{
+    let mut ticks = ClockTicks::<R, M> {
+        rt,
+        failures: Steps::<M>::new(blank),
+    };
+    serve_callers(alloc, rt, listener, connections, &mut ticks, desk)
+}
+
+/// Listens at an address, says so, and answers the callers that come, one after another, by the system's clock and its draws. Faults: 81
+/// where the address can't be listened at, and then nothing is said; 83 where that couldn't be said, and then nobody is answered; 81 and 6
+/// as `serve_callers`.
+pub fn serve_at<
+    R: Net<Listener = TcpListener, Stream = TcpStream> + Clock + RandomSource,
+    D: Desk,
+    W: Drain,
+>(rt: &R, alloc: Global, place: &Place<'_>, desk: &mut D, writer: &mut W) -> Result<(), RunFault>
+    ensures said { TellsListening place.now.text.now (record { taken = W.taken writer.old; failures = W.failures writer.old }) (record { taken = W.taken writer.new; failures = W.failures writer.new }) result }
+    ensures leads { Serving D.serves (most_of place.now.connections) (between None desk.old) (between None desk.new) result }
+{
+    let Ok(listener) = rt.bind(place.addr) else {
+        return Err(RunFault::Listen);
+    };
+    match say(writer, b"listening on ", place.text.as_bytes()) {
+        Ok(()) => serve_listener::<Brand, R, D>(
+            rt,
+            alloc,
+            &listener,
+            place.connections,
+            desk,
+            Blank::new(1),
+        ),
+        Err(refused) => said(Err(refused)),
+    }
+}
