@@ -7,12 +7,12 @@ use Rattle.bo_line.specs.declared.ended.LineEnd.{LineEnd}
 use Rattle.bo_line.specs.declared.ended.LineEnd.TheVariants as ends
 use Rattle.bo_line.specs.declared.fault.RunFault.{RunFault}
 use Rattle.bo_line.specs.declared.fault.RunFault.TheVariants as faults
-use Rattle.bo_line.specs.Asked.{Asked, adds, asked, makes, none, plain_words, runs, serves}
+use Rattle.bo_line.specs.Asked.{Asked, adds, asked, makes, none, plain_words, runs, serves, works}
 use Rattle.bo_line.specs.Line.{end_of_line, end_of_run}
 use Rattle.bo_line.specs.Values.{feed_values}
 use Rattle.bo_desk.specs.Fed.{Ports}
 use Rattle.bo_feed.specs.Feed.{FeedsTexts}
-use Rattle.bo_line.specs.Saying.{Adding, AddsToken, Making, MakesShop, Serving, ServesShop}
+use Rattle.bo_line.specs.Saying.{Adding, AddsToken, Making, MakesShop, Serving, ServesFile, Working, WorksFile}
 
 -- what the writer took, and how many of its calls failed
 abbrev pub page_of : Ports → Page
@@ -23,17 +23,18 @@ abbrev pub OnlyWrites : Ports → Ports → Type 0
 OnlyWrites old new = new ≡ record old { taken = new.taken; output = new.output }
 
 -- What is done is what a line asks for: a run with the texts of its two flags; a shop that is made in a file, or a token that is added
--- to one, or a shop in one that is served, and then nothing is read; or nothing, for one of the reasons, and then nothing is read and
--- nothing written.
-abbrev pub Does : Making → Adding → Serving → Asked → Ports → Ports → LineEnd → Type 0
-Does made added served (runs from step) old new ended = (run : Result (Unit {0}) RunFault) × FeedsTexts (feed_values from step) old new run × (ended ≡ end_of_run run)
-Does made added served (makes file organizer event) old new ended =
+-- to one, or a shop in one that is served, or its periodic work that is done, and then nothing is read; or nothing, for one of the
+-- reasons, and then nothing is read and nothing written.
+abbrev pub Does : Making → Adding → Serving → Working → Asked → Ports → Ports → LineEnd → Type 0
+Does made added served worked (runs from step) old new ended = (run : Result (Unit {0}) RunFault) × FeedsTexts (feed_values from step) old new run × (ended ≡ end_of_run run)
+Does made added served worked (makes file organizer event) old new ended =
     (run : Result (Unit {0}) RunFault) × MakesShop made file organizer event (page_of old) (page_of new) run × OnlyWrites old new × (ended ≡ end_of_run run)
-Does made added served (adds file token) old new ended = (run : Result (Unit {0}) RunFault) × AddsToken added file token (page_of old) (page_of new) run × OnlyWrites old new × (ended ≡ end_of_run run)
-Does made added served (serves file listen connections) old new ended =
-    (run : Result (Unit {0}) RunFault) × ServesShop served file listen connections (page_of old) (page_of new) run × OnlyWrites old new × (ended ≡ end_of_run run)
-Does made added served (none reasons) old new ended = (reason : ErrorKind) × IsAmong reason reasons × (ended ≡ end_of_line reason) × (new ≡ old)
+Does made added served worked (adds file token) old new ended = (run : Result (Unit {0}) RunFault) × AddsToken added file token (page_of old) (page_of new) run × OnlyWrites old new × (ended ≡ end_of_run run)
+Does made added served worked (serves file listen connections) old new ended =
+    (run : Result (Unit {0}) RunFault) × ServesFile served file listen connections (page_of old) (page_of new) run × OnlyWrites old new × (ended ≡ end_of_run run)
+Does made added served worked (works file) old new ended = (run : Result (Unit {0}) RunFault) × WorksFile worked file (page_of old) (page_of new) run × OnlyWrites old new × (ended ≡ end_of_run run)
+Does made added served worked (none reasons) old new ended = (reason : ErrorKind) × IsAmong reason reasons × (ended ≡ end_of_line reason) × (new ≡ old)
 
 -- what these words ask for is done, or there is no memory to read them, and then nothing is read and nothing written
-abbrev pub Ran : Making → Adding → Serving → List Text → Ports → Ports → LineEnd → Type 0
-Ran made added served words old new ended = Does made added served (asked (plain_words words)) old new ended ⊎ ((ended ≡ ends.Failed faults.Memory) × (new ≡ old))
+abbrev pub Ran : Making → Adding → Serving → Working → List Text → Ports → Ports → LineEnd → Type 0
+Ran made added served worked words old new ended = Does made added served worked (asked (plain_words words)) old new ended ⊎ ((ended ≡ ends.Failed faults.Memory) × (new ≡ old))

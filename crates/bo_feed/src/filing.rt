@@ -2,7 +2,7 @@
 
 ghost use Rattle.std.specs.Prelude.{◌≡◌, ◌&&◌, option_map};
 ghost use Rattle.bo_base.specs.Slugs.{is_slug};
-ghost use Rattle.bo_line.specs.Saying.{AddsToken, MakesShop, ServesShop};
+ghost use Rattle.bo_line.specs.Saying.{AddsToken, MakesShop, ServesFile, WorksFile};
 
 use bo_base::is_slug;
 use bo_devices::Drain;
@@ -70,7 +70,7 @@ pub fn serve_shop<F: HouseFiles, W: Drain>(
     connections: Option<&str>,
     writer: &mut W,
 ) -> Result<(), RunFault>
-    ensures { ServesShop F.served file.now listen.now (option_map (λ t. t.now) connections.entry) (record { taken = W.taken writer.old; failures = W.failures writer.old }) (record { taken = W.taken writer.new; failures = W.failures writer.new }) result }
+    ensures { ServesFile F.served file.now listen.now (option_map (λ t. t.now) connections.entry) (record { taken = W.taken writer.old; failures = W.failures writer.old }) (record { taken = W.taken writer.new; failures = W.failures writer.new }) result }
 {
     let Some((addr, connections)) = serve_values(listen, connections) else {
         return Err(RunFault::Argument);
@@ -81,4 +81,19 @@ pub fn serve_shop<F: HouseFiles, W: Drain>(
         connections,
     };
     files.serve(alloc, file, &place, writer)
+}
+
+/// `periodic`: does the periodic work of the shop in a file, and says what was done, `expired E, deleted D, sent S`.
+pub fn work_shop<F: HouseFiles, W: Drain>(
+    alloc: Global,
+    files: &F,
+    file: &str,
+    writer: &mut W,
+) -> Result<(), RunFault>
+    ensures { WorksFile F.worked file.now (record { taken = W.taken writer.old; failures = W.failures writer.old }) (record { taken = W.taken writer.new; failures = W.failures writer.new }) result }
+{
+    match files.work(alloc, file) {
+        Ok(done) => said(say(writer, done.as_slice(), b"")),
+        Err(fault) => Err(fault),
+    }
 }

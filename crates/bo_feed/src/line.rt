@@ -4,7 +4,7 @@ ghost use Rattle.std.specs.Prelude.{map, string_bytes};
 ghost use Rattle.bo_feed.specs.Line.{Ran};
 
 use crate::feeding::feed_texts;
-use crate::filing::{add_token, make_shop, serve_shop};
+use crate::filing::{add_token, make_shop, serve_shop, work_shop};
 use bo_devices::{Drain, Source};
 use bo_line::{
     HouseFiles, Line, LineEnd, RunFault, answer_line, plain_words, read_line, report, report_run,
@@ -23,7 +23,7 @@ pub fn run<O: Print + Eprint, F: HouseFiles, R: Source, W: Drain>(
     reader: &mut R,
     writer: &mut W,
 ) -> LineEnd
-    ensures { Ran F.made F.added F.served (map string_bytes words.now)
+    ensures { Ran F.made F.added F.served F.worked (map string_bytes words.now)
         (record { left = R.left reader.old; taken = W.taken writer.old; calls = R.calls reader.old; input = R.failures reader.old; output = W.failures writer.old })
         (record { left = R.left reader.new; taken = W.taken writer.new; calls = R.calls reader.new; input = R.failures reader.new; output = W.failures writer.new }) result }
 {
@@ -52,6 +52,7 @@ pub fn run<O: Print + Eprint, F: HouseFiles, R: Source, W: Drain>(
                 writer,
             ),
         ),
+        Ok(Line::Periodic(line)) => report_run(rt, work_shop(alloc, files, line.file, writer)),
         Err(error) => answer_line(rt, &error),
     }
 }

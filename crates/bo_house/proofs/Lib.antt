@@ -1,2 +1,3 @@
 mod ServeLemmas
 mod TokenLemmas
+mod WorkLemmas

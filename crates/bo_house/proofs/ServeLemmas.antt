@@ -6,9 +6,10 @@ use Rattle.sqlite.specs.declared.connection.Connection.{Connection}
 use Rattle.bo_lists.specs.Lists.{State}
 use Rattle.bo_tables.specs.declared.sql.SqlTables.{SqlTables}
 use Rattle.bo_desk.specs.Streams.{DeskView, Meaning, desk_with}
+use Rattle.bo_http.specs.Written.{Page}
 use Rattle.bo_line.specs.declared.fault.RunFault.{RunFault}
 use Rattle.bo_line.specs.declared.fault.RunFault.TheVariants as faults
-use Rattle.bo_house.specs.Served.{IsRefused, IsServed, LeadsFrom, OpensAs}
+use Rattle.bo_house.specs.Served.{IsOpenedAndServed, IsSilent, LeadsFrom, OpensAs, StaysUnopened}
 
 module _ {S : Type 0} (tables : Meaning (SqlTables S)) (most : ℕ) where
   -- the desk of words that were made of an office's names is the office's
@@ -22,6 +23,6 @@ module _ {S : Type 0} (tables : Meaning (SqlTables S)) (most : ℕ) where
   pub nobody_answered : (first : DeskView (SqlTables S)) (left : Connection S) → left ≡ first.tables.connection → LeadsFrom tables most first left (Err faults.Memory)
   nobody_answered first left is = record { last = first; serving = (0, omega arith, refl, refl); connection = is }
 
-  pub is_served : (g : Ghosts S) (old : Connected) (desk : DeskView (SqlTables S)) (left : Connection S) (outcome : Result (Unit {0}) RunFault) → OpensAs g old desk
-      → LeadsFrom tables most desk left outcome → IsServed g tables most old left outcome ⊎ IsRefused g old left outcome
-  is_served g old desk left outcome opens leads = inl (record { desk = desk; opens = opens; leads = leads })
+  pub is_served : (g : Ghosts S) (old : Connected) (before after : Page) (desk : DeskView (SqlTables S)) (left : Connection S) (outcome : Result (Unit {0}) RunFault) → OpensAs g old desk
+      → LeadsFrom tables most desk left outcome → IsOpenedAndServed g tables most old left outcome ⊎ (StaysUnopened g old left outcome × IsSilent before after)
+  is_served g old before after desk left outcome opens leads = inl (record { desk = desk; opens = opens; leads = leads })

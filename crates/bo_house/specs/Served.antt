@@ -12,8 +12,9 @@ use Rattle.bo_opens.specs.declared.error.OpenError.{OpenError}
 use Rattle.bo_reopen.specs.Opened.{IsOpened, IsReason}
 use Rattle.bo_tables.specs.declared.sql.SqlTables.{SqlTables}
 use Rattle.bo_desk.specs.Streams.{DeskView, Meaning, Serves}
+use Rattle.bo_http.specs.Written.{Page}
 use Rattle.bo_line.specs.declared.fault.RunFault.{RunFault}
-use Rattle.bo_serve.specs.Visits.{Serving, between, most_of}
+use Rattle.bo_serve.specs.Visits.{AnswersCallers, between, most_of}
 use Rattle.bo_house.specs.Faults.{fault_of_opening}
 
 -- The desk is that of the shop in the database: where the disk returned what was written and the connection is open, its tables and its
@@ -30,17 +31,21 @@ pub record OpensAs {S : Type 0} (g : Ghosts S) (old : Connected) (desk : DeskVie
 -- from this desk callers are answered, at most so many, and the connection is that of the desk as the last one left it
 pub record LeadsFrom {S : Type 0} (tables : Meaning (SqlTables S)) (most : ℕ) (first : DeskView (SqlTables S)) (left : Connection S) (outcome : Result (Unit {0}) RunFault) : Type 0 where
   pub last : DeskView (SqlTables S)
-  pub serving : Serving (Serves tables) (most_of most) (between None first) (between None last) outcome
+  pub serving : AnswersCallers (Serves tables) (most_of most) (between None first) (between None last) outcome
   pub connection : left ≡ last.tables.connection
 
 -- the shop in the database is served, from the desk that it is opened as
-pub record IsServed {S : Type 0} (g : Ghosts S) (tables : Meaning (SqlTables S)) (most : ℕ) (old : Connected) (left : Connection S) (outcome : Result (Unit {0}) RunFault) : Type 0 where
+pub record IsOpenedAndServed {S : Type 0} (g : Ghosts S) (tables : Meaning (SqlTables S)) (most : ℕ) (old : Connected) (left : Connection S) (outcome : Result (Unit {0}) RunFault) : Type 0 where
   pub desk : DeskView (SqlTables S)
   pub opens : OpensAs g old desk
   pub leads : LeadsFrom tables most desk left outcome
 
--- the database isn't opened, for its cause alone, and nobody is answered
-pub record IsRefused {S : Type 0} (g : Ghosts S) (old : Connected) (left : Connection S) (outcome : Result (Unit {0}) RunFault) : Type 0 where
+-- nothing is said
+abbrev pub IsSilent : Page → Page → Type 0
+IsSilent old new = new ≡ old
+
+-- the database isn't opened, for its cause alone, and nothing in it has changed
+pub record StaysUnopened {S A : Type 0} (g : Ghosts S) (old : Connected) (left : Connection S) (outcome : Result A RunFault) : Type 0 where
   pub error : OpenError
   pub told : outcome ≡ Err (fault_of_opening error)
   pub cause : HasCleanDisk (state g left) → IsTrue (state g left).is_open → (db : Database) → IsAt db old → IsReason db error

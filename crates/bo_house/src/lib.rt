@@ -1,4 +1,4 @@
-//! What becomes of a shop's database when a command makes a shop in it, adds a token, or serves it.
+//! What becomes of a shop's database when a command makes a shop in it, adds a token, serves it, or does its periodic work.
 #![tactic(auto)]
 
 pub mod adding;
@@ -6,9 +6,13 @@ pub mod faults;
 pub mod filed;
 pub mod making;
 pub mod serving;
+pub mod words;
+pub mod working;
 
 pub use adding::add_shop_token;
 pub use faults::{fault_of_opening, fault_of_rows, fault_of_token};
 pub use filed::Filed;
 pub use making::make_new_shop;
 pub use serving::serve_shop;
+pub use words::WorkWords;
+pub use working::work_shop;

@@ -4,7 +4,7 @@ ghost use Rattle.std.specs.Prelude.{◌⊎◌};
 ghost use Rattle.sqlite.specs.Held.{state};
 ghost use Rattle.bo_desk.specs.Streams.{DeskView, desk_with, meaning};
 ghost use Rattle.bo_line.specs.Saying.{TellsListening};
-ghost use Rattle.bo_house.specs.Served.{IsRefused, IsServed, LeadsFrom};
+ghost use Rattle.bo_house.specs.Served.{IsOpenedAndServed, IsSilent, LeadsFrom, StaysUnopened};
 
 use crate::faults::fault_of_opening;
 use crate::filed::{Filed, connection_of};
@@ -93,9 +93,10 @@ pub fn serve_shop<
     writer: &mut W,
 ) -> Filed<S, ()>
     ensures said { TellsListening place.now.text.now (record { taken = W.taken writer.old; failures = W.failures writer.old }) (record { taken = W.taken writer.new; failures = W.failures writer.new }) result.outcome }
-    ensures served { IsServed S.Store (meaning ⟦<SqlTables<S> as Tables>⟧.sure ⟦<SqlTables<S> as Tables>⟧.holds ⟦<SqlTables<S> as Tables>⟧.knows ⟦<SqlTables<S> as Tables>⟧.may_leave)
+    ensures served { IsOpenedAndServed S.Store (meaning ⟦<SqlTables<S> as Tables>⟧.sure ⟦<SqlTables<S> as Tables>⟧.holds ⟦<SqlTables<S> as Tables>⟧.knows ⟦<SqlTables<S> as Tables>⟧.may_leave)
         place.now.connections (state S.Store connection) result.connection result.outcome
-        ⊎ IsRefused S.Store (state S.Store connection) result.connection result.outcome }
+        ⊎ (StaysUnopened S.Store (state S.Store connection) result.connection result.outcome
+        × IsSilent (record { taken = W.taken writer.old; failures = W.failures writer.old }) (record { taken = W.taken writer.new; failures = W.failures writer.new })) }
 {
     match open_file(alloc, connection) {
         Ok(opened) => serve_opened(rt, alloc, place, opened, writer),

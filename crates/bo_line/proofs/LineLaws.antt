@@ -2,7 +2,7 @@
 use Rattle.std.proofs.Common.{◌≡◌, ◌++◌, ℕ, List, [], ◌∷◌, Some, None, codes, refl}
 use Rattle.clap.specs.declared.error.ErrorKind.TheVariants as kinds
 use Rattle.clap.proofs.OnLiterals.{clap_on_literals}
-use Rattle.bo_line.specs.Asked.{adds, asked, makes, none, plain_words, runs, serves}
+use Rattle.bo_line.specs.Asked.{adds, asked, makes, none, plain_words, runs, serves, works}
 
 pub in_order : (program from step : List ℕ) → asked (program ∷ codes "feed" ∷ (codes "--from=" ++ from) ∷ (codes "--step=" ++ step) ∷ []) ≡ runs from step
 unfolding clap_on_literals asked
@@ -90,3 +90,11 @@ signed_connections = refl
 pub no_listen : (program : List ℕ) → asked (program ∷ codes "serve" ∷ codes "hall.db" ∷ []) ≡ none (kinds.MissingRequiredArgument ∷ [])
 unfolding clap_on_literals asked
 no_listen program = refl
+
+pub works_off : (program : List ℕ) → asked (program ∷ codes "periodic" ∷ codes "hall.db" ∷ []) ≡ works (codes "hall.db")
+unfolding clap_on_literals asked
+works_off program = refl
+
+pub no_file : (program : List ℕ) → asked (program ∷ codes "periodic" ∷ []) ≡ none (kinds.MissingRequiredArgument ∷ [])
+unfolding clap_on_literals asked
+no_file program = refl

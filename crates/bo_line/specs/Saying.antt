@@ -70,7 +70,19 @@ Serving = List ℕ → SocketAddr → ℕ → Result (Unit {0}) RunFault → Typ
 
 -- `serve`: the shop in the file is served at the address, and that is told; or one of the two values can't be read, and nothing is asked of
 -- a file
-abbrev pub ServesShop : Serving → List ℕ → List ℕ → Option (List ℕ) → Page → Page → Result (Unit {0}) RunFault → Type 0
-ServesShop served file listen connections old new result =
+abbrev pub ServesFile : Serving → List ℕ → List ℕ → Option (List ℕ) → Page → Page → Result (Unit {0}) RunFault → Type 0
+ServesFile served file listen connections old new result =
     ((addr : SocketAddr) × (n : ℕ) × AreServeValues listen connections (Some (addr, n)) × served file addr n result × TellsListening listen old new result)
     ⊎ (AreServeValues listen connections None × (result ≡ Err faults.Argument) × (new ≡ old))
+
+-- what periodic work of the shop in a file may come to, by the file's name: a text of what was done
+abbrev pub Working : Type 1
+Working = List ℕ → Result (List ℕ) RunFault → Type 0
+
+-- the line of such a text
+abbrev pub work_line : List ℕ → List ℕ
+work_line text = text ++ 10 ∷ []
+
+-- `periodic`: the periodic work of the shop in the file is done, and what was done is told
+abbrev pub WorksFile : Working → List ℕ → Page → Page → Result (Unit {0}) RunFault → Type 0
+WorksFile worked file old new result = (came : Result (List ℕ) RunFault) × worked file came × Tells work_line came old new result

@@ -31,11 +31,16 @@ token_app = with_rule (with_rule (new_app (codes "token-add")) (word (codes "fil
 abbrev pub serve_app : App
 serve_app = with_rule (with_rule (with_rule (new_app (codes "serve")) (word (codes "file"))) (flag (codes "listen"))) (choice (codes "connections"))
 
+-- `periodic FILE`
+abbrev pub work_app : App
+work_app = with_rule (new_app (codes "periodic")) (word (codes "file"))
+
 -- a command has to be there
 abbrev pub needs_command : Shape → Shape
 needs_command top = record top { subcommand_required = true }
 
--- the program, with its four commands
+-- the program, with its five commands
 abbrev pub program : App
 program =
-    with_subcommand (with_subcommand (with_subcommand (with_subcommand (on_top needs_command (new_app (codes "boxoffice"))) feed_app.top) init_app.top) token_app.top) serve_app.top
+    with_subcommand (with_subcommand (with_subcommand (with_subcommand (with_subcommand (on_top needs_command (new_app (codes "boxoffice"))) feed_app.top) init_app.top) token_app.top) serve_app.top)
+    work_app.top

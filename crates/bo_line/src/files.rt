@@ -8,6 +8,7 @@ ghost use Rattle.bo_line.specs.Values.{IsToken};
 ghost use Rattle.bo_line.specs.declared.fault.RunFault.{RunFault};
 
 use crate::fault::RunFault;
+use bo_base::Body;
 use bo_devices::Drain;
 use std::alloc::Global;
 use std::net::SocketAddr;
@@ -24,7 +25,7 @@ pub struct Place<'a> {
 }
 
 /// What the commands on a shop's file ask for, each by the file's name. What a file holds no clause can say: what becomes of it is the
-/// implementor's to say (`made`, `added`, `served`), and what becomes of its tables `bo_house` and `bo_serve` say.
+/// implementor's to say (`made`, `added`, `served`, `worked`), and what becomes of its tables `bo_house` and `bo_serve` say.
 pub trait HouseFiles {
     // what it may come to that a shop is made in the file of this name, for this organizer and this event
     ghost made: { List ℕ → List ℕ → List ℕ → Result (Unit {0}) RunFault → Type 0 };
@@ -34,6 +35,9 @@ pub trait HouseFiles {
 
     // what it may come to that the shop in the file of this name is served at this address, for so many connections
     ghost served: { List ℕ → SocketAddr → ℕ → Result (Unit {0}) RunFault → Type 0 };
+
+    // what it may come to that periodic work is done in the file of this name, with a text of what was done
+    ghost worked: { List ℕ → Result (List ℕ) RunFault → Type 0 };
 
     /// Makes a shop in a new file. Faults: 60 where the file stands already, 80 where it can't be made, 6 and 63.
     fn make(&self, alloc: Global, file: &str, organizer: &str, event: &str) -> Result<(), RunFault>
@@ -59,4 +63,10 @@ pub trait HouseFiles {
     ) -> Result<(), RunFault>
         ensures served { served file.now place.now.addr place.now.connections result }
         ensures said { TellsListening place.now.text.now (record { taken = W.taken writer.old; failures = W.failures writer.old }) (record { taken = W.taken writer.new; failures = W.failures writer.new }) result };
+
+    /// Does the periodic work of the shop in a file at the system's moment, and tells what was done: `expired E, deleted D, sent S`. Faults:
+    /// 80 where the file can't be opened, 60 to 63 where it isn't a shop's that is whole, or what was done couldn't be written, 85 where
+    /// there is no clock or no draw, and 6.
+    fn work(&self, alloc: Global, file: &str) -> Result<Body, RunFault>
+        ensures { worked file.now result };
 }

@@ -2,7 +2,7 @@
 
 ghost use Rattle.std.specs.Prelude.{◌≡◌, ◌++◌, ℕ, List, [], ◌∷◌, Some, None, codes};
 ghost use Rattle.clap.specs.declared.error.ErrorKind.TheVariants.{DisplayHelp, MissingRequiredArgument, MissingSubcommand, UnknownArgument};
-ghost use Rattle.bo_line.specs.Asked.{adds, asked, makes, none, plain_words, runs, serves};
+ghost use Rattle.bo_line.specs.Asked.{adds, asked, makes, none, plain_words, runs, serves, works};
 
 /// A line with both flags asks for a run with their texts, in either order, whatever the texts are.
 pub fn both_flags_ask_for_a_run()
@@ -42,6 +42,12 @@ pub fn a_served_file_is_known_by_its_place()
     ensures signed { asked (plain_words (codes "boxoffice" ∷ codes "serve" ∷ codes "hall.db" ∷ codes "--listen" ∷ codes "[::1]:80" ∷ codes "--connections" ∷ codes "-1" ∷ []))
         ≡ serves (codes "hall.db") (codes "[::1]:80") (Some []) }
     ensures lacking { (program : List ℕ) → asked (program ∷ codes "serve" ∷ codes "hall.db" ∷ []) ≡ none (MissingRequiredArgument ∷ []) }
+{}
+
+/// A line of `periodic` names its file by its place.
+pub fn a_file_of_periodic_work_is_known_by_its_place()
+    ensures { (program : List ℕ) → (asked (program ∷ codes "periodic" ∷ codes "hall.db" ∷ []) ≡ works (codes "hall.db"))
+        × (asked (program ∷ codes "periodic" ∷ []) ≡ none (MissingRequiredArgument ∷ [])) }
 {}
 
 /// Help is shown where it is asked for.

@@ -4,7 +4,7 @@ ghost use Rattle.std.specs.Prelude.{◌≡◌, IfOk, IfErr, Some, map, option_ma
 ghost use Rattle.clap.specs.Walk.{rule_of, texts};
 ghost use Rattle.clap.specs.Words.{app_of, first_of, found_of, kind_of, rows_of};
 ghost use Rattle.bo_line.specs.Asked.{IsReason, asked, asked_by_line, asked_of, is_signed, plain_words, takes_number, text_of};
-ghost use Rattle.bo_line.specs.Words.{choice, feed_app, flag, init_app, program, serve_app, token_app, word};
+ghost use Rattle.bo_line.specs.Words.{choice, feed_app, flag, init_app, program, serve_app, token_app, word, work_app};
 
 use clap::{Arg, ArgMatches, Command, Error};
 use std::alloc::{AllocError, Global};
@@ -20,6 +20,8 @@ pub enum Line<'a> {
     TokenAdd(TokenLine<'a>),
     /// `serve`: the shop in a file, at an address.
     Serve(ServeLine<'a>),
+    /// `periodic`: the periodic work of the shop in a file.
+    Periodic(WorkLine<'a>),
 }
 
 /// The texts that follow `--from` and `--step`.
@@ -60,6 +62,13 @@ pub struct ServeLine<'a> {
     pub listen: &'a str,
     /// The text of `--connections`, where it is there.
     pub connections: Option<&'a str>,
+}
+
+/// The text of a line of `periodic`.
+#[derive(Clone, Copy, Debug)]
+pub struct WorkLine<'a> {
+    /// The name of the file.
+    pub file: &'a str,
 }
 
 // A flag with a text, which may be left out.
@@ -168,6 +177,15 @@ fn serve_command<'a>(alloc: Global) -> Result<Command<'a>, AllocError>
         ))
 }
 
+// `periodic`, with its help.
+fn work_command<'a>(alloc: Global) -> Result<Command<'a>, AllocError>
+    ensures { IfOk result (λ command. app_of command ≡ work_app) }
+{
+    Command::new(alloc, "periodic")
+        .about("Ends what is overdue in a shop's file, and serves its waiting list")
+        .arg(word(alloc, "file", "FILE", "The shop's file"))
+}
+
 // The commands of the program, with their help.
 fn commands<'a>(alloc: Global) -> Result<Command<'a>, AllocError>
     ensures { IfOk result (λ command. app_of command ≡ program) }
@@ -176,13 +194,15 @@ fn commands<'a>(alloc: Global) -> Result<Command<'a>, AllocError>
     let init = init_command(alloc)?;
     let token_add = token_command(alloc)?;
     let serve = serve_command(alloc)?;
+    let periodic = work_command(alloc)?;
     Command::new(alloc, "boxoffice")
         .about("A ticket shop for one event")
         .subcommand_required(true)
         .subcommand(feed)?
         .subcommand(init)?
         .subcommand(token_add)?
-        .subcommand(serve)
+        .subcommand(serve)?
+        .subcommand(periodic)
 }
 
 // Whether a word begins with a minus sign and a digit.
@@ -257,6 +277,11 @@ fn line_of<'a>(command: &str, matches: &ArgMatches<'a>) -> Line<'a>
             file: text_of(matches, "file"),
             listen: text_of(matches, "listen"),
             connections: given(matches, "connections"),
+        });
+    }
+    if command == "periodic" {
+        return Line::Periodic(WorkLine {
+            file: text_of(matches, "file"),
         });
     }
     Line::Feed(FeedLine {

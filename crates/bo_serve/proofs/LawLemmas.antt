@@ -4,9 +4,13 @@ use Rattle.bo_connection.specs.declared.failure.Failure.{Failure}
 use Rattle.bo_connection.specs.Run.{Devices, RunLeads}
 use Rattle.bo_sound.specs.Sound.{IsSound}
 use Rattle.bo_kept.specs.ShopView.{ShopView}
-use Rattle.bo_desk.specs.Deliveries.{Delivery, IsRunning, Opening, Running, StandsFor, Views}
-use Rattle.bo_desk.specs.Streams.{DeskView, House, IsOf, Meaning, Serves, ServesAndKeeps, ServesList, ServesRunning, words_of}
-use Rattle.bo_desk.proofs.Streams.{nothing-too-much, run-on, run_sure, told-once}
+use Rattle.bo_streams.specs.Deliveries.{Delivery, IsRunning, Opening, Running, StandsFor, Views}
+use Rattle.bo_streams.specs.DeskView.{DeskView, House, IsOf, Meaning, words_of}
+use Rattle.bo_streams.specs.Served.{Serves}
+use Rattle.bo_streams.specs.Streams.{ServesAndKeeps, ServesList, ServesRunning}
+use Rattle.bo_connection.proofs.FollowLemmas.{run_sure}
+use Rattle.bo_streams.proofs.RowLemmas.{nothing-too-much}
+use Rattle.bo_streams.proofs.StreamLemmas.{run-on, told-once}
 use Rattle.bo_serve.specs.Visits.{Between, Visits, seen_at}
 use Rattle.bo_serve.proofs.VisitLemmas.{visits_seen}
 

@@ -61,6 +61,6 @@ EndsEarly (faults.Run failures.Output) n = n ≡ 0
 EndsEarly fault n = ⊥
 
 -- all of them came; or some did, and then a fault ended it
-abbrev pub Serving : {D : Type 0} → (D → Tick → Message → Answer → D → Type 0) → ℕ → Between D → Between D → Result (Unit {0}) RunFault → Type 0
-Serving Serves most old new (Ok u) = Visits Serves most old new
-Serving Serves most old new (Err fault) = (n : ℕ) × (n ≤ most) × EndsEarly fault n × Visits Serves n old new
+abbrev pub AnswersCallers : {D : Type 0} → (D → Tick → Message → Answer → D → Type 0) → ℕ → Between D → Between D → Result (Unit {0}) RunFault → Type 0
+AnswersCallers Serves most old new (Ok u) = Visits Serves most old new
+AnswersCallers Serves most old new (Err fault) = (n : ℕ) × (n ≤ most) × EndsEarly fault n × Visits Serves n old new

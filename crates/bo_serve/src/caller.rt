@@ -2,7 +2,7 @@
 
 use std::io;
 use std::io::{ErrorKind, Read, Write};
-use std::net::TcpStream;
+use std::net::{Shutdown, TcpStream};
 use std::time::{Clock, Duration, Instant};
 
 /// How long a caller is waited for within a request, in seconds.
@@ -13,6 +13,9 @@ const BETWEEN: u64 = 200;
 
 /// How long a connection lasts at most, in seconds.
 const WHOLE: u64 = 60;
+
+/// How many parts of 4 KiB are read away at most of what still comes when a connection is ended.
+const AWAY: u32 = 1024;
 
 /// A caller at the other end of a connection. Since callers are answered one after another, none is waited for long: 5 seconds for a part
 /// of a request, or of an answer to be taken, 200 milliseconds for the next request, and a minute in all.
@@ -40,6 +43,23 @@ impl<'a, C: Clock> Caller<'a, C> {
         } else {
             Err(io::Error::from(ErrorKind::TimedOut))
         }
+    }
+
+    /// Ends the connection: nothing more is written, and what still comes is read away, up to 4 MiB, as long as a connection lasts. Where
+    /// it stayed unread the system would break the connection off, and the caller could lose the answer that was written last.
+    pub(crate) fn part(&self) -> io::Result<()> {
+        self.stream.shutdown(Shutdown::Write)?;
+        self.stream
+            .set_read_timeout(Some(Duration::from_millis(BETWEEN)))?;
+        let mut stream = self.stream;
+        let mut part = [0; 4096];
+        for _ in 0..AWAY {
+            self.has_time()?;
+            if stream.read(&mut part)? == 0 {
+                break;
+            }
+        }
+        Ok(())
     }
 }
 

@@ -18,8 +18,9 @@ pub struct ClockTicks<'a, O, M: Ledger> {
     pub failures: Steps<M>,
 }
 
-// What the clock shows, and a draw.
-fn read_tick<O: Clock + RandomSource>(rt: &O) -> io::Result<Tick> {
+/// What the system's clock shows, and a draw of the system. A clock beyond the last moment shows that one. It fails where there is no clock
+/// or no draw.
+pub fn read_tick<O: Clock + RandomSource>(rt: &O) -> io::Result<Tick> {
     let clock = Moment::new(0).later(rt.since_1970()?.as_secs());
     let mut bytes = [0; 16];
     rt.fill_bytes(&mut bytes)?;

@@ -3,8 +3,10 @@
 ghost use Rattle.std.specs.Prelude.{ℕ, List};
 ghost use Rattle.bo_sound.specs.Sound.{IsSound};
 ghost use Rattle.bo_kept.specs.ShopView.{ShopView};
-ghost use Rattle.bo_desk.specs.Deliveries.{Delivery, IsRunning, Opening, Running, StandsFor, Views};
-ghost use Rattle.bo_desk.specs.Streams.{DeskView, House, IsOf, Serves, ServesAndKeeps, ServesList, ServesRunning, meaning, words_of};
+ghost use Rattle.bo_streams.specs.Deliveries.{Delivery, IsRunning, Opening, Running, StandsFor, Views};
+ghost use Rattle.bo_streams.specs.DeskView.{DeskView, House, IsOf, meaning, words_of};
+ghost use Rattle.bo_streams.specs.Served.{Serves};
+ghost use Rattle.bo_streams.specs.Streams.{ServesAndKeeps, ServesList, ServesRunning};
 ghost use Rattle.bo_serve.specs.Visits.{Between, Visits, seen_at};
 
 use bo_kept::Tables;

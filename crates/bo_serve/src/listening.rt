@@ -2,7 +2,7 @@
 
 ghost use Rattle.std.specs.Prelude.{◌≡◌, ◌<◌, None};
 ghost use Rattle.bo_line.specs.Saying.{TellsListening};
-ghost use Rattle.bo_serve.specs.Visits.{Serving, between, most_of};
+ghost use Rattle.bo_serve.specs.Visits.{AnswersCallers, between, most_of};
 
 use crate::clock::ClockTicks;
 use crate::serving::serve_callers;
@@ -27,7 +27,7 @@ fn serve_listener<M: Ledger, R: Clock + RandomSource, D: Desk>(
     blank: Blank,
 ) -> Result<(), RunFault>
     requires blank { (blank.name ≡ M.name) × (blank.parts ≡ M.parts) × (0 < M.parts) }
-    ensures { Serving D.serves (most_of connections) (between None desk.old) (between None desk.new) result }
+    ensures { AnswersCallers D.serves (most_of connections) (between None desk.old) (between None desk.new) result }
 {
     let mut ticks = ClockTicks::<R, M> {
         rt,
@@ -45,7 +45,7 @@ pub fn serve_at<
     W: Drain,
 >(rt: &R, alloc: Global, place: &Place<'_>, desk: &mut D, writer: &mut W) -> Result<(), RunFault>
     ensures said { TellsListening place.now.text.now (record { taken = W.taken writer.old; failures = W.failures writer.old }) (record { taken = W.taken writer.new; failures = W.failures writer.new }) result }
-    ensures leads { Serving D.serves (most_of place.now.connections) (between None desk.old) (between None desk.new) result }
+    ensures leads { AnswersCallers D.serves (most_of place.now.connections) (between None desk.old) (between None desk.new) result }
 {
     let Ok(listener) = rt.bind(place.addr) else {
         return Err(RunFault::Listen);

@@ -2,7 +2,7 @@
 
 ghost use Rattle.std.specs.Prelude.{◌≡◌, IfErr};
 ghost use Rattle.bo_line.specs.declared.fault.RunFault.TheVariants.{Listen};
-ghost use Rattle.bo_serve.specs.Visits.{Comes, Serving, between, most_of};
+ghost use Rattle.bo_serve.specs.Visits.{AnswersCallers, Comes, between, most_of};
 
 use crate::visit::answer;
 use bo_connection::{Desk, Room};
@@ -70,7 +70,7 @@ pub fn serve_callers<C: Clock, T: Ticks, D: Desk>(
     ticks: &mut T,
     desk: &mut D,
 ) -> Result<(), RunFault>
-    ensures { Serving D.serves (most_of connections) (between (T.told ticks.old) desk.old) (between (T.told ticks.new) desk.new) result }
+    ensures { AnswersCallers D.serves (most_of connections) (between (T.told ticks.old) desk.old) (between (T.told ticks.new) desk.new) result }
 {
     let Ok(mut room) = Room::new(alloc) else {
         return Err(RunFault::Memory);

@@ -46,8 +46,8 @@ fn converse<
 }
 
 /// Answers a caller from its first byte to the end of its connection, or to where it breaks off: it is waited for 5 seconds within a
-/// request, 200 milliseconds between two, and a minute in all. What becomes of the connection is nobody's but the caller's, so it isn't
-/// told.
+/// request, 200 milliseconds between two, and a minute in all. At the end what it still sends is read away, so that it doesn't lose the last
+/// answer. What becomes of the connection is nobody's but the caller's, so it isn't told.
 pub fn answer<C: Clock, T: Ticks, D: Desk>(
     alloc: Global,
     clock: &C,
@@ -74,6 +74,7 @@ pub fn answer<C: Clock, T: Ticks, D: Desk>(
         (Blank::new(1), Blank::new(1)),
         (Blank::new(1), Blank::new(1)),
     );
+    let _ = Caller::new(clock, stream, since).part();
 }
 
 // When a connection came, whose times are set.

@@ -2,9 +2,9 @@
 
 ghost use Rattle.std.specs.Prelude.{⊤, ◌≡◌};
 
-use bo_base::Slug;
+use bo_base::{Body, Slug};
 use bo_devices::Drain;
-use bo_house::{Filed, add_shop_token, make_new_shop, serve_shop};
+use bo_house::{Filed, add_shop_token, make_new_shop, serve_shop, work_shop};
 use bo_line::{HouseFiles, Place, RunFault};
 use sqlite::{Connection, Error, ErrorCode, File, FileStore};
 use std::alloc::Global;
@@ -59,6 +59,8 @@ impl HouseFiles for HostFiles<'_> {
 
     ghost served = { λ _ _ _ _. ⊤ };
 
+    ghost worked = { λ _ _. ⊤ };
+
     fn make(
         &self,
         alloc: Global,
@@ -95,6 +97,16 @@ impl HouseFiles for HostFiles<'_> {
         }
         match self.opened(file) {
             Ok(connection) => ended(serve_shop(self.rt, alloc, connection, place, writer)),
+            Err(fault) => Err(fault),
+        }
+    }
+
+    fn work(&self, alloc: Global, file: &str) -> Result<Body, RunFault> {
+        if !self.stands(file) {
+            return Err(RunFault::File);
+        }
+        match self.opened(file) {
+            Ok(connection) => ended(work_shop(self.rt, alloc, connection)),
             Err(fault) => Err(fault),
         }
     }

@@ -5,7 +5,7 @@ use crate::tried::{run_line, words};
 use bo_line::LineEnd;
 
 /// The lines, each with its words.
-static LINES: [&str; 26] = [
+static LINES: [&str; 29] = [
     "boxoffice feed --from 2027-01-31T23:00:00Z --step 3600",
     "boxoffice feed --step=0 --from=1970-01-01T00:00:00Z",
     "boxoffice feed --from noon --step 60",
@@ -31,6 +31,9 @@ static LINES: [&str; 26] = [
     "boxoffice serve hall.db --listen 127.0.0.1:8080 --connections -1",
     "boxoffice serve hall.db",
     "boxoffice serve --listen 127.0.0.1:8080",
+    "boxoffice periodic hall.db",
+    "boxoffice periodic new.db",
+    "boxoffice periodic",
     "boxoffice --help",
 ];
 

@@ -3,6 +3,7 @@
 ghost use Rattle.std.specs.Prelude.{⊤, ◌≡◌, ◌<◌};
 
 use crate::failing::FailingWriter;
+use bo_base::Body;
 use bo_devices::Drain;
 use bo_feed::run;
 use bo_line::{HouseFiles, LineEnd, Place, RunFault, counted, said, say};
@@ -30,6 +31,8 @@ impl HouseFiles for OneFile {
     ghost added = { λ _ _ _. ⊤ };
 
     ghost served = { λ _ _ _ _. ⊤ };
+
+    ghost worked = { λ _ _. ⊤ };
 
     fn make(
         &self,
@@ -68,6 +71,15 @@ impl HouseFiles for OneFile {
             Ok(()) => Ok(()),
             Err(refused) => said(Err(refused)),
         }
+    }
+
+    fn work(&self, alloc: Global, file: &str) -> Result<Body, RunFault> {
+        if file != "hall.db" {
+            return Err(RunFault::File);
+        }
+        let mut done = Vec::new(alloc);
+        done.extend_from_slice(b"expired 0, deleted 0, sent 0")?;
+        Ok(Body::new(done))
     }
 }
 

@@ -1,4 +1,4 @@
-use Rattle.bo_desk.specs.Streams.{meaning}
+use Rattle.bo_streams.specs.DeskView.{meaning}
 use Rattle.bo_serve.proofs.LawLemmas.{told_once}
 use Rattle.bo_serve.proofs.laws.callers_are_told_once.Goals as goal
 

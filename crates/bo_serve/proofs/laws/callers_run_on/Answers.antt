@@ -1,4 +1,4 @@
-use Rattle.bo_desk.specs.Streams.{meaning}
+use Rattle.bo_streams.specs.DeskView.{meaning}
 use Rattle.bo_serve.proofs.LawLemmas.{run_on}
 use Rattle.bo_serve.proofs.laws.callers_run_on.Goals as goal
 

@@ -1,4 +1,4 @@
-use Rattle.bo_desk.specs.Streams.{meaning}
+use Rattle.bo_streams.specs.DeskView.{meaning}
 use Rattle.bo_serve.proofs.LawLemmas.{too_much}
 use Rattle.bo_serve.proofs.laws.callers_take_nothing_too_much.Goals as goal
 

@@ -1,0 +1,60 @@
+-- What periodic work comes to.
+use Rattle.std.proofs.Common.{◌≡◌, ◌∙◌, ◌⊎◌, inl, inr, ℕ, List, Result, Err, ap, ap₂, refl, subst}
+use Rattle.sqlite_trees.specs.declared.store.Store.{Ghosts}
+use Rattle.sqlite.specs.State.{State as Connected}
+use Rattle.sqlite.specs.declared.connection.Connection.{Connection}
+use Rattle.bo_base.specs.declared.answer.Answer.{Answer}
+use Rattle.bo_connection.specs.declared.failure.Failure.TheVariants as failures
+use Rattle.bo_deliveries.specs.Shops.{IsAnswered, Views, served}
+use Rattle.bo_deliveries.specs.declared.arrival.Arrival.{Arrival}
+use Rattle.bo_devices.specs.declared.device.Tick.{Tick}
+use Rattle.bo_kept.specs.ShopView.{IsSame, ShopView}
+use Rattle.bo_lists.specs.Lists.{State}
+use Rattle.bo_tables.specs.declared.sql.SqlTables.{SqlTables}
+use Rattle.bo_desk.specs.Streams.{DeskView, Meaning, desk_with}
+use Rattle.bo_line.specs.declared.fault.RunFault.{RunFault}
+use Rattle.bo_line.specs.declared.fault.RunFault.TheVariants as faults
+use Rattle.bo_house.specs.Served.{OpensAs, StaysUnopened}
+use Rattle.bo_house.specs.Worked.{DoesWork, IsOpenedAndWorked, WorksFrom, told_of_work, work_arrival, work_words}
+
+module _ {T : Type 0} (tables : Meaning T) where
+  -- what an arrival comes to that was answered, and the write that a crash may leave of it
+  abbrev Answered : Arrival → Answer → T → State → T → State → Type 0
+  Answered a answer before s after t = tables.sure after → (v : ShopView) → Views tables.holds before s v → IsAnswered work_words a v answer (λ w. Views tables.holds after t w)
+
+  abbrev Leaves : Arrival → T → State → T → Type 0
+  Leaves a before s after = tables.sure after → (left : ShopView) → tables.may_leave after left → tables.may_leave before left
+      ⊎ ((v : ShopView) → Views tables.holds before s v → IsSame left (served work_words a v).0)
+
+  -- the shop of tables and an office answered the arrival that the work is
+  pub work_done : (organizer event : List ℕ) (before shop after given : T) (s of_shop t : State) (tick : Tick) (a : Arrival) (answer : Answer) (outcome : Result (List ℕ) RunFault)
+      → shop ≡ before → of_shop ≡ s → a ≡ work_arrival tick → outcome ≡ told_of_work answer → given ≡ after
+      → (tables.sure after → tables.sure shop) → Answered a answer shop of_shop after t → Leaves a shop of_shop after
+      → (last : DeskView T) × DoesWork tables (desk_with before organizer event s) last outcome × (given ≡ last.tables)
+  work_done organizer event before shop after given s of_shop t tick a answer outcome tables_are state_is arrival_is told given_is sure answered crash =
+      let does : DoesWork tables (desk_with shop organizer event of_shop) (desk_with after organizer event t) outcome = record {
+        tick = tick;
+        answer = answer;
+        told = told;
+        sure = sure;
+        answered = subst (λ (x : Arrival). Answered x answer shop of_shop after t) arrival_is answered;
+        crash = subst (λ (x : Arrival). Leaves x shop of_shop after) arrival_is crash;
+      } in (
+        desk_with after organizer event t,
+        subst (λ (d : DeskView T). DoesWork tables d (desk_with after organizer event t) outcome) (ap₂ (λ (x : T) (y : State). desk_with x organizer event y) tables_are state_is) does,
+        given_is,
+      )
+
+module _ {S : Type 0} (tables : Meaning (SqlTables S)) where
+  -- the work was done over tables whose connection is handed back
+  pub works_there : (first last : DeskView (SqlTables S)) (given : SqlTables S) (left : Connection S) (outcome : Result (List ℕ) RunFault) → DoesWork tables first last outcome
+      → given ≡ last.tables → left ≡ given.connection → WorksFrom tables first left outcome
+  works_there first last given left outcome does given_is is = record { last = last; work = inl does; connection = is ∙ ap (λ t. t.connection) given_is }
+
+  -- there was no clock or no draw
+  pub no_tick : (first : DeskView (SqlTables S)) (left : Connection S) → left ≡ first.tables.connection → WorksFrom tables first left (Err (faults.Run failures.Clock))
+  no_tick first left is = record { last = first; work = inr (refl, refl); connection = is }
+
+  pub is_worked : (g : Ghosts S) (old : Connected) (desk : DeskView (SqlTables S)) (left : Connection S) (outcome : Result (List ℕ) RunFault) → OpensAs g old desk
+      → WorksFrom tables desk left outcome → IsOpenedAndWorked g tables old left outcome ⊎ StaysUnopened g old left outcome
+  is_worked g old desk left outcome opens works = inl (record { desk = desk; opens = opens; works = works })
