@@ -2,7 +2,8 @@
 """Writes the case files under data/ and the file stdout, from the texts of the requests and of their answers.
 
 A case file begins with a line of moments, one for each request, with a space between two. The rest are the bytes of the
-stream. What stdout has of a case is its name, how it ends, and the bytes that are written.
+stream. What stdout has of a case is its name, how it ends, and the bytes that are written. Behind the cases stands `devices.txt`, which
+is written by hand: what comes of command lines and of devices that fail.
 
 Nothing here comes from the program: the answers are written out, or built from a status, a body and the form of a head.
 """
@@ -36,7 +37,8 @@ def main():
         told = "".join(told for _, _, told in exchanges)
         out.append(f"== {name}: {ending}\n{told}\n")
     (data / "names").write_text("".join(f"{name}\n" for name, _, _ in cases))
-    (HERE / "stdout").write_bytes("".join(out).encode())
+    devices = b"== devices_that_fail: each in turn, and lines\n" + (HERE / "cases" / "devices.txt").read_bytes()
+    (HERE / "stdout").write_bytes("".join(out).encode() + devices)
 
 
 main()

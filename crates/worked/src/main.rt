@@ -1,5 +1,6 @@
 //! The worked cases: each stream of requests under `data/` is answered by a box office of its own, once in one piece and once
-//! byte by byte. Printed are its name, how it ends, and what is written.
+//! byte by byte. Printed are its name, how it ends, and what is written. Behind them stands what comes of command lines, one of them over
+//! devices that fail (`cases/devices.txt`): in the same program, since a second one would have to read all libraries again.
 //!
 //! A case file begins with a line of moments, one for each whole request, with a space between two. What follows are the
 //! bytes of the stream. `data/names` has the names of the cases, one a line. `cases/write.py` writes them, and `stdout`, from the
@@ -8,16 +9,23 @@
 
 mod case;
 mod cut;
+mod devices;
+mod endless;
+mod failing;
+mod lines;
 mod listed;
+mod tried;
 
 use crate::case::answered;
+use crate::devices::show_devices;
 use std::fs;
 
-fn main(rt: HostRuntime) -> anyhow::Result<()> {
-    let names = fs::read_to_string(&rt, "names")?;
+// Answers each case, and prints what is written.
+fn show_cases(rt: &HostRuntime) -> anyhow::Result<()> {
+    let names = fs::read_to_string(rt, "names")?;
     for name in names.lines() {
         let path = format!(in rt.alloc(); "{name}.case")?;
-        let case = fs::read(&rt, path.as_str())?;
+        let case = fs::read(rt, path.as_str())?;
         let whole = answered(rt.alloc(), case.as_slice(), 65536)?;
         let cut = answered(rt.alloc(), case.as_slice(), 1)?;
         if whole == cut {
@@ -29,4 +37,10 @@ fn main(rt: HostRuntime) -> anyhow::Result<()> {
         println!(rt)?;
     }
     Ok(())
+}
+
+fn main(rt: HostRuntime) -> anyhow::Result<()> {
+    show_cases(&rt)?;
+    println!(rt; "== devices_that_fail: each in turn, and lines")?;
+    show_devices(&rt)
 }

@@ -1,11 +1,5 @@
 //! Command lines over devices that fail, over an input without end, and lines of which each comes to something else. Printed
 //! is what came of them.
-#![tactic(auto)]
-
-mod endless;
-mod failing;
-mod lines;
-mod tried;
 
 use crate::endless::{REQUEST, Repeated};
 use crate::failing::FailingReader;
@@ -77,7 +71,8 @@ fn without_end(rt: &HostRuntime, line: &[String], answer: &[u8]) -> Option<usize
     }
 }
 
-fn main(rt: HostRuntime) -> anyhow::Result<()> {
+/// Runs a line over the requests of the standard input, with each call of its devices failing in turn, and then the others.
+pub(crate) fn show_devices(rt: &HostRuntime) -> anyhow::Result<()> {
     let alloc = rt.alloc();
     let line = words(
         alloc,
@@ -86,27 +81,27 @@ fn main(rt: HostRuntime) -> anyhow::Result<()> {
     let line = line.as_slice();
     let mut requests = Vec::new(alloc);
     rt.stdin().read_to_end(&mut requests)?;
-    let full = answered(&rt, line, &requests, usize::MAX, usize::MAX);
+    let full = answered(rt, line, &requests, usize::MAX, usize::MAX);
     println!(rt;
         "without a failure: {} bytes, ended well: {}",
         full.written.len(),
         full.ended == LineEnd::Well
     )?;
-    let (reads, good) = failing_reads(&rt, line, &requests, &full.written);
+    let (reads, good) = failing_reads(rt, line, &requests, &full.written);
     println!(rt; "each of {reads} reads failing in turn: fault 82 after a front of that: {good}")?;
-    let (writes, good) = failing_writes(&rt, line, &requests, &full.written);
+    let (writes, good) = failing_writes(rt, line, &requests, &full.written);
     let some = writes > 4;
     println!(rt;
         "each of the writes failing in turn: fault 83 after a front of that: {}",
         good && some
     )?;
-    let once = answered(&rt, line, REQUEST, usize::MAX, usize::MAX);
-    let count = without_end(&rt, line, &once.written);
+    let once = answered(rt, line, REQUEST, usize::MAX, usize::MAX);
+    let count = without_end(rt, line, &once.written);
     println!(rt; "{}", String::from_utf8_lossy(alloc, &once.written)?)?;
     println!(rt;
         "without end, a byte a read: answers {}, then fault {}",
         count.unwrap_or(0),
         Failure::Limit.number()
     )?;
-    show_lines(&rt, &requests)
+    show_lines(rt, &requests)
 }

@@ -1,4 +1,4 @@
-use Rattle.hostile.proofs.tried.run_line.Given as goal
+use Rattle.worked.proofs.tried.run_line.Given as goal
 
 abbrev pub ghosts-run_line_with-A-Ledger : goal.ghosts-run_line_with-A-Ledger
 ghosts-run_line_with-A-Ledger g a = record { name = a.reads.name; parts = a.reads.parts }

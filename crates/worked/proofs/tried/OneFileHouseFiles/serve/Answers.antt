@@ -1,6 +1,6 @@
 use Rattle.std.proofs.Common.{Err, Ok}
 use Rattle.bo_line.proofs.SayLemmas.{says_listening}
-use Rattle.hostile.proofs.tried.OneFileHouseFiles.serve.Goals as goal
+use Rattle.worked.proofs.tried.OneFileHouseFiles.serve.Goals as goal
 
 pub returns-in-Ok-clause-said : goal.returns-in-Ok-clause-said
 returns-in-Ok-clause-said g c = says_listening _ _ _ _ (Ok c.in-Ok.field-0) _ c.as_bytes.ensures.value c.in-Ok.ensures tt
