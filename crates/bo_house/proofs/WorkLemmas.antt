@@ -1,11 +1,11 @@
 -- What periodic work comes to.
-use Rattle.std.proofs.Common.{◌≡◌, ◌∙◌, ◌⊎◌, inl, inr, ℕ, List, Result, Err, ap, ap₂, refl, subst}
+use Rattle.std.proofs.Common.{◌≡◌, ◌∙◌, ◌⊎◌, inl, inr, ℕ, List, Result, Err, ap, ap₂, refl, subst, true}
 use Rattle.sqlite_trees.specs.declared.store.Store.{Ghosts}
 use Rattle.sqlite.specs.State.{State as Connected}
 use Rattle.sqlite.specs.declared.connection.Connection.{Connection}
 use Rattle.bo_base.specs.declared.answer.Answer.{Answer}
 use Rattle.bo_connection.specs.declared.failure.Failure.TheVariants as failures
-use Rattle.bo_deliveries.specs.Shops.{IsAnswered, Views, served}
+use Rattle.bo_deliveries.specs.Shops.{IsAnswered, IsDecided, Views, executes, served}
 use Rattle.bo_deliveries.specs.declared.arrival.Arrival.{Arrival}
 use Rattle.bo_devices.specs.declared.device.Tick.{Tick}
 use Rattle.bo_kept.specs.ShopView.{IsSame, ShopView}
@@ -26,12 +26,17 @@ module _ {T : Type 0} (tables : Meaning T) where
   Leaves a before s after = tables.sure after → (left : ShopView) → tables.may_leave after left → tables.may_leave before left
       ⊎ ((v : ShopView) → Views tables.holds before s v → IsSame left (served work_words a v).0)
 
+  -- what a crash may leave once it is told
+  abbrev Settles : Arrival → Answer → T → State → T → Type 0
+  Settles a answer before s after = tables.sure after → IsDecided answer ((v : ShopView) → Views tables.holds before s v → executes a v ≡ true
+      → (left : ShopView) → tables.may_leave after left → IsSame left (served work_words a v).0)
+
   -- the shop of tables and an office answered the arrival that the work is
   pub work_done : (organizer event : List ℕ) (before shop after given : T) (s of_shop t : State) (tick : Tick) (a : Arrival) (answer : Answer) (outcome : Result (List ℕ) RunFault)
       → shop ≡ before → of_shop ≡ s → a ≡ work_arrival tick → outcome ≡ told_of_work answer → given ≡ after
-      → (tables.sure after → tables.sure shop) → Answered a answer shop of_shop after t → Leaves a shop of_shop after
+      → (tables.sure after → tables.sure shop) → Answered a answer shop of_shop after t → Leaves a shop of_shop after → Settles a answer shop of_shop after
       → (last : DeskView T) × DoesWork tables (desk_with before organizer event s) last outcome × (given ≡ last.tables)
-  work_done organizer event before shop after given s of_shop t tick a answer outcome tables_are state_is arrival_is told given_is sure answered crash =
+  work_done organizer event before shop after given s of_shop t tick a answer outcome tables_are state_is arrival_is told given_is sure answered crash settled =
       let does : DoesWork tables (desk_with shop organizer event of_shop) (desk_with after organizer event t) outcome = record {
         tick = tick;
         answer = answer;
@@ -39,6 +44,7 @@ module _ {T : Type 0} (tables : Meaning T) where
         sure = sure;
         answered = subst (λ (x : Arrival). Answered x answer shop of_shop after t) arrival_is answered;
         crash = subst (λ (x : Arrival). Leaves x shop of_shop after) arrival_is crash;
+        settled = subst (λ (x : Arrival). Settles x answer shop of_shop after) arrival_is settled;
       } in (
         desk_with after organizer event t,
         subst (λ (d : DeskView T). DoesWork tables d (desk_with after organizer event t) outcome) (ap₂ (λ (x : T) (y : State). desk_with x organizer event y) tables_are state_is) does,

@@ -1,5 +1,5 @@
 -- What becomes of a shop's database when its periodic work is done.
-use Rattle.std.specs.Prelude.{◌≡◌, ◌⊎◌, ℕ, List, [], ◌++◌, None, Result, Ok, Err, codes}
+use Rattle.std.specs.Prelude.{◌≡◌, ◌⊎◌, ℕ, List, [], ◌++◌, None, Result, Ok, Err, codes, true}
 use Rattle.std.specs.Fmt.{decimal}
 use Rattle.sqlite_trees.specs.declared.store.Store.{Ghosts}
 use Rattle.sqlite.specs.State.{State as Connected}
@@ -12,7 +12,7 @@ use Rattle.bo_commands.specs.declared.replies.Reply.TheVariants as replies
 use Rattle.bo_commands.specs.declared.requests.Command.TheVariants as commands
 use Rattle.bo_commands.specs.declared.waiting.PeriodicCounts.{PeriodicCounts}
 use Rattle.bo_connection.specs.declared.failure.Failure.TheVariants as failures
-use Rattle.bo_deliveries.specs.Shops.{IsAnswered, Views, served}
+use Rattle.bo_deliveries.specs.Shops.{IsAnswered, IsDecided, Views, executes, served}
 use Rattle.bo_deliveries.specs.declared.arrival.Arrival.{Arrival}
 use Rattle.bo_deliveries.specs.declared.arrival.Request.TheVariants as requests
 use Rattle.bo_devices.specs.declared.device.Tick.{Tick}
@@ -45,7 +45,7 @@ told_of_work (Decided response) = Ok response.body
 told_of_work Unavailable = Err faults.Store
 
 -- The work is an arrival with what the system's clock shows and a draw. It is answered like any other, and what it did is told. A crash
--- leaves what one before it could have left, or the whole of it.
+-- leaves what one before it could have left, or the whole of it; and once what it did is told, only that.
 pub record DoesWork {T : Type 0} (tables : Meaning T) (first last : DeskView T) (outcome : Result (List ℕ) RunFault) : Type 0 where
   pub tick : Tick
   pub answer : Answer
@@ -55,6 +55,8 @@ pub record DoesWork {T : Type 0} (tables : Meaning T) (first last : DeskView T) 
       → IsAnswered work_words (work_arrival tick) v answer (λ w. Views tables.holds last.tables last.state w)
   pub crash : tables.sure last.tables → (left : ShopView) → tables.may_leave last.tables left → tables.may_leave first.tables left
       ⊎ ((v : ShopView) → Views tables.holds first.tables first.state v → IsSame left (served work_words (work_arrival tick) v).0)
+  pub settled : tables.sure last.tables → IsDecided answer ((v : ShopView) → Views tables.holds first.tables first.state v → executes (work_arrival tick) v ≡ true
+      → (left : ShopView) → tables.may_leave last.tables left → IsSame left (served work_words (work_arrival tick) v).0)
 
 -- from this desk the work is done, or there is no clock or no draw, and nothing is done
 pub record WorksFrom {S : Type 0} (tables : Meaning (SqlTables S)) (first : DeskView (SqlTables S)) (left : Connection S) (outcome : Result (List ℕ) RunFault) : Type 0 where

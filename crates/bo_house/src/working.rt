@@ -102,8 +102,8 @@ fn work_opened<R: Clock + RandomSource, S: Alter + Drop, B: Dues + Drop>(
 
 /// `periodic`: opens the shop in a database and does its periodic work, as an arrival without key, at what the system's clock shows with a
 /// draw of the system; tells what was done, `expired E, deleted D, sent S`. Faults: 60, 61 and 62 where the database holds no shop that is
-/// whole, each for its cause alone, 63 where the store refused the work, 85 where there is no clock or no draw, and 6. Beside a fault
-/// nothing has changed.
+/// whole, each for its cause alone, 63 where the store refused the work or memory ran out within it, 85 where there is no clock or no
+/// draw, and 6. Beside a fault nothing has changed.
 pub fn work_shop<R: Clock + RandomSource, S: Alter + Drop>(
     rt: &R,
     alloc: Global,
