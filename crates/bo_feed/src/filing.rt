@@ -2,10 +2,11 @@
 
 ghost use Rattle.std.specs.Prelude.{◌≡◌, ◌&&◌, option_map};
 ghost use Rattle.bo_base.specs.Slugs.{is_slug};
-ghost use Rattle.bo_line.specs.Saying.{AddsToken, MakesShop, ServesFile, WorksFile};
+ghost use Rattle.bo_line.specs.Saying.{AddsToken, MakesShop, ReportsFile, ServesFile, WorksFile};
 
 use bo_base::is_slug;
 use bo_devices::Drain;
+use bo_http::write_all;
 use bo_line::{HouseFiles, Place, RunFault, is_token, said, say, serve_values};
 use itoa::Buffer;
 use std::alloc::Global;
@@ -94,6 +95,21 @@ pub fn work_shop<F: HouseFiles, W: Drain>(
 {
     match files.work(alloc, file) {
         Ok(done) => said(say(writer, done.as_slice(), b"")),
+        Err(fault) => Err(fault),
+    }
+}
+
+/// `report FILE sales`: tells what was sold by the shop in a file, item by item, as a text of lines.
+pub fn report_sales<F: HouseFiles, W: Drain>(
+    alloc: Global,
+    files: &F,
+    file: &str,
+    writer: &mut W,
+) -> Result<(), RunFault>
+    ensures { ReportsFile F.sold file.now (record { taken = W.taken writer.old; failures = W.failures writer.old }) (record { taken = W.taken writer.new; failures = W.failures writer.new }) result }
+{
+    match files.sales(alloc, file) {
+        Ok(text) => said(write_all(writer, text.as_slice())),
         Err(fault) => Err(fault),
     }
 }

@@ -1,16 +1,35 @@
 //! What a command line comes to.
 
-ghost use Rattle.std.specs.Prelude.{map, string_bytes};
-ghost use Rattle.bo_feed.specs.Line.{Ran};
+ghost use Rattle.std.specs.Prelude.{codes, map, string_bytes};
+ghost use Rattle.std.specs.Str.{bytes_eq};
+ghost use Rattle.bo_feed.specs.Line.{Ran, ReportsWhere};
 
 use crate::feeding::feed_texts;
-use crate::filing::{add_token, make_shop, serve_shop, work_shop};
+use crate::filing::{add_token, make_shop, report_sales, serve_shop, work_shop};
 use bo_devices::{Drain, Source};
 use bo_line::{
     HouseFiles, Line, LineEnd, RunFault, answer_line, plain_words, read_line, report, report_run,
+    report_unknown,
 };
 use std::alloc::Global;
 use std::io::{Eprint, Print};
+
+// What a line of `report` comes to.
+fn report_file<O: Eprint, F: HouseFiles, W: Drain>(
+    rt: &O,
+    alloc: Global,
+    files: &F,
+    file: &str,
+    report: &str,
+    writer: &mut W,
+) -> LineEnd
+    ensures { ReportsWhere (bytes_eq report.now (codes "sales")) F.sold file.now (record { taken = W.taken writer.old; failures = W.failures writer.old }) (record { taken = W.taken writer.new; failures = W.failures writer.new }) result }
+{
+    if report == "sales" {
+        return report_run(rt, report_sales(alloc, files, file, writer));
+    }
+    report_unknown(rt, report)
+}
 
 /// Runs a command line, whose first word is the program, from the reader to the writer. What it asks for decides: the command
 /// that it names, help, or a wrong line; the last two, and a value that can't be read, read nothing and write nothing. The commands on a
@@ -23,7 +42,7 @@ pub fn run<O: Print + Eprint, F: HouseFiles, R: Source, W: Drain>(
     reader: &mut R,
     writer: &mut W,
 ) -> LineEnd
-    ensures { Ran F.made F.added F.served F.worked (map string_bytes words.now)
+    ensures { Ran F.made F.added F.served F.worked F.sold (map string_bytes words.now)
         (record { left = R.left reader.old; taken = W.taken writer.old; calls = R.calls reader.old; input = R.failures reader.old; output = W.failures writer.old })
         (record { left = R.left reader.new; taken = W.taken writer.new; calls = R.calls reader.new; input = R.failures reader.new; output = W.failures writer.new }) result }
 {
@@ -53,6 +72,7 @@ pub fn run<O: Print + Eprint, F: HouseFiles, R: Source, W: Drain>(
             ),
         ),
         Ok(Line::Periodic(line)) => report_run(rt, work_shop(alloc, files, line.file, writer)),
+        Ok(Line::Report(line)) => { report_file(rt, alloc, files, line.file, line.report, writer) }
         Err(error) => answer_line(rt, &error),
     }
 }

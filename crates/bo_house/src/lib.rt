@@ -1,10 +1,12 @@
-//! What becomes of a shop's database when a command makes a shop in it, adds a token, serves it, or does its periodic work.
+//! What becomes of a shop's database when a command makes a shop in it, adds a token, serves it, does its
+//! periodic work, or asks for a report on it.
 #![tactic(auto)]
 
 pub mod adding;
 pub mod faults;
 pub mod filed;
 pub mod making;
+pub mod reporting;
 pub mod serving;
 pub mod words;
 pub mod working;
@@ -13,6 +15,7 @@ pub use adding::add_shop_token;
 pub use faults::{fault_of_opening, fault_of_rows, fault_of_token};
 pub use filed::Filed;
 pub use making::make_new_shop;
+pub use reporting::report_sales;
 pub use serving::serve_shop;
 pub use words::WorkWords;
 pub use working::work_shop;

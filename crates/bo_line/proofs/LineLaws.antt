@@ -2,7 +2,7 @@
 use Rattle.std.proofs.Common.{◌≡◌, ◌++◌, ℕ, List, [], ◌∷◌, Some, None, codes, refl}
 use Rattle.clap.specs.declared.error.ErrorKind.TheVariants as kinds
 use Rattle.clap.proofs.OnLiterals.{clap_on_literals}
-use Rattle.bo_line.specs.Asked.{adds, asked, makes, none, plain_words, runs, serves, works}
+use Rattle.bo_line.specs.Asked.{adds, asked, makes, none, plain_words, reports, runs, serves, works}
 
 pub in_order : (program from step : List ℕ) → asked (program ∷ codes "feed" ∷ (codes "--from=" ++ from) ∷ (codes "--step=" ++ step) ∷ []) ≡ runs from step
 unfolding clap_on_literals asked
@@ -98,3 +98,11 @@ works_off program = refl
 pub no_file : (program : List ℕ) → asked (program ∷ codes "periodic" ∷ []) ≡ none (kinds.MissingRequiredArgument ∷ [])
 unfolding clap_on_literals asked
 no_file program = refl
+
+pub reports_sales : (program : List ℕ) → asked (program ∷ codes "report" ∷ codes "hall.db" ∷ codes "sales" ∷ []) ≡ reports (codes "hall.db") (codes "sales")
+unfolding clap_on_literals asked
+reports_sales program = refl
+
+pub no_report : (program : List ℕ) → asked (program ∷ codes "report" ∷ codes "hall.db" ∷ []) ≡ none (kinds.MissingRequiredArgument ∷ [])
+unfolding clap_on_literals asked
+no_report program = refl

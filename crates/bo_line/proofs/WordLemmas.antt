@@ -1,17 +1,19 @@
 -- What a parse says of the words of a command line.
-use Rattle.std.proofs.Common.{◌≡◌, ◌⊎◌, ◌∙◌, ◌&&◌, Bool, not, ap, ap₂, refl, sym, subst, inl, inr, true, false, true≢false, Option, Some, None, List, [], ◌∷◌, option_map}
+use Rattle.std.proofs.Common.{◌≡◌, ◌⊎◌, ◌∙◌, ◌&&◌, Bool, not, ap, ap₂, refl, sym, subst, inl, inr, true, false, true≢false, Option, Some, None, List, [], ◌∷◌, option_map, Result, IfOk}
 use Rattle.std.specs.Prelude.{unwrap_or}
 use Rattle.std.proofs.lemmas.Option.{none-some}
 use Rattle.clap.specs.Kinds.{Kinds, HasKind, IsAmong}
 use Rattle.clap.specs.Values.{kind_of}
 use Rattle.clap.specs.Walk.{Row, Text}
-use Rattle.clap.specs.Simple.{App, is_simple, subcommand_of}
+use Rattle.std.specs.declared.alloc.AllocError.{AllocError}
+use Rattle.clap.specs.declared.builder.command.Command.{Command}
+use Rattle.clap.specs.Simple.{App, app_of, is_simple, subcommand_of, with_subcommand}
 use Rattle.clap.specs.Faults.{fault_of, is_simple_and_free}
 use Rattle.clap.specs.declared.Error.{Error}
 use Rattle.clap.specs.declared.error.ErrorKind.{ErrorKind}
 use Rattle.clap.proofs.OnLiterals.{clap_on_literals}
 use Rattle.bo_line.specs.Asked.{HasReason, IsReason, asked, asked_by}
-use Rattle.bo_line.specs.Words.{program}
+use Rattle.bo_line.specs.Words.{IsWith, program}
 
 pub program_is_simple : is_simple program ≡ true
 unfolding clap_on_literals
@@ -65,3 +67,10 @@ reason_of app words e is fails =
     let free : is_simple_and_free app ≡ true = ap is_simple_and_free is ∙ program_is_free in
     let has : HasKind (fault_of program words) e = subst (λ (a : App). HasKind (fault_of a words) e) is (fails free) in
     reason_by (fault_of program words) (subcommand_of program words) (kind_of e) _ has
+
+-- a program that is told, with one more command that is told, is the one with it
+pub now_with : (old told : App) (made : Result Command AllocError) (command new : App) → old ≡ told → IfOk made (λ c. app_of c ≡ command) → command.top.is_plain ≡ true → IsWith old made new → new ≡ with_subcommand told command.top
+now_with old told made command new old_is made_is plain is =
+    let added : Command = is.0 in
+    let added_is : app_of added ≡ command = subst (λ (r : Result Command AllocError). IfOk r (λ c. app_of c ≡ command)) is.1 made_is in
+    is.2 (ap (λ (a : App). a.top.is_plain) added_is ∙ plain) ∙ ap₂ with_subcommand old_is (ap (λ (a : App). a.top) added_is)

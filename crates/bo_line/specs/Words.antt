@@ -1,7 +1,9 @@
 -- The commands of the program, as a command line names them.
-use Rattle.std.specs.Prelude.{true, Some, codes}
+use Rattle.std.specs.Prelude.{◌≡◌, true, Some, Result, Ok, codes}
 use Rattle.clap.specs.Simple.{on_top}
-use Rattle.clap.specs.Words.{App, Rule, Shape, Text, new_app, new_rule, with_rule, with_subcommand}
+use Rattle.std.specs.declared.alloc.AllocError.{AllocError}
+use Rattle.clap.specs.declared.builder.command.Command.{Command}
+use Rattle.clap.specs.Words.{App, Rule, Shape, Text, app_of, new_app, new_rule, with_rule, with_subcommand}
 
 -- a word that is known by its place, which has to be there
 abbrev pub word : Text → Rule
@@ -35,12 +37,20 @@ serve_app = with_rule (with_rule (with_rule (new_app (codes "serve")) (word (cod
 abbrev pub work_app : App
 work_app = with_rule (new_app (codes "periodic")) (word (codes "file"))
 
+-- `report FILE REPORT`
+abbrev pub report_app : App
+report_app = with_rule (with_rule (new_app (codes "report")) (word (codes "file"))) (word (codes "report"))
+
+-- a program with one more command, which was made
+abbrev pub IsWith : App → Result Command AllocError → App → Type 0
+IsWith old made new = (added : Command) × (made ≡ Ok added) × ((app_of added).top.is_plain ≡ true → new ≡ with_subcommand old (app_of added).top)
+
 -- a command has to be there
 abbrev pub needs_command : Shape → Shape
 needs_command top = record top { subcommand_required = true }
 
--- the program, with its five commands
+-- the program, with its six commands
 abbrev pub program : App
 program =
-    with_subcommand (with_subcommand (with_subcommand (with_subcommand (with_subcommand (on_top needs_command (new_app (codes "boxoffice"))) feed_app.top) init_app.top) token_app.top) serve_app.top)
-    work_app.top
+    with_subcommand (with_subcommand (with_subcommand (with_subcommand (with_subcommand (with_subcommand (on_top needs_command (new_app (codes "boxoffice"))) feed_app.top) init_app.top) token_app.top) serve_app.top)
+    work_app.top) report_app.top

@@ -2,7 +2,7 @@
 
 ghost use Rattle.std.specs.Prelude.{◌≡◌, ◌++◌, ℕ, List, [], ◌∷◌, Some, None, codes};
 ghost use Rattle.clap.specs.declared.error.ErrorKind.TheVariants.{DisplayHelp, MissingRequiredArgument, MissingSubcommand, UnknownArgument};
-ghost use Rattle.bo_line.specs.Asked.{adds, asked, makes, none, plain_words, runs, serves, works};
+ghost use Rattle.bo_line.specs.Asked.{adds, asked, makes, none, plain_words, reports, runs, serves, works};
 
 /// A line with both flags asks for a run with their texts, in either order, whatever the texts are.
 pub fn both_flags_ask_for_a_run()
@@ -48,6 +48,12 @@ pub fn a_served_file_is_known_by_its_place()
 pub fn a_file_of_periodic_work_is_known_by_its_place()
     ensures { (program : List ℕ) → (asked (program ∷ codes "periodic" ∷ codes "hall.db" ∷ []) ≡ works (codes "hall.db"))
         × (asked (program ∷ codes "periodic" ∷ []) ≡ none (MissingRequiredArgument ∷ [])) }
+{}
+
+/// A line of `report` names its file and the report by their places.
+pub fn a_report_is_known_by_its_place()
+    ensures { (program : List ℕ) → (asked (program ∷ codes "report" ∷ codes "hall.db" ∷ codes "sales" ∷ []) ≡ reports (codes "hall.db") (codes "sales"))
+        × (asked (program ∷ codes "report" ∷ codes "hall.db" ∷ []) ≡ none (MissingRequiredArgument ∷ [])) }
 {}
 
 /// Help is shown where it is asked for.

@@ -33,6 +33,14 @@ pub fn report_words<O: Eprint>(rt: &O, error: &io::Error) -> LineEnd
     }
 }
 
+/// Says that there is no report of this name.
+pub fn report_unknown<O: Eprint>(rt: &O, name: &str) -> LineEnd
+    ensures { result ≡ LineEnd.Wrong }
+{
+    let _ = eprintln!(rt; "error: there is no report '{name}'; there is: sales");
+    LineEnd::Wrong
+}
+
 /// How a run ends, whose fault is told.
 pub fn report_run<O: Eprint>(rt: &O, run: Result<(), RunFault>) -> LineEnd
     ensures { result ≡ end_of_run run }

@@ -4,7 +4,7 @@ ghost use Rattle.std.specs.Prelude.{◌≡◌, IfOk, IfErr, Some, map, option_ma
 ghost use Rattle.clap.specs.Walk.{rule_of, texts};
 ghost use Rattle.clap.specs.Words.{app_of, first_of, found_of, kind_of, rows_of};
 ghost use Rattle.bo_line.specs.Asked.{IsReason, asked, asked_by_line, asked_of, is_signed, plain_words, takes_number, text_of};
-ghost use Rattle.bo_line.specs.Words.{choice, feed_app, flag, init_app, program, serve_app, token_app, word, work_app};
+ghost use Rattle.bo_line.specs.Words.{IsWith, choice, feed_app, flag, init_app, program, report_app, serve_app, token_app, word, work_app};
 
 use clap::{Arg, ArgMatches, Command, Error};
 use std::alloc::{AllocError, Global};
@@ -22,6 +22,8 @@ pub enum Line<'a> {
     Serve(ServeLine<'a>),
     /// `periodic`: the periodic work of the shop in a file.
     Periodic(WorkLine<'a>),
+    /// `report`: a report on the shop in a file.
+    Report(ReportLine<'a>),
 }
 
 /// The texts that follow `--from` and `--step`.
@@ -69,6 +71,15 @@ pub struct ServeLine<'a> {
 pub struct WorkLine<'a> {
     /// The name of the file.
     pub file: &'a str,
+}
+
+/// The texts of a line of `report`.
+#[derive(Clone, Copy, Debug)]
+pub struct ReportLine<'a> {
+    /// The name of the file.
+    pub file: &'a str,
+    /// Which report it is.
+    pub report: &'a str,
 }
 
 // A flag with a text, which may be left out.
@@ -186,23 +197,39 @@ fn work_command<'a>(alloc: Global) -> Result<Command<'a>, AllocError>
         .arg(word(alloc, "file", "FILE", "The shop's file"))
 }
 
+// `report`, with its help.
+fn report_command<'a>(alloc: Global) -> Result<Command<'a>, AllocError>
+    ensures { IfOk result (λ command. app_of command ≡ report_app) }
+{
+    Command::new(alloc, "report")
+        .about("Prints what was sold in a shop's file, item by item")
+        .arg(word(alloc, "file", "FILE", "The shop's file"))?
+        .arg(word(alloc, "report", "REPORT", "Which report: sales"))
+}
+
+// The program with one more command, where that was made.
+fn with<'a>(
+    program: Command<'a>,
+    made: Result<Command<'a>, AllocError>,
+) -> Result<Command<'a>, AllocError>
+    ensures { IfOk result (λ command. IsWith (app_of program.entry) made.entry (app_of command)) }
+{
+    program.subcommand(made?)
+}
+
 // The commands of the program, with their help.
 fn commands<'a>(alloc: Global) -> Result<Command<'a>, AllocError>
     ensures { IfOk result (λ command. app_of command ≡ program) }
 {
-    let feed = feed_command(alloc)?;
-    let init = init_command(alloc)?;
-    let token_add = token_command(alloc)?;
-    let serve = serve_command(alloc)?;
-    let periodic = work_command(alloc)?;
-    Command::new(alloc, "boxoffice")
+    let bare = Command::new(alloc, "boxoffice")
         .about("A ticket shop for one event")
-        .subcommand_required(true)
-        .subcommand(feed)?
-        .subcommand(init)?
-        .subcommand(token_add)?
-        .subcommand(serve)?
-        .subcommand(periodic)
+        .subcommand_required(true);
+    let program = with(bare, feed_command(alloc))?;
+    let program = with(program, init_command(alloc))?;
+    let program = with(program, token_command(alloc))?;
+    let program = with(program, serve_command(alloc))?;
+    let program = with(program, work_command(alloc))?;
+    with(program, report_command(alloc))
 }
 
 // Whether a word begins with a minus sign and a digit.
@@ -282,6 +309,12 @@ fn line_of<'a>(command: &str, matches: &ArgMatches<'a>) -> Line<'a>
     if command == "periodic" {
         return Line::Periodic(WorkLine {
             file: text_of(matches, "file"),
+        });
+    }
+    if command == "report" {
+        return Line::Report(ReportLine {
+            file: text_of(matches, "file"),
+            report: text_of(matches, "report"),
         });
     }
     Line::Feed(FeedLine {

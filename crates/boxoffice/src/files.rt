@@ -4,7 +4,7 @@ ghost use Rattle.std.specs.Prelude.{⊤, ◌≡◌};
 
 use bo_base::{Body, Slug};
 use bo_devices::Drain;
-use bo_house::{Filed, add_shop_token, make_new_shop, serve_shop, work_shop};
+use bo_house::{Filed, add_shop_token, make_new_shop, report_sales, serve_shop, work_shop};
 use bo_line::{HouseFiles, Place, RunFault};
 use sqlite::{Connection, Error, ErrorCode, File, FileStore};
 use std::alloc::Global;
@@ -61,6 +61,8 @@ impl HouseFiles for HostFiles<'_> {
 
     ghost worked = { λ _ _. ⊤ };
 
+    ghost sold = { λ _ _. ⊤ };
+
     fn make(
         &self,
         alloc: Global,
@@ -107,6 +109,16 @@ impl HouseFiles for HostFiles<'_> {
         }
         match self.opened(file) {
             Ok(connection) => ended(work_shop(self.rt, alloc, connection)),
+            Err(fault) => Err(fault),
+        }
+    }
+
+    fn sales(&self, alloc: Global, file: &str) -> Result<Body, RunFault> {
+        if !self.stands(file) {
+            return Err(RunFault::File);
+        }
+        match self.opened(file) {
+            Ok(connection) => ended(report_sales(alloc, connection)),
             Err(fault) => Err(fault),
         }
     }

@@ -5,7 +5,7 @@ use crate::tried::{run_line, words};
 use bo_line::LineEnd;
 
 /// The lines, each with its words.
-static LINES: [&str; 29] = [
+static LINES: [&str; 33] = [
     "boxoffice feed --from 2027-01-31T23:00:00Z --step 3600",
     "boxoffice feed --step=0 --from=1970-01-01T00:00:00Z",
     "boxoffice feed --from noon --step 60",
@@ -34,6 +34,10 @@ static LINES: [&str; 29] = [
     "boxoffice periodic hall.db",
     "boxoffice periodic new.db",
     "boxoffice periodic",
+    "boxoffice report hall.db sales",
+    "boxoffice report new.db sales",
+    "boxoffice report hall.db doors",
+    "boxoffice report hall.db",
     "boxoffice --help",
 ];
 

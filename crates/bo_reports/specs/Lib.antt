@@ -1,0 +1,3 @@
+pub mod Sold
+pub mod Columns
+pub mod SalesText

@@ -1,0 +1,45 @@
+-- The sales report: a line for each item, and one for all.
+use Rattle.std.specs.Prelude.{ℕ, ◌+◌, List, [], ◌∷◌, ◌++◌, map, codes}
+use Rattle.std.specs.List.{concat}
+use Rattle.std.specs.Fmt.{decimal}
+use Rattle.bo_base.specs.Money.{cents_text}
+use Rattle.bo_catalogue.specs.declared.rows.Item.{Item}
+use Rattle.bo_lists.specs.Lists.{Lists}
+use Rattle.bo_reports.specs.declared.sales.Sales.{Sales}
+use Rattle.bo_reports.specs.declared.sales.ItemSales.{ItemSales}
+use Rattle.bo_reports.specs.Columns.{right}
+use Rattle.bo_reports.specs.Sold.{all_sales, nothing, sales_of}
+
+-- how many positions are in paid, pending, expired and cancelled orders, and what was paid
+abbrev pub sales_columns : Sales → List ℕ
+sales_columns s = right 8 (decimal s.paid) ++ (right 8 (decimal s.pending) ++ (right 8 (decimal s.expired) ++ (right 8 (decimal s.cancelled) ++ right 15 (cents_text s.amount))))
+
+-- an item's number, what was sold of it, and its name
+abbrev pub sales_line : Item → Sales → List ℕ
+sales_line item s = right 6 (decimal item.id) ++ (sales_columns s ++ (codes "  " ++ (item.name ++ 10 ∷ [])))
+
+-- the same of all items
+abbrev pub total_line : Sales → List ℕ
+total_line s = codes " total" ++ (sales_columns s ++ 10 ∷ [])
+
+abbrev pub with_sales : Sales → Sales → Sales
+with_sales a b = record {
+  paid = a.paid + b.paid;
+  pending = a.pending + b.pending;
+  expired = a.expired + b.expired;
+  cancelled = a.cancelled + b.cancelled;
+  amount = a.amount + b.amount;
+}
+
+abbrev pub total_of : List ItemSales → Sales
+total_of [] = nothing
+total_of (r ∷ rs) = with_sales r.sales (total_of rs)
+
+-- items beside what was sold of them
+abbrev pub lines_of : List Item → List ItemSales → List ℕ
+lines_of (i ∷ is) (r ∷ rs) = sales_line i r.sales ++ lines_of is rs
+lines_of _ _ = []
+
+-- each item, by id, and all of them
+abbrev pub sales_text : Lists → List ℕ
+sales_text lists = concat (map (λ i. sales_line i (sales_of lists i)) lists.catalogue.items) ++ total_line (total_of (all_sales lists))
