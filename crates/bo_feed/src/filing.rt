@@ -7,7 +7,7 @@ ghost use Rattle.bo_line.specs.Saying.{AddsToken, MakesShop, ReportsFile, Serves
 use bo_base::is_slug;
 use bo_devices::Drain;
 use bo_http::write_all;
-use bo_line::{HouseFiles, Place, RunFault, is_token, said, say, serve_values};
+use bo_line::{HouseFiles, Place, Report, RunFault, is_token, said, say, serve_values};
 use itoa::Buffer;
 use std::alloc::Global;
 
@@ -99,16 +99,17 @@ pub fn work_shop<F: HouseFiles, W: Drain>(
     }
 }
 
-/// `report FILE sales`: tells what was sold by the shop in a file, item by item, as a text of lines.
-pub fn report_sales<F: HouseFiles, W: Drain>(
+/// `report`: tells a report on the shop in a file, as a text of lines.
+pub fn report_shop<F: HouseFiles, W: Drain>(
     alloc: Global,
     files: &F,
     file: &str,
+    report: Report,
     writer: &mut W,
 ) -> Result<(), RunFault>
-    ensures { ReportsFile F.sold file.now (record { taken = W.taken writer.old; failures = W.failures writer.old }) (record { taken = W.taken writer.new; failures = W.failures writer.new }) result }
+    ensures { ReportsFile F.reported file.now report (record { taken = W.taken writer.old; failures = W.failures writer.old }) (record { taken = W.taken writer.new; failures = W.failures writer.new }) result }
 {
-    match files.sales(alloc, file) {
+    match files.report(alloc, file, report) {
         Ok(text) => said(write_all(writer, text.as_slice())),
         Err(fault) => Err(fault),
     }

@@ -1,15 +1,15 @@
 //! What a command line comes to.
 
-ghost use Rattle.std.specs.Prelude.{codes, map, string_bytes};
-ghost use Rattle.std.specs.Str.{bytes_eq};
+ghost use Rattle.std.specs.Prelude.{map, option_map, string_bytes};
 ghost use Rattle.bo_feed.specs.Line.{Ran, ReportsWhere};
+ghost use Rattle.bo_line.specs.Values.{report_of};
 
 use crate::feeding::feed_texts;
-use crate::filing::{add_token, make_shop, report_sales, serve_shop, work_shop};
+use crate::filing::{add_token, make_shop, report_shop, serve_shop, work_shop};
 use bo_devices::{Drain, Source};
 use bo_line::{
-    HouseFiles, Line, LineEnd, RunFault, answer_line, plain_words, read_line, report, report_run,
-    report_unknown,
+    HouseFiles, Line, LineEnd, ReportFault, RunFault, answer_line, plain_words, read_line, report,
+    report_of, report_run, report_unknown,
 };
 use std::alloc::Global;
 use std::io::{Eprint, Print};
@@ -20,15 +20,17 @@ fn report_file<O: Eprint, F: HouseFiles, W: Drain>(
     alloc: Global,
     files: &F,
     file: &str,
-    report: &str,
+    name: &str,
+    list: Option<&str>,
     writer: &mut W,
 ) -> LineEnd
-    ensures { ReportsWhere (bytes_eq report.now (codes "sales")) F.sold file.now (record { taken = W.taken writer.old; failures = W.failures writer.old }) (record { taken = W.taken writer.new; failures = W.failures writer.new }) result }
+    ensures { ReportsWhere (report_of name.now (option_map (λ t. t.now) list.entry)) F.reported file.now (record { taken = W.taken writer.old; failures = W.failures writer.old }) (record { taken = W.taken writer.new; failures = W.failures writer.new }) result }
 {
-    if report == "sales" {
-        return report_run(rt, report_sales(alloc, files, file, writer));
+    match report_of(name, list) {
+        Ok(report) => report_run(rt, report_shop(alloc, files, file, report, writer)),
+        Err(ReportFault::Unknown) => report_unknown(rt, name),
+        Err(ReportFault::Argument) => report(rt, RunFault::Argument),
     }
-    report_unknown(rt, report)
 }
 
 /// Runs a command line, whose first word is the program, from the reader to the writer. What it asks for decides: the command
@@ -42,7 +44,7 @@ pub fn run<O: Print + Eprint, F: HouseFiles, R: Source, W: Drain>(
     reader: &mut R,
     writer: &mut W,
 ) -> LineEnd
-    ensures { Ran F.made F.added F.served F.worked F.sold (map string_bytes words.now)
+    ensures { Ran F.made F.added F.served F.worked F.reported (map string_bytes words.now)
         (record { left = R.left reader.old; taken = W.taken writer.old; calls = R.calls reader.old; input = R.failures reader.old; output = W.failures writer.old })
         (record { left = R.left reader.new; taken = W.taken writer.new; calls = R.calls reader.new; input = R.failures reader.new; output = W.failures writer.new }) result }
 {
@@ -72,7 +74,9 @@ pub fn run<O: Print + Eprint, F: HouseFiles, R: Source, W: Drain>(
             ),
         ),
         Ok(Line::Periodic(line)) => report_run(rt, work_shop(alloc, files, line.file, writer)),
-        Ok(Line::Report(line)) => { report_file(rt, alloc, files, line.file, line.report, writer) }
+        Ok(Line::Report(line)) => {
+            report_file(rt, alloc, files, line.file, line.report, line.list, writer)
+        }
         Err(error) => answer_line(rt, &error),
     }
 }

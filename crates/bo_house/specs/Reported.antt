@@ -1,5 +1,5 @@
 -- What becomes of a shop's database when a report on it is asked for.
-use Rattle.std.specs.Prelude.{◌≡◌, ◌⊎◌, ℕ, List, Result, Ok, Err}
+use Rattle.std.specs.Prelude.{◌≡◌, ◌⊎◌, ℕ, List, Option, Some, None, Result, Ok, Err}
 use Rattle.sqlite_trees.specs.declared.store.Store.{Ghosts}
 use Rattle.sqlite.specs.State.{State as Connected}
 use Rattle.sqlite.specs.declared.connection.Connection.{Connection}
@@ -8,15 +8,28 @@ use Rattle.bo_tables.specs.declared.sql.SqlTables.{SqlTables}
 use Rattle.bo_desk.specs.Streams.{DeskView}
 use Rattle.bo_line.specs.declared.fault.RunFault.{RunFault}
 use Rattle.bo_line.specs.declared.fault.RunFault.TheVariants as faults
+use Rattle.bo_line.specs.declared.values.Report.{Report}
+use Rattle.bo_line.specs.declared.values.Report.TheVariants as reports
+use Rattle.bo_reports.specs.DoorText.{door_text_of}
+use Rattle.bo_reports.specs.SalesText.{sales_text}
 use Rattle.bo_house.specs.Served.{OpensAs}
 
--- the text, or there is no memory for it
-abbrev pub IsReport : List ℕ → Result (List ℕ) RunFault → Type 0
-IsReport text outcome = (outcome ≡ Ok text) ⊎ (outcome ≡ Err faults.Memory)
+-- the text of a report; a list that the shop doesn't have is a fault
+abbrev pub told_if : Option (List ℕ) → Result (List ℕ) RunFault
+told_if None = Err faults.NoList
+told_if (Some text) = Ok text
 
--- The report is that on the shop that the database is opened as, and the connection is as opening left it.
-pub record IsOpenedAndReported {S : Type 0} (g : Ghosts S) (report : Lists → List ℕ) (old : Connected) (left : Connection S) (outcome : Result (List ℕ) RunFault) : Type 0 where
+abbrev pub report_on : Report → Lists → Result (List ℕ) RunFault
+report_on reports.Sales lists = Ok (sales_text lists)
+report_on (reports.Door list) lists = told_if (door_text_of list lists)
+
+-- that is told, or there is no memory for it
+abbrev pub IsReport : Report → Lists → Result (List ℕ) RunFault → Type 0
+IsReport report lists outcome = (outcome ≡ report_on report lists) ⊎ (outcome ≡ Err faults.Memory)
+
+-- The report is one on the shop that the database is opened as, and the connection is as opening left it.
+pub record IsOpenedAndReported {S : Type 0} (g : Ghosts S) (report : Report) (old : Connected) (left : Connection S) (outcome : Result (List ℕ) RunFault) : Type 0 where
   pub desk : DeskView (SqlTables S)
   pub opens : OpensAs g old desk
-  pub told : IsReport (report desk.state.lists) outcome
+  pub told : IsReport report desk.state.lists outcome
   pub connection : left ≡ desk.tables.connection

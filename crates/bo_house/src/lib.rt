@@ -15,7 +15,7 @@ pub use adding::add_shop_token;
 pub use faults::{fault_of_opening, fault_of_rows, fault_of_token};
 pub use filed::Filed;
 pub use making::make_new_shop;
-pub use reporting::report_sales;
+pub use reporting::report_shop;
 pub use serving::serve_shop;
 pub use words::WorkWords;
 pub use working::work_shop;

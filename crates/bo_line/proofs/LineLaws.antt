@@ -99,9 +99,13 @@ pub no_file : (program : List ℕ) → asked (program ∷ codes "periodic" ∷ [
 unfolding clap_on_literals asked
 no_file program = refl
 
-pub reports_sales : (program : List ℕ) → asked (program ∷ codes "report" ∷ codes "hall.db" ∷ codes "sales" ∷ []) ≡ reports (codes "hall.db") (codes "sales")
+pub reports_sales : (program : List ℕ) → asked (program ∷ codes "report" ∷ codes "hall.db" ∷ codes "sales" ∷ []) ≡ reports (codes "hall.db") (codes "sales") None
 unfolding clap_on_literals asked
 reports_sales program = refl
+
+pub reports_door : (program list : List ℕ) → asked (program ∷ codes "report" ∷ codes "hall.db" ∷ codes "door" ∷ (codes "--list=" ++ list) ∷ []) ≡ reports (codes "hall.db") (codes "door") (Some list)
+unfolding clap_on_literals asked
+reports_door program list = refl
 
 pub no_report : (program : List ℕ) → asked (program ∷ codes "report" ∷ codes "hall.db" ∷ []) ≡ none (kinds.MissingRequiredArgument ∷ [])
 unfolding clap_on_literals asked

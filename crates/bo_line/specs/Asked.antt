@@ -15,7 +15,7 @@ is_signed _ = false
 
 -- a number follows the word
 abbrev pub takes_number : Text → Bool
-takes_number word = bytes_eq word (codes "--step") || bytes_eq word (codes "--connections")
+takes_number word = bytes_eq word (codes "--step") || bytes_eq word (codes "--connections") || bytes_eq word (codes "--list")
 
 -- The words as they are read, and whether a number follows what stands before them: one with a minus sign is read there as the
 -- empty text, which is no number either. By itself it would be a flag.
@@ -28,15 +28,15 @@ plain_words words = plain_behind false words
 
 -- What a line asks for: a run of `feed` with the texts of `--from` and `--step`; a shop in a new file of this name, for this
 -- organizer and this event; this token for the shop in the file of this name; the shop in the file of this name at the text of
--- `--listen`, with the text of `--connections` where it is there; the periodic work of the shop in the file of this name; this
--- report on it; or nothing, for a reason among these.
+-- `--listen`, with the text of `--connections` where it is there; the periodic work of the shop in the file of this name; the report
+-- of this name on it, with the text of `--list` where it is there; or nothing, for a reason among these.
 pub data Asked : Type 0 where
   runs : Text → Text → Asked
   makes : Text → Text → Text → Asked
   adds : Text → Text → Asked
   serves : Text → Text → Option Text → Asked
   works : Text → Asked
-  reports : Text → Text → Asked
+  reports : Text → Text → Option Text → Asked
   none : Kinds → Asked
 
 -- the text of an argument among the matches of the command, which is empty where there is none
@@ -50,7 +50,7 @@ asked_of command rows =
     else (if bytes_eq command (codes "token-add") then adds (text_of (codes "file") rows) (text_of (codes "token") rows)
     else (if bytes_eq command (codes "serve") then serves (text_of (codes "file") rows) (text_of (codes "listen") rows) (first_of (codes "connections") rows)
     else (if bytes_eq command (codes "periodic") then works (text_of (codes "file") rows)
-    else (if bytes_eq command (codes "report") then reports (text_of (codes "file") rows) (text_of (codes "report") rows)
+    else (if bytes_eq command (codes "report") then reports (text_of (codes "file") rows) (text_of (codes "report") rows) (first_of (codes "list") rows)
     else runs (text_of (codes "from") rows) (text_of (codes "step") rows)))))
 
 abbrev pub asked_by : Kinds → Option (Text × List Row) → Asked
@@ -69,7 +69,7 @@ asked_by_line (lines.Init line) = makes line.file.now line.organizer.now line.ev
 asked_by_line (lines.TokenAdd line) = adds line.file.now line.token.now
 asked_by_line (lines.Serve line) = serves line.file.now line.listen.now (option_map (λ t. t.now) line.connections)
 asked_by_line (lines.Periodic line) = works line.file.now
-asked_by_line (lines.Report line) = reports line.file.now line.report.now
+asked_by_line (lines.Report line) = reports line.file.now line.report.now (option_map (λ t. t.now) line.list)
 
 abbrev pub HasReason : Asked → ErrorKind → Type 0
 HasReason (none kinds) kind = IsAmong kind kinds

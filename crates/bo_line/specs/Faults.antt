@@ -8,6 +8,7 @@ use Rattle.bo_line.specs.declared.fault.RunFault.TheVariants as faults
 abbrev pub fault_number : RunFault → ℕ
 fault_number faults.Memory = 6
 fault_number faults.Full = 16
+fault_number faults.NoList = 50
 fault_number faults.NotAShop = 60
 fault_number faults.Version = 61
 fault_number (faults.Damaged rule) = 62

@@ -8,6 +8,7 @@ use Rattle.bo_devices.specs.declared.device.Refused.{Refused}
 use Rattle.bo_http.specs.Written.{Page, Writes}
 use Rattle.bo_line.specs.declared.fault.RunFault.{RunFault}
 use Rattle.bo_line.specs.declared.fault.RunFault.TheVariants as faults
+use Rattle.bo_line.specs.declared.values.Report.{Report}
 use Rattle.bo_line.specs.Values.{AreServeValues, is_token}
 
 -- how a command ends that was done, by whether what it says was written
@@ -79,16 +80,17 @@ ServesFile served file listen connections old new result =
 abbrev pub Working : Type 1
 Working = List ℕ → Result (List ℕ) RunFault → Type 0
 
--- what a report on the shop in a file may come to, by the file's name: its text, whose lines have ends
+-- what a report on the shop in a file may come to, by the file's name and which it is: its text, whose lines have
+-- ends
 abbrev pub Reporting : Type 1
-Reporting = List ℕ → Result (List ℕ) RunFault → Type 0
+Reporting = List ℕ → Report → Result (List ℕ) RunFault → Type 0
 
 abbrev pub report_text : List ℕ → List ℕ
 report_text text = text
 
 -- `report`: the report is told as it is
-abbrev pub ReportsFile : Reporting → List ℕ → Page → Page → Result (Unit {0}) RunFault → Type 0
-ReportsFile reported file old new result = (came : Result (List ℕ) RunFault) × reported file came × Tells report_text came old new result
+abbrev pub ReportsFile : Reporting → List ℕ → Report → Page → Page → Result (Unit {0}) RunFault → Type 0
+ReportsFile reported file report old new result = (came : Result (List ℕ) RunFault) × reported file report came × Tells report_text came old new result
 
 -- the line of such a text
 abbrev pub work_line : List ℕ → List ℕ

@@ -1,11 +1,16 @@
 -- The values of a line.
-use Rattle.std.specs.Prelude.{◌≡◌, ◌⊎◌, ℕ, Bool, true, ◌&&◌, List, length, Option, Some, None, Result, Ok, Err, if◌then◌else◌, nat_le}
+use Rattle.std.specs.Prelude.{◌≡◌, ◌⊎◌, ℕ, Bool, true, ◌&&◌, List, length, codes, Option, Some, None, Result, Ok, Err, if◌then◌else◌, nat_le}
 use Rattle.std.specs.List.{list_all}
+use Rattle.std.specs.Str.{bytes_eq}
 use Rattle.std.specs.Net.Grammar.{IsSocketText}
 use Rattle.std.specs.declared.net.socket_addr.SocketAddr.{SocketAddr}
 use Rattle.bo_base.specs.declared.refusal.ValueRefusal.{ValueRefusal}
 use Rattle.bo_base.specs.Digits.{number_of}
 use Rattle.bo_times.specs.Moments.{moment_of}
+use Rattle.bo_line.specs.declared.values.Report.{Report}
+use Rattle.bo_line.specs.declared.values.Report.TheVariants.{Sales, Door}
+use Rattle.bo_line.specs.declared.values.ReportFault.{ReportFault}
+use Rattle.bo_line.specs.declared.values.ReportFault.TheVariants.{Unknown, Argument}
 
 -- 0 to 31536000 seconds
 abbrev pub step_within : Option ℕ → Option ℕ
@@ -35,6 +40,24 @@ connections_of (Some text) = connections_within (number_of text)
 abbrev pub AreServeValues : List ℕ → Option (List ℕ) → Option (SocketAddr × ℕ) → Type 0
 AreServeValues listen connections (Some (addr, n)) = IsSocketText listen addr × (connections_of connections ≡ Some n)
 AreServeValues listen connections None = ((addr : SocketAddr) → ¬ (IsSocketText listen addr)) ⊎ (connections_of connections ≡ None)
+
+-- what was sold is told without a list
+abbrev pub sales_by : Option (List ℕ) → Result Report ReportFault
+sales_by None = Ok Sales
+sales_by (Some text) = Err Unknown
+
+abbrev pub door_if : Option ℕ → Result Report ReportFault
+door_if None = Err Argument
+door_if (Some number) = Ok (Door number)
+
+-- who came in is told of a list, by its number, 1 to 18 digits
+abbrev pub door_by : Option (List ℕ) → Result Report ReportFault
+door_by None = Err Unknown
+door_by (Some text) = door_if (number_of text)
+
+-- the report that a name and the value of `--list` ask for
+abbrev pub report_of : List ℕ → Option (List ℕ) → Result Report ReportFault
+report_of name list = if bytes_eq name (codes "sales") then sales_by list else (if bytes_eq name (codes "door") then door_by list else Err Unknown)
 
 -- an ASCII letter, digit or sign, and no space
 abbrev pub is_token_byte : ℕ → Bool

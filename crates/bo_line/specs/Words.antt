@@ -37,9 +37,9 @@ serve_app = with_rule (with_rule (with_rule (new_app (codes "serve")) (word (cod
 abbrev pub work_app : App
 work_app = with_rule (new_app (codes "periodic")) (word (codes "file"))
 
--- `report FILE REPORT`
+-- `report FILE REPORT [--list N]`
 abbrev pub report_app : App
-report_app = with_rule (with_rule (new_app (codes "report")) (word (codes "file"))) (word (codes "report"))
+report_app = with_rule (with_rule (with_rule (new_app (codes "report")) (word (codes "file"))) (word (codes "report"))) (choice (codes "list"))
 
 -- a program with one more command, which was made
 abbrev pub IsWith : App → Result Command AllocError → App → Type 0

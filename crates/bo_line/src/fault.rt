@@ -15,6 +15,8 @@ pub enum RunFault {
     Memory,
     /// The shop has all the tokens that it may have.
     Full,
+    /// The shop has no check-in list of this number.
+    NoList,
     /// The file isn't a shop's; or it stands already, where a shop is to be made.
     NotAShop,
     /// The file's tables are of another version.
@@ -34,7 +36,7 @@ pub enum RunFault {
 }
 
 impl RunFault {
-    /// Its number: 6 for want of memory, 16 where there are too many tokens, 60 to 63 for what a file holds, 80 for a file that can't be
+    /// Its number: 6 for want of memory, 16 where there are too many tokens, 50 for an unknown list, 60 to 63 for what a file holds, 80 for a file that can't be
     /// opened, 81 for an address, 84 for an argument, and that of the failure.
     pub fn number(self) -> u8
         ensures { result ≡ fault_number self }
@@ -42,6 +44,7 @@ impl RunFault {
         match self {
             RunFault::Memory => 6,
             RunFault::Full => 16,
+            RunFault::NoList => 50,
             RunFault::NotAShop => 60,
             RunFault::Version => 61,
             RunFault::Damaged(_) => 62,

@@ -6,8 +6,10 @@ ghost use Rattle.bo_base.specs.Slugs.{IsSlug};
 ghost use Rattle.bo_line.specs.Saying.{TellsListening};
 ghost use Rattle.bo_line.specs.Values.{IsToken};
 ghost use Rattle.bo_line.specs.declared.fault.RunFault.{RunFault};
+ghost use Rattle.bo_line.specs.declared.values.Report.{Report};
 
 use crate::fault::RunFault;
+use crate::values::Report;
 use bo_base::Body;
 use bo_devices::Drain;
 use std::alloc::Global;
@@ -25,7 +27,7 @@ pub struct Place<'a> {
 }
 
 /// What the commands on a shop's file ask for, each by the file's name. What a file holds no clause can say: what becomes of it is the
-/// implementor's to say (`made`, `added`, `served`, `worked`, `sold`), and what becomes of its tables `bo_house` and `bo_serve` say.
+/// implementor's to say (`made`, `added`, `served`, `worked`, `reported`), and what becomes of its tables `bo_house` and `bo_serve` say.
 pub trait HouseFiles {
     // what it may come to that a shop is made in the file of this name, for this organizer and this event
     ghost made: { List ℕ → List ℕ → List ℕ → Result (Unit {0}) RunFault → Type 0 };
@@ -39,8 +41,8 @@ pub trait HouseFiles {
     // what it may come to that periodic work is done in the file of this name, with a text of what was done
     ghost worked: { List ℕ → Result (List ℕ) RunFault → Type 0 };
 
-    // what it may come to that what was sold is asked for in the file of this name, with the report on it
-    ghost sold: { List ℕ → Result (List ℕ) RunFault → Type 0 };
+    // what it may come to that this report is asked for on the shop in the file of this name, with its text
+    ghost reported: { List ℕ → Report → Result (List ℕ) RunFault → Type 0 };
 
     /// Makes a shop in a new file. Faults: 60 where the file stands already, 80 where it can't be made, 6 and 63.
     fn make(&self, alloc: Global, file: &str, organizer: &str, event: &str) -> Result<(), RunFault>
@@ -73,8 +75,8 @@ pub trait HouseFiles {
     fn work(&self, alloc: Global, file: &str) -> Result<Body, RunFault>
         ensures { worked file.now result };
 
-    /// The report on what was sold by the shop in a file, which it leaves as it is. Faults: 80 where the file can't be opened, 60 to 63 where
-    /// it isn't a shop's that is whole, and 6.
-    fn sales(&self, alloc: Global, file: &str) -> Result<Body, RunFault>
-        ensures { sold file.now result };
+    /// A report on the shop in a file, which it leaves as it is. Faults: 80 where the file can't be opened, 60 to 63 where it isn't a shop's
+    /// that is whole, 50 where the shop has no check-in list of that number, and 6.
+    fn report(&self, alloc: Global, file: &str, report: Report) -> Result<Body, RunFault>
+        ensures { reported file.now report result };
 }

@@ -50,9 +50,10 @@ pub fn a_file_of_periodic_work_is_known_by_its_place()
         × (asked (program ∷ codes "periodic" ∷ []) ≡ none (MissingRequiredArgument ∷ [])) }
 {}
 
-/// A line of `report` names its file and the report by their places.
+/// A line of `report` names its file and the report by their places, and a check-in list behind a flag, which may be left out.
 pub fn a_report_is_known_by_its_place()
-    ensures { (program : List ℕ) → (asked (program ∷ codes "report" ∷ codes "hall.db" ∷ codes "sales" ∷ []) ≡ reports (codes "hall.db") (codes "sales"))
+    ensures { (program list : List ℕ) → (asked (program ∷ codes "report" ∷ codes "hall.db" ∷ codes "sales" ∷ []) ≡ reports (codes "hall.db") (codes "sales") None)
+        × (asked (program ∷ codes "report" ∷ codes "hall.db" ∷ codes "door" ∷ (codes "--list=" ++ list) ∷ []) ≡ reports (codes "hall.db") (codes "door") (Some list))
         × (asked (program ∷ codes "report" ∷ codes "hall.db" ∷ []) ≡ none (MissingRequiredArgument ∷ [])) }
 {}
 

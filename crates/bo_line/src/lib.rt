@@ -20,7 +20,7 @@ pub use files::{HouseFiles, Place};
 pub use line::{answer_line, report, report_run, report_unknown, report_words};
 pub use saying::{said, say};
 pub use ticks::{FeedTicks, Pace};
-pub use values::{feed_values, is_token, serve_values};
+pub use values::{Report, ReportFault, feed_values, is_token, report_of, serve_values};
 pub use words::{
     FeedLine, InitLine, Line, ReportLine, ServeLine, TokenLine, WorkLine, plain_words, read_line,
 };

@@ -33,11 +33,13 @@ pub fn report_words<O: Eprint>(rt: &O, error: &io::Error) -> LineEnd
     }
 }
 
-/// Says that there is no report of this name.
+/// Says that there is no report of this name, or none with a list, or none without.
 pub fn report_unknown<O: Eprint>(rt: &O, name: &str) -> LineEnd
     ensures { result ≡ LineEnd.Wrong }
 {
-    let _ = eprintln!(rt; "error: there is no report '{name}'; there is: sales");
+    let _ = eprintln!(rt;
+        "error: there is no such report as '{name}'; there are: sales, and door with --list N"
+    );
     LineEnd::Wrong
 }
 

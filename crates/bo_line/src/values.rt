@@ -2,7 +2,7 @@
 
 ghost use Rattle.std.specs.Prelude.{◌≡◌, option_map};
 ghost use Rattle.std.specs.List.{list_all};
-ghost use Rattle.bo_line.specs.Values.{AreServeValues, connections_of, feed_values, is_token, is_token_byte};
+ghost use Rattle.bo_line.specs.Values.{AreServeValues, connections_of, door_by, feed_values, is_token, is_token_byte, report_of, sales_by};
 
 use bo_base::{Moment, number_of};
 use bo_times::read_moment;
@@ -51,6 +51,58 @@ pub fn serve_values(listen: &str, connections: Option<&str>) -> Option<(SocketAd
     match connections_of(connections) {
         Some(connections) => Some((addr, connections)),
         None => None,
+    }
+}
+
+/// Which report on a shop is asked for.
+#[derive(Clone, Copy, Debug, PartialEq, Eq)]
+pub enum Report {
+    /// What was sold.
+    Sales,
+    /// Who came in by the check-in list of this number.
+    Door(u64),
+}
+
+/// Why the words of a line ask for no report.
+#[derive(Clone, Copy, Debug, PartialEq, Eq)]
+pub enum ReportFault {
+    /// There is no report of this name, or none with a list, or none without.
+    Unknown,
+    /// The list's number can't be read.
+    Argument,
+}
+
+// The report on what was sold, which has no list.
+fn sales_by(list: Option<&str>) -> Result<Report, ReportFault>
+    ensures { result ≡ sales_by (option_map (λ t. t.now) list.entry) }
+{
+    match list {
+        None => Ok(Report::Sales),
+        Some(_) => Err(ReportFault::Unknown),
+    }
+}
+
+// The report on a check-in list, which has to be there.
+fn door_by(list: Option<&str>) -> Result<Report, ReportFault>
+    ensures { result ≡ door_by (option_map (λ t. t.now) list.entry) }
+{
+    let Some(text) = list else {
+        return Err(ReportFault::Unknown);
+    };
+    match number_of(text.as_bytes()) {
+        Some(number) => Ok(Report::Door(number)),
+        None => Err(ReportFault::Argument),
+    }
+}
+
+/// The report that a name and the value of `--list` ask for: `sales` without a list, `door` with one, 1 to 18 digits.
+pub fn report_of(name: &str, list: Option<&str>) -> Result<Report, ReportFault>
+    ensures { result ≡ report_of name.now (option_map (λ t. t.now) list.entry) }
+{
+    match name {
+        "sales" => sales_by(list),
+        "door" => door_by(list),
+        _ => Err(ReportFault::Unknown),
     }
 }
 

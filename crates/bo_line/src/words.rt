@@ -80,6 +80,8 @@ pub struct ReportLine<'a> {
     pub file: &'a str,
     /// Which report it is.
     pub report: &'a str,
+    /// The text of `--list`, where it is there.
+    pub list: Option<&'a str>,
 }
 
 // A flag with a text, which may be left out.
@@ -202,9 +204,15 @@ fn report_command<'a>(alloc: Global) -> Result<Command<'a>, AllocError>
     ensures { IfOk result (λ command. app_of command ≡ report_app) }
 {
     Command::new(alloc, "report")
-        .about("Prints what was sold in a shop's file, item by item")
+        .about("Prints what was sold in a shop's file, or who came in by a check-in list")
         .arg(word(alloc, "file", "FILE", "The shop's file"))?
-        .arg(word(alloc, "report", "REPORT", "Which report: sales"))
+        .arg(word(alloc, "report", "REPORT", "Which report: sales, or door"))?
+        .arg(choice(
+            alloc,
+            "list",
+            "N",
+            "The number of the check-in list, for door",
+        ))
 }
 
 // The program with one more command, where that was made.
@@ -239,14 +247,14 @@ fn is_signed(word: &str) -> bool
     matches!(word.as_bytes(), [b'-', b'0'..=b'9', ..])
 }
 
-// Whether a number follows the word: it is `--step` or `--connections`.
+// Whether a number follows the word: it is `--step`, `--connections` or `--list`.
 fn takes_number(word: &str) -> bool
     ensures { result ≡ takes_number word.now }
 {
-    word == "--step" || word == "--connections"
+    word == "--step" || word == "--connections" || word == "--list"
 }
 
-/// The words as they are read: behind `--step` and `--connections` a number with a minus sign is the empty text, which is no number
+/// The words as they are read: behind `--step`, `--connections` and `--list` a number with a minus sign is the empty text, which is no number
 /// either.
 pub fn plain_words<'a>(alloc: Global, words: &'a [String]) -> Result<Vec<&'a str>, AllocError>
     ensures { IfOk result (λ all. texts all.items ≡ plain_words (map string_bytes words.now)) }
@@ -315,6 +323,7 @@ fn line_of<'a>(command: &str, matches: &ArgMatches<'a>) -> Line<'a>
         return Line::Report(ReportLine {
             file: text_of(matches, "file"),
             report: text_of(matches, "report"),
+            list: given(matches, "list"),
         });
     }
     Line::Feed(FeedLine {

@@ -1,3 +1,5 @@
 pub mod Mapped
 pub mod Noting
 pub mod Totals
+pub mod Entering
+pub mod DoorLines

@@ -2,8 +2,12 @@
 #![tactic(auto)]
 
 mod columns;
+mod doors;
+mod entries;
 mod sales;
 mod text;
 
+pub use doors::door_text;
+pub use entries::{Entries, ItemEntries, all_entries};
 pub use sales::{ItemSales, Sales, all_sales};
 pub use text::sales_text;

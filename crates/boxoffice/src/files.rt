@@ -4,8 +4,8 @@ ghost use Rattle.std.specs.Prelude.{⊤, ◌≡◌};
 
 use bo_base::{Body, Slug};
 use bo_devices::Drain;
-use bo_house::{Filed, add_shop_token, make_new_shop, report_sales, serve_shop, work_shop};
-use bo_line::{HouseFiles, Place, RunFault};
+use bo_house::{Filed, add_shop_token, make_new_shop, report_shop, serve_shop, work_shop};
+use bo_line::{HouseFiles, Place, Report, RunFault};
 use sqlite::{Connection, Error, ErrorCode, File, FileStore};
 use std::alloc::Global;
 use std::fs;
@@ -61,7 +61,7 @@ impl HouseFiles for HostFiles<'_> {
 
     ghost worked = { λ _ _. ⊤ };
 
-    ghost sold = { λ _ _. ⊤ };
+    ghost reported = { λ _ _ _. ⊤ };
 
     fn make(
         &self,
@@ -113,12 +113,12 @@ impl HouseFiles for HostFiles<'_> {
         }
     }
 
-    fn sales(&self, alloc: Global, file: &str) -> Result<Body, RunFault> {
+    fn report(&self, alloc: Global, file: &str, report: Report) -> Result<Body, RunFault> {
         if !self.stands(file) {
             return Err(RunFault::File);
         }
         match self.opened(file) {
-            Ok(connection) => ended(report_sales(alloc, connection)),
+            Ok(connection) => ended(report_shop(alloc, connection, report)),
             Err(fault) => Err(fault),
         }
     }

@@ -6,7 +6,7 @@ use crate::failing::FailingWriter;
 use bo_base::Body;
 use bo_devices::Drain;
 use bo_feed::run;
-use bo_line::{HouseFiles, LineEnd, Place, RunFault, counted, said, say};
+use bo_line::{HouseFiles, LineEnd, Place, Report, RunFault, counted, said, say};
 use std::alloc::{AllocError, Global};
 use std::io::Read;
 use std::marker::Brand;
@@ -34,7 +34,7 @@ impl HouseFiles for OneFile {
 
     ghost worked = { λ _ _. ⊤ };
 
-    ghost sold = { λ _ _. ⊤ };
+    ghost reported = { λ _ _ _. ⊤ };
 
     fn make(
         &self,
@@ -84,12 +84,17 @@ impl HouseFiles for OneFile {
         Ok(Body::new(done))
     }
 
-    fn sales(&self, alloc: Global, file: &str) -> Result<Body, RunFault> {
+    fn report(&self, alloc: Global, file: &str, report: Report) -> Result<Body, RunFault> {
         if file != "hall.db" {
             return Err(RunFault::File);
         }
+        let line = match report {
+            Report::Sales => " total       0       0       0       0           0.00\n",
+            Report::Door(1) => " total         0         0         0\n",
+            Report::Door(_) => return Err(RunFault::NoList),
+        };
         let mut text = Vec::new(alloc);
-        text.extend_from_slice(b" total       0       0       0       0           0.00\n")?;
+        text.extend_from_slice(line.as_bytes())?;
         Ok(Body::new(text))
     }
 }

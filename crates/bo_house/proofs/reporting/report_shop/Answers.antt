@@ -1,6 +1,6 @@
 use Rattle.std.proofs.Common.{ap, Err, inl, inr}
 use Rattle.bo_desk.specs.Streams.{desk_with}
-use Rattle.bo_house.proofs.reporting.report_sales.Goals as goal
+use Rattle.bo_house.proofs.reporting.report_shop.Goals as goal
 
 pub returns-in-Ok : goal.returns-in-Ok
 returns-in-Ok g c =

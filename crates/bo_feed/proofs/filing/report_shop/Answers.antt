@@ -1,7 +1,7 @@
 use Rattle.std.proofs.Common.{Ok}
 use Rattle.bo_http.specs.Written.{Page}
 use Rattle.bo_http.proofs.WriteLemmas.{writes_as}
-use Rattle.bo_feed.proofs.filing.report_sales.Goals as goal
+use Rattle.bo_feed.proofs.filing.report_shop.Goals as goal
 
 pub returns-in-Ok : goal.returns-in-Ok
 returns-in-Ok g c =
