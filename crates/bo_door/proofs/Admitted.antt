@@ -1,6 +1,6 @@
 -- What is known where a ticket was let through.
-use Rattle.std.proofs.Common.{◌≡◌, ℕ, ◌⊎◌, inl, inr, Bool, true, false, [], ◌∷◌, Option, Some, None, Result, Ok, Err, refl, sym, ap, ◌∙◌, subst}
-use Rattle.std.specs.Prelude.{is_some, unwrap_or, IfSome, if◌then◌else◌}
+use Rattle.std.proofs.Common.{◌≡◌, ℕ, ◌⊎◌, inl, inr, true, false, [], Option, Some, None, Result, Ok, refl, sym, ap, ◌∙◌, subst}
+use Rattle.std.specs.Prelude.{is_some, unwrap_or, IfSome}
 use Rattle.bo_base.proofs.Decided.{gave, gave_it, passed}
 use Rattle.bo_base.specs.Moments.{IsMoment}
 use Rattle.bo_sorted.specs.Tables.{AreInOrder}

@@ -9,7 +9,8 @@ use Rattle.bo_lists.specs.Lists.{Lists}
 use Rattle.bo_lists.proofs.Found.{each_found}
 use Rattle.bo_door.specs.Belongs.{is_for}
 use Rattle.bo_reports.specs.Entered.{all_entries, entries_of, item_entries, items_on}
-use Rattle.bo_reports.specs.DoorText.{door_line, door_line_if, door_lines}
+use Rattle.bo_reports.specs.DoorText.{door_line}
+use Rattle.bo_reports.specs.ItemLines.{door_line_if, door_lines}
 
 module _ (list : CheckinList) (lists : Lists) where
   abbrev Stands : Item → Type 0

@@ -5,7 +5,7 @@ use Rattle.std.proofs.lemmas.Bool.Decides.{nat_tests}
 use Rattle.std.proofs.lemmas.List.{drop_more, drop_all, map-id}
 use Rattle.std.proofs.lemmas.List.Sums.{sum_by-cons}
 use Rattle.bo_sorted.specs.Tables.{row_at, InOrderFrom, AreInOrder, IsPlace}
-use Rattle.bo_sorted.proofs.Places.{order_weaker}
+use Rattle.bo_sorted.proofs.Places.{filter_in_order}
 use Rattle.bo_catalogue.specs.declared.rows.Item.{Item}
 use Rattle.bo_lists.specs.declared.rows.Checkin.{Checkin}
 use Rattle.bo_lists.specs.declared.rows.CheckinList.{CheckinList}
@@ -16,8 +16,9 @@ use Rattle.bo_door.specs.Last.{checkins_of, has_entry, is_entry, is_of}
 use Rattle.bo_door.specs.Status.{has_entered, is_inside}
 use Rattle.bo_reports.specs.declared.entries.Entries.{Entries}
 use Rattle.bo_reports.specs.declared.entries.ItemEntries.{ItemEntries}
-use Rattle.bo_reports.specs.Entered.{AllAtMost, AreAtMost, all_entries, come, counted, counted_all, counted_where, entries_of, item_entries, items_on, one_if, unvisited, with_ticket}
-use Rattle.bo_reports.proofs.Mapped.{map_two, map_absent, map_set, mapped_in_order}
+use Rattle.bo_reports.specs.Entered.{all_entries, come, entries_of, item_entries, items_on}
+use Rattle.bo_reports.specs.Counted.{AllAtMost, AreAtMost, counted, counted_all, counted_where, one_if, unvisited, with_ticket}
+use Rattle.bo_sorted.proofs.Mapped.{map_two, map_absent, map_set, mapped_in_order}
 
 at_most_weaker : (n m : ℕ) (e : Entries) → n ≤ m → AreAtMost n e → AreAtMost m e
 at_most_weaker n m e le few = record { positions = omega (arith, le, few.positions); entered = omega (arith, le, few.entered); inside = omega (arith, le, few.inside) }
@@ -32,12 +33,7 @@ none_at_most [] = tt
 none_at_most (i ∷ is) = (record { positions = omega arith; entered = omega arith; inside = omega arith }, none_at_most is)
 
 pub unvisited_in_order : (test : Item → Bool) (n : ℕ) (items : List Item) → InOrderFrom (λ i. i.id) n items → InOrderFrom (λ s. s.item) n (map unvisited (filter test items))
-unvisited_in_order test n [] h = tt
-unvisited_in_order test n (i ∷ is) h = by_test (test i) (unvisited_in_order test (i.id + 1) is h.1)
-  where
-    by_test : (b : Bool) → InOrderFrom (λ (s : ItemEntries). s.item) (i.id + 1) (map unvisited (filter test is)) → InOrderFrom (λ (s : ItemEntries). s.item) n (map unvisited (cond b (i ∷ filter test is) (filter test is)))
-    by_test true more = (h.0, more)
-    by_test false more = order_weaker (λ (s : ItemEntries). s.item) (i.id + 1) n (map unvisited (filter test is)) (omega (arith, h.0)) more
+unvisited_in_order test n items h = mapped_in_order (λ (i : Item). i.id) (λ (s : ItemEntries). s.item) unvisited (λ i. refl) n (filter test items) (filter_in_order (λ (i : Item). i.id) test n items h)
 
 -- what a position's check-ins say of it, all of them or its own
 pub own_entry : (list position : ℕ) (cs : List Checkin) → has_entry list position (checkins_of list position cs) ≡ has_entry list position cs
@@ -97,7 +93,7 @@ module _ (item : ℕ) (entered inside : Bool) where
   counted_nowhere rows e = map_absent (λ (s : ItemEntries). s.item) (counted item entered inside) item counted_apart rows e
 
   counted_in_order : (rows : List ItemEntries) → AreInOrder (λ s. s.item) rows → AreInOrder (λ s. s.item) (map (counted item entered inside) rows)
-  counted_in_order rows h = mapped_in_order (λ (s : ItemEntries). s.item) (counted item entered inside) counted_item 0 rows h
+  counted_in_order rows h = mapped_in_order (λ (s : ItemEntries). s.item) (λ (s : ItemEntries). s.item) (counted item entered inside) counted_item 0 rows h
 
   one_at_most : (b : Bool) → one_if b ≤ 1
   one_at_most true = omega arith

@@ -1,4 +1,3 @@
-pub mod Mapped
 pub mod Noting
 pub mod Totals
 pub mod Entering

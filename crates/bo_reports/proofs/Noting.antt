@@ -15,8 +15,9 @@ use Rattle.bo_lists.specs.Conditions.{is_paid, is_pending}
 use Rattle.bo_lists.specs.Lists.{Lists, order_at}
 use Rattle.bo_reports.specs.declared.sales.Sales.{Sales}
 use Rattle.bo_reports.specs.declared.sales.ItemSales.{ItemSales}
-use Rattle.bo_reports.specs.Sold.{AreFew, IsFew, all_sales, earned, is_cancelled, is_expired, is_sold, item_sales, noted, noted_all, noted_if, sales_of, sold, status_passes, unsold, with_sale}
-use Rattle.bo_reports.proofs.Mapped.{map_two, map_absent, map_set, mapped_in_order}
+use Rattle.bo_reports.specs.Sold.{all_sales, earned, is_cancelled, is_expired, is_sold, item_sales, sales_of, sold, status_passes}
+use Rattle.bo_reports.specs.Noted.{AreFew, IsFew, noted, noted_all, noted_if, unsold, with_sale}
+use Rattle.bo_sorted.proofs.Mapped.{map_two, map_absent, map_set, mapped_in_order}
 
 few_weaker : (n m : ℕ) (s : Sales) → n ≤ m → IsFew n s → IsFew m s
 few_weaker n m s le few = record { paid = omega (arith, le, few.paid); pending = omega (arith, le, few.pending); expired = omega (arith, le, few.expired); cancelled = omega (arith, le, few.cancelled); amount = omega (arith, le, few.amount) }
@@ -31,8 +32,7 @@ none_few [] = tt
 none_few (i ∷ is) = (record { paid = omega arith; pending = omega arith; expired = omega arith; cancelled = omega arith; amount = omega arith }, none_few is)
 
 pub none_in_order : (n : ℕ) (items : List Item) → InOrderFrom (λ i. i.id) n items → InOrderFrom (λ s. s.item) n (map unsold items)
-none_in_order n [] h = tt
-none_in_order n (i ∷ is) h = (h.0, none_in_order (i.id + 1) is h.1)
+none_in_order n items h = mapped_in_order (λ (i : Item). i.id) (λ (s : ItemSales). s.item) unsold (λ i. refl) n items h
 
 module _ (status : Status) (item price : ℕ) where
   abbrev noted_by : Bool → ItemSales → ItemSales
@@ -72,7 +72,7 @@ module _ (status : Status) (item price : ℕ) where
   noted_nowhere rows e = map_absent (λ (s : ItemSales). s.item) (noted status item price) item noted_apart rows e
 
   pub noted_in_order : (rows : List ItemSales) → AreInOrder (λ s. s.item) rows → AreInOrder (λ s. s.item) (map (noted status item price) rows)
-  noted_in_order rows h = mapped_in_order (λ (s : ItemSales). s.item) (noted status item price) noted_item 0 rows h
+  noted_in_order rows h = mapped_in_order (λ (s : ItemSales). s.item) (λ (s : ItemSales). s.item) (noted status item price) noted_item 0 rows h
 
   -- one more position raises no count by more than one, and what was paid by no more than a price
   sale_few : (n : ℕ) (s : Sales) → price ≤ last_cents → IsFew n s → IsFew (n + 1) (with_sale status price s)

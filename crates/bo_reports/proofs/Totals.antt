@@ -6,8 +6,10 @@ use Rattle.bo_catalogue.specs.declared.rows.Item.{Item}
 use Rattle.bo_lists.specs.Lists.{Lists}
 use Rattle.bo_reports.specs.declared.sales.Sales.{Sales}
 use Rattle.bo_reports.specs.declared.sales.ItemSales.{ItemSales}
-use Rattle.bo_reports.specs.Sold.{AreFew, IsFew, item_sales, nothing, sales_of}
-use Rattle.bo_reports.specs.SalesText.{lines_of, sales_line, total_of, with_sales}
+use Rattle.bo_reports.specs.Sold.{item_sales, nothing, sales_of}
+use Rattle.bo_reports.specs.Noted.{AreFew, IsFew}
+use Rattle.bo_reports.specs.SalesText.{sales_line, total_of, with_sales}
+use Rattle.bo_reports.specs.ItemLines.{lines_of}
 
 abbrev with_counts : ℕ → ℕ → ℕ → ℕ → ℕ → Sales
 with_counts paid pending expired cancelled amount = record { paid = paid; pending = pending; expired = expired; cancelled = cancelled; amount = amount }

@@ -2,14 +2,12 @@
 use Rattle.std.specs.Prelude.{ℕ, List, [], ◌∷◌, ◌++◌, map, Option, Some, None, codes}
 use Rattle.std.specs.List.{concat}
 use Rattle.std.specs.Fmt.{decimal}
-use Rattle.bo_catalogue.specs.CatalogueLists.{CatalogueLists, item_at}
 use Rattle.bo_catalogue.specs.declared.rows.Item.{Item}
 use Rattle.bo_lists.specs.declared.rows.CheckinList.{CheckinList}
 use Rattle.bo_lists.specs.Lists.{Lists, checkin_list_at}
 use Rattle.bo_commands.specs.declared.doors.DoorStatus.{DoorStatus}
 use Rattle.bo_door.specs.Status.{status_of}
 use Rattle.bo_reports.specs.declared.entries.Entries.{Entries}
-use Rattle.bo_reports.specs.declared.entries.ItemEntries.{ItemEntries}
 use Rattle.bo_reports.specs.Columns.{right}
 use Rattle.bo_reports.specs.Entered.{entries_of, items_on}
 
@@ -24,15 +22,6 @@ door_line item e = right 6 (decimal item.id) ++ (door_columns e.positions e.ente
 -- the same of all positions that belong to the list
 abbrev pub status_line : DoorStatus → List ℕ
 status_line s = codes " total" ++ (door_columns s.positions s.entered s.inside ++ 10 ∷ [])
-
--- items by their numbers, beside who came in
-abbrev pub door_line_if : Option Item → Entries → List ℕ
-door_line_if None e = []
-door_line_if (Some item) e = door_line item e
-
-abbrev pub door_lines : CatalogueLists → List ItemEntries → List ℕ
-door_lines catalogue [] = []
-door_lines catalogue (r ∷ rs) = door_line_if (item_at r.item catalogue) r.entries ++ door_lines catalogue rs
 
 -- each item that the list is for, by id, and all of them
 abbrev pub door_text : CheckinList → Lists → List ℕ

@@ -35,11 +35,6 @@ abbrev pub total_of : List ItemSales → Sales
 total_of [] = nothing
 total_of (r ∷ rs) = with_sales r.sales (total_of rs)
 
--- items beside what was sold of them
-abbrev pub lines_of : List Item → List ItemSales → List ℕ
-lines_of (i ∷ is) (r ∷ rs) = sales_line i r.sales ++ lines_of is rs
-lines_of _ _ = []
-
 -- each item, by id, and all of them
 abbrev pub sales_text : Lists → List ℕ
 sales_text lists = concat (map (λ i. sales_line i (sales_of lists i)) lists.catalogue.items) ++ total_line (total_of (all_sales lists))

@@ -2,7 +2,8 @@
 
 ghost use Rattle.std.specs.Prelude.{◌≡◌, ◌++◌, IfOk, OnOk, Option};
 ghost use Rattle.bo_sound.specs.Sound.{IsSound};
-ghost use Rattle.bo_reports.specs.DoorText.{door_columns, door_line, door_lines, door_text_of, status_line};
+ghost use Rattle.bo_reports.specs.DoorText.{door_columns, door_line, door_text_of, status_line};
+ghost use Rattle.bo_reports.specs.ItemLines.{door_lines};
 
 use crate::columns::append_number;
 use crate::entries::{Entries, ItemEntries, all_entries};

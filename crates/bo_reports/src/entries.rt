@@ -6,7 +6,8 @@ ghost use Rattle.bo_sound.specs.Sound.{IsSound};
 ghost use Rattle.bo_door.specs.Belongs.{belongs, is_for};
 ghost use Rattle.bo_door.specs.Last.{is_entry_if};
 ghost use Rattle.bo_door.specs.Status.{has_entered, is_inside};
-ghost use Rattle.bo_reports.specs.Entered.{AllAtMost, AreAtMost, all_entries, counted, counted_all, counted_where, items_on, unvisited, with_ticket};
+ghost use Rattle.bo_reports.specs.Entered.{all_entries, items_on};
+ghost use Rattle.bo_reports.specs.Counted.{AllAtMost, AreAtMost, counted, counted_all, counted_where, unvisited, with_ticket};
 
 use bo_catalogue::Item;
 use bo_door::belongs;
@@ -19,7 +20,7 @@ use std::alloc::{AllocError, Global};
 
 /// Of the positions that belong to a check-in list: how many there are, have entered, and are inside.
 #[derive(Clone, Copy, Debug, PartialEq, Eq)]
-pub struct Entries {
+pub(crate) struct Entries {
     pub positions: u64,
     pub entered: u64,
     pub inside: u64,
@@ -27,7 +28,7 @@ pub struct Entries {
 
 /// Those of an item.
 #[derive(Clone, Copy, Debug, PartialEq, Eq)]
-pub struct ItemEntries {
+pub(crate) struct ItemEntries {
     pub item: u64,
     pub entries: Entries,
 }
@@ -42,7 +43,7 @@ impl Row for ItemEntries {
 
 /// Who came in of each item that the list is for, by id. It goes once over the positions, and looks each one's check-ins up. `Err` where
 /// there is no memory for a row for each item, or for the check-ins of a position.
-pub fn all_entries<B: Book>(
+pub(crate) fn all_entries<B: Book>(
     book: &B,
     alloc: Global,
     list: &CheckinList,

@@ -8,6 +8,4 @@ mod sales;
 mod text;
 
 pub use doors::door_text;
-pub use entries::{Entries, ItemEntries, all_entries};
-pub use sales::{ItemSales, Sales, all_sales};
 pub use text::sales_text;

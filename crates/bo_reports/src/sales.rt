@@ -5,7 +5,8 @@ ghost use Rattle.bo_base.specs.Money.{last_cents};
 ghost use Rattle.bo_sorted.specs.Tables.{AreInOrder};
 ghost use Rattle.bo_lists.specs.Lists.{order_at};
 ghost use Rattle.bo_sound.specs.Sound.{IsSound};
-ghost use Rattle.bo_reports.specs.Sold.{AreFew, IsFew, all_sales, nothing, noted, noted_all, noted_if, unsold, with_sale};
+ghost use Rattle.bo_reports.specs.Sold.{all_sales, nothing};
+ghost use Rattle.bo_reports.specs.Noted.{AreFew, IsFew, noted, noted_all, noted_if, unsold, with_sale};
 
 use bo_catalogue::Item;
 use bo_lists::{OrderPos, Status};
@@ -15,7 +16,7 @@ use std::alloc::{AllocError, Global};
 
 /// How many positions are in orders of each status, and what was paid for those in paid ones, in cents.
 #[derive(Clone, Copy, Debug, PartialEq, Eq)]
-pub struct Sales {
+pub(crate) struct Sales {
     pub paid: u64,
     pub pending: u64,
     pub expired: u64,
@@ -25,7 +26,7 @@ pub struct Sales {
 
 /// What was sold of an item.
 #[derive(Clone, Copy, Debug, PartialEq, Eq)]
-pub struct ItemSales {
+pub(crate) struct ItemSales {
     pub item: u64,
     pub sales: Sales,
 }
@@ -40,7 +41,7 @@ impl Row for ItemSales {
 
 /// What was sold of each item, by id, of inactive ones and of ones that were never sold too. It goes once over the positions. `Err` where
 /// there is no memory for a row for each item.
-pub fn all_sales<B: Book>(book: &B, alloc: Global) -> Result<Vec<ItemSales>, AllocError>
+pub(crate) fn all_sales<B: Book>(book: &B, alloc: Global) -> Result<Vec<ItemSales>, AllocError>
     requires { IsSound (B.state book.now) }
     ensures sales { IfOk result (λ sales. sales.items ≡ all_sales (B.state book.now).lists) }
     ensures few { IfOk result (λ sales. AreFew 1000000 sales.items) }

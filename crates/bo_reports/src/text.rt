@@ -2,8 +2,9 @@
 
 ghost use Rattle.std.specs.Prelude.{◌≡◌, ◌≤◌, ◌++◌, OnOk, IfOk, length};
 ghost use Rattle.bo_sound.specs.Sound.{IsSound};
-ghost use Rattle.bo_reports.specs.Sold.{AreFew, IsFew};
-ghost use Rattle.bo_reports.specs.SalesText.{lines_of, sales_columns, sales_line, sales_text, total_line, total_of, with_sales};
+ghost use Rattle.bo_reports.specs.Noted.{AreFew, IsFew};
+ghost use Rattle.bo_reports.specs.SalesText.{sales_columns, sales_line, sales_text, total_line, total_of, with_sales};
+ghost use Rattle.bo_reports.specs.ItemLines.{lines_of};
 
 use crate::columns::{append_number, append_right};
 use crate::sales::{ItemSales, Sales, all_sales, nothing};

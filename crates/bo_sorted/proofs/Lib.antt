@@ -1,3 +1,4 @@
 pub mod Places
 pub mod RisingLemmas
 pub mod Edits
+pub mod Mapped

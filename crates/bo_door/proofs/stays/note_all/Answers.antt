@@ -2,7 +2,7 @@ use Rattle.std.proofs.Common.{◌≡◌, ◌∷◌, ◌+◌, sym, ap, ◌∙◌,
 use Rattle.std.proofs.lemmas.List.{drop_more, drop_all, map-id}
 use Rattle.bo_lists.specs.declared.rows.Checkin.{Checkin}
 use Rattle.bo_door.specs.Stays.{noted, noted_all}
-use Rattle.bo_door.proofs.Noting.{map_two}
+use Rattle.bo_sorted.proofs.Mapped.{map_two}
 use Rattle.bo_door.proofs.stays.note_all.Goals as goal
 
 pub loop-checkin-preserved : goal.loop-checkin-preserved

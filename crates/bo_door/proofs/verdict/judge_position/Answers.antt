@@ -5,7 +5,7 @@ use Rattle.bo_lists.specs.declared.rows.OrderPos.{OrderPos}
 use Rattle.bo_lists.specs.Lists.{checkins_by}
 use Rattle.bo_door.specs.declared.verdict.Admission.TheVariants.{Again, New}
 use Rattle.bo_door.specs.Valid.{IsValid}
-use Rattle.bo_door.specs.Verdict.{is_stored, may_pass, verdict}
+use Rattle.bo_door.specs.Verdict.{is_stored, may_pass}
 use Rattle.bo_door.proofs.Among.{verdict_by}
 use Rattle.bo_door.proofs.verdict.judge_position.Goals as goal
 

@@ -1,5 +1,5 @@
 use Rattle.std.proofs.Common.{◌≡◌, ◌++◌, drop}
-use Rattle.bo_reports.specs.DoorText.{door_lines}
+use Rattle.bo_reports.specs.ItemLines.{door_lines}
 use Rattle.bo_reports.proofs.doors.append_entries.Given as goal
 
 -- the lines that are left, behind what stands, are all lines behind what stood

@@ -2,7 +2,8 @@ use Rattle.std.proofs.Common.{◌≡◌, ◌∙◌, ◌++◌, ℕ, List, Some, a
 use Rattle.std.specs.List.{concat}
 use Rattle.bo_commands.specs.declared.doors.DoorStatus.{DoorStatus}
 use Rattle.bo_reports.specs.Entered.{entries_of, items_on}
-use Rattle.bo_reports.specs.DoorText.{door_line, door_lines, door_text_if, status_line}
+use Rattle.bo_reports.specs.DoorText.{door_line, door_text_if, status_line}
+use Rattle.bo_reports.specs.ItemLines.{door_lines}
 use Rattle.bo_reports.proofs.DoorLines.{door_lines_are}
 use Rattle.bo_reports.proofs.doors.door_text.Goals as goal
 

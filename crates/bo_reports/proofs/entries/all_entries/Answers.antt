@@ -3,7 +3,8 @@ use Rattle.bo_sorted.specs.Tables.{AreInOrder}
 use Rattle.bo_catalogue.specs.declared.rows.Item.{Item}
 use Rattle.bo_door.specs.Belongs.{is_for}
 use Rattle.bo_reports.specs.declared.entries.ItemEntries.{ItemEntries}
-use Rattle.bo_reports.specs.Entered.{AllAtMost, counted_all, items_on, unvisited}
+use Rattle.bo_reports.specs.Entered.{items_on}
+use Rattle.bo_reports.specs.Counted.{AllAtMost, counted_all, unvisited}
 use Rattle.bo_reports.proofs.Entering.{all_entries_are, none_at_most, unvisited_in_order}
 use Rattle.bo_reports.proofs.entries.all_entries.Goals as goal
 

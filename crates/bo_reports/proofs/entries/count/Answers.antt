@@ -2,7 +2,7 @@ use Rattle.std.proofs.Common.{◌∙◌, set, sym, ap}
 use Rattle.bo_sorted.proofs.Places.{row_at_gap}
 use Rattle.bo_reports.specs.declared.entries.Entries.{Entries}
 use Rattle.bo_reports.specs.declared.entries.ItemEntries.{ItemEntries}
-use Rattle.bo_reports.specs.Entered.{with_ticket}
+use Rattle.bo_reports.specs.Counted.{with_ticket}
 use Rattle.bo_reports.proofs.Entering.{counted_here, counted_nowhere}
 use Rattle.bo_reports.proofs.entries.count.Goals as goal
 

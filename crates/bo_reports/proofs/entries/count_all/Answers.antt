@@ -1,5 +1,5 @@
 use Rattle.std.proofs.Common.{◌≡◌, ◌∙◌, length, ap, map, arith}
-use Rattle.bo_reports.specs.Entered.{counted_all}
+use Rattle.bo_reports.specs.Counted.{counted_all}
 use Rattle.bo_reports.proofs.Entering.{all_at_most_weaker, all_counted, counted_one}
 use Rattle.bo_reports.proofs.entries.count_all.Goals as goal
 

@@ -1,7 +1,7 @@
 use Rattle.std.proofs.Common.{◌∙◌, sym, ap, map, subst}
 use Rattle.bo_sorted.specs.Tables.{AreInOrder}
 use Rattle.bo_reports.specs.declared.sales.ItemSales.{ItemSales}
-use Rattle.bo_reports.specs.Sold.{AreFew, noted_all, unsold}
+use Rattle.bo_reports.specs.Noted.{AreFew, noted_all, unsold}
 use Rattle.bo_reports.proofs.Noting.{none_in_order, none_few, all_sales_are}
 use Rattle.bo_reports.proofs.sales.all_sales.Goals as goal
 

@@ -2,7 +2,7 @@ use Rattle.std.proofs.Common.{◌∙◌, set, sym, ap}
 use Rattle.bo_sorted.proofs.Places.{row_at_gap}
 use Rattle.bo_reports.specs.declared.sales.Sales.{Sales}
 use Rattle.bo_reports.specs.declared.sales.ItemSales.{ItemSales}
-use Rattle.bo_reports.specs.Sold.{with_sale}
+use Rattle.bo_reports.specs.Noted.{with_sale}
 use Rattle.bo_reports.proofs.Noting.{noted_here, noted_nowhere}
 use Rattle.bo_reports.proofs.sales.note.Goals as goal
 

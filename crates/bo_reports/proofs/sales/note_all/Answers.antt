@@ -1,5 +1,5 @@
 use Rattle.std.proofs.Common.{◌≡◌, ◌∙◌, length, refl, ap, map, arith}
-use Rattle.bo_reports.specs.Sold.{noted_all}
+use Rattle.bo_reports.specs.Noted.{noted_all}
 use Rattle.bo_reports.proofs.Noting.{all_few_weaker, noted_one, all_noted}
 use Rattle.bo_reports.proofs.sales.note_all.Goals as goal
 

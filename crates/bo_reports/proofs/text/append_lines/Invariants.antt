@@ -1,5 +1,5 @@
 use Rattle.std.proofs.Common.{◌≡◌, ◌++◌, drop}
-use Rattle.bo_reports.specs.SalesText.{lines_of}
+use Rattle.bo_reports.specs.ItemLines.{lines_of}
 use Rattle.bo_reports.proofs.text.append_lines.Given as goal
 
 -- the lines that are left, behind what stands, are all lines behind what stood

@@ -2,7 +2,8 @@ use Rattle.std.proofs.Common.{◌≡◌, ◌∙◌, ◌++◌, ℕ, List, ap, ap�
 use Rattle.std.specs.List.{concat}
 use Rattle.bo_reports.specs.declared.sales.Sales.{Sales}
 use Rattle.bo_reports.specs.Sold.{all_sales, sales_of}
-use Rattle.bo_reports.specs.SalesText.{lines_of, sales_line, total_line, total_of}
+use Rattle.bo_reports.specs.SalesText.{sales_line, total_line, total_of}
+use Rattle.bo_reports.specs.ItemLines.{lines_of}
 use Rattle.bo_reports.proofs.Totals.{lines_are}
 use Rattle.bo_reports.proofs.text.sales_text.Goals as goal
 

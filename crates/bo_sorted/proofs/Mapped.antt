@@ -38,7 +38,7 @@ module _ {T : Type 0} (key : T → ℕ) where
         let one : f r ≡ r = apart r (λ e. omega (arith, e, q.has_id d, at_least key (key r + 1) rs h.1 i d q.in_range)) in
         ap (λ s. s ∷ set rs i (f (get_or rs i d))) (sym one) ∙ ap (λ l. f r ∷ l) (map_set (key r + 1) rs i d h.1 q)
 
-  -- keys stay as they are
-  pub mapped_in_order : (f : T → T) → ((s : T) → key (f s) ≡ key s) → (n : ℕ) (rows : List T) → InOrderFrom key n rows → InOrderFrom key n (map f rows)
-  mapped_in_order f same n [] h = tt
-  mapped_in_order f same n (r ∷ rs) h = (omega (arith, h.0, same r), subst (λ (k : ℕ). InOrderFrom key (k + 1) (map f rs)) (sym (same r)) (mapped_in_order f same (key r + 1) rs h.1))
+-- rows made of rows, each with the key of the one that it is made of
+pub mapped_in_order : {S T : Type 0} (of : S → ℕ) (key : T → ℕ) (f : S → T) → ((s : S) → key (f s) ≡ of s) → (n : ℕ) (rows : List S) → InOrderFrom of n rows → InOrderFrom key n (map f rows)
+mapped_in_order of key f same n [] h = tt
+mapped_in_order of key f same n (r ∷ rs) h = (omega (arith, h.0, same r), subst (λ (k : ℕ). InOrderFrom key (k + 1) (map f rs)) (sym (same r)) (mapped_in_order of key f same (of r + 1) rs h.1))
