@@ -6,3 +6,4 @@ pub mod OrderHeadroom
 pub mod Takes
 pub mod Lowers
 pub mod Orders
+pub mod LastPlaces

@@ -19,3 +19,4 @@ pub mod Due
 pub mod CameDue
 pub mod Waits
 pub mod CountRows
+pub mod Letters

@@ -3,10 +3,12 @@
 
 mod available;
 pub mod changes;
+mod codes;
 pub mod count_rows;
 pub mod rows;
 
 pub use changes::{Change, Changes};
+pub use codes::code_of;
 pub use count_rows::{CountRows, QuotaCount, VoucherCount};
 pub use rows::{
     Availability, CartPos, Checkin, CheckinKind, CheckinList, NextIds, Order, OrderPos, OrderRows,

@@ -3,6 +3,7 @@
 ghost use Rattle.std.specs.Prelude.{◌≡◌, ◌↔◌, IsTrue, IfOk};
 ghost use Rattle.bo_lists.specs.Lists.{first_ids};
 ghost use Rattle.bo_lists.specs.Total.{total};
+ghost use Rattle.bo_lists.specs.Letters.{status_letter};
 ghost use Rattle.bo_lists.specs.Conditions.{is_paid, is_pending, is_in_force, is_live_voucher, hits, blocks, is_live_cart, holds};
 ghost use Rattle.bo_lists.specs.Consumed.{is_consumed};
 ghost use Rattle.bo_lists.specs.Usage.{waits_for};
@@ -266,6 +267,18 @@ impl Status {
         ensures { result ≡ is_in_force self }
     {
         matches!(self, Status::Paid | Status::Pending)
+    }
+
+    /// Its letter: `n` for pending, `p` for paid, `e` for expired, `c` for cancelled.
+    pub fn letter(self) -> &'static str
+        ensures { result.now ≡ status_letter self }
+    {
+        match self {
+            Status::Pending => "n",
+            Status::Paid => "p",
+            Status::Expired => "e",
+            Status::Cancelled => "c",
+        }
     }
 }
 

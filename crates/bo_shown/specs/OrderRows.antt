@@ -4,16 +4,8 @@ use Rattle.serde_json.specs.Data.{Data, string, object, Members, member, no_memb
 use Rattle.bo_base.specs.Codes.{order_code}
 use Rattle.bo_lists.specs.declared.rows.Order.{Order}
 use Rattle.bo_lists.specs.declared.rows.OrderPos.{OrderPos}
-use Rattle.bo_lists.specs.declared.rows.Status.{Status}
-use Rattle.bo_lists.specs.declared.rows.Status.TheVariants as statuses
+use Rattle.bo_lists.specs.Letters.{status_letter}
 use Rattle.bo_shown.specs.Values.{count, count_or_null, money, moment, text_or_null, list}
-
--- the letter of an order's status
-abbrev pub status_letter : Status → List ℕ
-status_letter statuses.Pending = codes "n"
-status_letter statuses.Paid = codes "p"
-status_letter statuses.Expired = codes "e"
-status_letter statuses.Cancelled = codes "c"
 
 -- what the positions of an order cost together, in cents
 abbrev pub order_total : List OrderPos → ℕ

@@ -11,7 +11,6 @@ mod vouchers;
 mod waiting;
 
 pub use doors::{admitted_value, door_status_value};
-pub use orders::status_letter;
 pub use pieces::{
     WriteRow, append_key_and_list, append_list_member, append_opened, append_text, append_value,
 };

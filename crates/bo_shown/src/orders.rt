@@ -5,40 +5,17 @@ ghost use Rattle.serde_json.specs.Data.{object, no_members, put, string};
 ghost use Rattle.serde_json.specs.View.{view, members_view};
 ghost use Rattle.serde_json.specs.Written.{compact_text};
 ghost use Rattle.bo_base.specs.Codes.{order_code};
-ghost use Rattle.bo_shown.specs.OrderRows.{status_letter, order_total, position_body, order_members, last_members, order_body};
+ghost use Rattle.bo_shown.specs.OrderRows.{order_total, position_body, order_members, last_members, order_body};
 
 use crate::members::{with, with_moment, with_money, with_text, with_text_or_null};
 use crate::pieces::{
     WriteRow, append_list_member, append_members, append_opened, append_text, append_value,
 };
 use crate::values::count_or_null;
-use bo_base::codes::LAST_ORDER;
-use bo_base::{Text, order_code, total_text};
-use bo_lists::{Order, OrderPos, Status};
+use bo_base::{Text, total_text};
+use bo_lists::{Order, OrderPos, code_of};
 use serde_json::{Map, Value, json};
 use std::alloc::{AllocError, Global};
-
-// How many texts of five places in base 28 there are.
-const CODES: u64 = LAST_ORDER as u64 + 1;
-
-/// The letter of an order's status.
-pub fn status_letter(status: Status) -> &'static str
-    ensures { result.now ≡ status_letter status }
-{
-    match status {
-        Status::Pending => "n",
-        Status::Paid => "p",
-        Status::Expired => "e",
-        Status::Cancelled => "c",
-    }
-}
-
-/// The code of the order with this number; of a number beyond that of the last code, its last five places in base 28.
-fn code(alloc: Global, number: u64) -> Result<Text, AllocError>
-    ensures { IfOk result (λ code. code ≡ order_code number) }
-{
-    order_code(alloc, (number % CODES) as u32)
-}
 
 /// The members with the code of an order.
 fn with_code(
@@ -49,7 +26,7 @@ fn with_code(
 ) -> Result<Map<String, Value>, AllocError>
     ensures { IfOk result (λ m. members_view m.entries ≡ put key.now (string (order_code number)) (members_view members.entries)) }
 {
-    let code = code(alloc, number)?;
+    let code = code_of(alloc, number)?;
     with_text(alloc, members, key, code.as_str())
 }
 
@@ -114,7 +91,7 @@ fn last_value(alloc: Global, order: &Order, positions: &[OrderPos]) -> Result<Va
     ensures { IfOk result (λ v. view v ≡ object (last_members order.now positions.now)) }
 {
     let total = total_text(alloc, total(positions))?;
-    json!(in alloc; {"status": status_letter(order.status), "total": total.as_str()})
+    json!(in alloc; {"status": order.status.letter(), "total": total.as_str()})
 }
 
 /// Appends an order with its positions.

@@ -20,7 +20,7 @@ use Rattle.bo_commands.specs.declared.replies.Refusal.{Refusal}
 use Rattle.bo_commands.specs.declared.replies.Refusal.TheVariants as refusals
 use Rattle.bo_lists.specs.declared.rows.Status.{Status}
 use Rattle.bo_shown.specs.Values.{count}
-use Rattle.bo_shown.specs.OrderRows.{status_letter}
+use Rattle.bo_lists.specs.Letters.{status_letter}
 use Rattle.bo_words.specs.Responses.{response, empty_body}
 use Rattle.bo_words.specs.Table.{KindRefusals, row_of}
 use Rattle.bo_words.specs.declared.refusals.Manner.{Manner}

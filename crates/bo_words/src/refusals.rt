@@ -14,7 +14,6 @@ use bo_catalogue::CatalogueRefusal;
 use bo_commands::{DoorRefusal, Kind, OrderRefusal, Refusal, VoucherRefusal, WaitingRefusal};
 use bo_faults::{Fault, Field, Problem};
 use bo_lists::Status;
-use bo_shown::status_letter;
 use http::StatusCode;
 use serde_json::{Value, json};
 use std::alloc::{AllocError, Global};
@@ -176,7 +175,7 @@ fn too_large(alloc: Global) -> Result<Value, AllocError>
 fn wrong_status_value(alloc: Global, status: Status) -> Result<Value, AllocError>
     ensures { IfOk result (λ v. view v ≡ wrong_status_body status) }
 {
-    let letter = status_letter(status);
+    let letter = status.letter();
     json!(in alloc; {"code": 42, "detail": "Not possible in this status.", "status": letter})
 }
 
