@@ -7,9 +7,10 @@ use Rattle.bo_line.specs.declared.ended.LineEnd.{LineEnd}
 use Rattle.bo_line.specs.declared.ended.LineEnd.TheVariants as ends
 use Rattle.bo_line.specs.declared.fault.RunFault.{RunFault}
 use Rattle.bo_line.specs.declared.fault.RunFault.TheVariants as faults
-use Rattle.bo_line.specs.Asked.{Asked, adds, asked, makes, none, plain_words, reports, runs, serves, works}
+use Rattle.bo_line.specs.Asked.{Asked, adds, asked, exports, makes, none, plain_words, reports, runs, serves, works}
 use Rattle.bo_line.specs.Line.{end_of_line, end_of_run}
 use Rattle.bo_line.specs.declared.values.Report.{Report}
+use Rattle.bo_line.specs.declared.values.Report.TheVariants.{Positions}
 use Rattle.bo_line.specs.declared.values.ReportFault.{ReportFault}
 use Rattle.bo_line.specs.declared.values.ReportFault.TheVariants as report-faults
 use Rattle.bo_line.specs.Values.{feed_values, report_of}
@@ -32,8 +33,8 @@ ReportsWhere (Err report-faults.Unknown) reported file old new ended = (ended �
 ReportsWhere (Err report-faults.Argument) reported file old new ended = (ended ≡ ends.Failed faults.Argument) × (new ≡ old)
 
 -- What is done is what a line asks for: a run with the texts of its two flags; a shop that is made in a file, or a token that is added
--- to one, or a shop in one that is served, or its periodic work that is done, or a report on one, and then nothing is read; or nothing, for one of the
--- reasons, and then nothing is read and nothing written.
+-- to one, or a shop in one that is served, or its periodic work that is done, or a report on one, or its order positions, and then nothing
+-- is read; or nothing, for one of the reasons, and then nothing is read and nothing written.
 abbrev pub Does : Making → Adding → Serving → Working → Reporting → Asked → Ports → Ports → LineEnd → Type 0
 Does made added served worked reported (runs from step) old new ended = (run : Result (Unit {0}) RunFault) × FeedsTexts (feed_values from step) old new run × (ended ≡ end_of_run run)
 Does made added served worked reported (makes file organizer event) old new ended =
@@ -43,6 +44,8 @@ Does made added served worked reported (serves file listen connections) old new 
     (run : Result (Unit {0}) RunFault) × ServesFile served file listen connections (page_of old) (page_of new) run × OnlyWrites old new × (ended ≡ end_of_run run)
 Does made added served worked reported (works file) old new ended = (run : Result (Unit {0}) RunFault) × WorksFile worked file (page_of old) (page_of new) run × OnlyWrites old new × (ended ≡ end_of_run run)
 Does made added served worked reported (reports file name list) old new ended = ReportsWhere (report_of name list) reported file (page_of old) (page_of new) ended × OnlyWrites old new
+Does made added served worked reported (exports file) old new ended =
+    (run : Result (Unit {0}) RunFault) × ReportsFile reported file Positions (page_of old) (page_of new) run × OnlyWrites old new × (ended ≡ end_of_run run)
 Does made added served worked reported (none reasons) old new ended = (reason : ErrorKind) × IsAmong reason reasons × (ended ≡ end_of_line reason) × (new ≡ old)
 
 -- what these words ask for is done, or there is no memory to read them, and then nothing is read and nothing written

@@ -99,7 +99,7 @@ pub fn work_shop<F: HouseFiles, W: Drain>(
     }
 }
 
-/// `report`: tells a report on the shop in a file, as a text of lines.
+/// `report` and `export`: tells a report on the shop in a file, as a text of lines.
 pub fn report_shop<F: HouseFiles, W: Drain>(
     alloc: Global,
     files: &F,

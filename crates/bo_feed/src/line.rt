@@ -8,8 +8,8 @@ use crate::feeding::feed_texts;
 use crate::filing::{add_token, make_shop, report_shop, serve_shop, work_shop};
 use bo_devices::{Drain, Source};
 use bo_line::{
-    HouseFiles, Line, LineEnd, ReportFault, RunFault, answer_line, plain_words, read_line, report,
-    report_of, report_run, report_unknown,
+    HouseFiles, Line, LineEnd, Report, ReportFault, RunFault, answer_line, plain_words, read_line,
+    report_of, tell_fault, tell_run, tell_unknown,
 };
 use std::alloc::Global;
 use std::io::{Eprint, Print};
@@ -27,9 +27,9 @@ fn report_file<O: Eprint, F: HouseFiles, W: Drain>(
     ensures { ReportsWhere (report_of name.now (option_map (λ t. t.now) list.entry)) F.reported file.now (record { taken = W.taken writer.old; failures = W.failures writer.old }) (record { taken = W.taken writer.new; failures = W.failures writer.new }) result }
 {
     match report_of(name, list) {
-        Ok(report) => report_run(rt, report_shop(alloc, files, file, report, writer)),
-        Err(ReportFault::Unknown) => report_unknown(rt, name),
-        Err(ReportFault::Argument) => report(rt, RunFault::Argument),
+        Ok(report) => tell_run(rt, report_shop(alloc, files, file, report, writer)),
+        Err(ReportFault::Unknown) => tell_unknown(rt, name),
+        Err(ReportFault::Argument) => tell_fault(rt, RunFault::Argument),
     }
 }
 
@@ -49,20 +49,20 @@ pub fn run<O: Print + Eprint, F: HouseFiles, R: Source, W: Drain>(
         (record { left = R.left reader.new; taken = W.taken writer.new; calls = R.calls reader.new; input = R.failures reader.new; output = W.failures writer.new }) result }
 {
     let Ok(words) = plain_words(alloc, words) else {
-        return report(rt, RunFault::Memory);
+        return tell_fault(rt, RunFault::Memory);
     };
     match read_line(alloc, words.as_slice()) {
         Ok(Line::Feed(line)) => {
-            report_run(rt, feed_texts(alloc, line.from, line.step, reader, writer))
+            tell_run(rt, feed_texts(alloc, line.from, line.step, reader, writer))
         }
-        Ok(Line::Init(line)) => report_run(
+        Ok(Line::Init(line)) => tell_run(
             rt,
             make_shop(alloc, files, line.file, line.organizer, line.event, writer),
         ),
         Ok(Line::TokenAdd(line)) => {
-            report_run(rt, add_token(alloc, files, line.file, line.token, writer))
+            tell_run(rt, add_token(alloc, files, line.file, line.token, writer))
         }
-        Ok(Line::Serve(line)) => report_run(
+        Ok(Line::Serve(line)) => tell_run(
             rt,
             serve_shop(
                 alloc,
@@ -73,10 +73,14 @@ pub fn run<O: Print + Eprint, F: HouseFiles, R: Source, W: Drain>(
                 writer,
             ),
         ),
-        Ok(Line::Periodic(line)) => report_run(rt, work_shop(alloc, files, line.file, writer)),
+        Ok(Line::Periodic(line)) => tell_run(rt, work_shop(alloc, files, line.file, writer)),
         Ok(Line::Report(line)) => {
             report_file(rt, alloc, files, line.file, line.report, line.list, writer)
         }
+        Ok(Line::Export(line)) => tell_run(
+            rt,
+            report_shop(alloc, files, line.file, Report::Positions, writer),
+        ),
         Err(error) => answer_line(rt, &error),
     }
 }

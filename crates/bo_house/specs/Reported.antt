@@ -10,6 +10,7 @@ use Rattle.bo_line.specs.declared.fault.RunFault.{RunFault}
 use Rattle.bo_line.specs.declared.fault.RunFault.TheVariants as faults
 use Rattle.bo_line.specs.declared.values.Report.{Report}
 use Rattle.bo_line.specs.declared.values.Report.TheVariants as reports
+use Rattle.bo_csv.specs.PositionLines.{positions_text}
 use Rattle.bo_reports.specs.DoorText.{door_text_of}
 use Rattle.bo_reports.specs.SalesText.{sales_text}
 use Rattle.bo_house.specs.Served.{OpensAs}
@@ -22,6 +23,7 @@ told_if (Some text) = Ok text
 abbrev pub report_on : Report → Lists → Result (List ℕ) RunFault
 report_on reports.Sales lists = Ok (sales_text lists)
 report_on (reports.Door list) lists = told_if (door_text_of list lists)
+report_on reports.Positions lists = Ok (positions_text lists)
 
 -- that is told, or there is no memory for it
 abbrev pub IsReport : Report → Lists → Result (List ℕ) RunFault → Type 0

@@ -8,6 +8,7 @@ ghost use Rattle.bo_house.specs.Served.{StaysUnopened};
 use crate::faults::fault_of_opening;
 use crate::filed::{Filed, connection_of};
 use bo_base::Body;
+use bo_csv::positions_text;
 use bo_desk::Office;
 use bo_dues::Dues;
 use bo_file::open_file;
@@ -40,6 +41,16 @@ fn sales_of<B: Book>(alloc: Global, office: &Office<B>) -> Result<Body, RunFault
     }
 }
 
+// All order positions of an office.
+fn positions_of<B: Book>(alloc: Global, office: &Office<B>) -> Result<Body, RunFault>
+    ensures { IsReport Report.Positions office.now.state.lists result }
+{
+    match positions_text(office.book(), alloc) {
+        Ok(text) => Ok(text),
+        Err(_) => Err(RunFault::Memory),
+    }
+}
+
 // A report on a shop that was opened.
 fn report_opened<S: Alter + Drop, B: Dues + Drop>(
     alloc: Global,
@@ -52,6 +63,7 @@ fn report_opened<S: Alter + Drop, B: Dues + Drop>(
     let outcome = match report {
         Report::Sales => sales_of(alloc, &opened.1),
         Report::Door(list) => door_of(alloc, &opened.1, list),
+        Report::Positions => positions_of(alloc, &opened.1),
     };
     Filed {
         connection: connection_of(opened),
@@ -59,9 +71,9 @@ fn report_opened<S: Alter + Drop, B: Dues + Drop>(
     }
 }
 
-/// `report`: opens the shop in a database, and tells what was sold, item by item, or who came in by a check-in list, as a text. Faults: 60,
-/// 61 and 62 where the database holds no shop that is whole, each for its cause alone, 50 where it has no list of that number, 63 and 6.
-/// Nothing has changed in the database.
+/// `report` and `export`: opens the shop in a database, and tells what was sold, item by item, or who came in by a check-in list, or all
+/// order positions as CSV, as a text. Faults: 60, 61 and 62 where the database holds no shop that is whole, each for its cause alone, 50
+/// where it has no list of that number, 63 and 6. Nothing has changed in the database.
 pub fn report_shop<S: Alter + Drop>(
     alloc: Global,
     connection: Connection<S>,

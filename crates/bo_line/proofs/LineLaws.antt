@@ -2,7 +2,7 @@
 use Rattle.std.proofs.Common.{◌≡◌, ◌++◌, ℕ, List, [], ◌∷◌, Some, None, codes, refl}
 use Rattle.clap.specs.declared.error.ErrorKind.TheVariants as kinds
 use Rattle.clap.proofs.OnLiterals.{clap_on_literals}
-use Rattle.bo_line.specs.Asked.{adds, asked, makes, none, plain_words, reports, runs, serves, works}
+use Rattle.bo_line.specs.Asked.{adds, asked, exports, makes, none, plain_words, reports, runs, serves, works}
 
 pub in_order : (program from step : List ℕ) → asked (program ∷ codes "feed" ∷ (codes "--from=" ++ from) ∷ (codes "--step=" ++ step) ∷ []) ≡ runs from step
 unfolding clap_on_literals asked
@@ -98,6 +98,14 @@ works_off program = refl
 pub no_file : (program : List ℕ) → asked (program ∷ codes "periodic" ∷ []) ≡ none (kinds.MissingRequiredArgument ∷ [])
 unfolding clap_on_literals asked
 no_file program = refl
+
+pub exports_positions : (program : List ℕ) → asked (program ∷ codes "export" ∷ codes "hall.db" ∷ []) ≡ exports (codes "hall.db")
+unfolding clap_on_literals asked
+exports_positions program = refl
+
+pub no_export : (program : List ℕ) → asked (program ∷ codes "export" ∷ []) ≡ none (kinds.MissingRequiredArgument ∷ [])
+unfolding clap_on_literals asked
+no_export program = refl
 
 pub reports_sales : (program : List ℕ) → asked (program ∷ codes "report" ∷ codes "hall.db" ∷ codes "sales" ∷ []) ≡ reports (codes "hall.db") (codes "sales") None
 unfolding clap_on_literals asked

@@ -85,12 +85,9 @@ Working = List ℕ → Result (List ℕ) RunFault → Type 0
 abbrev pub Reporting : Type 1
 Reporting = List ℕ → Report → Result (List ℕ) RunFault → Type 0
 
-abbrev pub report_text : List ℕ → List ℕ
-report_text text = text
-
 -- `report`: the report is told as it is
 abbrev pub ReportsFile : Reporting → List ℕ → Report → Page → Page → Result (Unit {0}) RunFault → Type 0
-ReportsFile reported file report old new result = (came : Result (List ℕ) RunFault) × reported file report came × Tells report_text came old new result
+ReportsFile reported file report old new result = (came : Result (List ℕ) RunFault) × reported file report came × Tells (λ text. text) came old new result
 
 -- the line of such a text
 abbrev pub work_line : List ℕ → List ℕ

@@ -41,6 +41,10 @@ work_app = with_rule (new_app (codes "periodic")) (word (codes "file"))
 abbrev pub report_app : App
 report_app = with_rule (with_rule (with_rule (new_app (codes "report")) (word (codes "file"))) (word (codes "report"))) (choice (codes "list"))
 
+-- `export FILE`
+abbrev pub export_app : App
+export_app = with_rule (new_app (codes "export")) (word (codes "file"))
+
 -- a program with one more command, which was made
 abbrev pub IsWith : App → Result Command AllocError → App → Type 0
 IsWith old made new = (added : Command) × (made ≡ Ok added) × ((app_of added).top.is_plain ≡ true → new ≡ with_subcommand old (app_of added).top)
@@ -49,8 +53,8 @@ IsWith old made new = (added : Command) × (made ≡ Ok added) × ((app_of added
 abbrev pub needs_command : Shape → Shape
 needs_command top = record top { subcommand_required = true }
 
--- the program, with its six commands
+-- the program, with its seven commands
 abbrev pub program : App
 program =
-    with_subcommand (with_subcommand (with_subcommand (with_subcommand (with_subcommand (with_subcommand (on_top needs_command (new_app (codes "boxoffice"))) feed_app.top) init_app.top) token_app.top) serve_app.top)
-    work_app.top) report_app.top
+    with_subcommand (with_subcommand (with_subcommand (with_subcommand (with_subcommand (with_subcommand (with_subcommand (on_top needs_command (new_app (codes "boxoffice"))) feed_app.top) init_app.top) token_app.top) serve_app.top)
+    work_app.top) report_app.top) export_app.top

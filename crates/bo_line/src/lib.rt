@@ -17,10 +17,10 @@ pub use devices::counted;
 pub use ended::LineEnd;
 pub use fault::RunFault;
 pub use files::{HouseFiles, Place};
-pub use line::{answer_line, report, report_run, report_unknown, report_words};
+pub use line::{answer_line, tell_fault, tell_run, tell_unknown, tell_words};
 pub use saying::{said, say};
 pub use ticks::{FeedTicks, Pace};
 pub use values::{Report, ReportFault, feed_values, is_token, report_of, serve_values};
 pub use words::{
-    FeedLine, InitLine, Line, ReportLine, ServeLine, TokenLine, WorkLine, plain_words, read_line,
+    FeedLine, FileLine, InitLine, Line, ReportLine, ServeLine, TokenLine, plain_words, read_line,
 };

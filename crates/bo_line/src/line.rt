@@ -13,7 +13,7 @@ use std::io;
 use std::io::{Eprint, Print};
 
 /// Says with which fault the program ends.
-pub fn report<O: Eprint>(rt: &O, fault: RunFault) -> LineEnd
+pub fn tell_fault<O: Eprint>(rt: &O, fault: RunFault) -> LineEnd
     ensures { result ≡ LineEnd.Failed fault }
 {
     let _ = eprintln!(rt; "boxoffice: fault {fault}");
@@ -21,7 +21,7 @@ pub fn report<O: Eprint>(rt: &O, fault: RunFault) -> LineEnd
 }
 
 /// Says why the words of the line can't be had: one of them isn't UTF-8, or there is no memory.
-pub fn report_words<O: Eprint>(rt: &O, error: &io::Error) -> LineEnd
+pub fn tell_words<O: Eprint>(rt: &O, error: &io::Error) -> LineEnd
     ensures { result ≡ end_of_words (error_kind error.now) }
 {
     match error.kind() {
@@ -29,12 +29,12 @@ pub fn report_words<O: Eprint>(rt: &O, error: &io::Error) -> LineEnd
             let _ = eprintln!(rt; "error: a word of the command line is not UTF-8");
             LineEnd::Wrong
         }
-        _ => report(rt, RunFault::Memory),
+        _ => tell_fault(rt, RunFault::Memory),
     }
 }
 
 /// Says that there is no report of this name, or none with a list, or none without.
-pub fn report_unknown<O: Eprint>(rt: &O, name: &str) -> LineEnd
+pub fn tell_unknown<O: Eprint>(rt: &O, name: &str) -> LineEnd
     ensures { result ≡ LineEnd.Wrong }
 {
     let _ = eprintln!(rt;
@@ -44,12 +44,12 @@ pub fn report_unknown<O: Eprint>(rt: &O, name: &str) -> LineEnd
 }
 
 /// How a run ends, whose fault is told.
-pub fn report_run<O: Eprint>(rt: &O, run: Result<(), RunFault>) -> LineEnd
+pub fn tell_run<O: Eprint>(rt: &O, run: Result<(), RunFault>) -> LineEnd
     ensures { result ≡ end_of_run run }
 {
     match run {
         Ok(()) => LineEnd::Well,
-        Err(fault) => report(rt, fault),
+        Err(fault) => tell_fault(rt, fault),
     }
 }
 
@@ -58,7 +58,7 @@ pub fn answer_line<O: Print + Eprint>(rt: &O, error: &Error) -> LineEnd
     ensures { result ≡ end_of_line (kind_of error.now) }
 {
     match error.kind() {
-        ErrorKind::OutOfMemory => report(rt, RunFault::Memory),
+        ErrorKind::OutOfMemory => tell_fault(rt, RunFault::Memory),
         ErrorKind::DisplayHelp | ErrorKind::DisplayVersion => {
             let _ = error.print(rt);
             LineEnd::Helped

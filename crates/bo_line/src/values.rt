@@ -61,6 +61,8 @@ pub enum Report {
     Sales,
     /// Who came in by the check-in list of this number.
     Door(u64),
+    /// All order positions, as CSV: what `export` prints.
+    Positions,
 }
 
 /// Why the words of a line ask for no report.

@@ -4,7 +4,7 @@ ghost use Rattle.std.specs.Prelude.{◌≡◌, IfOk, IfErr, Some, map, option_ma
 ghost use Rattle.clap.specs.Walk.{rule_of, texts};
 ghost use Rattle.clap.specs.Words.{app_of, first_of, found_of, kind_of, rows_of};
 ghost use Rattle.bo_line.specs.Asked.{IsReason, asked, asked_by_line, asked_of, is_signed, plain_words, takes_number, text_of};
-ghost use Rattle.bo_line.specs.Words.{IsWith, choice, feed_app, flag, init_app, program, report_app, serve_app, token_app, word, work_app};
+ghost use Rattle.bo_line.specs.Words.{IsWith, choice, export_app, feed_app, flag, init_app, program, report_app, serve_app, token_app, word, work_app};
 
 use clap::{Arg, ArgMatches, Command, Error};
 use std::alloc::{AllocError, Global};
@@ -21,9 +21,11 @@ pub enum Line<'a> {
     /// `serve`: the shop in a file, at an address.
     Serve(ServeLine<'a>),
     /// `periodic`: the periodic work of the shop in a file.
-    Periodic(WorkLine<'a>),
+    Periodic(FileLine<'a>),
     /// `report`: a report on the shop in a file.
     Report(ReportLine<'a>),
+    /// `export`: the order positions of the shop in a file.
+    Export(FileLine<'a>),
 }
 
 /// The texts that follow `--from` and `--step`.
@@ -66,9 +68,9 @@ pub struct ServeLine<'a> {
     pub connections: Option<&'a str>,
 }
 
-/// The text of a line of `periodic`.
+/// The text of a line that names a file alone: one of `periodic` or of `export`.
 #[derive(Clone, Copy, Debug)]
-pub struct WorkLine<'a> {
+pub struct FileLine<'a> {
     /// The name of the file.
     pub file: &'a str,
 }
@@ -215,6 +217,15 @@ fn report_command<'a>(alloc: Global) -> Result<Command<'a>, AllocError>
         ))
 }
 
+// `export`, with its help.
+fn export_command<'a>(alloc: Global) -> Result<Command<'a>, AllocError>
+    ensures { IfOk result (λ command. app_of command ≡ export_app) }
+{
+    Command::new(alloc, "export")
+        .about("Prints the order positions of a shop's file as CSV")
+        .arg(word(alloc, "file", "FILE", "The shop's file"))
+}
+
 // The program with one more command, where that was made.
 fn with<'a>(
     program: Command<'a>,
@@ -237,7 +248,8 @@ fn commands<'a>(alloc: Global) -> Result<Command<'a>, AllocError>
     let program = with(program, token_command(alloc))?;
     let program = with(program, serve_command(alloc))?;
     let program = with(program, work_command(alloc))?;
-    with(program, report_command(alloc))
+    let program = with(program, report_command(alloc))?;
+    with(program, export_command(alloc))
 }
 
 // Whether a word begins with a minus sign and a digit.
@@ -315,7 +327,7 @@ fn line_of<'a>(command: &str, matches: &ArgMatches<'a>) -> Line<'a>
         });
     }
     if command == "periodic" {
-        return Line::Periodic(WorkLine {
+        return Line::Periodic(FileLine {
             file: text_of(matches, "file"),
         });
     }
@@ -324,6 +336,11 @@ fn line_of<'a>(command: &str, matches: &ArgMatches<'a>) -> Line<'a>
             file: text_of(matches, "file"),
             report: text_of(matches, "report"),
             list: given(matches, "list"),
+        });
+    }
+    if command == "export" {
+        return Line::Export(FileLine {
+            file: text_of(matches, "file"),
         });
     }
     Line::Feed(FeedLine {

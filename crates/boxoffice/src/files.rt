@@ -50,6 +50,15 @@ impl HostFiles<'_> {
             Err(error) => Err(unopened(error)),
         }
     }
+
+    // The file of this name, which has to be there.
+    fn found(&self, file: &str) -> Result<Connection<FileStore<File>>, RunFault> {
+        if self.stands(file) {
+            self.opened(file)
+        } else {
+            Err(RunFault::File)
+        }
+    }
 }
 
 impl HouseFiles for HostFiles<'_> {
@@ -80,11 +89,10 @@ impl HouseFiles for HostFiles<'_> {
     }
 
     fn add_token(&self, alloc: Global, file: &str, token: &str) -> Result<u64, RunFault> {
-        if !self.stands(file) {
-            return Err(RunFault::File);
+        match self.found(file) {
+            Ok(connection) => ended(add_shop_token(alloc, connection, token)),
+            Err(fault) => Err(fault),
         }
-        let connection = self.opened(file)?;
-        ended(add_shop_token(alloc, connection, token))
     }
 
     fn serve<W: Drain>(
@@ -94,30 +102,21 @@ impl HouseFiles for HostFiles<'_> {
         place: &Place<'_>,
         writer: &mut W,
     ) -> Result<(), RunFault> {
-        if !self.stands(file) {
-            return Err(RunFault::File);
-        }
-        match self.opened(file) {
+        match self.found(file) {
             Ok(connection) => ended(serve_shop(self.rt, alloc, connection, place, writer)),
             Err(fault) => Err(fault),
         }
     }
 
     fn work(&self, alloc: Global, file: &str) -> Result<Body, RunFault> {
-        if !self.stands(file) {
-            return Err(RunFault::File);
-        }
-        match self.opened(file) {
+        match self.found(file) {
             Ok(connection) => ended(work_shop(self.rt, alloc, connection)),
             Err(fault) => Err(fault),
         }
     }
 
     fn report(&self, alloc: Global, file: &str, report: Report) -> Result<Body, RunFault> {
-        if !self.stands(file) {
-            return Err(RunFault::File);
-        }
-        match self.opened(file) {
+        match self.found(file) {
             Ok(connection) => ended(report_shop(alloc, connection, report)),
             Err(fault) => Err(fault),
         }

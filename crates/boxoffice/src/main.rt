@@ -7,7 +7,7 @@ mod files;
 
 use crate::files::HostFiles;
 use bo_feed::run;
-use bo_line::{LineEnd, counted, report_words};
+use bo_line::{LineEnd, counted, tell_words};
 use std::io;
 use std::io::{Stdin, Stdout};
 use std::marker::Brand;
@@ -55,7 +55,7 @@ fn main(rt: HostRuntime) -> ExitCode {
             Blank::new(1),
             Blank::new(1),
         ),
-        Err(error) => report_words(&rt, &error),
+        Err(error) => tell_words(&rt, &error),
     };
     ExitCode::from(ended.status())
 }

@@ -5,7 +5,7 @@ use crate::tried::{run_line, words};
 use bo_line::LineEnd;
 
 /// The lines, each with its words.
-static LINES: [&str; 37] = [
+static LINES: [&str; 40] = [
     "boxoffice feed --from 2027-01-31T23:00:00Z --step 3600",
     "boxoffice feed --step=0 --from=1970-01-01T00:00:00Z",
     "boxoffice feed --from noon --step 60",
@@ -42,6 +42,9 @@ static LINES: [&str; 37] = [
     "boxoffice report hall.db door --list -1",
     "boxoffice report hall.db door",
     "boxoffice report hall.db",
+    "boxoffice export hall.db",
+    "boxoffice export new.db",
+    "boxoffice export",
     "boxoffice --help",
 ];
 
