@@ -15,6 +15,7 @@ IsFit (commands.ResizeQuota id patch) = IsFitQuotaPatch patch
 IsFit (commands.AddVoucher new) = IsFitVoucher new
 IsFit (commands.ChangeVoucher id patch) = IsFitVoucherPatch patch
 IsFit (commands.DropVoucher id) = Unit {0}
+IsFit (commands.ImportVouchers rows) = AllByRecursion IsFitVoucher rows
 IsFit (commands.AddCart new) = IsFitCart new
 IsFit (commands.AddCarts entries) = AllByRecursion IsFitEntry entries
 IsFit (commands.DropCart id) = Unit {0}

@@ -14,5 +14,5 @@ pub use doors::{DoorRefusal, DoorStatus, ListedTicket, NewCheckinList, Scan, Tic
 pub use orders::{Move, NewOrder, OrderRefusal, Start};
 pub use replies::{Page, Refusal, Reply, Shown};
 pub use requests::{Command, Kind, Query, Resource};
-pub use vouchers::{NewVoucher, VoucherPatch, VoucherRefusal};
+pub use vouchers::{NewVoucher, Verdict, VoucherPatch, VoucherRefusal};
 pub use waiting::{NewWaiting, PeriodicCounts, WaitingPatch, WaitingRefusal};

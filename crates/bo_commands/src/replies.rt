@@ -7,7 +7,7 @@ use crate::carts::Outcome;
 use crate::doors::{DoorRefusal, DoorStatus, ListedTicket};
 use crate::orders::OrderRefusal;
 use crate::requests::{Kind, Resource};
-use crate::vouchers::VoucherRefusal;
+use crate::vouchers::{Verdict, VoucherRefusal};
 use crate::waiting::{PeriodicCounts, WaitingRefusal};
 use bo_base::List;
 use bo_catalogue::{CatalogueRefusal, ItemRows, PricedVariation, Quota};
@@ -84,6 +84,8 @@ pub enum Reply {
     Found(Shown),
     /// What became of each entry of a bulk call.
     Results(List<Outcome>),
+    /// What became of each row of a voucher file.
+    Imported(List<Verdict>),
     /// A page of a list.
     Listed(Page),
     /// A row was deleted, or a voucher was sent.

@@ -29,6 +29,8 @@ pub enum Command {
     ChangeVoucher(u64, VoucherPatch),
     /// Deletes the voucher with this id.
     DropVoucher(u64),
+    /// Adds a voucher for each row of a file whose code no voucher has, each row by itself.
+    ImportVouchers(List<NewVoucher>),
     /// Adds a cart position.
     AddCart(NewCart),
     /// Adds a cart position for each entry, each by itself.
@@ -154,6 +156,7 @@ impl Known for Command {
             Command::ResizeQuota(_, patch) => patch.known(),
             Command::AddVoucher(new) => new.known(),
             Command::ChangeVoucher(_, patch) => patch.known(),
+            Command::ImportVouchers(rows) => rows.known(),
             Command::AddCart(new) => new.known(),
             Command::AddCarts(entries) => entries.known(),
             Command::AddOrder(new) => new.known(),

@@ -7,6 +7,7 @@ ghost use Rattle.bo_commands.specs.FitRequests.{IsFitVoucher, IsFitVoucherPatch}
 
 use bo_base::{Cents, Known, Moment, PriceMode, Text, Uses};
 use bo_catalogue::CatalogueRefusal;
+use bo_lists::Voucher;
 use std::alloc::AllocError;
 use thiserror::Error;
 
@@ -43,6 +44,19 @@ pub struct VoucherPatch {
     pub quota: Option<Option<u64>>,
     pub tag: Option<Text>,
     pub comment: Option<Text>,
+}
+
+/// What became of a row of a voucher file.
+#[derive(Debug, Drop)]
+pub enum Verdict {
+    /// No voucher had its code: this one was added.
+    Added(Voucher),
+    /// The voucher of its code is as the row has it.
+    Same,
+    /// The voucher of its code is another than the row has it, and stays as it is.
+    Other,
+    /// No voucher has its code, and it can't be added.
+    Refused(VoucherRefusal),
 }
 
 /// Why a call on vouchers is refused.

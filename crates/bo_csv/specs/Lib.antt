@@ -1,2 +1,5 @@
 pub mod Lines
 pub mod PositionLines
+pub mod Columns
+pub mod VoucherFile
+pub mod VerdictLines

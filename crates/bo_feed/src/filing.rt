@@ -2,9 +2,9 @@
 
 ghost use Rattle.std.specs.Prelude.{◌≡◌, ◌&&◌, option_map};
 ghost use Rattle.bo_base.specs.Slugs.{is_slug};
-ghost use Rattle.bo_line.specs.Saying.{AddsToken, MakesShop, ReportsFile, ServesFile, WorksFile};
+ghost use Rattle.bo_line.specs.Saying.{AddsToken, ImportsFile, MakesShop, ReportsFile, ServesFile, Tells, WorksFile};
 
-use bo_base::is_slug;
+use bo_base::{Body, is_slug};
 use bo_devices::Drain;
 use bo_http::write_all;
 use bo_line::{HouseFiles, Place, Report, RunFault, is_token, said, say, serve_values};
@@ -99,6 +99,16 @@ pub fn work_shop<F: HouseFiles, W: Drain>(
     }
 }
 
+// Tells a text of lines as it is, where there is one.
+fn tell<W: Drain>(writer: &mut W, came: Result<Body, RunFault>) -> Result<(), RunFault>
+    ensures { Tells (λ text. text) came (record { taken = W.taken writer.old; failures = W.failures writer.old }) (record { taken = W.taken writer.new; failures = W.failures writer.new }) result }
+{
+    match came {
+        Ok(text) => said(write_all(writer, text.as_slice())),
+        Err(fault) => Err(fault),
+    }
+}
+
 /// `report` and `export`: tells a report on the shop in a file, as a text of lines.
 pub fn report_shop<F: HouseFiles, W: Drain>(
     alloc: Global,
@@ -109,8 +119,18 @@ pub fn report_shop<F: HouseFiles, W: Drain>(
 ) -> Result<(), RunFault>
     ensures { ReportsFile F.reported file.now report (record { taken = W.taken writer.old; failures = W.failures writer.old }) (record { taken = W.taken writer.new; failures = W.failures writer.new }) result }
 {
-    match files.report(alloc, file, report) {
-        Ok(text) => said(write_all(writer, text.as_slice())),
-        Err(fault) => Err(fault),
-    }
+    tell(writer, files.report(alloc, file, report))
+}
+
+/// `import-vouchers`: adds the vouchers of a CSV file to the shop in a file, and tells of each row what became of it, as a text of lines.
+pub fn import_vouchers<F: HouseFiles, W: Drain>(
+    alloc: Global,
+    files: &F,
+    file: &str,
+    csv: &str,
+    writer: &mut W,
+) -> Result<(), RunFault>
+    ensures { ImportsFile F.imported file.now csv.now (record { taken = W.taken writer.old; failures = W.failures writer.old }) (record { taken = W.taken writer.new; failures = W.failures writer.new }) result }
+{
+    tell(writer, files.import(alloc, file, csv))
 }

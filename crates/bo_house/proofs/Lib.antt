@@ -1,3 +1,4 @@
 mod ServeLemmas
 mod TokenLemmas
-mod WorkLemmas
+mod ActLemmas
+mod ImportLemmas

@@ -1,5 +1,7 @@
--- Refusals of a shop's file as the program tells them.
+-- Refusals of a shop's file, and of a voucher file, as the program tells them.
 use Rattle.std.specs.Prelude.{ℕ, Result, Ok, Err}
+use Rattle.bo_csv.specs.declared.voucher_file.FileFault.{FileFault}
+use Rattle.bo_csv.specs.declared.voucher_file.FileFault.TheVariants as files
 use Rattle.bo_line.specs.declared.fault.RunFault.{RunFault}
 use Rattle.bo_line.specs.declared.fault.RunFault.TheVariants as faults
 use Rattle.bo_made.specs.declared.error.TokenError.{TokenError}
@@ -32,3 +34,10 @@ fault_of_token (tokens.Rows error) = fault_of_rows error
 abbrev pub told_of_token : Result ℕ TokenError → Result ℕ RunFault
 told_of_token (Ok number) = Ok number
 told_of_token (Err error) = Err (fault_of_token error)
+
+abbrev pub fault_of_file : FileFault → RunFault
+fault_of_file files.Memory = faults.Memory
+fault_of_file files.Header = faults.Header
+fault_of_file (files.Line line) = faults.Line line
+fault_of_file (files.Column line at) = faults.Column line at
+fault_of_file files.TooMany = faults.TooManyLines

@@ -1,8 +1,9 @@
-//! Refusals of a shop's file as the program tells them.
+//! Refusals of a shop's file, and of a voucher file, as the program tells them.
 
 ghost use Rattle.std.specs.Prelude.{◌≡◌};
-ghost use Rattle.bo_house.specs.Faults.{fault_of_opening, fault_of_rows, fault_of_token};
+ghost use Rattle.bo_house.specs.Faults.{fault_of_file, fault_of_opening, fault_of_rows, fault_of_token};
 
+use bo_csv::FileFault;
 use bo_line::RunFault;
 use bo_made::TokenError;
 use bo_opens::OpenError;
@@ -41,5 +42,18 @@ pub fn fault_of_token(error: TokenError) -> RunFault
     match error {
         TokenError::Full => RunFault::Full,
         TokenError::Rows(error) => fault_of_rows(error),
+    }
+}
+
+/// Why the vouchers of a file can't be read, as the program tells it.
+pub fn fault_of_file(fault: FileFault) -> RunFault
+    ensures { result ≡ fault_of_file fault }
+{
+    match fault {
+        FileFault::Memory => RunFault::Memory,
+        FileFault::Header => RunFault::Header,
+        FileFault::Line(line) => RunFault::Line(line),
+        FileFault::Column(line, at) => RunFault::Column(line, at),
+        FileFault::TooMany => RunFault::TooManyLines,
     }
 }

@@ -1,10 +1,12 @@
 //! What becomes of a shop's database when a command makes a shop in it, adds a token, serves it, does its
-//! periodic work, or asks for a report on it.
+//! periodic work, adds the vouchers of a file, or asks for a report on it.
 #![tactic(auto)]
 
+mod acting;
 pub mod adding;
 pub mod faults;
 pub mod filed;
+pub mod importing;
 pub mod making;
 pub mod reporting;
 pub mod serving;
@@ -12,10 +14,11 @@ pub mod words;
 pub mod working;
 
 pub use adding::add_shop_token;
-pub use faults::{fault_of_opening, fault_of_rows, fault_of_token};
+pub use faults::{fault_of_file, fault_of_opening, fault_of_rows, fault_of_token};
 pub use filed::Filed;
+pub use importing::import_shop;
 pub use making::make_new_shop;
 pub use reporting::report_shop;
 pub use serving::serve_shop;
-pub use words::WorkWords;
+pub use words::{ImportWords, WorkWords};
 pub use working::work_shop;

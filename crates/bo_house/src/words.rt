@@ -1,11 +1,13 @@
-//! The words of periodic work on a command line.
+//! The words of periodic work, and of an import, on a command line.
 
-ghost use Rattle.std.specs.Prelude.{◌≡◌, ◌++◌, IfOk, OnOk};
+ghost use Rattle.std.specs.Prelude.{◌≡◌, ◌++◌, None, IfOk, OnOk};
 ghost use Rattle.std.specs.Fmt.{decimal};
+ghost use Rattle.bo_house.specs.Imported.{import_words};
 ghost use Rattle.bo_house.specs.Worked.{work_text, work_words};
 
-use bo_base::{Body, Response};
+use bo_base::{Body, List, Response, Text};
 use bo_commands::{PeriodicCounts, Reply};
+use bo_csv::verdict_lines;
 use bo_deliveries::Wording;
 use http::StatusCode;
 use itoa::Buffer;
@@ -43,10 +45,38 @@ impl Wording for WorkWords {
             Reply::Periodic(counts) => work_text(alloc, *counts)?,
             _ => Vec::new(alloc),
         };
-        Ok(Response {
-            status: StatusCode::OK,
-            allow: None,
-            body: Body::new(text),
-        })
+        Ok(told(text))
+    }
+}
+
+/// The words of an import: a line `CODE VERDICT` for each row. Of any other reply nothing is told.
+#[derive(Debug, Drop)]
+pub struct ImportWords {
+    /// The codes of the rows.
+    pub codes: List<Text>,
+}
+
+impl Wording for ImportWords {
+    ghost words = { λ w. import_words w.codes };
+
+    fn words(&self, alloc: Global, reply: &Reply) -> Result<Response, AllocError> {
+        let text = match reply {
+            Reply::Imported(verdicts) => {
+                verdict_lines(alloc, self.codes.as_slice(), verdicts.as_slice())?
+            }
+            _ => Vec::new(alloc),
+        };
+        Ok(told(text))
+    }
+}
+
+// A text as an answer.
+fn told(text: Vec<u8>) -> Response
+    ensures { result ≡ record { status = 200; allow = None; body = text.items } }
+{
+    Response {
+        status: StatusCode::OK,
+        allow: None,
+        body: Body::new(text),
     }
 }

@@ -2,7 +2,7 @@
 use Rattle.std.proofs.Common.{◌≡◌, ◌++◌, ℕ, List, [], ◌∷◌, Some, None, codes, refl}
 use Rattle.clap.specs.declared.error.ErrorKind.TheVariants as kinds
 use Rattle.clap.proofs.OnLiterals.{clap_on_literals}
-use Rattle.bo_line.specs.Asked.{adds, asked, exports, makes, none, plain_words, reports, runs, serves, works}
+use Rattle.bo_line.specs.Asked.{adds, asked, exports, imports, makes, none, plain_words, reports, runs, serves, works}
 
 pub in_order : (program from step : List ℕ) → asked (program ∷ codes "feed" ∷ (codes "--from=" ++ from) ∷ (codes "--step=" ++ step) ∷ []) ≡ runs from step
 unfolding clap_on_literals asked
@@ -118,3 +118,11 @@ reports_door program list = refl
 pub no_report : (program : List ℕ) → asked (program ∷ codes "report" ∷ codes "hall.db" ∷ []) ≡ none (kinds.MissingRequiredArgument ∷ [])
 unfolding clap_on_literals asked
 no_report program = refl
+
+pub imports_vouchers : (program : List ℕ) → asked (program ∷ codes "import-vouchers" ∷ codes "hall.db" ∷ codes "codes.csv" ∷ []) ≡ imports (codes "hall.db") (codes "codes.csv")
+unfolding clap_on_literals asked
+imports_vouchers program = refl
+
+pub no_csv : (program : List ℕ) → asked (program ∷ codes "import-vouchers" ∷ codes "hall.db" ∷ []) ≡ none (kinds.MissingRequiredArgument ∷ [])
+unfolding clap_on_literals asked
+no_csv program = refl

@@ -29,8 +29,8 @@ plain_words words = plain_behind false words
 -- What a line asks for: a run of `feed` with the texts of `--from` and `--step`; a shop in a new file of this name, for this
 -- organizer and this event; this token for the shop in the file of this name; the shop in the file of this name at the text of
 -- `--listen`, with the text of `--connections` where it is there; the periodic work of the shop in the file of this name; the report
--- of this name on it, with the text of `--list` where it is there; the order positions of the shop in the file of this name; or nothing,
--- for a reason among these.
+-- of this name on it, with the text of `--list` where it is there; the order positions of the shop in the file of this name; the
+-- vouchers of a CSV file for it, by the names of both; or nothing, for a reason among these.
 pub data Asked : Type 0 where
   runs : Text → Text → Asked
   makes : Text → Text → Text → Asked
@@ -39,6 +39,7 @@ pub data Asked : Type 0 where
   works : Text → Asked
   reports : Text → Text → Option Text → Asked
   exports : Text → Asked
+  imports : Text → Text → Asked
   none : Kinds → Asked
 
 -- the text of an argument among the matches of the command, which is empty where there is none
@@ -54,7 +55,8 @@ asked_of command rows =
     else (if bytes_eq command (codes "periodic") then works (text_of (codes "file") rows)
     else (if bytes_eq command (codes "report") then reports (text_of (codes "file") rows) (text_of (codes "report") rows) (first_of (codes "list") rows)
     else (if bytes_eq command (codes "export") then exports (text_of (codes "file") rows)
-    else runs (text_of (codes "from") rows) (text_of (codes "step") rows))))))
+    else (if bytes_eq command (codes "import-vouchers") then imports (text_of (codes "file") rows) (text_of (codes "csv") rows)
+    else runs (text_of (codes "from") rows) (text_of (codes "step") rows)))))))
 
 abbrev pub asked_by : Kinds → Option (Text × List Row) → Asked
 asked_by [] None = runs [] []
@@ -74,6 +76,7 @@ asked_by_line (lines.Serve line) = serves line.file.now line.listen.now (option_
 asked_by_line (lines.Periodic line) = works line.file.now
 asked_by_line (lines.Report line) = reports line.file.now line.report.now (option_map (λ t. t.now) line.list)
 asked_by_line (lines.Export line) = exports line.file.now
+asked_by_line (lines.Import line) = imports line.file.now line.csv.now
 
 abbrev pub HasReason : Asked → ErrorKind → Type 0
 HasReason (none kinds) kind = IsAmong kind kinds

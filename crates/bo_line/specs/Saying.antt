@@ -89,6 +89,15 @@ Reporting = List ℕ → Report → Result (List ℕ) RunFault → Type 0
 abbrev pub ReportsFile : Reporting → List ℕ → Report → Page → Page → Result (Unit {0}) RunFault → Type 0
 ReportsFile reported file report old new result = (came : Result (List ℕ) RunFault) × reported file report came × Tells (λ text. text) came old new result
 
+-- what adding the vouchers of a CSV file may come to, by the names of the shop's file and that one: a text of what became of each row,
+-- whose lines have ends
+abbrev pub Importing : Type 1
+Importing = List ℕ → List ℕ → Result (List ℕ) RunFault → Type 0
+
+-- `import-vouchers`: what became of the rows is told as it is
+abbrev pub ImportsFile : Importing → List ℕ → List ℕ → Page → Page → Result (Unit {0}) RunFault → Type 0
+ImportsFile imported file csv old new result = (came : Result (List ℕ) RunFault) × imported file csv came × Tells (λ text. text) came old new result
+
 -- the line of such a text
 abbrev pub work_line : List ℕ → List ℕ
 work_line text = text ++ 10 ∷ []

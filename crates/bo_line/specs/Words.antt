@@ -45,6 +45,10 @@ report_app = with_rule (with_rule (with_rule (new_app (codes "report")) (word (c
 abbrev pub export_app : App
 export_app = with_rule (new_app (codes "export")) (word (codes "file"))
 
+-- `import-vouchers FILE CSV`
+abbrev pub import_app : App
+import_app = with_rule (with_rule (new_app (codes "import-vouchers")) (word (codes "file"))) (word (codes "csv"))
+
 -- a program with one more command, which was made
 abbrev pub IsWith : App → Result Command AllocError → App → Type 0
 IsWith old made new = (added : Command) × (made ≡ Ok added) × ((app_of added).top.is_plain ≡ true → new ≡ with_subcommand old (app_of added).top)
@@ -53,8 +57,8 @@ IsWith old made new = (added : Command) × (made ≡ Ok added) × ((app_of added
 abbrev pub needs_command : Shape → Shape
 needs_command top = record top { subcommand_required = true }
 
--- the program, with its seven commands
+-- the program, with its eight commands
 abbrev pub program : App
 program =
-    with_subcommand (with_subcommand (with_subcommand (with_subcommand (with_subcommand (with_subcommand (with_subcommand (on_top needs_command (new_app (codes "boxoffice"))) feed_app.top) init_app.top) token_app.top) serve_app.top)
-    work_app.top) report_app.top) export_app.top
+    with_subcommand (with_subcommand (with_subcommand (with_subcommand (with_subcommand (with_subcommand (with_subcommand (with_subcommand (on_top needs_command (new_app (codes "boxoffice"))) feed_app.top) init_app.top) token_app.top) serve_app.top)
+    work_app.top) report_app.top) export_app.top) import_app.top

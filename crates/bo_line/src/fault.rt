@@ -25,6 +25,14 @@ pub enum RunFault {
     Damaged(Rule),
     /// The store failed, or refused the file.
     Store,
+    /// The first line of a voucher file doesn't name its columns.
+    Header,
+    /// This line of a voucher file, from 1 below the first, has not as many columns, or isn't UTF-8.
+    Line(u64),
+    /// Of this line of a voucher file this column, from 1, can't be read, or is out of its range.
+    Column(u64, u64),
+    /// A voucher file has more lines than 100,000.
+    TooManyLines,
     /// The file can't be opened, or can't be made.
     File,
     /// The address can't be listened at, or takes no callers any more.
@@ -36,8 +44,8 @@ pub enum RunFault {
 }
 
 impl RunFault {
-    /// Its number: 6 for want of memory, 16 where there are too many tokens, 50 for an unknown list, 60 to 63 for what a file holds, 80 for a file that can't be
-    /// opened, 81 for an address, 84 for an argument, and that of the failure.
+    /// Its number: 6 for want of memory, 16 where there are too many tokens, 50 for an unknown list, 60 to 63 for what a file holds, 70 to 74
+    /// for what a voucher file says, 80 for a file that can't be opened, 81 for an address, 84 for an argument, and that of the failure.
     pub fn number(self) -> u8
         ensures { result ≡ fault_number self }
     {
@@ -49,6 +57,10 @@ impl RunFault {
             RunFault::Version => 61,
             RunFault::Damaged(_) => 62,
             RunFault::Store => 63,
+            RunFault::Header => 70,
+            RunFault::Line(_) => 71,
+            RunFault::Column(_, _) => 72,
+            RunFault::TooManyLines => 74,
             RunFault::File => 80,
             RunFault::Listen => 81,
             RunFault::Argument => 84,
@@ -63,7 +75,8 @@ impl From<AllocError> for RunFault {
     }
 }
 
-/// Its number; of damage with the rule that is broken behind it, as `62.4`.
+/// Its number; of damage with the rule that is broken behind it, as `62.4`, and of a voucher file with the line, or the line and the
+/// column, as `71.2` and `72.1.4`.
 impl fmt::Display for RunFault {
     fn fmt<W: fmt::Write>(&self, f: &mut fmt::Formatter<W>) -> fmt::Result {
         match self {
@@ -71,6 +84,8 @@ impl fmt::Display for RunFault {
                 let rule = rule.number();
                 write!(f, "62.{rule}")
             }
+            RunFault::Line(line) => write!(f, "71.{line}"),
+            RunFault::Column(line, column) => write!(f, "72.{line}.{column}"),
             _ => {
                 let number = self.number();
                 write!(f, "{number}")

@@ -27,7 +27,7 @@ pub struct Place<'a> {
 }
 
 /// What the commands on a shop's file ask for, each by the file's name. What a file holds no clause can say: what becomes of it is the
-/// implementor's to say (`made`, `added`, `served`, `worked`, `reported`), and what becomes of its tables `bo_house` and `bo_serve` say.
+/// implementor's to say (`made`, `added`, `served`, `worked`, `reported`, `imported`), and what becomes of its tables `bo_house` and `bo_serve` say.
 pub trait HouseFiles {
     // what it may come to that a shop is made in the file of this name, for this organizer and this event
     ghost made: { List ℕ → List ℕ → List ℕ → Result (Unit {0}) RunFault → Type 0 };
@@ -43,6 +43,10 @@ pub trait HouseFiles {
 
     // what it may come to that this report is asked for on the shop in the file of this name, with its text
     ghost reported: { List ℕ → Report → Result (List ℕ) RunFault → Type 0 };
+
+    // what it may come to that the shop in the file of this name gets the vouchers of the CSV file of this name, with a text of what
+    // became of each row
+    ghost imported: { List ℕ → List ℕ → Result (List ℕ) RunFault → Type 0 };
 
     /// Makes a shop in a new file. Faults: 60 where the file stands already, 80 where it can't be made, 6 and 63.
     fn make(&self, alloc: Global, file: &str, organizer: &str, event: &str) -> Result<(), RunFault>
@@ -79,4 +83,11 @@ pub trait HouseFiles {
     /// that is whole, 50 where the shop has no check-in list of that number, and 6.
     fn report(&self, alloc: Global, file: &str, report: Report) -> Result<Body, RunFault>
         ensures { reported file.now report result };
+
+    /// Adds the vouchers of a CSV file to the shop in a file, and tells of each row what became of it: its code, and `added`, `same`, `other`
+    /// or `refused N`. Faults, in this order: those of the shop's file, 80 where it can't be opened and 60 to 63 where it isn't a shop's that
+    /// is whole; those of the CSV file, 80, and 70 to 74 for what it says; 85 where there is no clock or no draw; 63 where what was done
+    /// couldn't be written; and 6. Beside a fault nothing has changed.
+    fn import(&self, alloc: Global, file: &str, csv: &str) -> Result<Body, RunFault>
+        ensures { imported file.now csv.now result };
 }

@@ -2,7 +2,7 @@
 
 ghost use Rattle.std.specs.Prelude.{◌≡◌, ◌++◌, ℕ, List, [], ◌∷◌, Some, None, codes};
 ghost use Rattle.clap.specs.declared.error.ErrorKind.TheVariants.{DisplayHelp, MissingRequiredArgument, MissingSubcommand, UnknownArgument};
-ghost use Rattle.bo_line.specs.Asked.{adds, asked, exports, makes, none, plain_words, reports, runs, serves, works};
+ghost use Rattle.bo_line.specs.Asked.{adds, asked, exports, imports, makes, none, plain_words, reports, runs, serves, works};
 
 /// A line with both flags asks for a run with their texts, in either order, whatever the texts are.
 pub fn both_flags_ask_for_a_run()
@@ -50,6 +50,12 @@ pub fn a_file_is_known_by_its_place()
         × (asked (program ∷ codes "periodic" ∷ []) ≡ none (MissingRequiredArgument ∷ [])) }
     ensures exported { (program : List ℕ) → (asked (program ∷ codes "export" ∷ codes "hall.db" ∷ []) ≡ exports (codes "hall.db"))
         × (asked (program ∷ codes "export" ∷ []) ≡ none (MissingRequiredArgument ∷ [])) }
+{}
+
+/// A line of `import-vouchers` names both files by their places, the shop's first.
+pub fn an_import_names_both_files()
+    ensures { (program : List ℕ) → (asked (program ∷ codes "import-vouchers" ∷ codes "hall.db" ∷ codes "codes.csv" ∷ []) ≡ imports (codes "hall.db") (codes "codes.csv"))
+        × (asked (program ∷ codes "import-vouchers" ∷ codes "hall.db" ∷ []) ≡ none (MissingRequiredArgument ∷ [])) }
 {}
 
 /// A line of `report` names its file and the report by their places, and a check-in list behind a flag, which may be left out.

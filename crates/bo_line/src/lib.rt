@@ -22,5 +22,6 @@ pub use saying::{said, say};
 pub use ticks::{FeedTicks, Pace};
 pub use values::{Report, ReportFault, feed_values, is_token, report_of, serve_values};
 pub use words::{
-    FeedLine, FileLine, InitLine, Line, ReportLine, ServeLine, TokenLine, plain_words, read_line,
+    FeedLine, FileLine, ImportLine, InitLine, Line, ReportLine, ServeLine, TokenLine, plain_words,
+    read_line,
 };

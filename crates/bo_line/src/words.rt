@@ -1,10 +1,10 @@
 //! The words of a command line: what they ask for.
 
-ghost use Rattle.std.specs.Prelude.{◌≡◌, IfOk, IfErr, Some, map, option_map, string_bytes, false};
+ghost use Rattle.std.specs.Prelude.{◌≡◌, IfOk, IfErr, Some, codes, map, option_map, string_bytes, false};
 ghost use Rattle.clap.specs.Walk.{rule_of, texts};
 ghost use Rattle.clap.specs.Words.{app_of, first_of, found_of, kind_of, rows_of};
 ghost use Rattle.bo_line.specs.Asked.{IsReason, asked, asked_by_line, asked_of, is_signed, plain_words, takes_number, text_of};
-ghost use Rattle.bo_line.specs.Words.{IsWith, choice, export_app, feed_app, flag, init_app, program, report_app, serve_app, token_app, word, work_app};
+ghost use Rattle.bo_line.specs.Words.{IsWith, choice, export_app, feed_app, flag, import_app, init_app, program, report_app, serve_app, token_app, word, work_app};
 
 use clap::{Arg, ArgMatches, Command, Error};
 use std::alloc::{AllocError, Global};
@@ -26,6 +26,8 @@ pub enum Line<'a> {
     Report(ReportLine<'a>),
     /// `export`: the order positions of the shop in a file.
     Export(FileLine<'a>),
+    /// `import-vouchers`: vouchers of a CSV file for the shop in a file.
+    Import(ImportLine<'a>),
 }
 
 /// The texts that follow `--from` and `--step`.
@@ -84,6 +86,15 @@ pub struct ReportLine<'a> {
     pub report: &'a str,
     /// The text of `--list`, where it is there.
     pub list: Option<&'a str>,
+}
+
+/// The texts of a line of `import-vouchers`.
+#[derive(Clone, Copy, Debug)]
+pub struct ImportLine<'a> {
+    /// The name of the file.
+    pub file: &'a str,
+    /// The name of the CSV file.
+    pub csv: &'a str,
 }
 
 // A flag with a text, which may be left out.
@@ -226,6 +237,23 @@ fn export_command<'a>(alloc: Global) -> Result<Command<'a>, AllocError>
         .arg(word(alloc, "file", "FILE", "The shop's file"))
 }
 
+// `import-vouchers`, with its help.
+fn import_command<'a>(alloc: Global) -> Result<Command<'a>, AllocError>
+    ensures { IfOk result (λ command. app_of command ≡ import_app) }
+{
+    Command::new(alloc, "import-vouchers")
+        .about(
+            "Adds the vouchers of a CSV file to a shop's file, and says of each row what became of it",
+        )
+        .arg(word(alloc, "file", "FILE", "The shop's file"))?
+        .arg(word(
+            alloc,
+            "csv",
+            "CSV",
+            "The CSV file, with a line of the columns' names and at most 100000 rows",
+        ))
+}
+
 // The program with one more command, where that was made.
 fn with<'a>(
     program: Command<'a>,
@@ -249,7 +277,8 @@ fn commands<'a>(alloc: Global) -> Result<Command<'a>, AllocError>
     let program = with(program, serve_command(alloc))?;
     let program = with(program, work_command(alloc))?;
     let program = with(program, report_command(alloc))?;
-    with(program, export_command(alloc))
+    let program = with(program, export_command(alloc))?;
+    with(program, import_command(alloc))
 }
 
 // Whether a word begins with a minus sign and a digit.
@@ -302,6 +331,15 @@ fn text_of<'a>(matches: &ArgMatches<'a>, name: &str) -> &'a str
     }
 }
 
+// The file of a line that names one alone.
+fn file_of<'a>(matches: &ArgMatches<'a>) -> FileLine<'a>
+    ensures { result.file.now ≡ text_of (codes "file") (rows_of (found_of matches.now)) }
+{
+    FileLine {
+        file: text_of(matches, "file"),
+    }
+}
+
 // What a command with these matches asks for.
 fn line_of<'a>(command: &str, matches: &ArgMatches<'a>) -> Line<'a>
     ensures { asked_by_line result ≡ asked_of command.now (rows_of (found_of matches.now)) }
@@ -327,9 +365,7 @@ fn line_of<'a>(command: &str, matches: &ArgMatches<'a>) -> Line<'a>
         });
     }
     if command == "periodic" {
-        return Line::Periodic(FileLine {
-            file: text_of(matches, "file"),
-        });
+        return Line::Periodic(file_of(matches));
     }
     if command == "report" {
         return Line::Report(ReportLine {
@@ -339,8 +375,12 @@ fn line_of<'a>(command: &str, matches: &ArgMatches<'a>) -> Line<'a>
         });
     }
     if command == "export" {
-        return Line::Export(FileLine {
+        return Line::Export(file_of(matches));
+    }
+    if command == "import-vouchers" {
+        return Line::Import(ImportLine {
             file: text_of(matches, "file"),
+            csv: text_of(matches, "csv"),
         });
     }
     Line::Feed(FeedLine {

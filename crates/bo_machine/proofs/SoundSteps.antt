@@ -34,6 +34,7 @@ use Rattle.bo_vouchers.proofs.Made.{made_sound, made_moment}
 pub use Rattle.bo_vouchers.proofs.Changed.{changed_is}
 use Rattle.bo_vouchers.proofs.Changed.{changed_sound, changed_moment}
 use Rattle.bo_vouchers.proofs.Deleted.{deleted_sound, deleted_moment}
+use Rattle.bo_vouchers.proofs.Imports.{rows_sound, rows_moment}
 use Rattle.bo_commands.specs.declared.orders.OrderRefusal.{OrderRefusal}
 use Rattle.bo_commands.specs.declared.carts.Outcome.{Outcome}
 use Rattle.bo_orders.specs.Bulk.{many_added}
@@ -50,7 +51,7 @@ pub use Rattle.bo_orders.proofs.Expires.{expired_sound, dropped_carts_sound}
 use Rattle.bo_orders.proofs.Moved.{moved_moment, moved_sound}
 use Rattle.bo_commands.specs.Fit.{IsFit}
 use Rattle.bo_commands.specs.declared.requests.Command.{Command}
-use Rattle.bo_commands.specs.declared.requests.Command.TheVariants.{AddItem, ChangeItem, AddVariation, AddQuota, ResizeQuota, AddVoucher, ChangeVoucher, DropVoucher, AddCart, AddCarts, DropCart, AddOrder, MoveOrder, AddWaiting, ChangeWaiting, DropWaiting, SendVoucher, Periodic, AddCheckinList, Redeem}
+use Rattle.bo_commands.specs.declared.requests.Command.TheVariants.{AddItem, ChangeItem, AddVariation, AddQuota, ResizeQuota, AddVoucher, ChangeVoucher, DropVoucher, ImportVouchers, AddCart, AddCarts, DropCart, AddOrder, MoveOrder, AddWaiting, ChangeWaiting, DropWaiting, SendVoucher, Periodic, AddCheckinList, Redeem}
 use Rattle.bo_commands.specs.declared.doors.DoorRefusal.{DoorRefusal}
 use Rattle.bo_commands.specs.declared.waiting.PeriodicCounts.{PeriodicCounts}
 use Rattle.bo_commands.specs.declared.waiting.WaitingRefusal.{WaitingRefusal}
@@ -199,6 +200,10 @@ sound_step (DropVoucher id) draw state = voucher_drop_after (Fits (DropVoucher i
   sound = λ fit sound. deleted_sound id state after sound h;
   moment = deleted_moment id state after h;
 })
+sound_step (ImportVouchers vouchers) draw state = record {
+  sound = λ fit sound. rows_sound vouchers draw state fit.0 fit.1 sound;
+  moment = rows_moment vouchers draw state;
+}
 sound_step (AddCart new) draw state = cart_after (Fits (AddCart new) draw) state (position_added new draw state) (λ after row h. record {
   sound = λ fit sound. added_sound new draw state after row fit.0 fit.1 sound h;
   moment = added_moment new draw state after row h;

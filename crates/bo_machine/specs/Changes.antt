@@ -6,15 +6,16 @@ use Rattle.bo_lists.specs.declared.changes.Change.TheVariants.{PutItem, PutVaria
 use Rattle.bo_lists.specs.declared.rows.Waiting.{Waiting}
 use Rattle.bo_lists.specs.Lists.{State}
 use Rattle.bo_lists.specs.Numbered.{puts_of}
+use Rattle.bo_vouchers.specs.Imported.{import_changes}
 use Rattle.bo_orders.specs.Bulk.{bulk_changes}
 use Rattle.bo_orders.specs.Created.{order_changes}
 use Rattle.bo_commands.specs.declared.waiting.WaitingRefusal.{WaitingRefusal}
 use Rattle.bo_waiting.specs.Sending.{sent_changes, voucher_sent}
 use Rattle.bo_door.specs.Scanned.{scan_puts}
 use Rattle.bo_commands.specs.declared.requests.Command.{Command}
-use Rattle.bo_commands.specs.declared.requests.Command.TheVariants.{AddItem, ChangeItem, AddVariation, AddQuota, ResizeQuota, AddVoucher, ChangeVoucher, DropVoucher, AddCart, AddCarts, DropCart, AddOrder, MoveOrder, AddWaiting, ChangeWaiting, DropWaiting, SendVoucher, Periodic, AddCheckinList, Redeem}
+use Rattle.bo_commands.specs.declared.requests.Command.TheVariants.{AddItem, ChangeItem, AddVariation, AddQuota, ResizeQuota, AddVoucher, ChangeVoucher, DropVoucher, ImportVouchers, AddCart, AddCarts, DropCart, AddOrder, MoveOrder, AddWaiting, ChangeWaiting, DropWaiting, SendVoucher, Periodic, AddCheckinList, Redeem}
 use Rattle.bo_commands.specs.declared.replies.Reply.{Reply}
-use Rattle.bo_commands.specs.declared.replies.Reply.TheVariants.{Made, Found, Results, Gone, Periodic as TheCounts, Admitted, Refused}
+use Rattle.bo_commands.specs.declared.replies.Reply.TheVariants.{Made, Found, Results, Imported, Gone, Periodic as TheCounts, Admitted, Refused}
 use Rattle.bo_commands.specs.declared.replies.Shown.TheVariants as rows
 use Rattle.bo_machine.specs.PeriodicWork.{periodic_changes}
 
@@ -25,8 +26,8 @@ sending_changes draw state (Err refusal) = []
 
 -- What a command changes, told by the command and its draw, the office at its moment and what it is answered: one line for each
 -- command, and none where it is refused. A row comes after those that it names: an item and then its variations; an order
--- and then its positions, behind the cart positions that it consumes, which go; of a bulk call each row that was added, in turn;
--- a voucher that is sent, and then the entry that has it; of a scan its check-in, if it is a new one.
+-- and then its positions, behind the cart positions that it consumes, which go; of a bulk call each row that was added, in turn,
+-- and so of an import; a voucher that is sent, and then the entry that has it; of a scan its check-in, if it is a new one.
 abbrev pub changes_of : Command → Draw → State → Reply → List Change
 changes_of command draw state (Refused kind refusal) = []
 changes_of (AddItem new) draw state (Made (rows.Item made)) = puts_of made
@@ -37,6 +38,7 @@ changes_of (ResizeQuota id patch) draw state (Found (rows.Quota row)) = PutQuota
 changes_of (AddVoucher new) draw state (Made (rows.Voucher row redeemed)) = PutVoucher row ∷ []
 changes_of (ChangeVoucher id patch) draw state (Found (rows.Voucher row redeemed)) = PutVoucher row ∷ []
 changes_of (DropVoucher id) draw state Gone = VoucherGoes id ∷ []
+changes_of (ImportVouchers vouchers) draw state (Imported verdicts) = import_changes verdicts
 changes_of (AddCart new) draw state (Made (rows.Cart row)) = PutCart row ∷ []
 changes_of (AddCarts entries) draw state (Results outcomes) = bulk_changes outcomes
 changes_of (DropCart id) draw state Gone = CartGoes id ∷ []

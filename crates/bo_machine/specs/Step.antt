@@ -22,10 +22,12 @@ use Rattle.bo_lists.specs.declared.changes.Change.TheVariants.{PutItem, PutQuota
 use Rattle.bo_lists.specs.Lists.{State}
 use Rattle.bo_lists.specs.Change.{Changed, changed}
 use Rattle.bo_lists.specs.Numbered.{with_item, with_variation, with_quota}
+use Rattle.bo_commands.specs.declared.vouchers.Verdict.{Verdict}
 use Rattle.bo_commands.specs.declared.vouchers.VoucherRefusal.{VoucherRefusal}
 pub use Rattle.bo_vouchers.specs.Made.{voucher_made}
 pub use Rattle.bo_vouchers.specs.Changed.{voucher_changed}
 use Rattle.bo_vouchers.specs.Deleted.{voucher_deleted}
+pub use Rattle.bo_vouchers.specs.Imported.{rows_imported}
 use Rattle.bo_commands.specs.declared.orders.OrderRefusal.{OrderRefusal}
 use Rattle.bo_commands.specs.declared.carts.Outcome.{Outcome}
 use Rattle.bo_orders.specs.Bulk.{many_added}
@@ -49,7 +51,7 @@ use Rattle.bo_commands.specs.declared.requests.Kind.TheVariants as kinds
 use Rattle.bo_commands.specs.declared.replies.Refusal.{Refusal}
 use Rattle.bo_commands.specs.declared.replies.Refusal.TheVariants as refusals
 use Rattle.bo_commands.specs.declared.replies.Reply.{Reply}
-use Rattle.bo_commands.specs.declared.replies.Reply.TheVariants.{Made, Found, Results, Gone, Periodic as TheCounts, Admitted, Refused}
+use Rattle.bo_commands.specs.declared.replies.Reply.TheVariants.{Made, Found, Results, Imported, Gone, Periodic as TheCounts, Admitted, Refused}
 use Rattle.bo_commands.specs.declared.replies.Shown.TheVariants as rows
 use Rattle.bo_machine.specs.PeriodicWork.{periodic_done}
 use Rattle.bo_machine.specs.ShownRows.{show_item, show_voucher}
@@ -93,6 +95,9 @@ voucher_change_step state (Err refusal) = (state, Refused kinds.ChangeVoucher (r
 abbrev pub voucher_drop_step : State → Result State VoucherRefusal → State × Reply
 voucher_drop_step state (Ok new) = (new, Gone)
 voucher_drop_step state (Err refusal) = (state, Refused kinds.DropVoucher (refusals.Voucher refusal))
+
+abbrev pub import_step : State × List Verdict → State × Reply
+import_step imported = (imported.0, Imported imported.1)
 
 abbrev pub cart_step : State → Result (State × CartPos) OrderRefusal → State × Reply
 cart_step state (Ok (new, row)) = (new, Made (rows.Cart row))
@@ -151,6 +156,7 @@ step_now (commands.ResizeQuota id patch) draw state = resize_step state (resized
 step_now (commands.AddVoucher new) draw state = voucher_step state (voucher_made new draw state)
 step_now (commands.ChangeVoucher id patch) draw state = voucher_change_step state (voucher_changed id patch state)
 step_now (commands.DropVoucher id) draw state = voucher_drop_step state (voucher_deleted id state)
+step_now (commands.ImportVouchers vouchers) draw state = import_step (rows_imported vouchers draw state)
 step_now (commands.AddCart new) draw state = cart_step state (position_added new draw state)
 step_now (commands.AddCarts entries) draw state = bulk_step state (many_added entries draw state)
 step_now (commands.DropCart id) draw state = cart_drop_step state (position_dropped id state)

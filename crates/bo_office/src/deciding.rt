@@ -36,6 +36,9 @@ pub(crate) fn decide_over<B: Book>(
         Command::AddVoucher(new) => sales::add_voucher(book, alloc, at, draw, new),
         Command::ChangeVoucher(id, patch) => sales::change_voucher(book, alloc, at, *id, patch),
         Command::DropVoucher(id) => sales::drop_voucher(book, alloc, at, *id),
+        Command::ImportVouchers(rows) => {
+            sales::import_vouchers(book, alloc, at, draw, rows.as_slice())
+        }
         Command::AddCart(new) => sales::add_cart(book, alloc, at, draw, new),
         Command::AddCarts(entries) => {
             sales::add_carts(book, alloc, at, draw, entries.as_slice())

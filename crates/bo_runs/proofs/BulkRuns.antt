@@ -1,6 +1,6 @@
--- A bulk call does what its entries do, each after those before it, and tells what each of them was told.
+-- A bulk call does what its entries do, each after those before it, and tells what each of them was told; so does an import.
 use Rattle.std.proofs.Common.{◌≡◌, ℕ, ◌≤◌, Bool, true, false, List, [], ◌∷◌, map, Option, Some, Result, Ok, Err, refl, sym, ap, ap₂, ◌∙◌, subst, arith}
-use Rattle.std.specs.Prelude.{max, min, length, nat_lt, if◌then◌else◌}
+use Rattle.std.specs.Prelude.{min, length, nat_lt, if◌then◌else◌}
 use Rattle.std.specs.List.{AllByRecursion}
 use Rattle.std.proofs.lemmas.Bool.Decides.{nat_tests}
 use Rattle.bo_base.specs.declared.draw.Draw.{Draw}
@@ -18,9 +18,11 @@ use Rattle.bo_orders.specs.Bulk.{outcome_of, entry_added, all_added, most_entrie
 use Rattle.bo_orders.specs.Carts.{position_added}
 use Rattle.bo_orders.proofs.BulkSound.{entry_moment}
 use Rattle.bo_commands.specs.declared.requests.Command.{Command}
-use Rattle.bo_commands.specs.declared.requests.Command.TheVariants.{AddItem, ChangeItem, AddVariation, AddQuota, ResizeQuota, AddVoucher, ChangeVoucher, DropVoucher, AddCart, AddCarts, DropCart, AddOrder, MoveOrder, AddWaiting, ChangeWaiting, DropWaiting, SendVoucher, Periodic, AddCheckinList, Redeem}
+use Rattle.bo_commands.specs.declared.requests.Command.TheVariants.{AddItem, ChangeItem, AddVariation, AddQuota, ResizeQuota, AddVoucher, ChangeVoucher, DropVoucher, ImportVouchers, AddCart, AddCarts, DropCart, AddOrder, MoveOrder, AddWaiting, ChangeWaiting, DropWaiting, SendVoucher, Periodic, AddCheckinList, Redeem}
 use Rattle.bo_commands.specs.declared.replies.Reply.{Reply}
 use Rattle.bo_machine.specs.Step.{cart_step, bulk_step, step, moment_at}
+use Rattle.bo_vouchers.specs.Imported.{rows_imported}
+use Rattle.bo_runs.proofs.ImportRuns.{no_later, all_alone}
 use Rattle.bo_runs.specs.Runs.{Arrival, stepped, trace, alone, after_run, outcome_told, outcomes_alone, RunsEntries, RunsItsEntries}
 
 -- an entry of its own leads where it leads in the call, and is told what became of it there
@@ -31,12 +33,6 @@ same_office state (Err refusal) = refl
 same_outcome : (state : State) (r : Result (State × CartPos) OrderRefusal) → outcome_told (cart_step state r).1 ≡ Some (outcome_of state r).1
 same_outcome state (Ok (after, row)) = refl
 same_outcome state (Err refusal) = refl
-
-no_later : (state : State) (clock : ℕ) → min clock last_moment ≤ state.moment → state.moment ≡ moment_at clock state
-no_later state clock le = by_last state.moment clock last_moment le
-  where
-    by_last : (moment clock last : ℕ) → min clock last ≤ moment → moment ≡ max moment (min clock last)
-    by_last moment clock last le = omega (arith, le)
 
 module _ (clock : ℕ) (draw : Draw) where
   -- an entry as a command of its own
@@ -89,6 +85,14 @@ runs_entries (ResizeQuota id patch) clock draw state = tt
 runs_entries (AddVoucher new) clock draw state = tt
 runs_entries (ChangeVoucher id patch) clock draw state = tt
 runs_entries (DropVoucher id) clock draw state = tt
+runs_entries (ImportVouchers vouchers) clock draw state =
+    let at = moment_at clock state in
+    let now : State = record state { moment = at } in
+    record {
+      told = (rows_imported vouchers draw now).1;
+      reply = refl;
+      each = all_alone at draw vouchers now (in_range at last_moment);
+    }
 runs_entries (AddCart new) clock draw state = tt
 runs_entries (DropCart id) clock draw state = tt
 runs_entries (AddOrder new) clock draw state = tt

@@ -1,5 +1,5 @@
 -- The changes of each step can be made one after another, and lead to the rows that it leaves.
-use Rattle.std.proofs.Common.{◌≡◌, ℕ, Bool, true, false, List, [], ◌∷◌, ◌++◌, Result, Ok, Err, refl, sym, ap, subst, arith}
+use Rattle.std.proofs.Common.{◌≡◌, ℕ, List, [], ◌∷◌, ◌++◌, Result, Ok, Err, refl, sym, ap, subst, arith}
 use Rattle.std.specs.List.{AllByRecursion}
 use Rattle.bo_base.specs.Draws.{IsDraw}
 use Rattle.bo_base.specs.declared.draw.Draw.{Draw}
@@ -26,11 +26,10 @@ use Rattle.bo_lists.specs.declared.rows.OrderPos.{OrderPos}
 use Rattle.bo_lists.specs.declared.rows.OrderRows.{OrderRows}
 use Rattle.bo_lists.specs.declared.rows.Voucher.{Voucher}
 use Rattle.bo_lists.specs.declared.rows.Waiting.{Waiting}
-use Rattle.bo_lists.specs.declared.changes.Change.{Change}
-use Rattle.bo_lists.specs.declared.changes.Change.TheVariants.{PutItem, PutVariation, PutQuota, PutVoucher, PutOrder, PutWaiting, DropVoucher as VoucherGoes, DropCart as CartGoes, DropWaiting as EntryGoes}
+use Rattle.bo_lists.specs.declared.changes.Change.TheVariants.{PutVariation, PutQuota, PutVoucher, PutOrder, PutWaiting, DropVoucher as VoucherGoes, DropCart as CartGoes, DropWaiting as EntryGoes}
 use Rattle.bo_lists.specs.Change.{changed, after_all}
 use Rattle.bo_lists.specs.Lists.{Lists, State}
-use Rattle.bo_lists.specs.Numbered.{puts_of, with_item, with_variation, with_quota}
+use Rattle.bo_lists.specs.Numbered.{puts_of, with_variation, with_quota}
 use Rattle.bo_sound.specs.Changes.{LeadTo}
 use Rattle.bo_sound.specs.Sound.{IsSound}
 use Rattle.bo_sound.proofs.Changes.{leads_one, leads_nowhere, leads_joined, item_leads}
@@ -41,6 +40,7 @@ use Rattle.bo_vouchers.specs.Deleted.{voucher_deleted}
 use Rattle.bo_vouchers.proofs.Made.{made_is, made_sound}
 use Rattle.bo_vouchers.proofs.Changed.{changed_is, changed_sound}
 use Rattle.bo_vouchers.proofs.Deleted.{deleted_is, deleted_sound}
+use Rattle.bo_vouchers.proofs.Imports.{rows_lead}
 use Rattle.bo_orders.specs.Bulk.{bulk_changes, many_added}
 use Rattle.bo_orders.specs.Carts.{position_added}
 use Rattle.bo_orders.specs.Created.{order_created}
@@ -80,7 +80,7 @@ use Rattle.bo_commands.specs.declared.doors.Scan.{Scan}
 use Rattle.bo_commands.specs.declared.doors.Ticket.{Ticket}
 use Rattle.bo_commands.specs.declared.replies.Reply.{Reply}
 use Rattle.bo_commands.specs.declared.requests.Command.{Command}
-use Rattle.bo_commands.specs.declared.requests.Command.TheVariants.{AddItem, ChangeItem, AddVariation, AddQuota, ResizeQuota, AddVoucher, ChangeVoucher, DropVoucher, AddCart, AddCarts, DropCart, AddOrder, MoveOrder, AddWaiting, ChangeWaiting, DropWaiting, SendVoucher, Periodic, AddCheckinList, Redeem}
+use Rattle.bo_commands.specs.declared.requests.Command.TheVariants.{AddItem, ChangeItem, AddVariation, AddQuota, ResizeQuota, AddVoucher, ChangeVoucher, DropVoucher, ImportVouchers, AddCart, AddCarts, DropCart, AddOrder, MoveOrder, AddWaiting, ChangeWaiting, DropWaiting, SendVoucher, Periodic, AddCheckinList, Redeem}
 use Rattle.bo_commands.specs.declared.vouchers.NewVoucher.{NewVoucher}
 use Rattle.bo_commands.specs.declared.vouchers.VoucherPatch.{VoucherPatch}
 use Rattle.bo_commands.specs.declared.vouchers.VoucherRefusal.{VoucherRefusal}
@@ -208,6 +208,7 @@ step_leads (ResizeQuota id patch) draw state fit sixteen sound = resize_leads dr
 step_leads (AddVoucher new) draw state fit sixteen sound = voucher_leads draw state sixteen sound new fit (voucher_made new draw state) refl
 step_leads (ChangeVoucher id patch) draw state fit sixteen sound = voucher_change_leads draw state sixteen sound id patch fit (voucher_changed id patch state) refl
 step_leads (DropVoucher id) draw state fit sixteen sound = voucher_drop_leads draw state sixteen sound id (voucher_deleted id state) refl
+step_leads (ImportVouchers vouchers) draw state fit sixteen sound = rows_lead vouchers draw state fit sixteen sound
 step_leads (AddCart new) draw state fit sixteen sound = cart_leads draw state sixteen sound new fit (position_added new draw state) refl
 step_leads (AddCarts entries) draw state fit sixteen sound = bulk_leads draw state sixteen sound entries fit (many_added entries draw state) refl
 step_leads (DropCart id) draw state fit sixteen sound = cart_drop_leads draw state sixteen sound id (position_dropped id state) refl

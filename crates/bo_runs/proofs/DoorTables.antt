@@ -1,5 +1,5 @@
 -- What each step does to the tables of the doors: rows are added at the end, and none changes or goes.
-use Rattle.std.proofs.Common.{◌≡◌, ℕ, ◌+◌, ◌<◌, Bool, true, false, inl, inr, List, [], ◌∷◌, ◌++◌, append_assoc, append-nil, map, Result, Ok, Err, refl, sym, ap, ◌∙◌, subst, arith}
+use Rattle.std.proofs.Common.{◌≡◌, ℕ, ◌+◌, ◌<◌, inl, inr, List, [], ◌∷◌, ◌++◌, append_assoc, append-nil, map, Result, Ok, Err, refl, sym, ap, ◌∙◌, subst, arith}
 use Rattle.std.specs.List.{AllByRecursion}
 use Rattle.std.proofs.lemmas.Bool.Decides.{nat_tests}
 use Rattle.bo_sorted.specs.Tables.{with_row}
@@ -41,7 +41,7 @@ use Rattle.bo_commands.specs.declared.orders.Move.{Move}
 use Rattle.bo_commands.specs.declared.orders.NewOrder.{NewOrder}
 use Rattle.bo_commands.specs.declared.orders.OrderRefusal.{OrderRefusal}
 use Rattle.bo_commands.specs.declared.requests.Command.{Command}
-use Rattle.bo_commands.specs.declared.requests.Command.TheVariants.{AddItem, ChangeItem, AddVariation, AddQuota, ResizeQuota, AddVoucher, ChangeVoucher, DropVoucher, AddCart, AddCarts, DropCart as DropCartCommand, AddOrder, MoveOrder, AddWaiting, ChangeWaiting, DropWaiting, SendVoucher, Periodic, AddCheckinList, Redeem}
+use Rattle.bo_commands.specs.declared.requests.Command.TheVariants.{AddItem, ChangeItem, AddVariation, AddQuota, ResizeQuota, AddVoucher, ChangeVoucher, DropVoucher, ImportVouchers, AddCart, AddCarts, DropCart as DropCartCommand, AddOrder, MoveOrder, AddWaiting, ChangeWaiting, DropWaiting, SendVoucher, Periodic, AddCheckinList, Redeem}
 use Rattle.bo_commands.specs.declared.vouchers.NewVoucher.{NewVoucher}
 use Rattle.bo_commands.specs.declared.vouchers.VoucherPatch.{VoucherPatch}
 use Rattle.bo_commands.specs.declared.vouchers.VoucherRefusal.{VoucherRefusal}
@@ -51,6 +51,9 @@ use Rattle.bo_commands.specs.declared.waiting.WaitingRefusal.{WaitingRefusal}
 use Rattle.bo_vouchers.specs.Made.{voucher_made}
 use Rattle.bo_vouchers.specs.Changed.{voucher_changed}
 use Rattle.bo_vouchers.specs.Deleted.{voucher_deleted}
+use Rattle.bo_vouchers.specs.Imported.{row_imported, rows_imported}
+use Rattle.bo_commands.specs.declared.vouchers.Verdict.{Verdict}
+use Rattle.bo_vouchers.proofs.Imports.{of_row}
 use Rattle.bo_vouchers.proofs.Made.{made_is}
 use Rattle.bo_vouchers.proofs.Changed.{changed_is}
 use Rattle.bo_vouchers.proofs.Deleted.{deleted_is}
@@ -327,6 +330,15 @@ entries_grow (entry ∷ entries) draw state =
     let next = (entry_added entry draw state).0 in
     door_more state next (all_added entries draw next).0 (entry_grows entry draw state) (entries_grow entries draw next)
 
+row_grows : (new : NewVoucher) (draw : Draw) (state : State) → DoorGrows state (row_imported new draw state).0
+row_grows new draw state = of_row new draw state (λ (m : State × Verdict). DoorGrows state m.0) (λ verdict none. door_still state) (made_grows draw state new)
+
+rows_grow : (vouchers : List NewVoucher) (draw : Draw) (state : State) → DoorGrows state (rows_imported vouchers draw state).0
+rows_grow [] draw state = door_still state
+rows_grow (new ∷ more) draw state =
+    let next = (row_imported new draw state).0 in
+    door_more state next (rows_imported more draw next).0 (row_grows new draw state) (rows_grow more draw next)
+
 -- each step of a sound office
 pub door_step : (command : Command) (draw : Draw) (state : State) → IsSound state → DoorGrows state (step_now command draw state).0
 door_step (AddItem new) draw state sound = item state (item_added new state.next.item state.next.variation state.lists.catalogue)
@@ -337,6 +349,7 @@ door_step (ResizeQuota id patch) draw state sound = resize state (resized id pat
 door_step (AddVoucher new) draw state sound = voucher state (voucher_made new draw state) (made_grows draw state new)
 door_step (ChangeVoucher id patch) draw state sound = voucher_change state (voucher_changed id patch state) (changed_grows draw state id patch)
 door_step (DropVoucher id) draw state sound = voucher_drop state (voucher_deleted id state) (deleted_grows draw state id)
+door_step (ImportVouchers vouchers) draw state sound = rows_grow vouchers draw state
 door_step (AddCart new) draw state sound = cart state (position_added new draw state) (cart_grows draw state new)
 door_step (AddCarts entries) draw state sound = bulk state (many_added entries draw state) (λ made h. subst (λ (m : State × List Outcome). DoorGrows state m.0) (many_is entries draw state made h) (entries_grow entries draw state))
 door_step (DropCartCommand id) draw state sound = cart_drop state (position_dropped id state) (cart_drop_grows draw state id)

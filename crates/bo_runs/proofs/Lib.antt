@@ -2,6 +2,8 @@ pub mod CatalogueLowers
 pub mod NewIds
 pub mod OrderSteps
 pub mod QuietSteps
+pub mod ImportRuns
+pub mod ImportAgain
 pub mod BulkRuns
 pub mod Runs
 pub mod DoorTables

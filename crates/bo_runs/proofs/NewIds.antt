@@ -45,6 +45,9 @@ use Rattle.bo_commands.specs.declared.vouchers.VoucherPatch.{VoucherPatch}
 use Rattle.bo_vouchers.specs.Made.{voucher_made}
 use Rattle.bo_vouchers.specs.Changed.{voucher_changed}
 use Rattle.bo_vouchers.specs.Deleted.{voucher_deleted}
+use Rattle.bo_vouchers.specs.Imported.{row_imported, rows_imported}
+use Rattle.bo_commands.specs.declared.vouchers.Verdict.{Verdict}
+use Rattle.bo_vouchers.proofs.Imports.{of_row}
 use Rattle.bo_vouchers.proofs.Made.{made_is, made_id}
 use Rattle.bo_vouchers.proofs.Changed.{changed_is}
 use Rattle.bo_vouchers.proofs.Deleted.{deleted_is}
@@ -66,8 +69,6 @@ use Rattle.bo_orders.proofs.MoveLemmas.{found_id}
 use Rattle.bo_orders.proofs.Moved.{moved_is}
 use Rattle.bo_orders.proofs.Puts.{put_is}
 use Rattle.bo_orders.proofs.Rows.{counted, puts_next}
-use Rattle.bo_orders.specs.declared.sold.Sold.{Sold}
-use Rattle.bo_commands.specs.declared.vouchers.VoucherRefusal.{VoucherRefusal}
 use Rattle.bo_lists.specs.Due.{is_due}
 use Rattle.bo_orders.specs.Expired.{expired_row, expired_if_due, orders_expired, carts_dropped}
 use Rattle.bo_commands.specs.declared.waiting.NewWaiting.{NewWaiting}
@@ -542,6 +543,15 @@ pub made_ids : (new : NewVoucher) (draw : Draw) (s after : State) (row : Voucher
 made_ids new draw s after row h =
     let m = made_is new draw s after row h in
     subst (λ (t : State). AllIdsGoOn s t) m.is_after (new_voucher s row (made_id new draw s after row m))
+
+row_ids : (new : NewVoucher) (draw : Draw) (s : State) → AllIdsGoOn s (row_imported new draw s).0
+row_ids new draw s = of_row new draw s (λ (m : State × Verdict). AllIdsGoOn s m.0) (λ verdict none. all_same s) (λ after row h. made_ids new draw s after row h)
+
+pub rows_ids : (vouchers : List NewVoucher) (draw : Draw) (s : State) → AllIdsGoOn s (rows_imported vouchers draw s).0
+rows_ids [] draw s = all_same s
+rows_ids (new ∷ more) draw s =
+    let next = (row_imported new draw s).0 in
+    all_more s next (rows_imported more draw next).0 (row_ids new draw s) (rows_ids more draw next)
 
 pub changed_ids : (id : ℕ) (patch : VoucherPatch) (s after : State) (row : Voucher) → voucher_changed id patch s ≡ Ok (after, row) → AllIdsGoOn s after
 changed_ids id patch s after row h =

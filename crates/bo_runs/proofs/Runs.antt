@@ -1,6 +1,6 @@
 -- Laws of every step, and of every run by induction.
 use Rattle.std.proofs.Common.{◌≡◌, ℕ, ◌≤◌, Bool, true, false, List, [], ◌∷◌, map, Option, Some, None, Result, Ok, Err, refl, sym, ap, ◌∙◌, subst, arith}
-use Rattle.std.specs.Prelude.{max, min, ◌||◌, length, nat_lt, if◌then◌else◌}
+use Rattle.std.specs.Prelude.{max, min, is_some, ◌||◌, length, nat_lt, if◌then◌else◌}
 use Rattle.std.specs.List.{AllByRecursion, list_any}
 use Rattle.bo_base.specs.declared.draw.Draw.{Draw}
 use Rattle.bo_base.specs.Moments.{last_moment}
@@ -36,6 +36,9 @@ use Rattle.bo_commands.specs.declared.vouchers.VoucherRefusal.{VoucherRefusal}
 use Rattle.bo_vouchers.specs.Made.{voucher_made}
 use Rattle.bo_vouchers.specs.Changed.{voucher_changed}
 use Rattle.bo_vouchers.specs.Deleted.{voucher_deleted}
+use Rattle.bo_commands.specs.declared.vouchers.NewVoucher.{NewVoucher}
+use Rattle.bo_commands.specs.declared.vouchers.Verdict.{Verdict}
+use Rattle.bo_vouchers.specs.Imported.{namesake, rows_imported}
 use Rattle.bo_vouchers.proofs.Made.{made_not_over, made_takes_no_more}
 use Rattle.bo_vouchers.proofs.Changed.{changed_not_over, changed_takes_no_more}
 use Rattle.bo_vouchers.proofs.Deleted.{deleted_lowers}
@@ -53,7 +56,7 @@ use Rattle.bo_orders.proofs.BulkSound.{many_is}
 use Rattle.bo_orders.proofs.Added.{added_none_over, added_takes_no_more}
 use Rattle.bo_orders.proofs.Dropped.{dropped_lowers}
 use Rattle.bo_commands.specs.declared.requests.Command.{Command}
-use Rattle.bo_commands.specs.declared.requests.Command.TheVariants.{AddItem, ChangeItem, AddVariation, AddQuota, ResizeQuota, AddVoucher, ChangeVoucher, DropVoucher, AddCart, AddCarts, DropCart, AddOrder, MoveOrder, AddWaiting, ChangeWaiting, DropWaiting, SendVoucher, Periodic, AddCheckinList, Redeem}
+use Rattle.bo_commands.specs.declared.requests.Command.TheVariants.{AddItem, ChangeItem, AddVariation, AddQuota, ResizeQuota, AddVoucher, ChangeVoucher, DropVoucher, ImportVouchers, AddCart, AddCarts, DropCart, AddOrder, MoveOrder, AddWaiting, ChangeWaiting, DropWaiting, SendVoucher, Periodic, AddCheckinList, Redeem}
 use Rattle.bo_commands.specs.declared.doors.DoorRefusal.{DoorRefusal}
 use Rattle.bo_commands.specs.declared.waiting.PeriodicCounts.{PeriodicCounts}
 use Rattle.bo_commands.specs.declared.waiting.WaitingRefusal.{WaitingRefusal}
@@ -73,14 +76,14 @@ use Rattle.bo_commands.specs.declared.replies.Reply.{Reply}
 use Rattle.bo_commands.specs.declared.replies.Reply.TheVariants.{Made, Found, Gone, Periodic as TheCounts, Admitted, Refused}
 use Rattle.bo_commands.specs.declared.replies.Shown.TheVariants as rows
 use Rattle.bo_machine.specs.ShownRows.{show_voucher}
-use Rattle.bo_machine.specs.Step.{step, step_now, item_step, item_change_step, variation_step, quota_step, resize_step, voucher_step, voucher_change_step, voucher_drop_step, cart_step, bulk_step, order_step, move_step, cart_drop_step, join_step, priority_step, leave_step, send_step, periodic_step, checkin_list_step, redeem_step, moment_at}
+use Rattle.bo_machine.specs.Step.{step, step_now, item_step, item_change_step, variation_step, quota_step, resize_step, voucher_step, voucher_change_step, voucher_drop_step, import_step, cart_step, bulk_step, order_step, move_step, cart_drop_step, join_step, priority_step, leave_step, send_step, periodic_step, checkin_list_step, redeem_step, moment_at}
 use Rattle.bo_machine.specs.PeriodicWork.{periodic_done}
 use Rattle.bo_runs.specs.NewIds.{AllIdsGoOn}
 use Rattle.bo_runs.specs.Takings.{OwnRow, cart_own, position_own, cart_taken, order_taken, voucher_taken, brings_back, taken, voucher_ignores, is_joined, may_raise}
-use Rattle.bo_runs.specs.Runs.{Arrival, IsFitArrival, Stepped, stepped, office_at, trace, after_run, alone, steps_of, Each, NoneOver, StaysWithin, RaisesNothing, GivesNewIds, LeavesSound, NeverGoesBack, StoresItsMoment, ChangesNothingElse}
+use Rattle.bo_runs.specs.Runs.{Arrival, IsFitArrival, Stepped, stepped, office_at, trace, after_run, alone, made_alone, import_trace, steps_of, Each, NoneOver, StaysWithin, RaisesNothing, GivesNewIds, LeavesSound, NeverGoesBack, StoresItsMoment, ChangesNothingElse}
 use Rattle.bo_machine.proofs.SoundSteps.{sound_step, step_sound}
 use Rattle.bo_runs.proofs.OrderSteps.{IsOrderFine, made_fine, moved_fine}
-use Rattle.bo_runs.proofs.NewIds.{all_same, all_more, item_ids, item_change_ids, variation_ids, quota_ids, resize_ids, made_ids, changed_ids, deleted_ids, added_ids, entries_ids, dropped_ids, joined_ids, changed_entry_ids, left_ids, sending_ids}
+use Rattle.bo_runs.proofs.NewIds.{all_same, all_more, item_ids, item_change_ids, variation_ids, quota_ids, resize_ids, made_ids, rows_ids, changed_ids, deleted_ids, added_ids, entries_ids, dropped_ids, joined_ids, changed_entry_ids, left_ids, sending_ids}
 use Rattle.bo_runs.proofs.QuietSteps.{worked_ids, worked_lowers, list_ids, scanned_ids}
 use Rattle.bo_runs.proofs.CatalogueLowers.{as_before, item_lowers, item_change_lowers, variation_lowers, quota_lowers, resize_lowers}
 
@@ -278,6 +281,16 @@ module _ (state : State) where
     lowers = λ sound one. absurd (true_and_false itself one (known (after, outcomes) refl).entries);
   }
 
+  -- where the vouchers of a file were added
+  import_fine : (made : State × List Verdict) → AllIdsGoOn state made.0 → IsFine state (import_step made) None false false
+  import_fine (after, verdicts) ids = record {
+    refused = λ k r e. absurd (cc (e));
+    ids = ids;
+    none_over = λ rows e. absurd (no_list rows e);
+    within = λ sound rows e. absurd (no_list rows e);
+    lowers = λ sound one. absurd (cc (one));
+  }
+
   module _ (after : State) (rows : OrderRows) (known : IsOrderFine state after rows true) where
     order_not_over : (own : List OwnRow) → Some (map position_own rows.positions) ≡ Some own → first_over state.lists after.lists state.moment (map (λ r. r.own) own) ≡ None
     order_not_over own e =
@@ -378,9 +391,10 @@ module _ (state : State) where
   redeem_fine (Err refusal) known = refused_fine _ _ _ _
   redeem_fine (Ok (after, position)) known = quiet_fine after (Admitted position) (λ k r e. cc (e)) (known after position refl)
 
--- a bulk call that is refused as a whole is a step by itself, and so is any other command
+-- a bulk call that is refused as a whole is a step by itself, and so is any other command but an import
 abbrev is_itself : Command → Bool
 is_itself (AddCarts entries) = nat_lt most_entries (length entries)
+is_itself (ImportVouchers vouchers) = false
 is_itself other = true
 
 -- where it wasn't refused as a whole, it had no more entries than it may have
@@ -409,6 +423,7 @@ step_fine (ChangeVoucher id patch) draw state = voucher_change_fine state (vouch
   within = changed_takes_no_more id patch state after row h;
 })
 step_fine (DropVoucher id) draw state = voucher_drop_fine state (voucher_deleted id state) (λ after h. deleted_ids id state after h) (λ after h quota. deleted_lowers id state after quota h)
+step_fine (ImportVouchers vouchers) draw state = import_fine state (rows_imported vouchers draw state) (rows_ids vouchers draw state)
 step_fine (AddCart new) draw state = cart_fine state (position_added new draw state) (λ after row h. record {
   ids = added_ids new draw state after row h;
   not_over = added_none_over new draw state after row h;
@@ -478,10 +493,11 @@ moment_after arrival state = (sound_step arrival.command arrival.draw (record st
 
 -- ---- steps by themselves
 
--- a law of what is a step by itself, where something is known of each command, and of each of the entries of a bulk call, and
--- from an office of which something is known that each step keeps
+-- a law of what is a step by itself, where something is known of each command, and of each of the entries of a bulk call and each of the
+-- rows of an import, and from an office of which something is known that each step keeps
 module _ (Law : Stepped → Type 0) (Fit : Arrival → Type 0) (Known : State → Type 0)
     (parts : (clock at : ℕ) (draw : Draw) (entries : List Entry) → Fit (record { clock = clock; draw = draw; command = AddCarts entries }) → AllByRecursion Fit (alone at draw entries))
+    (rows : (clock at : ℕ) (draw : Draw) (vouchers : List NewVoucher) → Fit (record { clock = clock; draw = draw; command = ImportVouchers vouchers }) → AllByRecursion (λ new. Fit (made_alone at draw new)) vouchers)
     (one : (arrival : Arrival) (state : State) → Fit arrival → Known state → is_itself arrival.command ≡ true → Law (stepped arrival state))
     (later : (arrival : Arrival) (state : State) → Known state → Known (record state { moment = moment_at arrival.clock state }))
     (keeps : (arrival : Arrival) (state : State) → Fit arrival → Known state → Known (stepped arrival state).after) where
@@ -492,40 +508,59 @@ module _ (Law : Stepped → Type 0) (Fit : Arrival → Type 0) (Known : State �
       let arrival : Arrival = record { clock = clock; draw = draw; command = AddCart new } in
       (one arrival state fit.0 known refl, alone_all clock draw entries (stepped arrival state).after fit.1 (keeps arrival state fit.0 known))
 
-  by_command : (command : Command) (s : Stepped) → (is_itself command ≡ true → Law s) → ((entries : List Entry) → command ≡ AddCarts entries → AllByRecursion Law (trace (alone s.at s.draw entries) (office_at s))) → AllByRecursion Law (steps_of command s)
-  by_command (AddItem new) s own all = (own refl, tt)
-  by_command (ChangeItem id patch) s own all = (own refl, tt)
-  by_command (AddVariation item new) s own all = (own refl, tt)
-  by_command (AddQuota new) s own all = (own refl, tt)
-  by_command (ResizeQuota id patch) s own all = (own refl, tt)
-  by_command (AddVoucher new) s own all = (own refl, tt)
-  by_command (ChangeVoucher id patch) s own all = (own refl, tt)
-  by_command (DropVoucher id) s own all = (own refl, tt)
-  by_command (AddCart new) s own all = (own refl, tt)
-  by_command (AddOrder new) s own all = (own refl, tt)
-  by_command (MoveOrder number change) s own all = (own refl, tt)
-  by_command (DropCart id) s own all = (own refl, tt)
-  by_command (AddWaiting new) s own all = (own refl, tt)
-  by_command (ChangeWaiting id patch) s own all = (own refl, tt)
-  by_command (DropWaiting id) s own all = (own refl, tt)
-  by_command (SendVoucher id) s own all = (own refl, tt)
-  by_command Periodic s own all = (own refl, tt)
-  by_command (AddCheckinList new) s own all = (own refl, tt)
-  by_command (Redeem list ticket scan) s own all = (own refl, tt)
-  by_command (AddCarts entries) s own all = by_count (nat_lt most_entries (length entries)) own
+  import_all : (clock : ℕ) (draw : Draw) (vouchers : List NewVoucher) (state : State) → AllByRecursion (λ new. Fit (made_alone clock draw new)) vouchers → Known state → AllByRecursion Law (import_trace clock draw vouchers state)
+  import_all clock draw [] state fit known = tt
+  import_all clock draw (new ∷ vouchers) state fit known =
+      let arrival = made_alone clock draw new in
+      by_namesake (is_some (namesake new.code state.lists)) (import_all clock draw vouchers state fit.1 known) (one arrival state fit.0 known refl, import_all clock draw vouchers (stepped arrival state).after fit.1 (keeps arrival state fit.0 known))
+    where
+      by_namesake : (stands : Bool) → AllByRecursion Law (import_trace clock draw vouchers state) → AllByRecursion Law (stepped (made_alone clock draw new) state ∷ import_trace clock draw vouchers (stepped (made_alone clock draw new) state).after)
+          → AllByRecursion Law (if stands then import_trace clock draw vouchers state else (stepped (made_alone clock draw new) state ∷ import_trace clock draw vouchers (stepped (made_alone clock draw new) state).after))
+      by_namesake true others all = others
+      by_namesake false others all = all
+
+  by_command : (command : Command) (s : Stepped) → (is_itself command ≡ true → Law s) → ((entries : List Entry) → command ≡ AddCarts entries → AllByRecursion Law (trace (alone s.at s.draw entries) (office_at s)))
+      → ((vouchers : List NewVoucher) → command ≡ ImportVouchers vouchers → AllByRecursion Law (import_trace s.at s.draw vouchers (office_at s))) → AllByRecursion Law (steps_of command s)
+  by_command (AddItem new) s own all imported = (own refl, tt)
+  by_command (ChangeItem id patch) s own all imported = (own refl, tt)
+  by_command (AddVariation item new) s own all imported = (own refl, tt)
+  by_command (AddQuota new) s own all imported = (own refl, tt)
+  by_command (ResizeQuota id patch) s own all imported = (own refl, tt)
+  by_command (AddVoucher new) s own all imported = (own refl, tt)
+  by_command (ChangeVoucher id patch) s own all imported = (own refl, tt)
+  by_command (DropVoucher id) s own all imported = (own refl, tt)
+  by_command (ImportVouchers vouchers) s own all imported = imported vouchers refl
+  by_command (AddCart new) s own all imported = (own refl, tt)
+  by_command (AddOrder new) s own all imported = (own refl, tt)
+  by_command (MoveOrder number change) s own all imported = (own refl, tt)
+  by_command (DropCart id) s own all imported = (own refl, tt)
+  by_command (AddWaiting new) s own all imported = (own refl, tt)
+  by_command (ChangeWaiting id patch) s own all imported = (own refl, tt)
+  by_command (DropWaiting id) s own all imported = (own refl, tt)
+  by_command (SendVoucher id) s own all imported = (own refl, tt)
+  by_command Periodic s own all imported = (own refl, tt)
+  by_command (AddCheckinList new) s own all imported = (own refl, tt)
+  by_command (Redeem list ticket scan) s own all imported = (own refl, tt)
+  by_command (AddCarts entries) s own all imported = by_count (nat_lt most_entries (length entries)) own
     where
       by_count : (many : Bool) → (many ≡ true → Law s) → AllByRecursion Law (if many then s ∷ [] else trace (alone s.at s.draw entries) (office_at s))
       by_count true own = (own refl, tt)
       by_count false own = all entries refl
 
   each_one : (arrival : Arrival) (state : State) → Fit arrival → Known state → Each Law (stepped arrival state)
-  each_one arrival state fit known = by_command arrival.command (stepped arrival state) (one arrival state fit known) (λ entries is. by_parts entries is)
+  each_one arrival state fit known = by_command arrival.command (stepped arrival state) (one arrival state fit known) (λ entries is. by_parts entries is) (λ vouchers is. by_rows vouchers is)
     where
       by_parts : (entries : List Entry) → arrival.command ≡ AddCarts entries → (let s = stepped arrival state in AllByRecursion Law (trace (alone s.at s.draw entries) (office_at s)))
       by_parts entries is =
           let s = stepped arrival state in
           let all : Fit (record { clock = arrival.clock; draw = arrival.draw; command = AddCarts entries }) = subst (λ (command : Command). Fit (record { clock = arrival.clock; draw = arrival.draw; command = command })) is fit in
           alone_all s.at s.draw entries (office_at s) (parts arrival.clock s.at s.draw entries all) (later arrival state known)
+
+      by_rows : (vouchers : List NewVoucher) → arrival.command ≡ ImportVouchers vouchers → (let s = stepped arrival state in AllByRecursion Law (import_trace s.at s.draw vouchers (office_at s)))
+      by_rows vouchers is =
+          let s = stepped arrival state in
+          let all : Fit (record { clock = arrival.clock; draw = arrival.draw; command = ImportVouchers vouchers }) = subst (λ (command : Command). Fit (record { clock = arrival.clock; draw = arrival.draw; command = command })) is fit in
+          import_all s.at s.draw vouchers (office_at s) (rows arrival.clock s.at s.draw vouchers all) (later arrival state known)
 
   each_all : (arrivals : List Arrival) (state : State) → AllByRecursion Fit arrivals → Known state → AllByRecursion (Each Law) (trace arrivals state)
   each_all [] state fit known = tt
@@ -537,14 +572,19 @@ fit_parts clock at draw [] fit = tt
 fit_parts clock at draw (Faulty fault ∷ entries) fit = fit_parts clock at draw entries (record { command = fit.command.1; draw = fit.draw })
 fit_parts clock at draw (New new ∷ entries) fit = (record { command = fit.command.0; draw = fit.draw }, fit_parts clock at draw entries (record { command = fit.command.1; draw = fit.draw }))
 
+-- and so are the rows of an import
+fit_rows : (clock at : ℕ) (draw : Draw) (vouchers : List NewVoucher) → IsFitArrival (record { clock = clock; draw = draw; command = ImportVouchers vouchers }) → AllByRecursion (λ new. IsFitArrival (made_alone at draw new)) vouchers
+fit_rows clock at draw [] fit = tt
+fit_rows clock at draw (new ∷ vouchers) fit = (record { command = fit.command.0; draw = fit.draw }, fit_rows clock at draw vouchers (record { command = fit.command.1; draw = fit.draw }))
+
 pub none_over_all : (arrivals : List Arrival) (state : State) → AllByRecursion (Each NoneOver) (trace arrivals state)
-none_over_all arrivals state = each_all NoneOver (λ arrival. Unit {0}) (λ s. Unit {0}) (λ clock at draw entries any. all_of (λ arrival. Unit {0}) (λ arrival. tt) (alone at draw entries)) (λ arrival s any known itself. (fine_at arrival s).none_over) (λ arrival s known. tt) (λ arrival s any known. tt) arrivals state (all_of (λ arrival. Unit {0}) (λ arrival. tt) arrivals) tt
+none_over_all arrivals state = each_all NoneOver (λ arrival. Unit {0}) (λ s. Unit {0}) (λ clock at draw entries any. all_of (λ arrival. Unit {0}) (λ arrival. tt) (alone at draw entries)) (λ clock at draw vouchers any. all_of (λ new. Unit {0}) (λ new. tt) vouchers) (λ arrival s any known itself. (fine_at arrival s).none_over) (λ arrival s known. tt) (λ arrival s any known. tt) arrivals state (all_of (λ arrival. Unit {0}) (λ arrival. tt) arrivals) tt
 
 pub within_all : (arrivals : List Arrival) (state : State) → AllByRecursion IsFitArrival arrivals → IsSound state → AllByRecursion (Each StaysWithin) (trace arrivals state)
-within_all = each_all StaysWithin IsFitArrival IsSound fit_parts (λ arrival s fit sound itself. (fine_at arrival s).within (sound_at arrival s sound)) sound_at sound_after
+within_all = each_all StaysWithin IsFitArrival IsSound fit_parts fit_rows (λ arrival s fit sound itself. (fine_at arrival s).within (sound_at arrival s sound)) sound_at sound_after
 
 pub lowers_all : (arrivals : List Arrival) (state : State) → AllByRecursion IsFitArrival arrivals → IsSound state → AllByRecursion (Each RaisesNothing) (trace arrivals state)
-lowers_all = each_all RaisesNothing IsFitArrival IsSound fit_parts (λ arrival s fit sound itself. (fine_at arrival s).lowers (sound_at arrival s sound) itself) sound_at sound_after
+lowers_all = each_all RaisesNothing IsFitArrival IsSound fit_parts fit_rows (λ arrival s fit sound itself. (fine_at arrival s).lowers (sound_at arrival s sound) itself) sound_at sound_after
 
 -- ---- whole commands
 

@@ -1,25 +1,24 @@
 -- A scan that is sent again, after whatever commands.
-use Rattle.std.proofs.Common.{◌≡◌, ℕ, Bool, true, false, List, [], ◌∷◌, ◌++◌, Option, Some, None, Result, Ok, Err, refl, sym, ap, ◌∙◌, subst}
+use Rattle.std.proofs.Common.{◌≡◌, ℕ, Bool, true, false, List, [], ◌∷◌, ◌++◌, Option, Some, None, Result, Ok, Err, refl, sym, ap, ◌∙◌}
 use Rattle.std.specs.Prelude.{◌||◌, ◌==◌, is_some, find, if◌then◌else◌}
 use Rattle.std.specs.List.{list_any, AllByRecursion}
 use Rattle.bo_base.specs.Texts.{same_text}
 use Rattle.bo_base.specs.declared.draw.Draw.{Draw}
 use Rattle.bo_lists.specs.declared.rows.OrderPos.{OrderPos}
-use Rattle.bo_lists.specs.Lists.{Lists, State, checkin_list_at}
+use Rattle.bo_lists.specs.Lists.{State, checkin_list_at}
 use Rattle.bo_sound.specs.Sound.{IsSound}
 use Rattle.bo_commands.specs.declared.doors.DoorRefusal.{DoorRefusal}
 use Rattle.bo_commands.specs.declared.doors.Scan.{Scan}
 use Rattle.bo_commands.specs.declared.doors.Ticket.{Ticket}
 use Rattle.bo_commands.specs.declared.doors.Ticket.TheVariants.{Position, Secret, Unreadable}
-use Rattle.bo_commands.specs.declared.replies.Reply.{Reply}
 use Rattle.bo_commands.specs.declared.replies.Reply.TheVariants.{Admitted}
 use Rattle.bo_door.specs.Scanned.{scanned}
 use Rattle.bo_door.specs.Valid.{IsStillGood}
 use Rattle.bo_door.specs.Verdict.{shown_by, is_stored}
 use Rattle.bo_door.proofs.Admitted.{admitted_is}
 use Rattle.bo_door.proofs.Again.{scan_stores, scan_repeated}
-use Rattle.bo_runs.specs.Doors.{Grows, DoorGrows, HasNoncesOnce, scan_comes, AddsNothing}
-use Rattle.bo_runs.specs.Runs.{Arrival, IsFitArrival, Stepped, stepped, office_at, trace, after_run}
+use Rattle.bo_runs.specs.Doors.{DoorGrows, HasNoncesOnce, scan_comes, AddsNothing}
+use Rattle.bo_runs.specs.Runs.{Arrival, IsFitArrival, stepped, trace, after_run}
 use Rattle.bo_machine.specs.Step.{redeem_step, moment_at}
 use Rattle.bo_runs.proofs.DoorTables.{door_more, door_still, door_step}
 use Rattle.bo_runs.proofs.Runs.{sound_at, sound_after}

@@ -8,7 +8,7 @@ use Rattle.bo_commands.specs.declared.doors.Scan.{Scan}
 use Rattle.bo_commands.specs.declared.doors.Ticket.{Ticket}
 use Rattle.bo_commands.specs.declared.requests.Command.TheVariants.{Redeem}
 use Rattle.bo_commands.specs.declared.replies.Reply.TheVariants.{Admitted}
-use Rattle.bo_runs.specs.Runs.{Arrival, Stepped, stepped, office_at}
+use Rattle.bo_runs.specs.Runs.{Arrival, Stepped, office_at}
 
 -- the same rows, and perhaps more behind them
 pub record Grows {T : Type 0} (before after : List T) : Type 0 where

@@ -4,3 +4,4 @@ pub mod Runs
 pub mod Doors
 pub mod Changes
 pub mod NothingTooMuch
+pub mod Imports

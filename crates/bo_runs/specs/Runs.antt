@@ -1,5 +1,5 @@
 -- Runs of commands, and what holds of each step of a run.
-use Rattle.std.specs.Prelude.{◌≡◌, ℕ, ◌≤◌, false, nat_lt, List, [], ◌∷◌, length, map, Option, Some, None, if◌then◌else◌}
+use Rattle.std.specs.Prelude.{◌≡◌, ℕ, ◌≤◌, false, is_some, nat_lt, List, [], ◌∷◌, length, map, Option, Some, None, if◌then◌else◌}
 use Rattle.std.specs.List.{AllByRecursion, list_any}
 use Rattle.bo_base.specs.Draws.{IsDraw}
 use Rattle.bo_base.specs.declared.draw.Draw.{Draw}
@@ -13,15 +13,20 @@ use Rattle.bo_commands.specs.declared.carts.Entry.{Entry}
 use Rattle.bo_commands.specs.declared.carts.Entry.TheVariants.{New, Faulty}
 use Rattle.bo_commands.specs.declared.carts.Outcome.{Outcome}
 use Rattle.bo_commands.specs.declared.carts.Outcome.TheVariants as outcomes
+use Rattle.bo_commands.specs.declared.vouchers.NewVoucher.{NewVoucher}
+use Rattle.bo_commands.specs.declared.vouchers.Verdict.{Verdict}
+use Rattle.bo_commands.specs.declared.vouchers.Verdict.TheVariants as verdicts
+use Rattle.bo_lists.specs.declared.rows.Voucher.{Voucher}
+use Rattle.bo_vouchers.specs.Imported.{namesake, verdict_on}
 use Rattle.bo_orders.specs.Bulk.{most_entries}
 use Rattle.bo_commands.specs.Fit.{IsFit}
 use Rattle.bo_commands.specs.declared.requests.Command.{Command}
-use Rattle.bo_commands.specs.declared.requests.Command.TheVariants.{AddCart, AddCarts}
+use Rattle.bo_commands.specs.declared.requests.Command.TheVariants.{AddVoucher, ImportVouchers, AddCart, AddCarts}
 use Rattle.bo_commands.specs.declared.requests.Kind.{Kind}
 use Rattle.bo_commands.specs.declared.replies.Refusal.{Refusal}
 use Rattle.bo_commands.specs.declared.replies.Refusal.TheVariants as refusals
 use Rattle.bo_commands.specs.declared.replies.Reply.{Reply}
-use Rattle.bo_commands.specs.declared.replies.Reply.TheVariants.{Made, Results, Refused}
+use Rattle.bo_commands.specs.declared.replies.Reply.TheVariants.{Made, Results, Imported, Refused}
 use Rattle.bo_commands.specs.declared.replies.Shown.TheVariants as rows
 use Rattle.bo_machine.specs.Step.{step, moment_at}
 use Rattle.bo_runs.specs.Takings.{OwnRow, taken, may_raise}
@@ -73,10 +78,22 @@ alone clock draw [] = []
 alone clock draw (New new ∷ more) = record { clock = clock; draw = draw; command = AddCart new } ∷ alone clock draw more
 alone clock draw (Faulty fault ∷ more) = alone clock draw more
 
+-- a row of an import as a command of its own
+abbrev pub made_alone : ℕ → Draw → NewVoucher → Arrival
+made_alone clock draw new = record { clock = clock; draw = draw; command = AddVoucher new }
+
+-- the rows of an import as commands of their own, each after those before it; one whose code a voucher has asks nothing
+abbrev pub import_trace : ℕ → Draw → List NewVoucher → State → List Stepped
+import_trace clock draw [] state = []
+import_trace clock draw (new ∷ more) state =
+    if is_some (namesake new.code state.lists) then import_trace clock draw more state
+    else (stepped (made_alone clock draw new) state ∷ import_trace clock draw more (stepped (made_alone clock draw new) state).after)
+
 -- A step, or those that it consists of: a bulk call that isn't refused as a whole is its entries, each as a command of its
--- own, at the call's moment and with its draw, after those before it; a faulty one asks nothing.
+-- own, at the call's moment and with its draw, after those before it; a faulty one asks nothing. So an import is its rows.
 abbrev pub steps_of : Command → Stepped → List Stepped
 steps_of (AddCarts entries) s = if nat_lt most_entries (length entries) then s ∷ [] else trace (alone s.at s.draw entries) (office_at s)
+steps_of (ImportVouchers vouchers) s = import_trace s.at s.draw vouchers (office_at s)
 steps_of other s = s ∷ []
 
 -- a law holds of a step by itself: of each of those that it consists of
@@ -120,11 +137,38 @@ pub record IsItsEntries (entries : List Entry) (s : Stepped) : Type 0 where
   pub reply : s.reply ≡ Results told
   pub each : outcomes_alone s.at s.draw entries (office_at s) ≡ map (λ outcome. Some outcome) told
 
+-- what became of a row, by what its own step was told
+abbrev pub verdict_told : Reply → Option Verdict
+verdict_told (Made (rows.Voucher row redeemed)) = Some (verdicts.Added row)
+verdict_told (Refused kind (refusals.Voucher refusal)) = Some (verdicts.Refused refusal)
+verdict_told other = None
+
+-- what a row leaves and is told, beside the voucher that has its code
+abbrev pub row_beside : Option Voucher → ℕ → Draw → NewVoucher → State → State × Option Verdict
+row_beside None clock draw new state = ((stepped (made_alone clock draw new) state).after, verdict_told (stepped (made_alone clock draw new) state).reply)
+row_beside (Some row) clock draw new state = (state, Some (verdict_on new row))
+
+-- what the rows of an import leave and are told, each as a command of its own, after those before it
+abbrev pub rows_alone : ℕ → Draw → List NewVoucher → State → State × List (Option Verdict)
+rows_alone clock draw [] state = (state, [])
+rows_alone clock draw (new ∷ more) state =
+    let one = row_beside (namesake new.code state.lists) clock draw new state in
+    let rest = rows_alone clock draw more one.0 in
+    (rest.0, one.1 ∷ rest.1)
+
+-- an import leaves the office as its rows do, each as a command of its own, and tells of each what its own step was told, or how it is
+-- beside the voucher that has its code
+pub record IsItsRows (vouchers : List NewVoucher) (s : Stepped) : Type 0 where
+  pub told : List Verdict
+  pub reply : s.reply ≡ Imported told
+  pub each : (s.after, map (λ verdict. Some verdict) told) ≡ rows_alone s.at s.draw vouchers (office_at s)
+
 abbrev pub RunsEntries : Command → Stepped → Type 0
 RunsEntries (AddCarts entries) s = length entries ≤ most_entries → IsItsEntries entries s
+RunsEntries (ImportVouchers vouchers) s = IsItsRows vouchers s
 RunsEntries other s = Unit {0}
 
--- a bulk call of as many entries as it may have is its entries
+-- a bulk call of as many entries as it may have is its entries, and an import its rows
 abbrev pub RunsItsEntries : Stepped → Type 0
 RunsItsEntries s = RunsEntries s.command s
 

@@ -1,12 +1,18 @@
 //! Laws of every run of commands. Each command that comes is fit to come: its type keeps what it asks within its limits, and
-//! its draw is sixteen bytes. A bulk call is the steps of its entries: see `bulk_calls_run_their_entries`.
+//! its draw is sixteen bytes. A bulk call is the steps of its entries, and an import those of its rows: see
+//! `bulk_calls_run_their_entries`.
 
 ghost use Rattle.std.specs.Prelude.{◌≡◌, ℕ, true, is_some, List};
 ghost use Rattle.std.specs.List.{AllByRecursion};
 ghost use Rattle.bo_lists.specs.Lists.{State};
 ghost use Rattle.bo_sound.specs.Sound.{IsSound};
 ghost use Rattle.bo_runs.specs.Changes.{MakesItsChanges};
+ghost use Rattle.bo_base.specs.Draws.{IsDraw};
 ghost use Rattle.bo_base.specs.declared.draw.Draw.{Draw};
+ghost use Rattle.bo_commands.specs.FitRequests.{IsFitVoucher};
+ghost use Rattle.bo_commands.specs.declared.vouchers.NewVoucher.{NewVoucher};
+ghost use Rattle.bo_vouchers.specs.Imported.{rows_imported};
+ghost use Rattle.bo_runs.specs.Imports.{AreSameAgain};
 ghost use Rattle.bo_lists.specs.declared.rows.OrderPos.{OrderPos};
 ghost use Rattle.bo_commands.specs.declared.doors.Scan.{Scan};
 ghost use Rattle.bo_commands.specs.declared.doors.Ticket.{Ticket};
@@ -45,9 +51,19 @@ pub fn the_rest_raises_nothing()
 
 /// A bulk call of at most 500 entries leaves the office as its entries do, each as a command of its own at the call's moment
 /// and with its draw, after those before it, where a faulty entry asks nothing. What became of each entry is what its own
-/// command is answered, in order: the row, or why it was refused; of a faulty one it is its fault.
+/// command is answered, in order: the row, or why it was refused; of a faulty one it is its fault. So does an import: a row whose code a
+/// voucher has asks nothing, and is told whether that voucher is as the row has it.
 pub fn bulk_calls_run_their_entries()
     ensures { (arrivals : List Arrival) (state : State) → AllByRecursion RunsItsEntries (trace arrivals state) }
+{}
+
+/// A row of an import that was added, or was the same, is the same in a next one, behind whatever rows, if no voucher has changed in
+/// between: so a file can be imported again after a lost answer. A voucher file's rows all have a code.
+pub fn importing_again_adds_nothing()
+    ensures { (vouchers before : List NewVoucher) (draw other : Draw) (state later : State) →
+        AllByRecursion IsFitVoucher vouchers → IsDraw draw → IsSound state → AllByRecursion IsFitVoucher before → IsDraw other → IsSound later →
+        later.lists.vouchers ≡ (rows_imported vouchers draw state).0.lists.vouchers →
+        AreSameAgain later other before vouchers (rows_imported vouchers draw state).1 }
 {}
 
 /// Ids are never used again: no command lowers the next id of a table, and a row that it adds has an id that is at least the

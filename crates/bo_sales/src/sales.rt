@@ -1,5 +1,5 @@
-//! Commands on vouchers, carts and orders. A refusal is a reply, with the number that its decision gives it: see `make`, `patch`
-//! and `delete` of bo_vouchers, and `add_position`, `add_many`, `create`, `move_order` and `drop_position` of bo_orders. The error
+//! Commands on vouchers, carts and orders. A refusal is a reply, with the number that its decision gives it: see `make`, `patch`,
+//! `delete` and `import` of bo_vouchers, and `add_position`, `add_many`, `create`, `move_order` and `drop_position` of bo_orders. The error
 //! is want of memory alone.
 
 ghost use Rattle.std.specs.Prelude.{◌≡◌, ◌≤◌, IfOk};
@@ -19,6 +19,7 @@ use bo_lists::Changes;
 use bo_machine::{Book, close, open, show_voucher};
 use bo_orders::{add_many, add_position, create, drop_position};
 use bo_vouchers::decide_voucher;
+use bo_vouchers::importing::import;
 use std::alloc::{AllocError, Global};
 
 /// Makes a voucher.
@@ -85,6 +86,28 @@ pub fn drop_voucher<B: Book>(
         Ok(()) => Ok(Reply::Gone),
         Err(VoucherRefusal::Memory) => Err(AllocError),
         Err(refusal) => Ok(Reply::Refused(Kind::DropVoucher, Refusal::Voucher(refusal))),
+    };
+    close(draft, reply)
+}
+
+/// Adds the vouchers of a file.
+pub fn import_vouchers<B: Book>(
+    book: &B,
+    alloc: Global,
+    at: Moment,
+    draw: Draw,
+    rows: &[NewVoucher],
+) -> Result<(Changes, Reply), AllocError>
+    requires moment { (B.state book.now).moment ≤ at }
+    requires sound { IsSound (B.state book.now) }
+    ensures step { IfOk result (λ r. (applied r.0 at (B.state book.now), r.1) ≡ step (Command.ImportVouchers rows.now) at draw (B.state book.now)) }
+    ensures changes { IfOk result (λ r. r.0.list ≡ changes_of (Command.ImportVouchers rows.now) draw (record (B.state book.now) { moment = at }) r.1) }
+    ensures refused { IfOk result (RefusesWithoutChange (B.state book.now)) }
+{
+    let mut draft = open(book, alloc, at)?;
+    let reply = match import(&mut draft, alloc, draw, rows) {
+        Ok(verdicts) => Ok(Reply::Imported(verdicts)),
+        Err(error) => Err(error),
     };
     close(draft, reply)
 }

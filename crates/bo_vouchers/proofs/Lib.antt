@@ -5,3 +5,4 @@ pub mod OwnCodes
 pub mod Made
 pub mod Changed
 pub mod Deleted
+pub mod Imports

@@ -5,3 +5,4 @@ pub mod Placed
 pub mod Made
 pub mod Changed
 pub mod Deleted
+pub mod Imported

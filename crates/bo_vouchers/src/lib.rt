@@ -3,6 +3,7 @@
 
 pub mod codes;
 pub mod decide_voucher;
+pub mod importing;
 pub mod laws;
 mod place;
 mod row_checks;

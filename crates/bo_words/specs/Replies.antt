@@ -64,6 +64,7 @@ unfoldable pub words : List ℕ → List ℕ → Reply → Response
 words organizer event (replies.Made row) = made row
 words organizer event (replies.Found row) = found row
 words organizer event (replies.Results outcomes) = response 200 None (results_body outcomes)
+words organizer event (replies.Imported verdicts) = untold
 words organizer event (replies.Listed page) = listed organizer event page
 words organizer event replies.Gone = gone
 words organizer event (replies.Availability left) = response 200 None (availability_body left)

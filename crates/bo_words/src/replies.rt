@@ -191,6 +191,7 @@ pub fn words(
         Reply::Made(shown) => made_response(alloc, shown),
         Reply::Found(shown) => found_response(alloc, shown),
         Reply::Results(outcomes) => results_response(alloc, outcomes.as_slice()),
+        Reply::Imported(_) => untold(alloc),
         Reply::Listed(page) => page_response(alloc, organizer, event, page),
         Reply::Gone => Ok(gone(alloc)),
         Reply::Availability(left) => availability_response(alloc, left),

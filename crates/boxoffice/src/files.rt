@@ -4,11 +4,13 @@ ghost use Rattle.std.specs.Prelude.{⊤, ◌≡◌};
 
 use bo_base::{Body, Slug};
 use bo_devices::Drain;
-use bo_house::{Filed, add_shop_token, make_new_shop, report_shop, serve_shop, work_shop};
+use bo_house::{
+    Filed, add_shop_token, import_shop, make_new_shop, report_shop, serve_shop, work_shop,
+};
 use bo_line::{HouseFiles, Place, Report, RunFault};
 use sqlite::{Connection, Error, ErrorCode, File, FileStore};
 use std::alloc::Global;
-use std::fs;
+use std::{fs, io};
 
 /// The files of this machine.
 #[derive(Clone, Copy)]
@@ -23,6 +25,14 @@ fn unopened(error: Error) -> RunFault {
         Error::SqliteFailure(ErrorCode::CannotOpen) => RunFault::File,
         Error::SqliteFailure(ErrorCode::NotADatabase) => RunFault::NotAShop,
         _ => RunFault::Store,
+    }
+}
+
+// Why the bytes of a file can't be had, as the program tells it.
+fn unread(error: io::Error) -> RunFault {
+    match error.kind() {
+        io::ErrorKind::OutOfMemory => RunFault::Memory,
+        _ => RunFault::File,
     }
 }
 
@@ -59,6 +69,14 @@ impl HostFiles<'_> {
             Err(RunFault::File)
         }
     }
+
+    // The bytes of the file of this name.
+    fn bytes(&self, file: &str) -> Result<Body, RunFault> {
+        match fs::read(self.rt, file) {
+            Ok(bytes) => Ok(Body::new(bytes)),
+            Err(error) => Err(unread(error)),
+        }
+    }
 }
 
 impl HouseFiles for HostFiles<'_> {
@@ -71,6 +89,8 @@ impl HouseFiles for HostFiles<'_> {
     ghost worked = { λ _ _. ⊤ };
 
     ghost reported = { λ _ _ _. ⊤ };
+
+    ghost imported = { λ _ _ _. ⊤ };
 
     fn make(
         &self,
@@ -118,6 +138,13 @@ impl HouseFiles for HostFiles<'_> {
     fn report(&self, alloc: Global, file: &str, report: Report) -> Result<Body, RunFault> {
         match self.found(file) {
             Ok(connection) => ended(report_shop(alloc, connection, report)),
+            Err(fault) => Err(fault),
+        }
+    }
+
+    fn import(&self, alloc: Global, file: &str, csv: &str) -> Result<Body, RunFault> {
+        match self.found(file) {
+            Ok(connection) => ended(import_shop(self.rt, alloc, connection, self.bytes(csv))),
             Err(fault) => Err(fault),
         }
     }

@@ -5,7 +5,7 @@ use crate::tried::{run_line, words};
 use bo_line::LineEnd;
 
 /// The lines, each with its words.
-static LINES: [&str; 40] = [
+static LINES: [&str; 44] = [
     "boxoffice feed --from 2027-01-31T23:00:00Z --step 3600",
     "boxoffice feed --step=0 --from=1970-01-01T00:00:00Z",
     "boxoffice feed --from noon --step 60",
@@ -45,6 +45,10 @@ static LINES: [&str; 40] = [
     "boxoffice export hall.db",
     "boxoffice export new.db",
     "boxoffice export",
+    "boxoffice import-vouchers hall.db codes.csv",
+    "boxoffice import-vouchers new.db codes.csv",
+    "boxoffice import-vouchers hall.db other.csv",
+    "boxoffice import-vouchers hall.db",
     "boxoffice --help",
 ];
 

@@ -1,7 +1,7 @@
 use Rattle.std.proofs.Common.{ap, Err, inr}
 use Rattle.sqlite.specs.Held.{state}
 use Rattle.bo_desk.specs.Streams.{desk_with}
-use Rattle.bo_house.proofs.WorkLemmas.{is_worked}
+use Rattle.bo_house.proofs.ActLemmas.{is_worked}
 use Rattle.bo_house.proofs.working.work_shop.Goals as goal
 
 pub returns-in-Ok : goal.returns-in-Ok
@@ -9,7 +9,7 @@ returns-in-Ok g c =
     let e = c.in-Ok.ensures in
     let office = c.in-Ok.opened.1 in
     is_worked _ g.S.Store (state g.S.Store c.args.connection) (desk_with c.in-Ok.opened.0 office.organizer office.event office.state) _ _
-    (record { opened = e.opened; organizer = e.names.0; event = e.names.1; sound = e.sound; rests = e.rests; crash = e.crash }) c.work_opened.ensures
+    (record { opened = e.opened; organizer = e.names.0; event = e.names.1; sound = e.sound; rests = e.rests; crash = e.crash }) c.act_opened.ensures
 
 pub returns-in-Err : goal.returns-in-Err
 returns-in-Err g c =

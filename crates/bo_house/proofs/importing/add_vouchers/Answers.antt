@@ -1,0 +1,10 @@
+use Rattle.std.proofs.Common.{ap, ◌∙◌}
+use Rattle.bo_csv.specs.VerdictLines.{codes_of}
+use Rattle.bo_desk.specs.Streams.{desk_with}
+use Rattle.bo_house.proofs.ImportLemmas.{adds_all}
+use Rattle.bo_house.proofs.importing.add_vouchers.Goals as goal
+
+pub returns-in-Ok : goal.returns-in-Ok
+returns-in-Ok g c =
+    let office = c.args.opened.1 in
+    adds_all _ c.args.vouchers c.in-Ok.codes (desk_with c.args.opened.0 office.organizer office.event office.state) _ _ (c.in-Ok.ensures ∙ ap codes_of c.as_slice.ensures) c.act_opened.ensures

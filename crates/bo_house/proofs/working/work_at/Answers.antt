@@ -1,9 +1,0 @@
-use Rattle.bo_desk.specs.Streams.{desk_with}
-use Rattle.bo_house.proofs.WorkLemmas.{works_there}
-use Rattle.bo_house.proofs.working.work_at.Goals as goal
-
-pub returns : goal.returns
-returns g c =
-    let office = c.args.opened.1 in
-    let done = c.work_over-tables.ensures in
-    works_there _ (desk_with c.args.opened.0 office.organizer office.event office.state) done.0 _ _ _ done.1 done.2 c.into_connection.ensures

@@ -1,9 +1,0 @@
-use Rattle.bo_house.proofs.WorkLemmas.{work_done}
-use Rattle.bo_house.proofs.working.work_over.Goals as goal
-
-pub returns : goal.returns
-returns g c =
-    let office = c.args.office in
-    work_done _ office.organizer office.event c.args.tables _ c.act-answer.new.self.tables _ office.state _ c.act-answer.new.self.state c.args.tick _ c.act-answer.result _
-    c.over-shop.ensures.tables c.over-shop.ensures.office c.arrival.ensures c.told.ensures c.into_tables.ensures
-    c.act-answer.ensures.sure c.act-answer.ensures.answered c.act-answer.ensures.crash c.act-answer.ensures.settled

@@ -1,0 +1,47 @@
+-- What becomes of a shop's database when the program asks something of the shop by itself.
+use Rattle.std.specs.Prelude.{◌≡◌, ◌⊎◌, ℕ, List, [], Result, Ok, Err, true}
+use Rattle.sqlite.specs.declared.connection.Connection.{Connection}
+use Rattle.bo_base.specs.declared.answer.Answer.{Answer}
+use Rattle.bo_base.specs.declared.answer.Answer.TheVariants.{Decided, Unavailable}
+use Rattle.bo_base.specs.declared.answer.Response.{Response}
+use Rattle.bo_commands.specs.declared.replies.Reply.{Reply}
+use Rattle.bo_commands.specs.declared.requests.Command.{Command}
+use Rattle.bo_connection.specs.declared.failure.Failure.TheVariants as failures
+use Rattle.bo_deliveries.specs.Shops.{IsAnswered, IsDecided, Views, executes, served}
+use Rattle.bo_deliveries.specs.declared.arrival.Arrival.{Arrival}
+use Rattle.bo_deliveries.specs.declared.arrival.Request.TheVariants as requests
+use Rattle.bo_devices.specs.declared.device.Tick.{Tick}
+use Rattle.bo_kept.specs.ShopView.{IsSame, ShopView}
+use Rattle.bo_tables.specs.declared.sql.SqlTables.{SqlTables}
+use Rattle.bo_desk.specs.Streams.{DeskView, Meaning}
+use Rattle.bo_line.specs.declared.fault.RunFault.{RunFault}
+use Rattle.bo_line.specs.declared.fault.RunFault.TheVariants as faults
+
+-- the arrival that a command of the program's own is: it has no key, and so it shows no token
+abbrev pub own_arrival : Command → Tick → Arrival
+own_arrival command tick = record { clock = tick.clock; draw = tick.draw; token = 0; key = []; request = requests.Write command }
+
+-- what is told of its answer; where it wasn't carried out the store, or memory, refused it
+abbrev pub told_of : Answer → Result (List ℕ) RunFault
+told_of (Decided response) = Ok response.body
+told_of Unavailable = Err faults.Store
+
+-- The command is an arrival with what the system's clock shows and a draw. It is answered like any other, and what it did is told. A crash
+-- leaves what one before it could have left, or the whole of it; and once what it did is told, only that.
+pub record Acts {T : Type 0} (words : Reply → Response) (command : Command) (tables : Meaning T) (first last : DeskView T) (outcome : Result (List ℕ) RunFault) : Type 0 where
+  pub tick : Tick
+  pub answer : Answer
+  pub told : outcome ≡ told_of answer
+  pub sure : tables.sure last.tables → tables.sure first.tables
+  pub answered : tables.sure last.tables → (v : ShopView) → Views tables.holds first.tables first.state v
+      → IsAnswered words (own_arrival command tick) v answer (λ w. Views tables.holds last.tables last.state w)
+  pub crash : tables.sure last.tables → (left : ShopView) → tables.may_leave last.tables left → tables.may_leave first.tables left
+      ⊎ ((v : ShopView) → Views tables.holds first.tables first.state v → IsSame left (served words (own_arrival command tick) v).0)
+  pub settled : tables.sure last.tables → IsDecided answer ((v : ShopView) → Views tables.holds first.tables first.state v → executes (own_arrival command tick) v ≡ true
+      → (left : ShopView) → tables.may_leave last.tables left → IsSame left (served words (own_arrival command tick) v).0)
+
+-- from this desk the command is carried out, or there is no clock or no draw, and nothing is done
+pub record ActsFrom {S : Type 0} (words : Reply → Response) (command : Command) (tables : Meaning (SqlTables S)) (first : DeskView (SqlTables S)) (left : Connection S) (outcome : Result (List ℕ) RunFault) : Type 0 where
+  pub last : DeskView (SqlTables S)
+  pub act : Acts words command tables first last outcome ⊎ ((outcome ≡ Err (faults.Run failures.Clock)) × (last ≡ first))
+  pub connection : left ≡ last.tables.connection

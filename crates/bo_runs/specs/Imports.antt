@@ -1,0 +1,22 @@
+-- What a next import finds of the rows of one.
+use Rattle.std.specs.Prelude.{◌≡◌, Bool, true, false, is_some, List, ◌∷◌}
+use Rattle.bo_base.specs.declared.draw.Draw.{Draw}
+use Rattle.bo_lists.specs.Lists.{State}
+use Rattle.bo_commands.specs.declared.vouchers.NewVoucher.{NewVoucher}
+use Rattle.bo_commands.specs.declared.vouchers.Verdict.{Verdict}
+use Rattle.bo_commands.specs.declared.vouchers.Verdict.TheVariants.{Added, Same}
+use Rattle.bo_vouchers.specs.Imported.{row_imported, rows_imported}
+
+-- the row was added, or was the same
+abbrev pub is_kept : Verdict → Bool
+is_kept (Added row) = true
+is_kept Same = true
+is_kept _ = false
+
+-- where it has a code, it is the same in an import into a later office, behind these rows
+abbrev pub IsSameAgain : State → Draw → List NewVoucher → NewVoucher → Verdict → Type 0
+IsSameAgain later draw before new verdict = is_some new.code ≡ true → is_kept verdict ≡ true → (row_imported new draw (rows_imported before draw later).0).1 ≡ Same
+
+abbrev pub AreSameAgain : State → Draw → List NewVoucher → List NewVoucher → List Verdict → Type 0
+AreSameAgain later draw before (new ∷ more) (verdict ∷ verdicts) = IsSameAgain later draw before new verdict × AreSameAgain later draw before more verdicts
+AreSameAgain later draw before _ _ = Unit {0}
