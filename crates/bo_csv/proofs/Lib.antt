@@ -1,2 +1,3 @@
 pub mod Utf8
 pub mod Said
+pub mod OneReading

@@ -2,6 +2,7 @@
 #![tactic(auto)]
 
 mod columns;
+pub mod laws;
 mod lines;
 mod positions;
 mod verdicts;

@@ -7,10 +7,10 @@ use Rattle.bo_line.specs.declared.ended.LineEnd.{LineEnd}
 use Rattle.bo_line.specs.declared.ended.LineEnd.TheVariants as ends
 use Rattle.bo_line.specs.declared.fault.RunFault.{RunFault}
 use Rattle.bo_line.specs.declared.fault.RunFault.TheVariants as faults
-use Rattle.bo_line.specs.Asked.{Asked, adds, asked, exports, imports, makes, none, plain_words, reports, runs, serves, works}
+use Rattle.bo_line.specs.Asked.{Asked, adds, asked, exports, imports, makes, migrates, none, plain_words, reports, runs, serves, works}
 use Rattle.bo_line.specs.Line.{end_of_line, end_of_run}
 use Rattle.bo_line.specs.declared.values.Report.{Report}
-use Rattle.bo_line.specs.declared.values.Report.TheVariants.{Positions}
+use Rattle.bo_line.specs.declared.values.Report.TheVariants.{Positions, Version}
 use Rattle.bo_line.specs.declared.values.ReportFault.{ReportFault}
 use Rattle.bo_line.specs.declared.values.ReportFault.TheVariants as report-faults
 use Rattle.bo_line.specs.Values.{feed_values, report_of}
@@ -34,7 +34,7 @@ ReportsWhere (Err report-faults.Argument) reported file old new ended = (ended �
 
 -- What is done is what a line asks for: a run with the texts of its two flags; a shop that is made in a file, or a token that is added
 -- to one, or a shop in one that is served, or its periodic work that is done, or a report on one, or its order positions, or the vouchers of
--- a file that are added to one, and then nothing is read; or nothing, for one of the reasons, and then nothing is read and nothing written.
+-- a file that are added to one, or the version of its tables, and then nothing is read; or nothing, for one of the reasons, and then nothing is read and nothing written.
 abbrev pub Does : Making → Adding → Serving → Working → Reporting → Importing → Asked → Ports → Ports → LineEnd → Type 0
 Does made added served worked reported imported (runs from step) old new ended = (run : Result (Unit {0}) RunFault) × FeedsTexts (feed_values from step) old new run × (ended ≡ end_of_run run)
 Does made added served worked reported imported (makes file organizer event) old new ended =
@@ -48,6 +48,8 @@ Does made added served worked reported imported (exports file) old new ended =
     (run : Result (Unit {0}) RunFault) × ReportsFile reported file Positions (page_of old) (page_of new) run × OnlyWrites old new × (ended ≡ end_of_run run)
 Does made added served worked reported imported (imports file csv) old new ended =
     (run : Result (Unit {0}) RunFault) × ImportsFile imported file csv (page_of old) (page_of new) run × OnlyWrites old new × (ended ≡ end_of_run run)
+Does made added served worked reported imported (migrates file) old new ended =
+    (run : Result (Unit {0}) RunFault) × ReportsFile reported file Version (page_of old) (page_of new) run × OnlyWrites old new × (ended ≡ end_of_run run)
 Does made added served worked reported imported (none reasons) old new ended = (reason : ErrorKind) × IsAmong reason reasons × (ended ≡ end_of_line reason) × (new ≡ old)
 
 -- what these words ask for is done, or there is no memory to read them, and then nothing is read and nothing written

@@ -109,7 +109,7 @@ fn tell<W: Drain>(writer: &mut W, came: Result<Body, RunFault>) -> Result<(), Ru
     }
 }
 
-/// `report` and `export`: tells a report on the shop in a file, as a text of lines.
+/// `report`, `export` and `migrate`: tells a report on the shop in a file, as a text of lines.
 pub fn report_shop<F: HouseFiles, W: Drain>(
     alloc: Global,
     files: &F,

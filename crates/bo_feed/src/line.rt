@@ -85,6 +85,10 @@ pub fn run<O: Print + Eprint, F: HouseFiles, R: Source, W: Drain>(
             rt,
             import_vouchers(alloc, files, line.file, line.csv, writer),
         ),
+        Ok(Line::Migrate(line)) => tell_run(
+            rt,
+            report_shop(alloc, files, line.file, Report::Version, writer),
+        ),
         Err(error) => answer_line(rt, &error),
     }
 }

@@ -1,12 +1,14 @@
 //! A report on the shop in a database.
 
-ghost use Rattle.std.specs.Prelude.{◌≡◌, ◌⊎◌};
+ghost use Rattle.std.specs.Prelude.{◌≡◌, ◌⊎◌, ℕ, IfOk};
 ghost use Rattle.sqlite.specs.Held.{state};
-ghost use Rattle.bo_house.specs.Reported.{IsOpenedAndReported, IsReport};
+ghost use Rattle.bo_lists.specs.Lists.{Lists};
+ghost use Rattle.bo_house.specs.Reported.{IsOpenedAndReported, IsReport, version_text};
 ghost use Rattle.bo_house.specs.Served.{StaysUnopened};
 
 use crate::faults::fault_of_opening;
 use crate::filed::{Filed, connection_of};
+use crate::words::append_count;
 use bo_base::Body;
 use bo_csv::positions_text;
 use bo_desk::Office;
@@ -18,11 +20,11 @@ use bo_reports::{door_text, sales_text};
 use bo_tables::SqlTables;
 use bo_usage::Book;
 use sqlite::{Alter, Connection};
-use std::alloc::Global;
+use std::alloc::{AllocError, Global};
 
 // The report on a check-in list of an office.
 fn door_of<B: Book>(alloc: Global, office: &Office<B>, list: u64) -> Result<Body, RunFault>
-    ensures { IsReport (Report.Door list) office.now.state.lists result }
+    ensures { (version : ℕ) → IsReport (Report.Door list) version office.now.state.lists result }
 {
     match door_text(office.book(), alloc, list) {
         Ok(Some(text)) => Ok(text),
@@ -33,7 +35,7 @@ fn door_of<B: Book>(alloc: Global, office: &Office<B>, list: u64) -> Result<Body
 
 // The report on what was sold by an office.
 fn sales_of<B: Book>(alloc: Global, office: &Office<B>) -> Result<Body, RunFault>
-    ensures { IsReport Report.Sales office.now.state.lists result }
+    ensures { (version : ℕ) → IsReport Report.Sales version office.now.state.lists result }
 {
     match sales_text(office.book(), alloc) {
         Ok(text) => Ok(text),
@@ -43,10 +45,30 @@ fn sales_of<B: Book>(alloc: Global, office: &Office<B>) -> Result<Body, RunFault
 
 // All order positions of an office.
 fn positions_of<B: Book>(alloc: Global, office: &Office<B>) -> Result<Body, RunFault>
-    ensures { IsReport Report.Positions office.now.state.lists result }
+    ensures { (version : ℕ) → IsReport Report.Positions version office.now.state.lists result }
 {
     match positions_text(office.book(), alloc) {
         Ok(text) => Ok(text),
+        Err(_) => Err(RunFault::Memory),
+    }
+}
+
+// The line that tells the version of tables.
+fn version_text(alloc: Global, version: u64) -> Result<Vec<u8>, AllocError>
+    ensures { IfOk result (λ text. text.items ≡ version_text version) }
+{
+    let mut text = Vec::new(alloc);
+    append_count(&mut text, "version ", version)?;
+    text.push(b'\n')?;
+    Ok(text)
+}
+
+// The version of tables.
+fn version_of(alloc: Global, version: u64) -> Result<Body, RunFault>
+    ensures { (lists : Lists) → IsReport Report.Version version lists result }
+{
+    match version_text(alloc, version) {
+        Ok(text) => Ok(Body::new(text)),
         Err(_) => Err(RunFault::Memory),
     }
 }
@@ -57,13 +79,14 @@ fn report_opened<S: Alter + Drop, B: Dues + Drop>(
     report: Report,
     opened: (SqlTables<S>, Office<B>),
 ) -> Filed<S, Body>
-    ensures told { IsReport report opened.1.state.lists result.outcome }
+    ensures told { IsReport report opened.0.head.version opened.1.state.lists result.outcome }
     ensures connection { result.connection ≡ opened.0.connection }
 {
     let outcome = match report {
         Report::Sales => sales_of(alloc, &opened.1),
         Report::Door(list) => door_of(alloc, &opened.1, list),
         Report::Positions => positions_of(alloc, &opened.1),
+        Report::Version => version_of(alloc, opened.0.head.version),
     };
     Filed {
         connection: connection_of(opened),
@@ -71,9 +94,10 @@ fn report_opened<S: Alter + Drop, B: Dues + Drop>(
     }
 }
 
-/// `report` and `export`: opens the shop in a database, and tells what was sold, item by item, or who came in by a check-in list, or all
-/// order positions as CSV, as a text. Faults: 60, 61 and 62 where the database holds no shop that is whole, each for its cause alone, 50
-/// where it has no list of that number, 63 and 6. Nothing has changed in the database.
+/// `report`, `export` and `migrate`: opens the shop in a database, and tells what was sold, item by item, or who came in by a check-in list,
+/// or all order positions as CSV, or that its tables are of version 1, as a text. Faults: 60, 61 and 62 where the database holds no shop that
+/// is whole, each for its cause alone, 50 where it has no list of that number, 63 and 6. Nothing has changed in the database, whose tables
+/// have been of no other version so far.
 pub fn report_shop<S: Alter + Drop>(
     alloc: Global,
     connection: Connection<S>,

@@ -13,8 +13,8 @@ use http::StatusCode;
 use itoa::Buffer;
 use std::alloc::{AllocError, Global};
 
-// Appends a text, and a number behind it.
-fn append_count(text: &mut Vec<u8>, name: &str, count: u64) -> Result<(), AllocError>
+/// Appends a text, and a number behind it.
+pub(crate) fn append_count(text: &mut Vec<u8>, name: &str, count: u64) -> Result<(), AllocError>
     ensures { OnOk result (text.new.items ≡ text.old.items ++ (name.now ++ decimal count)) }
 {
     let mut buffer = Buffer::new();

@@ -2,7 +2,7 @@
 use Rattle.std.proofs.Common.{◌≡◌, ◌++◌, ℕ, List, [], ◌∷◌, Some, None, codes, refl}
 use Rattle.clap.specs.declared.error.ErrorKind.TheVariants as kinds
 use Rattle.clap.proofs.OnLiterals.{clap_on_literals}
-use Rattle.bo_line.specs.Asked.{adds, asked, exports, imports, makes, none, plain_words, reports, runs, serves, works}
+use Rattle.bo_line.specs.Asked.{adds, asked, exports, imports, makes, migrates, none, plain_words, reports, runs, serves, works}
 
 pub in_order : (program from step : List ℕ) → asked (program ∷ codes "feed" ∷ (codes "--from=" ++ from) ∷ (codes "--step=" ++ step) ∷ []) ≡ runs from step
 unfolding clap_on_literals asked
@@ -106,6 +106,14 @@ exports_positions program = refl
 pub no_export : (program : List ℕ) → asked (program ∷ codes "export" ∷ []) ≡ none (kinds.MissingRequiredArgument ∷ [])
 unfolding clap_on_literals asked
 no_export program = refl
+
+pub migrates_tables : (program : List ℕ) → asked (program ∷ codes "migrate" ∷ codes "hall.db" ∷ []) ≡ migrates (codes "hall.db")
+unfolding clap_on_literals asked
+migrates_tables program = refl
+
+pub no_migration : (program : List ℕ) → asked (program ∷ codes "migrate" ∷ []) ≡ none (kinds.MissingRequiredArgument ∷ [])
+unfolding clap_on_literals asked
+no_migration program = refl
 
 pub reports_sales : (program : List ℕ) → asked (program ∷ codes "report" ∷ codes "hall.db" ∷ codes "sales" ∷ []) ≡ reports (codes "hall.db") (codes "sales") None
 unfolding clap_on_literals asked

@@ -30,7 +30,8 @@ plain_words words = plain_behind false words
 -- organizer and this event; this token for the shop in the file of this name; the shop in the file of this name at the text of
 -- `--listen`, with the text of `--connections` where it is there; the periodic work of the shop in the file of this name; the report
 -- of this name on it, with the text of `--list` where it is there; the order positions of the shop in the file of this name; the
--- vouchers of a CSV file for it, by the names of both; or nothing, for a reason among these.
+-- vouchers of a CSV file for it, by the names of both; the version of the tables of the shop in the file of this name; or nothing, for a
+-- reason among these.
 pub data Asked : Type 0 where
   runs : Text → Text → Asked
   makes : Text → Text → Text → Asked
@@ -40,11 +41,20 @@ pub data Asked : Type 0 where
   reports : Text → Text → Option Text → Asked
   exports : Text → Asked
   imports : Text → Text → Asked
+  migrates : Text → Asked
   none : Kinds → Asked
 
 -- the text of an argument among the matches of the command, which is empty where there is none
 abbrev pub text_of : Text → List Row → Text
 text_of name rows = unwrap_or (first_of name rows) []
+
+-- what a command with these matches asks for that names a file alone, or none
+abbrev pub asked_of_few : Text → List Row → Asked
+asked_of_few command rows =
+    if bytes_eq command (codes "periodic") then works (text_of (codes "file") rows)
+    else (if bytes_eq command (codes "export") then exports (text_of (codes "file") rows)
+    else (if bytes_eq command (codes "migrate") then migrates (text_of (codes "file") rows)
+    else runs (text_of (codes "from") rows) (text_of (codes "step") rows)))
 
 -- what a command with these matches asks for
 abbrev pub asked_of : Text → List Row → Asked
@@ -52,11 +62,9 @@ asked_of command rows =
     if bytes_eq command (codes "init") then makes (text_of (codes "file") rows) (text_of (codes "organizer") rows) (text_of (codes "event") rows)
     else (if bytes_eq command (codes "token-add") then adds (text_of (codes "file") rows) (text_of (codes "token") rows)
     else (if bytes_eq command (codes "serve") then serves (text_of (codes "file") rows) (text_of (codes "listen") rows) (first_of (codes "connections") rows)
-    else (if bytes_eq command (codes "periodic") then works (text_of (codes "file") rows)
     else (if bytes_eq command (codes "report") then reports (text_of (codes "file") rows) (text_of (codes "report") rows) (first_of (codes "list") rows)
-    else (if bytes_eq command (codes "export") then exports (text_of (codes "file") rows)
     else (if bytes_eq command (codes "import-vouchers") then imports (text_of (codes "file") rows) (text_of (codes "csv") rows)
-    else runs (text_of (codes "from") rows) (text_of (codes "step") rows)))))))
+    else asked_of_few command rows))))
 
 abbrev pub asked_by : Kinds → Option (Text × List Row) → Asked
 asked_by [] None = runs [] []
@@ -77,6 +85,7 @@ asked_by_line (lines.Periodic line) = works line.file.now
 asked_by_line (lines.Report line) = reports line.file.now line.report.now (option_map (λ t. t.now) line.list)
 asked_by_line (lines.Export line) = exports line.file.now
 asked_by_line (lines.Import line) = imports line.file.now line.csv.now
+asked_by_line (lines.Migrate line) = migrates line.file.now
 
 abbrev pub HasReason : Asked → ErrorKind → Type 0
 HasReason (none kinds) kind = IsAmong kind kinds

@@ -49,6 +49,10 @@ export_app = with_rule (new_app (codes "export")) (word (codes "file"))
 abbrev pub import_app : App
 import_app = with_rule (with_rule (new_app (codes "import-vouchers")) (word (codes "file"))) (word (codes "csv"))
 
+-- `migrate FILE`
+abbrev pub migrate_app : App
+migrate_app = with_rule (new_app (codes "migrate")) (word (codes "file"))
+
 -- a program with one more command, which was made
 abbrev pub IsWith : App → Result Command AllocError → App → Type 0
 IsWith old made new = (added : Command) × (made ≡ Ok added) × ((app_of added).top.is_plain ≡ true → new ≡ with_subcommand old (app_of added).top)
@@ -57,8 +61,8 @@ IsWith old made new = (added : Command) × (made ≡ Ok added) × ((app_of added
 abbrev pub needs_command : Shape → Shape
 needs_command top = record top { subcommand_required = true }
 
--- the program, with its eight commands
+-- the program, with its nine commands
 abbrev pub program : App
 program =
-    with_subcommand (with_subcommand (with_subcommand (with_subcommand (with_subcommand (with_subcommand (with_subcommand (with_subcommand (on_top needs_command (new_app (codes "boxoffice"))) feed_app.top) init_app.top) token_app.top) serve_app.top)
-    work_app.top) report_app.top) export_app.top) import_app.top
+    with_subcommand (with_subcommand (with_subcommand (with_subcommand (with_subcommand (with_subcommand (with_subcommand (with_subcommand (with_subcommand (on_top needs_command (new_app (codes "boxoffice"))) feed_app.top) init_app.top) token_app.top) serve_app.top)
+    work_app.top) report_app.top) export_app.top) import_app.top) migrate_app.top

@@ -2,7 +2,7 @@
 
 ghost use Rattle.std.specs.Prelude.{◌≡◌, ◌++◌, ℕ, List, [], ◌∷◌, Some, None, codes};
 ghost use Rattle.clap.specs.declared.error.ErrorKind.TheVariants.{DisplayHelp, MissingRequiredArgument, MissingSubcommand, UnknownArgument};
-ghost use Rattle.bo_line.specs.Asked.{adds, asked, exports, imports, makes, none, plain_words, reports, runs, serves, works};
+ghost use Rattle.bo_line.specs.Asked.{adds, asked, exports, imports, makes, migrates, none, plain_words, reports, runs, serves, works};
 
 /// A line with both flags asks for a run with their texts, in either order, whatever the texts are.
 pub fn both_flags_ask_for_a_run()
@@ -44,12 +44,14 @@ pub fn a_served_file_is_known_by_its_place()
     ensures lacking { (program : List ℕ) → asked (program ∷ codes "serve" ∷ codes "hall.db" ∷ []) ≡ none (MissingRequiredArgument ∷ []) }
 {}
 
-/// A line of `periodic` or of `export` names its file by its place.
+/// A line of `periodic`, of `export` or of `migrate` names its file by its place.
 pub fn a_file_is_known_by_its_place()
     ensures worked { (program : List ℕ) → (asked (program ∷ codes "periodic" ∷ codes "hall.db" ∷ []) ≡ works (codes "hall.db"))
         × (asked (program ∷ codes "periodic" ∷ []) ≡ none (MissingRequiredArgument ∷ [])) }
     ensures exported { (program : List ℕ) → (asked (program ∷ codes "export" ∷ codes "hall.db" ∷ []) ≡ exports (codes "hall.db"))
         × (asked (program ∷ codes "export" ∷ []) ≡ none (MissingRequiredArgument ∷ [])) }
+    ensures migrated { (program : List ℕ) → (asked (program ∷ codes "migrate" ∷ codes "hall.db" ∷ []) ≡ migrates (codes "hall.db"))
+        × (asked (program ∷ codes "migrate" ∷ []) ≡ none (MissingRequiredArgument ∷ [])) }
 {}
 
 /// A line of `import-vouchers` names both files by their places, the shop's first.

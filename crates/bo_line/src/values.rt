@@ -63,6 +63,8 @@ pub enum Report {
     Door(u64),
     /// All order positions, as CSV: what `export` prints.
     Positions,
+    /// Of which version its tables are: what `migrate` prints.
+    Version,
 }
 
 /// Why the words of a line ask for no report.

@@ -3,8 +3,8 @@
 ghost use Rattle.std.specs.Prelude.{◌≡◌, IfOk, IfErr, Some, codes, map, option_map, string_bytes, false};
 ghost use Rattle.clap.specs.Walk.{rule_of, texts};
 ghost use Rattle.clap.specs.Words.{app_of, first_of, found_of, kind_of, rows_of};
-ghost use Rattle.bo_line.specs.Asked.{IsReason, asked, asked_by_line, asked_of, is_signed, plain_words, takes_number, text_of};
-ghost use Rattle.bo_line.specs.Words.{IsWith, choice, export_app, feed_app, flag, import_app, init_app, program, report_app, serve_app, token_app, word, work_app};
+ghost use Rattle.bo_line.specs.Asked.{IsReason, asked, asked_by_line, asked_of, asked_of_few, is_signed, plain_words, takes_number, text_of};
+ghost use Rattle.bo_line.specs.Words.{IsWith, choice, export_app, feed_app, flag, import_app, init_app, migrate_app, program, report_app, serve_app, token_app, word, work_app};
 
 use clap::{Arg, ArgMatches, Command, Error};
 use std::alloc::{AllocError, Global};
@@ -28,6 +28,8 @@ pub enum Line<'a> {
     Export(FileLine<'a>),
     /// `import-vouchers`: vouchers of a CSV file for the shop in a file.
     Import(ImportLine<'a>),
+    /// `migrate`: the version of the tables of the shop in a file.
+    Migrate(FileLine<'a>),
 }
 
 /// The texts that follow `--from` and `--step`.
@@ -70,7 +72,7 @@ pub struct ServeLine<'a> {
     pub connections: Option<&'a str>,
 }
 
-/// The text of a line that names a file alone: one of `periodic` or of `export`.
+/// The text of a line that names a file alone: one of `periodic`, `export` or `migrate`.
 #[derive(Clone, Copy, Debug)]
 pub struct FileLine<'a> {
     /// The name of the file.
@@ -254,6 +256,15 @@ fn import_command<'a>(alloc: Global) -> Result<Command<'a>, AllocError>
         ))
 }
 
+// `migrate`, with its help.
+fn migrate_command<'a>(alloc: Global) -> Result<Command<'a>, AllocError>
+    ensures { IfOk result (λ command. app_of command ≡ migrate_app) }
+{
+    Command::new(alloc, "migrate")
+        .about("Checks that a shop's file has the tables of this program's version, and prints it")
+        .arg(word(alloc, "file", "FILE", "The shop's file"))
+}
+
 // The program with one more command, where that was made.
 fn with<'a>(
     program: Command<'a>,
@@ -278,7 +289,8 @@ fn commands<'a>(alloc: Global) -> Result<Command<'a>, AllocError>
     let program = with(program, work_command(alloc))?;
     let program = with(program, report_command(alloc))?;
     let program = with(program, export_command(alloc))?;
-    with(program, import_command(alloc))
+    let program = with(program, import_command(alloc))?;
+    with(program, migrate_command(alloc))
 }
 
 // Whether a word begins with a minus sign and a digit.
@@ -340,6 +352,25 @@ fn file_of<'a>(matches: &ArgMatches<'a>) -> FileLine<'a>
     }
 }
 
+// What a command with these matches asks for that names a file alone, or none.
+fn few_words_of<'a>(command: &str, matches: &ArgMatches<'a>) -> Line<'a>
+    ensures { asked_by_line result ≡ asked_of_few command.now (rows_of (found_of matches.now)) }
+{
+    if command == "periodic" {
+        return Line::Periodic(file_of(matches));
+    }
+    if command == "export" {
+        return Line::Export(file_of(matches));
+    }
+    if command == "migrate" {
+        return Line::Migrate(file_of(matches));
+    }
+    Line::Feed(FeedLine {
+        from: text_of(matches, "from"),
+        step: text_of(matches, "step"),
+    })
+}
+
 // What a command with these matches asks for.
 fn line_of<'a>(command: &str, matches: &ArgMatches<'a>) -> Line<'a>
     ensures { asked_by_line result ≡ asked_of command.now (rows_of (found_of matches.now)) }
@@ -364,9 +395,6 @@ fn line_of<'a>(command: &str, matches: &ArgMatches<'a>) -> Line<'a>
             connections: given(matches, "connections"),
         });
     }
-    if command == "periodic" {
-        return Line::Periodic(file_of(matches));
-    }
     if command == "report" {
         return Line::Report(ReportLine {
             file: text_of(matches, "file"),
@@ -374,19 +402,13 @@ fn line_of<'a>(command: &str, matches: &ArgMatches<'a>) -> Line<'a>
             list: given(matches, "list"),
         });
     }
-    if command == "export" {
-        return Line::Export(file_of(matches));
-    }
     if command == "import-vouchers" {
         return Line::Import(ImportLine {
             file: text_of(matches, "file"),
             csv: text_of(matches, "csv"),
         });
     }
-    Line::Feed(FeedLine {
-        from: text_of(matches, "from"),
-        step: text_of(matches, "step"),
-    })
+    few_words_of(command, matches)
 }
 
 /// Reads a command line, whose first word is the program.

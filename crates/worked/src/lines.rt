@@ -49,6 +49,9 @@ static LINES: [&str; 44] = [
     "boxoffice import-vouchers new.db codes.csv",
     "boxoffice import-vouchers hall.db other.csv",
     "boxoffice import-vouchers hall.db",
+    "boxoffice migrate hall.db",
+    "boxoffice migrate new.db",
+    "boxoffice migrate",
     "boxoffice --help",
 ];
 

@@ -95,6 +95,7 @@ impl HouseFiles for OneFile {
             Report::Door(1) => " total         0         0         0\n",
             Report::Door(_) => return Err(RunFault::NoList),
             Report::Positions => "order,positionid,status,item,variation,price,voucher,secret\n",
+            Report::Version => "version 1\n",
         };
         let mut text = Vec::new(alloc);
         text.extend_from_slice(line.as_bytes())?;

@@ -10,6 +10,7 @@ returns-in-Ok g c =
     (record {
       desk = desk_with c.in-Ok.opened.0 office.organizer office.event office.state;
       opens = record { opened = e.opened; organizer = e.names.0; event = e.names.1; sound = e.sound; rests = e.rests; crash = e.crash };
+      version = e.version;
       told = c.report_opened.ensures.told;
       connection = c.report_opened.ensures.connection;
     })

@@ -1,7 +1,7 @@
 use Rattle.std.proofs.Common.{◌≡◌, ◌∙◌, refl, ap, codes}
 use Rattle.std.proofs.lemmas.Result.{IfOk-weaker}
 use Rattle.clap.specs.Simple.{App, app_of, app_of_fields, new_app, on_top}
-use Rattle.bo_line.specs.Words.{export_app, feed_app, import_app, init_app, needs_command, report_app, serve_app, token_app, work_app}
+use Rattle.bo_line.specs.Words.{export_app, feed_app, import_app, init_app, migrate_app, needs_command, report_app, serve_app, token_app, work_app}
 use Rattle.bo_line.proofs.WordLemmas.{now_with}
 use Rattle.bo_line.proofs.words.commands.Goals as goal
 
@@ -17,4 +17,5 @@ returns c =
     let five = now_with _ _ _ work_app _ four c.work_command.ensures refl c.in_ok-program-5.ensures in
     let six = now_with _ _ _ report_app _ five c.report_command.ensures refl c.in_ok-program-6.ensures in
     let seven = now_with _ _ _ export_app _ six c.export_command.ensures refl c.in_ok-program-7.ensures in
-    IfOk-weaker c.with-8.result _ _ (λ command added. now_with _ _ _ import_app _ seven c.import_command.ensures refl added) c.with-8.ensures
+    let eight = now_with _ _ _ import_app _ seven c.import_command.ensures refl c.in_ok-program-8.ensures in
+    IfOk-weaker c.with-9.result _ _ (λ command added. now_with _ _ _ migrate_app _ eight c.migrate_command.ensures refl added) c.with-9.ensures
