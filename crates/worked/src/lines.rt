@@ -5,7 +5,7 @@ use crate::tried::{run_line, words};
 use bo_line::LineEnd;
 
 /// The lines, each with its words.
-static LINES: [&str; 44] = [
+static LINES: [&str; 47] = [
     "boxoffice feed --from 2027-01-31T23:00:00Z --step 3600",
     "boxoffice feed --step=0 --from=1970-01-01T00:00:00Z",
     "boxoffice feed --from noon --step 60",
