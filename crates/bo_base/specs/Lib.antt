@@ -1,6 +1,7 @@
 pub mod Deciding
 pub mod Texts
 pub mod Slugs
+pub mod StatusCode
 pub mod Counts
 pub mod Draws
 pub mod Refusals

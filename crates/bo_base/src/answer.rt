@@ -2,7 +2,7 @@
 
 ghost use Rattle.std.specs.Prelude.{◌≡◌};
 
-use http::StatusCode;
+use crate::status_code::StatusCode;
 use std::marker::Model;
 
 /// The methods that a path has, where another one was asked for.

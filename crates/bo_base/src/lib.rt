@@ -16,6 +16,7 @@ pub mod price_mode;
 pub mod refusal;
 pub mod secrets;
 pub mod slug;
+pub mod status_code;
 pub mod steps;
 pub mod text;
 
@@ -33,5 +34,6 @@ pub use price_mode::{PriceMode, price};
 pub use refusal::ValueRefusal;
 pub use secrets::secret;
 pub use slug::{Slug, is_slug};
+pub use status_code::StatusCode;
 pub use steps::Steps;
 pub use text::{Text, is_text};

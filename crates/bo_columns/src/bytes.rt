@@ -7,10 +7,9 @@ ghost use Rattle.bo_columns.specs.Fit.{IsDigest, IsStatus};
 
 use crate::column::{Column, value_at};
 use crate::numbers::number_in;
-use bo_base::Body;
+use bo_base::{Body, StatusCode};
 use bo_kept::Key;
 use bo_schema::RowError;
-use http::StatusCode;
 use sqlite::Row;
 use sqlite_value::value::ValueRef;
 use std::alloc::Global;
@@ -82,10 +81,7 @@ impl Column for StatusCode {
 
     fn read(_: Global, row: &Row, at: usize) -> Result<StatusCode, RowError> {
         match number_in(row, at, 100, 999) {
-            Ok(n) => match StatusCode::from_u16(n as u16) {
-                Ok(status) => Ok(status),
-                Err(_) => Err(RowError::Damaged),
-            },
+            Ok(n) => Ok(StatusCode::new(n as u16)),
             Err(error) => Err(error),
         }
     }

@@ -5,11 +5,10 @@ ghost use Rattle.std.specs.Fmt.{decimal};
 ghost use Rattle.bo_house.specs.Imported.{import_words};
 ghost use Rattle.bo_house.specs.Worked.{work_text, work_words};
 
-use bo_base::{Body, List, Response, Text};
+use bo_base::{Body, List, Response, StatusCode, Text};
 use bo_commands::{PeriodicCounts, Reply};
 use bo_csv::verdict_lines;
 use bo_deliveries::Wording;
-use http::StatusCode;
 use itoa::Buffer;
 use std::alloc::{AllocError, Global};
 

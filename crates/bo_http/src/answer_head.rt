@@ -1,12 +1,11 @@
 //! The head of an answer, gathered without memory.
 
-ghost use Rattle.std.specs.Prelude.{◌≡◌, ◌≤◌, length};
+ghost use Rattle.std.specs.Prelude.{◌≡◌, ◌≤◌, length, Some};
 ghost use Rattle.std.specs.List.{flat_map};
 ghost use Rattle.bo_http.specs.Text.{when, phrase, head_room, challenge, close_field, status_line, content_fields, allow_field, head_text};
 
 use arrayvec::ArrayVec;
-use bo_base::Methods;
-use http::StatusCode;
+use bo_base::{Methods, StatusCode};
 use itoa::Buffer;
 
 /// A part of a head, or all of it.
@@ -31,8 +30,18 @@ pub fn when(holds: bool, text: &[u8]) -> &[u8]
     if holds { text } else { b"" }
 }
 
+// The status as one of the crate that knows its digits and its phrase.
+fn coded(status: StatusCode) -> Option<http::StatusCode>
+    ensures { result ≡ Some status }
+{
+    match http::StatusCode::from_u16(status.as_u16()) {
+        Ok(code) => Some(code),
+        Err(_) => None,
+    }
+}
+
 // The phrase of a status, empty where it has none.
-fn phrase(status: StatusCode) -> &'static [u8]
+fn phrase(status: http::StatusCode) -> &'static [u8]
     ensures value { result.now ≡ phrase status }
     ensures short { length result.now ≤ 31 }
 {
@@ -50,11 +59,14 @@ fn status_line(status: StatusCode) -> Part
     ensures text { result.items ≡ status_line status }
     ensures short { length result.items ≤ 46 }
 {
+    let Some(code) = coded(status) else {
+        return ArrayVec::new();
+    };
     gather(&[
         b"HTTP/1.1 ",
-        status.as_str().as_bytes(),
+        code.as_str().as_bytes(),
         b" ",
-        phrase(status),
+        phrase(code),
         b"\r\n",
     ])
 }

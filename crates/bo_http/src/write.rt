@@ -6,9 +6,8 @@ ghost use Rattle.bo_http.specs.Written.{Writes};
 
 use crate::answer_head::{head_of, when};
 use crate::fault::FrameFault;
-use bo_base::{Answer, Methods};
+use bo_base::{Answer, Methods, StatusCode};
 use bo_devices::{Drain, Refused};
-use http::StatusCode;
 
 /// Writes the bytes, as many at a time as the writer takes.
 /// Where the writer refuses, a part of them was written, and the writer has counted it.

@@ -2,10 +2,9 @@
 
 ghost use Rattle.std.specs.Prelude.{◌≡◌, ◌<◌, None};
 
-use bo_base::{Answer, Body, Methods, Response, Steps};
+use bo_base::{Answer, Body, Methods, Response, StatusCode, Steps};
 use bo_devices::{Device, Drain, Refused};
 use bo_http::{FrameFault, Frames, write_answer, write_fault};
-use http::StatusCode;
 use std::alloc::{AllocError, Global};
 use std::marker::Brand;
 use std::sync::ledger::{Blank, Ledger};

@@ -5,9 +5,8 @@ ghost use Rattle.serde_json.specs.View.{view};
 ghost use Rattle.bo_words.specs.Faults.{fault_body, field_fault, parse_error, invalid_data, no_credentials, invalid_token, not_found, invalid_page, method_text, method_not_allowed};
 
 use crate::responses::{detailed, response};
-use bo_base::{Methods, Response};
+use bo_base::{Methods, Response, StatusCode};
 use bo_faults::Fault;
-use http::StatusCode;
 use serde_json::{Value, json};
 use std::alloc::{AllocError, Global};
 

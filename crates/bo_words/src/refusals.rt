@@ -9,12 +9,11 @@ ghost use Rattle.bo_words.specs.Refusals.{catalogue_detail, voucher_detail, orde
 use crate::faults::fault_value;
 use crate::responses::{detail_value, value_response};
 use crate::table::row_of;
-use bo_base::Response;
+use bo_base::{Response, StatusCode};
 use bo_catalogue::CatalogueRefusal;
 use bo_commands::{DoorRefusal, Kind, OrderRefusal, Refusal, VoucherRefusal, WaitingRefusal};
 use bo_faults::{Fault, Field, Problem};
 use bo_lists::Status;
-use http::StatusCode;
 use serde_json::{Value, json};
 use std::alloc::{AllocError, Global};
 

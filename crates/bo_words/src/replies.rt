@@ -13,13 +13,12 @@ use crate::pages::append_page;
 use crate::refusals::refused;
 use crate::responses::value_response;
 use crate::results::append_results;
-use bo_base::{Body, Response};
+use bo_base::{Body, Response, StatusCode};
 use bo_commands::{DoorStatus, Outcome, Page, PeriodicCounts, Reply, Resource, Shown};
 use bo_lists::{Availability, OrderPos};
 use bo_shown::{
     admitted_value, append_shown, availability_value, door_status_value, periodic_value,
 };
-use http::StatusCode;
 use serde_json::json;
 use std::alloc::{AllocError, Global};
 

@@ -5,8 +5,7 @@ ghost use Rattle.serde_json.specs.View.{view};
 ghost use Rattle.serde_json.specs.Written.{has_float};
 ghost use Rattle.bo_words.specs.Responses.{response, detail_body};
 
-use bo_base::{Body, Methods, Response};
-use http::StatusCode;
+use bo_base::{Body, Methods, Response, StatusCode};
 use serde_json::{Value, json};
 use std::alloc::{AllocError, Global};
 
