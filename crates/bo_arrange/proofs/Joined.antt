@@ -15,7 +15,7 @@ use Rattle.bo_columns.specs.declared.rows.QuotaItem.{QuotaItem}
 use Rattle.bo_columns.specs.declared.rows.QuotaRow.{QuotaRow}
 use Rattle.bo_columns.specs.declared.rows.QuotaVariation.{QuotaVariation}
 use Rattle.bo_columns.specs.Changes.{head_of_quota, head_of_list}
-use Rattle.bo_opens.specs.declared.read.TableRows.{TableRows}
+use Rattle.bo_columns.specs.declared.table_rows.TableRows.{TableRows}
 use Rattle.bo_stand.specs.Links.{Link, all_links}
 use Rattle.bo_stand.specs.Stands.{AreRowsOf}
 use Rattle.bo_arrange.specs.Arranged.{item_link, variation_link, list_link, quota_of, list_of, rows_in, told_by}

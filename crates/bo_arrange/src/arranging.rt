@@ -13,9 +13,8 @@ use crate::members::both;
 use crate::quotas::catalogue_in;
 use crate::vouchers::{redeemed_in, vouchers_in};
 use bo_alike::rising::rises;
-use bo_columns::ShopRow;
+use bo_columns::{ShopRow, TableRows};
 use bo_lists::QuotaCount;
-use bo_opens::TableRows;
 use bo_rules::FileRows;
 use std::alloc::{AllocError, Global};
 

@@ -10,9 +10,8 @@ ghost use Rattle.bo_arrange.specs.declared.error.ArrangeError.TheVariants.{Order
 use crate::error::ArrangeError;
 use crate::members::members_in;
 use bo_alike::rising::rises;
-use bo_columns::ListRow;
+use bo_columns::{DoorRows, ListRow};
 use bo_lists::{Checkin, CheckinList};
-use bo_opens::DoorRows;
 use bo_sorted::Ids;
 use std::alloc::{AllocError, Global};
 

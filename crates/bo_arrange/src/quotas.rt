@@ -11,8 +11,7 @@ use crate::error::ArrangeError;
 use crate::members::{both, members_in};
 use bo_alike::rising::rises;
 use bo_catalogue::{Item, Quota, Variation};
-use bo_columns::QuotaRow;
-use bo_opens::CatalogueRows;
+use bo_columns::{CatalogueRows, QuotaRow};
 use bo_sorted::Ids;
 use std::alloc::{AllocError, Global};
 

@@ -7,6 +7,7 @@ pub mod members;
 pub mod methods;
 pub mod numbers;
 pub mod rows;
+pub mod table_rows;
 pub mod words;
 
 pub use column::Column;
@@ -14,3 +15,4 @@ pub use members::{Member, Numbered};
 pub use rows::{
     KeptRow, ListItem, ListRow, QuotaItem, QuotaRow, QuotaVariation, ShopRow, Token, VoucherRow,
 };
+pub use table_rows::{CatalogueRows, DoorRows, OtherRows, SaleRows, TableRows};

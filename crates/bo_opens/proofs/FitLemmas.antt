@@ -36,7 +36,7 @@ use Rattle.bo_opens.specs.declared.error.OpenError.{OpenError}
 use Rattle.bo_opens.specs.declared.error.OpenError.TheVariants.{Memory, NotAShop, Version, Damaged, Store}
 use Rattle.bo_rules.specs.declared.rule.Rule.TheVariants as rule
 use Rattle.bo_opens.specs.declared.file.FileTables.{FileTables}
-use Rattle.bo_opens.specs.declared.read.TableRows.{TableRows}
+use Rattle.bo_columns.specs.declared.table_rows.TableRows.{TableRows}
 use Rattle.bo_opens.specs.Read.{HoldsRows, tables_of}
 use Rattle.bo_opens.specs.Causes.{rows_at, LacksCatalogue, LacksSales, LacksDoors, LacksOthers, LacksTable, IsDamagedCatalogue, AreDamagedSales, AreDamagedDoors, AreDamagedOthers, HasTables, HasDamage, IsFitFile, IsReadable, ShowsBy, OfTheShop, IsOneShop, IsCause}
 use Rattle.bo_opens.specs.Lawful.{AreFit, IsOfMachine}

@@ -21,11 +21,11 @@ use Rattle.bo_rules.specs.declared.rule.Rule.TheVariants as rule
 use Rattle.bo_opens.specs.declared.error.OpenError.{OpenError}
 use Rattle.bo_opens.specs.declared.error.OpenError.TheVariants.{Memory, NotAShop, Version, Damaged, Store}
 use Rattle.bo_opens.specs.declared.file.FileTables.{FileTables}
-use Rattle.bo_opens.specs.declared.read.CatalogueRows.{CatalogueRows}
-use Rattle.bo_opens.specs.declared.read.SaleRows.{SaleRows}
-use Rattle.bo_opens.specs.declared.read.DoorRows.{DoorRows}
-use Rattle.bo_opens.specs.declared.read.OtherRows.{OtherRows}
-use Rattle.bo_opens.specs.declared.read.TableRows.{TableRows}
+use Rattle.bo_columns.specs.declared.table_rows.CatalogueRows.{CatalogueRows}
+use Rattle.bo_columns.specs.declared.table_rows.SaleRows.{SaleRows}
+use Rattle.bo_columns.specs.declared.table_rows.DoorRows.{DoorRows}
+use Rattle.bo_columns.specs.declared.table_rows.OtherRows.{OtherRows}
+use Rattle.bo_columns.specs.declared.table_rows.TableRows.{TableRows}
 
 -- ---- the file lacks one of these tables, or one of its columns
 

@@ -5,11 +5,11 @@ use Rattle.bo_columns.specs.Rows.{item_row, variation_row, quota_row, quota_item
 use Rattle.bo_columns.specs.Tables.{Tables}
 use Rattle.bo_opens.specs.Causes.{rows_at}
 use Rattle.bo_opens.specs.declared.file.FileTables.{FileTables}
-use Rattle.bo_opens.specs.declared.read.CatalogueRows.{CatalogueRows}
-use Rattle.bo_opens.specs.declared.read.SaleRows.{SaleRows}
-use Rattle.bo_opens.specs.declared.read.DoorRows.{DoorRows}
-use Rattle.bo_opens.specs.declared.read.OtherRows.{OtherRows}
-use Rattle.bo_opens.specs.declared.read.TableRows.{TableRows}
+use Rattle.bo_columns.specs.declared.table_rows.CatalogueRows.{CatalogueRows}
+use Rattle.bo_columns.specs.declared.table_rows.SaleRows.{SaleRows}
+use Rattle.bo_columns.specs.declared.table_rows.DoorRows.{DoorRows}
+use Rattle.bo_columns.specs.declared.table_rows.OtherRows.{OtherRows}
+use Rattle.bo_columns.specs.declared.table_rows.TableRows.{TableRows}
 
 -- ---- the trees show these rows
 

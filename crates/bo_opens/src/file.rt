@@ -16,8 +16,8 @@ ghost use Rattle.bo_opens.specs.Causes.{LacksTable, HasTables, HasDamage, AreFit
 
 use crate::error::OpenError;
 use crate::head::{read_shop, shop_rows, test_version};
-use crate::read::{TableRows, read_tables};
-use bo_columns::ShopRow;
+use crate::read::read_tables;
+use bo_columns::{ShopRow, TableRows};
 use bo_rules::Rule;
 use bo_schema::RowError;
 use sqlite::{Alter, Connection, Row};

@@ -13,4 +13,4 @@ pub mod whole;
 
 pub use error::OpenError;
 pub use file::{FileTables, read_file};
-pub use read::{CatalogueRows, DoorRows, OtherRows, SaleRows, TableRows, read_tables};
+pub use read::read_tables;

@@ -11,59 +11,10 @@ ghost use Rattle.bo_opens.specs.Causes.{IsFitCatalogue, HasCatalogue, LacksCatal
 ghost use Rattle.bo_opens.specs.Read.{HoldsCatalogue, HoldsSales, HoldsDoors, HoldsOthers, HoldsRows};
 
 use crate::whole::Whole;
-use bo_catalogue::{Item, Variation};
-use bo_columns::{
-    KeptRow, ListItem, ListRow, QuotaItem, QuotaRow, QuotaVariation, Token, VoucherRow,
-};
-use bo_lists::{CartPos, Checkin, Order, OrderPos, QuotaCount, Waiting};
+use bo_columns::{CatalogueRows, DoorRows, OtherRows, SaleRows, TableRows};
 use bo_schema::RowError;
 use sqlite::{Alter, Connection};
 use std::alloc::Global;
-
-/// What is for sale, and the quotas.
-#[derive(Drop)]
-pub struct CatalogueRows {
-    pub items: Vec<Item>,
-    pub variations: Vec<Variation>,
-    pub quotas: Vec<QuotaRow>,
-    pub quota_items: Vec<QuotaItem>,
-    pub quota_variations: Vec<QuotaVariation>,
-}
-
-/// What is sold, held and waited for.
-#[derive(Drop)]
-pub struct SaleRows {
-    pub vouchers: Vec<VoucherRow>,
-    pub carts: Vec<CartPos>,
-    pub orders: Vec<Order>,
-    pub positions: Vec<OrderPos>,
-    pub waiting: Vec<Waiting>,
-}
-
-/// What the doors have.
-#[derive(Drop)]
-pub struct DoorRows {
-    pub checkin_lists: Vec<ListRow>,
-    pub list_items: Vec<ListItem>,
-    pub checkins: Vec<Checkin>,
-}
-
-/// What stands beside the office.
-#[derive(Drop)]
-pub struct OtherRows {
-    pub counts: Vec<QuotaCount>,
-    pub tokens: Vec<Token>,
-    pub kept: Vec<KeptRow>,
-}
-
-/// All rows of all tables but the shop's own.
-#[derive(Drop)]
-pub struct TableRows {
-    pub catalogue: CatalogueRows,
-    pub sales: SaleRows,
-    pub doors: DoorRows,
-    pub others: OtherRows,
-}
 
 impl Whole for CatalogueRows {
     ghost is_in = { HoldsCatalogue };

@@ -12,7 +12,7 @@ use Rattle.bo_columns.specs.declared.rows.KeptRow.{KeptRow}
 use Rattle.bo_columns.specs.Tables.{Tables}
 use Rattle.bo_stand.specs.Free.{AreApart, AreBelow, IsFree}
 use Rattle.bo_stand.proofs.Made.{below_later}
-use Rattle.bo_opens.specs.declared.read.TableRows.{TableRows}
+use Rattle.bo_columns.specs.declared.table_rows.TableRows.{TableRows}
 use Rattle.bo_opens.specs.Read.{AreTableRows}
 
 neither : (a b : Bool) → (a || b) ≡ false → (a ≡ false) × (b ≡ false)

@@ -16,7 +16,7 @@ use Rattle.bo_stand.specs.Stands.{AreRowsOf, AreSameRows, Stand}
 use Rattle.bo_stand.proofs.Follow.{rows_along}
 use Rattle.bo_rules.specs.Rules.{File, IsCounted}
 use Rattle.bo_opens.specs.declared.file.FileTables.{FileTables}
-use Rattle.bo_opens.specs.declared.read.TableRows.{TableRows}
+use Rattle.bo_columns.specs.declared.table_rows.TableRows.{TableRows}
 use Rattle.bo_opens.specs.Read.{AreTableRows, IsFileOf}
 use Rattle.bo_opens.specs.Rests.{IsAt, StaysOpen}
 use Rattle.bo_arrange.specs.Arranged.{arranged, rows_in, told_by, count_in, item_link, variation_link, list_link, IsInOrder}

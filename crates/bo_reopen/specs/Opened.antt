@@ -22,7 +22,7 @@ use Rattle.bo_opens.specs.declared.file.FileTables.{FileTables}
 use Rattle.bo_opens.specs.Causes.{IsReadable, IsCause}
 use Rattle.bo_opens.specs.Read.{tables_of}
 use Rattle.bo_opens.specs.Numbers.{Rise}
-use Rattle.bo_opens.specs.declared.read.TableRows.{TableRows}
+use Rattle.bo_columns.specs.declared.table_rows.TableRows.{TableRows}
 use Rattle.bo_arrange.specs.Arranged.{arranged, rows_in, IsInOrder}
 use Rattle.bo_tables.specs.Held.{number_of}
 use Rattle.bo_tables.specs.Shops.{HoldsWhileOpen, KnowsWhileOpen, Leaves}

@@ -19,9 +19,9 @@ ghost use Rattle.bo_reopen.specs.Opened.{IsLeastIn, IsWhy, RowsRise};
 
 use bo_arrange::{ArrangeError, Arranged, arrange};
 use bo_checks::first_broken;
-use bo_columns::{ShopRow, Token};
+use bo_columns::{ShopRow, TableRows, Token};
+use bo_opens::OpenError;
 use bo_opens::numbers::next_number;
-use bo_opens::{OpenError, TableRows};
 use bo_rules::{FileRows, Rule};
 use std::alloc::Global;
 

@@ -2,3 +2,11 @@ pub mod Asked
 pub mod Told
 pub mod ShopLemmas
 pub mod Begins
+pub mod Steps
+pub mod RowLemmas
+pub mod MemberLemmas
+pub mod ChangeLemmas
+pub mod CountLemmas
+pub mod AnswerLemmas
+pub mod TakenLemmas
+pub mod WholeLemmas

@@ -3,3 +3,5 @@ pub mod Shops
 pub mod Committed
 pub mod Refusals
 pub mod Begun
+pub mod Free
+pub mod Steps

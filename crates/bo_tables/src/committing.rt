@@ -6,12 +6,12 @@ ghost use Rattle.bo_kept.specs.ShopView.{listed};
 ghost use Rattle.bo_stand.specs.Made.{done, next_after};
 ghost use Rattle.bo_tables.specs.Committed.{Turns};
 
+use crate::writes::write_all;
 use bo_base::Moment;
 use bo_columns::ShopRow;
 use bo_kept::Kept;
 use bo_lists::{Change, CountRows};
 use bo_schema::{RowError, Writing};
-use bo_writes::write_all;
 use sqlite::{Alter, Transaction};
 use std::alloc::Global;
 

@@ -8,6 +8,7 @@ mod committing;
 pub mod laws;
 pub mod sql;
 pub mod tokens;
+mod writes;
 
 pub use add::put_token;
 pub use answers::find_answer;

@@ -12,13 +12,13 @@ ghost use Rattle.bo_tables.specs.Shops.{HoldsWhileOpen, KnowsWhileOpen, Leaves, 
 use crate::answers::find_answer;
 use crate::committing::Commit;
 use crate::tokens::find_number;
+use crate::writes::takes;
 use bo_base::{Moment, Response};
 use bo_columns::ShopRow;
 use bo_kept::{Kept, Tables, TablesError};
 use bo_lists::{Changes, CountRows};
 use bo_schema::{RowError, write_whole};
 use bo_typed::{answer_known, changes_known};
-use bo_writes::takes;
 use sqlite::{Alter, Connection};
 use std::alloc::Global;
 

@@ -1,0 +1,39 @@
+-- The counts of a commit, one after another.
+use Rattle.std.proofs.Common.{◌≡◌, ℕ, List, [], ◌∷◌, refl, subst, ap, ◌∙◌}
+use Rattle.sqlite.specs.State.{State}
+use Rattle.bo_lists.specs.declared.count_rows.VoucherCount.{VoucherCount}
+use Rattle.bo_lists.specs.CountRows.{CountRows}
+use Rattle.bo_columns.specs.Tables.{Tables}
+use Rattle.bo_columns.specs.Changes.{ChangesFit}
+use Rattle.bo_stand.specs.Free.{IsFree}
+use Rattle.bo_stand.specs.Made.{put_count, set_redeemed, each, counted}
+use Rattle.bo_tables.specs.Free.{redeemed_stays_free}
+use Rattle.bo_tables.specs.Steps.{made_each, next_each}
+use Rattle.bo_tables.proofs.Steps.{then_fits}
+
+module _ {T : Type 0} (step : T → Tables → Tables) where
+  abbrev pub each_of : List T → ℕ → Tables → Tables
+  each_of xs from t = made_each (λ x n. step x) (λ x n. n) xs from t
+
+  -- no number is used
+  pub same_each : (xs : List T) (from : ℕ) (t : Tables) → each_of xs from t ≡ each step xs t
+  same_each [] from t = refl
+  same_each (x ∷ xs) from t = same_each xs from (step x t)
+
+pub next_same : {T : Type 0} (xs : List T) (from : ℕ) → next_each (λ (x : T) n. n) xs from ≡ from
+next_same [] from = refl
+next_same (x ∷ xs) from = next_same xs from
+
+free_redeemed : (xs : List VoucherCount) (from : ℕ) (t : Tables) → IsFree from t → IsFree from (each_of set_redeemed xs from t)
+free_redeemed [] from t h = h
+free_redeemed (x ∷ xs) from t h = free_redeemed xs from (set_redeemed x t) (redeemed_stays_free x from t h)
+
+-- the vouchers' counts, and then those of quotas
+pub all_counted : (counts : CountRows) (from free : ℕ) (old mid new : State) → free ≡ next_each (λ (x : VoucherCount) n. n) counts.vouchers from → ChangesFit (IsFree from) (each_of set_redeemed counts.vouchers from) old mid
+    → ChangesFit (IsFree free) (each_of put_count counts.quotas free) mid new → ChangesFit (IsFree from) (counted counts) old new
+all_counted counts from free old mid new is a b =
+    let same : free ≡ from = is ∙ next_same counts.vouchers from in
+    let b2 : ChangesFit (IsFree from) (each_of put_count counts.quotas from) mid new = subst (λ n. ChangesFit (IsFree n) (each_of put_count counts.quotas n) mid new) same b in
+    let both = then_fits (IsFree from) (IsFree from) (each_of set_redeemed counts.vouchers from) (each_of put_count counts.quotas from) old mid new (free_redeemed counts.vouchers from) a b2 in
+    Rattle.bo_tables.proofs.Steps.fits_as (IsFree from) (λ t. each_of put_count counts.quotas from (each_of set_redeemed counts.vouchers from t)) (counted counts) old new
+    (λ t. same_each put_count counts.quotas from (each_of set_redeemed counts.vouchers from t) ∙ ap (each put_count counts.quotas) (same_each set_redeemed counts.vouchers from t)) both
