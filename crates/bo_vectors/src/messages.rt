@@ -22,7 +22,7 @@ fn outcome(alloc: Global, bytes: &[u8], step: usize) -> Result<String, Fail>
             match frames.next() {
                 None => break,
                 Some(Err(fault)) => {
-                    text.push_str(fault.status().as_str())?;
+                    text.push_str(format!(in alloc; "{}", fault.status().as_u16())?.as_str())?;
                     return Ok(text);
                 }
                 Some(Ok(())) => {
