@@ -21,37 +21,41 @@ choice name = record (new_rule name) { value_names = 1; long = Some name }
 abbrev pub feed_app : App
 feed_app = with_rule (with_rule (new_app (codes "feed")) (flag (codes "from"))) (flag (codes "step"))
 
+-- a command on a file, which it names first
+abbrev pub file_app : Text → App
+file_app name = with_rule (new_app name) (word (codes "file"))
+
 -- `init FILE --organizer SLUG --event SLUG`
 abbrev pub init_app : App
-init_app = with_rule (with_rule (with_rule (new_app (codes "init")) (word (codes "file"))) (flag (codes "organizer"))) (flag (codes "event"))
+init_app = with_rule (with_rule (file_app (codes "init")) (flag (codes "organizer"))) (flag (codes "event"))
 
 -- `token-add FILE TOKEN`
 abbrev pub token_app : App
-token_app = with_rule (with_rule (new_app (codes "token-add")) (word (codes "file"))) (word (codes "token"))
+token_app = with_rule (file_app (codes "token-add")) (word (codes "token"))
 
 -- `serve FILE --listen ADDR [--connections N]`
 abbrev pub serve_app : App
-serve_app = with_rule (with_rule (with_rule (new_app (codes "serve")) (word (codes "file"))) (flag (codes "listen"))) (choice (codes "connections"))
+serve_app = with_rule (with_rule (file_app (codes "serve")) (flag (codes "listen"))) (choice (codes "connections"))
 
 -- `periodic FILE`
 abbrev pub work_app : App
-work_app = with_rule (new_app (codes "periodic")) (word (codes "file"))
+work_app = file_app (codes "periodic")
 
 -- `report FILE REPORT [--list N]`
 abbrev pub report_app : App
-report_app = with_rule (with_rule (with_rule (new_app (codes "report")) (word (codes "file"))) (word (codes "report"))) (choice (codes "list"))
+report_app = with_rule (with_rule (file_app (codes "report")) (word (codes "report"))) (choice (codes "list"))
 
 -- `export FILE`
 abbrev pub export_app : App
-export_app = with_rule (new_app (codes "export")) (word (codes "file"))
+export_app = file_app (codes "export")
 
 -- `import-vouchers FILE CSV`
 abbrev pub import_app : App
-import_app = with_rule (with_rule (new_app (codes "import-vouchers")) (word (codes "file"))) (word (codes "csv"))
+import_app = with_rule (file_app (codes "import-vouchers")) (word (codes "csv"))
 
 -- `migrate FILE`
 abbrev pub migrate_app : App
-migrate_app = with_rule (new_app (codes "migrate")) (word (codes "file"))
+migrate_app = file_app (codes "migrate")
 
 -- a program with one more command, which was made
 abbrev pub IsWith : App → Result Command AllocError → App → Type 0

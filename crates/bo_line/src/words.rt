@@ -4,10 +4,13 @@ ghost use Rattle.std.specs.Prelude.{◌≡◌, IfOk, IfErr, Some, codes, map, op
 ghost use Rattle.clap.specs.Walk.{rule_of, texts};
 ghost use Rattle.clap.specs.Words.{app_of, first_of, found_of, kind_of, rows_of};
 ghost use Rattle.bo_line.specs.Asked.{IsReason, asked, asked_by_line, asked_of, asked_of_few, is_signed, plain_words, takes_number, text_of};
-ghost use Rattle.bo_line.specs.Words.{IsWith, choice, export_app, feed_app, flag, import_app, init_app, migrate_app, program, report_app, serve_app, token_app, word, work_app};
+ghost use Rattle.bo_line.specs.Words.{IsWith, choice, export_app, feed_app, file_app, flag, import_app, init_app, migrate_app, program, report_app, serve_app, token_app, word, work_app};
 
 use clap::{Arg, ArgMatches, Command, Error};
 use std::alloc::{AllocError, Global};
+
+// What is said of the file of a command.
+const SHOPS_FILE: &str = "The shop's file";
 
 /// What a command line asks for.
 #[derive(Clone, Copy, Debug)]
@@ -146,123 +149,157 @@ fn feed_command<'a>(alloc: Global) -> Result<Command<'a>, AllocError>
         ))
 }
 
+// A command on the file of a shop, which it names first, with its help.
+fn file_command<'a>(
+    alloc: Global,
+    name: &'a str,
+    about: &'a str,
+    file: &'a str,
+) -> Result<Command<'a>, AllocError>
+    ensures { IfOk result (λ command. app_of command ≡ file_app name.entry.now) }
+{
+    Command::new(alloc, name)
+        .about(about)
+        .arg(word(alloc, "file", "FILE", file))
+}
+
 // `init`, with its help.
 fn init_command<'a>(alloc: Global) -> Result<Command<'a>, AllocError>
     ensures { IfOk result (λ command. app_of command ≡ init_app) }
 {
-    Command::new(alloc, "init")
-        .about("Makes a shop in a new file")
-        .arg(word(alloc, "file", "FILE", "The file that is made"))?
-        .arg(flag(
-            alloc,
-            "organizer",
-            "SLUG",
-            "The organizer's short name: 1 to 50 letters, digits, -, . and _",
-        ))?
-        .arg(flag(
-            alloc,
-            "event",
-            "SLUG",
-            "The event's short name, of the same letters",
-        ))
+    file_command(
+        alloc,
+        "init",
+        "Makes a shop in a new file",
+        "The file that is made",
+    )?
+    .arg(flag(
+        alloc,
+        "organizer",
+        "SLUG",
+        "The organizer's short name: 1 to 50 letters, digits, -, . and _",
+    ))?
+    .arg(flag(
+        alloc,
+        "event",
+        "SLUG",
+        "The event's short name, of the same letters",
+    ))
 }
 
 // `token-add`, with its help.
 fn token_command<'a>(alloc: Global) -> Result<Command<'a>, AllocError>
     ensures { IfOk result (λ command. app_of command ≡ token_app) }
 {
-    Command::new(alloc, "token-add")
-        .about("Adds a token to a shop's file, by which requests are let in")
-        .arg(word(alloc, "file", "FILE", "The shop's file"))?
-        .arg(word(
-            alloc,
-            "token",
-            "TOKEN",
-            "The token: 1 to 254 ASCII letters, digits and signs, without spaces",
-        ))
+    file_command(
+        alloc,
+        "token-add",
+        "Adds a token to a shop's file, by which requests are let in",
+        SHOPS_FILE,
+    )?
+    .arg(word(
+        alloc,
+        "token",
+        "TOKEN",
+        "The token: 1 to 254 ASCII letters, digits and signs, without spaces",
+    ))
 }
 
 // `serve`, with its help.
 fn serve_command<'a>(alloc: Global) -> Result<Command<'a>, AllocError>
     ensures { IfOk result (λ command. app_of command ≡ serve_app) }
 {
-    Command::new(alloc, "serve")
-        .about(
-            "Answers HTTP requests at an address, one connection after another, from a shop's file",
-        )
-        .arg(word(alloc, "file", "FILE", "The shop's file"))?
-        .arg(flag(
-            alloc,
-            "listen",
-            "ADDR",
-            "The IP address and port, as 127.0.0.1:8080 or [::1]:8080",
-        ))?
-        .arg(choice(
-            alloc,
-            "connections",
-            "N",
-            "Ends after N connections, 0 to 1000000; without it, or with 0, never",
-        ))
+    file_command(
+        alloc,
+        "serve",
+        "Answers HTTP requests at an address, one connection after another, from a shop's file",
+        SHOPS_FILE,
+    )?
+    .arg(flag(
+        alloc,
+        "listen",
+        "ADDR",
+        "The IP address and port, as 127.0.0.1:8080 or [::1]:8080",
+    ))?
+    .arg(choice(
+        alloc,
+        "connections",
+        "N",
+        "Ends after N connections, 0 to 1000000; without it, or with 0, never",
+    ))
 }
 
 // `periodic`, with its help.
 fn work_command<'a>(alloc: Global) -> Result<Command<'a>, AllocError>
     ensures { IfOk result (λ command. app_of command ≡ work_app) }
 {
-    Command::new(alloc, "periodic")
-        .about("Ends what is overdue in a shop's file, and serves its waiting list")
-        .arg(word(alloc, "file", "FILE", "The shop's file"))
+    file_command(
+        alloc,
+        "periodic",
+        "Ends what is overdue in a shop's file, and serves its waiting list",
+        SHOPS_FILE,
+    )
 }
 
 // `report`, with its help.
 fn report_command<'a>(alloc: Global) -> Result<Command<'a>, AllocError>
     ensures { IfOk result (λ command. app_of command ≡ report_app) }
 {
-    Command::new(alloc, "report")
-        .about("Prints what was sold in a shop's file, or who came in by a check-in list")
-        .arg(word(alloc, "file", "FILE", "The shop's file"))?
-        .arg(word(alloc, "report", "REPORT", "Which report: sales, or door"))?
-        .arg(choice(
-            alloc,
-            "list",
-            "N",
-            "The number of the check-in list, for door",
-        ))
+    file_command(
+        alloc,
+        "report",
+        "Prints what was sold in a shop's file, or who came in by a check-in list",
+        SHOPS_FILE,
+    )?
+    .arg(word(alloc, "report", "REPORT", "Which report: sales, or door"))?
+    .arg(choice(
+        alloc,
+        "list",
+        "N",
+        "The number of the check-in list, for door",
+    ))
 }
 
 // `export`, with its help.
 fn export_command<'a>(alloc: Global) -> Result<Command<'a>, AllocError>
     ensures { IfOk result (λ command. app_of command ≡ export_app) }
 {
-    Command::new(alloc, "export")
-        .about("Prints the order positions of a shop's file as CSV")
-        .arg(word(alloc, "file", "FILE", "The shop's file"))
+    file_command(
+        alloc,
+        "export",
+        "Prints the order positions of a shop's file as CSV",
+        SHOPS_FILE,
+    )
 }
 
 // `import-vouchers`, with its help.
 fn import_command<'a>(alloc: Global) -> Result<Command<'a>, AllocError>
     ensures { IfOk result (λ command. app_of command ≡ import_app) }
 {
-    Command::new(alloc, "import-vouchers")
-        .about(
-            "Adds the vouchers of a CSV file to a shop's file, and says of each row what became of it",
-        )
-        .arg(word(alloc, "file", "FILE", "The shop's file"))?
-        .arg(word(
-            alloc,
-            "csv",
-            "CSV",
-            "The CSV file, with a line of the columns' names and at most 100000 rows",
-        ))
+    file_command(
+        alloc,
+        "import-vouchers",
+        "Adds the vouchers of a CSV file to a shop's file, and says of each row what became of it",
+        SHOPS_FILE,
+    )?
+    .arg(word(
+        alloc,
+        "csv",
+        "CSV",
+        "The CSV file, with a line of the columns' names and at most 100000 rows",
+    ))
 }
 
 // `migrate`, with its help.
 fn migrate_command<'a>(alloc: Global) -> Result<Command<'a>, AllocError>
     ensures { IfOk result (λ command. app_of command ≡ migrate_app) }
 {
-    Command::new(alloc, "migrate")
-        .about("Checks that a shop's file has the tables of this program's version, and prints it")
-        .arg(word(alloc, "file", "FILE", "The shop's file"))
+    file_command(
+        alloc,
+        "migrate",
+        "Checks that a shop's file has the tables of this program's version, and prints it",
+        SHOPS_FILE,
+    )
 }
 
 // The program with one more command, where that was made.
