@@ -7,6 +7,7 @@ mod files;
 
 use crate::files::HostFiles;
 use bo_feed::run;
+use bo_house::House;
 use bo_line::{LineEnd, counted, tell_words};
 use std::io;
 use std::io::{Stdin, Stdout};
@@ -38,7 +39,10 @@ fn run_words<A: Ledger, B: Ledger, C: Ledger, D: Ledger>(
     run(
         rt,
         rt.alloc(),
-        &HostFiles { rt },
+        &House {
+            rt,
+            shelf: HostFiles { rt },
+        },
         words,
         &mut reader,
         &mut writer,

@@ -1,0 +1,34 @@
+//! Shops' files, by their names.
+
+ghost use Rattle.std.specs.Prelude.{◌≡◌, ℕ, List, IfOk, IfErr, IsTrue};
+ghost use Rattle.sqlite.specs.declared.connection.Connection.{Connection};
+ghost use Rattle.bo_house.specs.Shelved.{is_shelf_fault};
+
+use bo_base::Body;
+use bo_line::RunFault;
+use sqlite::{Alter, Connection};
+
+/// What has shops' files, by their names. What a file holds no clause can say: what is known of a connection to it is the implementor's
+/// to say (`gives`).
+pub trait Shelf {
+    /// What a connection to a file stands on.
+    type Base: Alter + Drop;
+
+    // what is known of a connection to the file of this name
+    ghost gives: { List ℕ → Connection Self.Base → Type 0 };
+
+    /// Whether there is a file, or something else, of this name.
+    fn stands(&self, file: &str) -> bool;
+
+    /// A connection to the file of this name, which is made where there is none. Faults: 80 where it can't be opened, 60 where it is no
+    /// database, 63 and 6.
+    fn open(&self, file: &str) -> Result<Connection<Self::Base>, RunFault>
+        ensures given { IfOk result (λ connection. gives file.now connection) }
+        ensures refused { IfErr result (λ fault. IsTrue (is_shelf_fault fault)) };
+
+    /// The bytes of the file of this name. Faults: 80 where it can't be read, and 6.
+    fn bytes(&self, file: &str) -> Result<Body, RunFault>;
+
+    /// Closes a connection. What was committed stands in the file and its log, also where that fails.
+    fn close(&self, connection: Connection<Self::Base>);
+}
