@@ -28,6 +28,7 @@ use std::time::Clock;
 
 /// The commands on shops' files: over the files of a shelf, on a system with a clock, chance and a network. Each opens its file, does what
 /// it has to with the shop in it, and closes the file.
+#[derive(Drop)]
 pub struct House<'a, R, F> {
     /// The system.
     pub rt: &'a R,
