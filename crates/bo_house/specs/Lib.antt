@@ -5,4 +5,3 @@ pub mod Acting
 pub mod Worked
 pub mod Imported
 pub mod Reported
-pub mod Shelved

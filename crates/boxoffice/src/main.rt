@@ -7,7 +7,6 @@ mod files;
 
 use crate::files::HostFiles;
 use bo_feed::run;
-use bo_house::House;
 use bo_line::{LineEnd, counted, tell_words};
 use std::io;
 use std::io::{Stdin, Stdout};
@@ -39,10 +38,7 @@ fn run_words<A: Ledger, B: Ledger, C: Ledger, D: Ledger>(
     run(
         rt,
         rt.alloc(),
-        &House {
-            rt,
-            shelf: HostFiles { rt },
-        },
+        &HostFiles { rt },
         words,
         &mut reader,
         &mut writer,
