@@ -2,7 +2,7 @@
 use Rattle.std.proofs.Common.{◌≡◌, ◌∙◌, ℕ, List, None, subst}
 use Rattle.sqlite.specs.State.{State as Connected}
 use Rattle.bo_tables.specs.Shops.{KnowsWhileOpen}
-use Rattle.bo_made.specs.Tokens.{also_known, IsNumbered}
+use Rattle.bo_tables.specs.Tokens.{also_known, IsNumbered}
 use Rattle.bo_feed.specs.Opened.{feed_digest, feed_tokens}
 
 -- a connection that knew no token, and knows that of `feed` by the number that was next, the first one

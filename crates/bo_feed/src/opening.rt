@@ -10,8 +10,8 @@ ghost use Rattle.bo_feed.specs.Opened.{IsFreshShop, feed_digest, feed_tokens};
 
 use bo_base::Slug;
 use bo_counters::Counters;
-use bo_made::{Office, add_token, create};
-use bo_tables::SqlTables;
+use bo_desk::Office;
+use bo_tables::{SqlTables, add_token, create};
 use sha2::{Digest, Sha256};
 use sqlite::{Alter, Connection, MemStore};
 use std::alloc::{AllocError, Global};
@@ -40,6 +40,25 @@ fn hall_slug(alloc: Global) -> Result<Slug, AllocError>
     Slug::copy_of(alloc, "hall")
 }
 
+// The short names of the organizer and the event.
+fn names(alloc: Global) -> Result<(Slug, Slug), AllocError>
+    ensures { IfOk result (λ names. (names.0 ≡ codes "house") × (names.1 ≡ codes "hall")) }
+{
+    let organizer = house_slug(alloc)?;
+    let event = hall_slug(alloc)?;
+    Ok((organizer, event))
+}
+
+// An office without rows, of these names.
+fn empty_office(alloc: Global, names: (Slug, Slug)) -> Office<Counters>
+    ensures organizer { result.organizer ≡ names.0 }
+    ensures event { result.event ≡ names.1 }
+    ensures state { result.state ≡ empty }
+{
+    let (organizer, event) = names;
+    Office::over(organizer, event, Counters::new(alloc))
+}
+
 // The tables of the shop in a database that has none yet, with its office. They know no token.
 fn begin<S: Alter + Drop>(
     alloc: Global,
@@ -50,10 +69,10 @@ fn begin<S: Alter + Drop>(
     ensures holds { IfOk result (λ made. HasCleanDisk (state S.Store made.0.connection) → HoldsWhileOpen made.0.head made.0.next_row (state S.Store made.0.connection) empty []) }
     ensures knows { IfOk result (λ made. HasCleanDisk (state S.Store made.0.connection) → KnowsWhileOpen made.0.next_row (state S.Store made.0.connection) (λ digest. None)) }
 {
-    let organizer = house_slug(alloc)?;
-    let event = hall_slug(alloc)?;
+    let of_office = names(alloc)?;
+    let (organizer, event) = names(alloc)?;
     match create(alloc, connection, organizer, event) {
-        Ok(made) => Ok(made),
+        Ok(tables) => Ok((tables, empty_office(alloc, of_office))),
         Err(_) => Err(AllocError),
     }
 }

@@ -1,3 +1,8 @@
+pub mod Freed
+pub mod Least
+pub mod Refused
+pub mod Fitting
+pub mod Undamaged
 pub mod Opened
 pub mod Again
 pub mod Damage

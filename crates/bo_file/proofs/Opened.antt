@@ -10,10 +10,10 @@ use Rattle.bo_opens.specs.Rests.{IsAt}
 use Rattle.bo_opens.specs.Lawful.{IsOfMachine}
 use Rattle.bo_opens.proofs.FitLemmas.{of_machine}
 use Rattle.bo_opens.proofs.LimitLemmas.{sound_fits}
-use Rattle.bo_reopen.specs.Opened.{IsReason, IsOpened}
-use Rattle.bo_reopen.proofs.Least.{clear}
-use Rattle.bo_reopen.proofs.Undamaged.{undamaged, same_shop}
-use Rattle.bo_made.specs.Made.{first_shop, IsMade}
+use Rattle.bo_file.specs.Opened.{IsReason, IsOpened}
+use Rattle.bo_file.proofs.Least.{clear}
+use Rattle.bo_file.proofs.Undamaged.{undamaged, same_shop}
+use Rattle.bo_tables.specs.Made.{first_shop, IsMade}
 
 -- what was just made is opened as it was made
 pub made_opens : (old c new : Connected) (organizer event : List ℕ) (head : ShopRow) (next : ℕ) → IsMade (first_shop organizer event) old head next c

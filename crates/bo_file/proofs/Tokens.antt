@@ -9,8 +9,8 @@ use Rattle.bo_schema.specs.Whole.{MayBeWritten}
 use Rattle.bo_tables.specs.Begun.{HasToken, token_added}
 use Rattle.bo_tables.specs.Held.{number_of}
 use Rattle.bo_tables.specs.Shops.{Knows, KnowsWhileOpen}
-use Rattle.bo_made.specs.Tokens.{also_known, raised, next_one}
-use Rattle.bo_made.proofs.Added.{number_too}
+use Rattle.bo_tables.specs.Tokens.{also_known, raised, next_one}
+use Rattle.bo_tables.proofs.Added.{number_too}
 
 -- the trees hold tables that tell these tokens
 pub record Tell (db : Trees) (tokens : List ℕ → Option ℕ) : Type 0 where

@@ -16,12 +16,12 @@ ghost use Rattle.bo_tables.specs.Shops.{HoldsWhileOpen, KnowsWhileOpen, Leaves};
 ghost use Rattle.bo_columns.specs.declared.rows.ShopRow.{ShopRow};
 ghost use Rattle.bo_opens.specs.declared.error.OpenError.{OpenError};
 ghost use Rattle.bo_opens.specs.Lawful.{IsOfMachine};
-ghost use Rattle.bo_reopen.specs.Opened.{IsReason, IsOpened};
+ghost use Rattle.bo_file.specs.Opened.{IsReason, IsOpened};
 ghost use Rattle.bo_deliveries.specs.Deliveries.{Delivery, Opening};
 ghost use Rattle.bo_deliveries.specs.Shops.{Stands, stood};
 ghost use Rattle.bo_deliveries.specs.Histories.{Event, Crashed, Running, MayLeave, Happens, ComesTo, IsRunning, Reopened, opened};
-ghost use Rattle.bo_made.specs.Made.{IsMade};
-ghost use Rattle.bo_made.specs.Tokens.{also_known, raised, next_one};
+ghost use Rattle.bo_tables.specs.Made.{IsMade};
+ghost use Rattle.bo_tables.specs.Tokens.{also_known, raised, next_one};
 ghost use Rattle.bo_file.specs.Found.{IsFound};
 
 use bo_kept::Tables;

@@ -1,17 +1,36 @@
 //! Laws of a shop's file.
 
-ghost use Rattle.std.specs.Prelude.{◌≡◌, ℕ, List};
+ghost use Rattle.std.specs.Prelude.{◌≡◌, ℕ, List, map};
 ghost use Rattle.sqlite.specs.Held.{state};
 ghost use Rattle.bo_schema.specs.Tables.{schema};
 ghost use Rattle.bo_lists.specs.Lists.{State, empty};
+ghost use Rattle.bo_sound.specs.Sound.{IsSound};
+ghost use Rattle.bo_kept.specs.declared.kept.Kept.{Kept};
+ghost use Rattle.bo_kept.specs.ShopView.{IsSame};
 ghost use Rattle.bo_columns.specs.declared.rows.ShopRow.{ShopRow};
+ghost use Rattle.bo_rules.specs.declared.rule.Rule.{Rule};
 ghost use Rattle.bo_opens.specs.declared.error.OpenError.{OpenError};
 ghost use Rattle.bo_opens.specs.Rests.{IsAt};
 ghost use Rattle.bo_opens.specs.Lawful.{IsOfMachine};
-ghost use Rattle.bo_reopen.specs.Opened.{IsReason, IsOpened};
-ghost use Rattle.bo_made.specs.Made.{first_shop, IsMade};
+ghost use Rattle.bo_tables.specs.Shops.{Keeps};
+ghost use Rattle.bo_tables.specs.Made.{first_shop, IsMade};
+ghost use Rattle.bo_file.specs.Opened.{IsDamagedBy, IsReason, IsOpened};
 
 use sqlite::{Alter, Connection};
+
+/// A file that holds a shop shows what was committed, in tables that are declared as ours. Where the shop's box office is sound, its rows break
+/// no rule, and it is refused for want of memory or because the store fails, and never with 60, 61 or 62. What it is opened as is that shop:
+/// its row, its box office and its answers.
+pub fn what_is_held_is_opened<S: Alter>(held: &Connection<S>, opened: &Connection<S>)
+    ensures shows { (head : ShopRow) (next : ℕ) (s : State) (ks : List Kept) → Keeps head next (state S.Store held.now) s ks → IsAt (state S.Store held.now).now (state S.Store held.now) × ((state S.Store held.now).now.schema ≡ schema) }
+    ensures whole { (head : ShopRow) (next : ℕ) (s : State) (ks : List Kept) → Keeps head next (state S.Store held.now) s ks → IsSound s → (rule : Rule) → ¬ IsDamagedBy rule (state S.Store held.now).now.trees }
+    ensures no_fault { (head : ShopRow) (next : ℕ) (s : State) (ks : List Kept) → Keeps head next (state S.Store held.now) s ks → IsSound s → (error : OpenError) → IsReason (state S.Store held.now).now error → IsOfMachine error }
+    ensures same { (head : ShopRow) (next : ℕ) (s : State) (ks : List Kept) → Keeps head next (state S.Store held.now) s ks → (shop : ShopRow) (number : ℕ) (z : State) (o : IsOpened (state S.Store held.now).now.trees shop number z (state S.Store opened.now))
+        → (shop ≡ head) × IsSame (record { state = z; kept = map (λ r. r.kept) o.tables.kept }) (record { state = s; kept = ks }) }
+{
+    let _ = held;
+    let _ = opened;
+}
 
 /// A file that was just made is declared as ours and is refused for want of memory or because the store fails, and never with 60, 61
 /// or 62; what it is opened as is the empty box office under the same names.

@@ -10,13 +10,14 @@ ghost use Rattle.bo_opens.specs.declared.error.OpenError.{OpenError};
 ghost use Rattle.bo_opens.specs.Rests.{IsAt, Rests};
 ghost use Rattle.bo_opens.specs.Causes.{IsReadable};
 ghost use Rattle.bo_opens.specs.Lawful.{IsOfMachine};
-ghost use Rattle.bo_reopen.specs.Opened.{IsReason, IsOpened};
+ghost use Rattle.bo_file.specs.Opened.{IsReason, IsOpened};
 
+use crate::book::Reopened;
+use crate::reopening::reopen;
 use bo_counters::Counters;
-use bo_made::{HandedBack, Office};
+use bo_office::Office;
 use bo_opens::OpenError;
-use bo_reopen::{Reopened, reopen};
-use bo_tables::SqlTables;
+use bo_tables::{HandedBack, SqlTables};
 use sqlite::{Alter, Connection};
 use std::alloc::Global;
 

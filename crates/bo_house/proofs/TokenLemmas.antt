@@ -9,15 +9,15 @@ use Rattle.bo_kept.specs.declared.kept.Kept.{Kept}
 use Rattle.bo_columns.specs.declared.rows.ShopRow.{ShopRow}
 use Rattle.bo_line.specs.declared.fault.RunFault.{RunFault}
 use Rattle.bo_line.specs.declared.fault.RunFault.TheVariants as faults
-use Rattle.bo_made.specs.Tokens.{HasNoRoom, IsNumbered, also_known, head_after}
-use Rattle.bo_made.specs.declared.error.TokenError.{TokenError}
-use Rattle.bo_made.specs.declared.error.TokenError.TheVariants as tokens
+use Rattle.bo_tables.specs.Tokens.{HasNoRoom, IsNumbered, also_known, head_after}
+use Rattle.bo_tables.specs.declared.error.TokenError.{TokenError}
+use Rattle.bo_tables.specs.declared.error.TokenError.TheVariants as tokens
 use Rattle.bo_opens.specs.declared.error.OpenError.{OpenError}
 use Rattle.bo_opens.specs.declared.error.OpenError.TheVariants as opening
 use Rattle.bo_schema.specs.declared.error.RowError.{RowError}
 use Rattle.bo_schema.specs.declared.error.RowError.TheVariants as rows
 use Rattle.bo_opens.specs.Rests.{IsAt, Rests}
-use Rattle.bo_reopen.specs.Opened.{IsOpened}
+use Rattle.bo_file.specs.Opened.{IsOpened}
 use Rattle.bo_schema.specs.Tables.{schema}
 use Rattle.bo_schema.specs.Whole.{IsOver, IsStill}
 use Rattle.bo_tables.specs.Held.{number_of}

@@ -4,8 +4,8 @@ use Rattle.bo_csv.specs.declared.voucher_file.FileFault.{FileFault}
 use Rattle.bo_csv.specs.declared.voucher_file.FileFault.TheVariants as files
 use Rattle.bo_line.specs.declared.fault.RunFault.{RunFault}
 use Rattle.bo_line.specs.declared.fault.RunFault.TheVariants as faults
-use Rattle.bo_made.specs.declared.error.TokenError.{TokenError}
-use Rattle.bo_made.specs.declared.error.TokenError.TheVariants as tokens
+use Rattle.bo_tables.specs.declared.error.TokenError.{TokenError}
+use Rattle.bo_tables.specs.declared.error.TokenError.TheVariants as tokens
 use Rattle.bo_opens.specs.declared.error.OpenError.{OpenError}
 use Rattle.bo_opens.specs.declared.error.OpenError.TheVariants as opening
 use Rattle.bo_rules.specs.declared.rule.Rule.TheVariants as rules

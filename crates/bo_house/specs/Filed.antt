@@ -10,11 +10,11 @@ use Rattle.bo_columns.specs.Tables.{Tables, Holds}
 use Rattle.bo_stand.specs.Stands.{Stand}
 use Rattle.bo_tables.specs.Held.{number_of}
 use Rattle.bo_tables.specs.Shops.{HoldsWhileOpen, KnowsWhileOpen}
-use Rattle.bo_made.specs.Made.{IsMade, first_shop}
-use Rattle.bo_made.specs.Tokens.{HasNoRoom, IsNumbered, also_known, head_after}
-use Rattle.bo_made.specs.declared.error.TokenError.{TokenError}
+use Rattle.bo_tables.specs.Made.{IsMade, first_shop}
+use Rattle.bo_tables.specs.Tokens.{HasNoRoom, IsNumbered, also_known, head_after}
+use Rattle.bo_tables.specs.declared.error.TokenError.{TokenError}
 use Rattle.bo_opens.specs.declared.error.OpenError.{OpenError}
-use Rattle.bo_reopen.specs.Opened.{IsReason}
+use Rattle.bo_file.specs.Opened.{IsReason}
 use Rattle.bo_line.specs.declared.fault.RunFault.{RunFault}
 use Rattle.bo_house.specs.Faults.{fault_of_opening, fault_of_token}
 

@@ -5,3 +5,4 @@ pub mod Acting
 pub mod Worked
 pub mod Imported
 pub mod Reported
+pub mod Shelved

@@ -9,7 +9,7 @@ use Rattle.bo_schema.specs.Tables.{schema}
 use Rattle.bo_sound.specs.Sound.{IsSound}
 use Rattle.bo_opens.specs.Rests.{IsAt, Rests}
 use Rattle.bo_opens.specs.declared.error.OpenError.{OpenError}
-use Rattle.bo_reopen.specs.Opened.{IsOpened, IsReason}
+use Rattle.bo_file.specs.Opened.{IsOpened, IsReason}
 use Rattle.bo_tables.specs.declared.sql.SqlTables.{SqlTables}
 use Rattle.bo_desk.specs.Streams.{DeskView, Meaning, Serves}
 use Rattle.bo_http.specs.Written.{Page}

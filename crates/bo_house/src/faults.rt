@@ -5,10 +5,10 @@ ghost use Rattle.bo_house.specs.Faults.{fault_of_file, fault_of_opening, fault_o
 
 use bo_csv::FileFault;
 use bo_line::RunFault;
-use bo_made::TokenError;
 use bo_opens::OpenError;
 use bo_rules::Rule;
 use bo_schema::RowError;
+use bo_tables::TokenError;
 
 /// Why rows weren't read or written, as the program tells it. A value that is none is told as the rule of limits, 62.2.
 pub fn fault_of_rows(error: RowError) -> RunFault

@@ -7,13 +7,13 @@ ghost use Rattle.bo_line.specs.declared.fault.RunFault.TheVariants.{NotAShop};
 ghost use Rattle.bo_schema.specs.Blank.{blank_schema};
 ghost use Rattle.bo_schema.specs.Whole.{IsStill, MayBeWritten};
 ghost use Rattle.bo_tables.specs.Begun.{IsBegun};
-ghost use Rattle.bo_made.specs.Made.{first_shop};
+ghost use Rattle.bo_tables.specs.Made.{first_shop};
 ghost use Rattle.bo_house.specs.Filed.{HoldsNewShop};
 
 use crate::faults::fault_of_rows;
-use crate::filed::{Filed, connection_of};
+use crate::filed::Filed;
 use bo_base::Slug;
-use bo_made::{HandedBack, create};
+use bo_tables::{HandedBack, create};
 use sqlite::{Alter, Connection};
 use std::alloc::Global;
 
@@ -31,8 +31,8 @@ pub fn make_new_shop<S: Alter + Drop>(
     ensures crash { Survives (state S.Store connection) (state S.Store result.connection) (MayBeWritten blank_schema (λ (_ : Unit {0}) db after. IsBegun (first_shop organizer event) after) (state S.Store connection)) }
 {
     match create(alloc, connection, organizer, event) {
-        Ok(made) => Filed {
-            connection: connection_of(made),
+        Ok(tables) => Filed {
+            connection: tables.into_connection(),
             outcome: Ok(()),
         },
         Err(HandedBack { connection, error }) => Filed {

@@ -10,3 +10,5 @@ pub mod CountLemmas
 pub mod AnswerLemmas
 pub mod TakenLemmas
 pub mod WholeLemmas
+pub mod Added
+pub mod Made

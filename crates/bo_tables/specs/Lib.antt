@@ -5,3 +5,5 @@ pub mod Refusals
 pub mod Begun
 pub mod Free
 pub mod Steps
+pub mod Made
+pub mod Tokens

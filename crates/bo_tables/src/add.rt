@@ -32,7 +32,7 @@ impl Writing<()> for NewToken<'_> {
 
 /// Adds a token whose id and digest are new, and puts the shop's row, all of it or nothing. Refusals: 6, 60 where the file has
 /// no such table, and 63 where a transaction is open, the connection is shut, the token isn't new or the store fails.
-pub fn put_token<S: Alter>(
+pub(crate) fn put_token<S: Alter>(
     connection: &mut Connection<S>,
     shop: &ShopRow,
     token: &Token,

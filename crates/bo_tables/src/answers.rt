@@ -39,7 +39,7 @@ impl Lookup<KeptRow> for Under<'_> {
 
 /// What was told under a key of a token that is still kept at a moment. Nothing changes. Refusals: 6, 60, 62, and 63 where a
 /// transaction is open, or the token has the key twice.
-pub fn find_answer<S: Alter>(
+pub(crate) fn find_answer<S: Alter>(
     alloc: Global,
     connection: &mut Connection<S>,
     token: u64,

@@ -18,7 +18,7 @@ use sqlite::{Alter, Connection, Transaction};
 use sqlite_schema::schema::Schema;
 
 /// The row of a shop before its first change: version 1 of its tables, moment 0, and each id begins with 1.
-pub fn first_row(organizer: Slug, event: Slug) -> ShopRow
+pub(crate) fn first_row(organizer: Slug, event: Slug) -> ShopRow
     ensures { result ≡ record { version = 1; organizer = organizer; event = event; moment = 0; next = first_ids; next_token = 1 } }
 {
     ShopRow {
@@ -49,7 +49,7 @@ impl Writing<()> for NewShop<'_> {
 }
 
 /// Whether there is no table, no index and no view.
-pub fn is_blank(schema: &Schema) -> bool
+pub(crate) fn is_blank(schema: &Schema) -> bool
     ensures yes { IsTrue result → schema.now ≡ blank_schema }
     ensures no { schema.now ≡ blank_schema → result ≡ true }
 {
@@ -58,7 +58,10 @@ pub fn is_blank(schema: &Schema) -> bool
 
 /// Makes the tables of a shop in a database that has none, and puts the shop's row, all of it or nothing. Refusals: 60 where the
 /// database has a table already, 6, and 63 where a transaction is open, the connection is shut or the store fails.
-pub fn begin<S: Alter>(connection: &mut Connection<S>, shop: &ShopRow) -> Result<(), RowError>
+pub(crate) fn begin<S: Alter>(
+    connection: &mut Connection<S>,
+    shop: &ShopRow,
+) -> Result<(), RowError>
     ensures all { HasCleanDisk (state S.Store connection.new) → OnOk result (IsWritten (λ db after. IsBegun shop.now after) (state S.Store connection.old) (state S.Store connection.new)) }
     ensures none { HasCleanDisk (state S.Store connection.new) → OnErr result (IsStill (state S.Store connection.old) (state S.Store connection.new)) }
     ensures blank { ¬ ((state S.Store connection.old).now.schema ≡ blank_schema) → result ≡ Err Foreign }

@@ -1,17 +1,19 @@
-//! The tables of a shop in an SQLite file: how they begin, what is committed, the answers that are kept, and the tokens.
+//! The tables of a shop in an SQLite file: how they are made, what is committed, the answers that are kept, and the tokens.
 #![tactic(auto)]
 
-pub mod add;
-pub mod answers;
-pub mod beginning;
+mod add;
+pub mod adding;
+mod answers;
+mod beginning;
 mod committing;
+pub mod creating;
+pub mod error;
 pub mod laws;
 pub mod sql;
-pub mod tokens;
+mod tokens;
 mod writes;
 
-pub use add::put_token;
-pub use answers::find_answer;
-pub use beginning::{begin, first_row, is_blank};
+pub use adding::add_token;
+pub use creating::create;
+pub use error::{HandedBack, TokenError};
 pub use sql::SqlTables;
-pub use tokens::find_number;

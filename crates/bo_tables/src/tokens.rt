@@ -35,7 +35,7 @@ impl Lookup<Token> for OfDigest<'_> {
 
 /// The number of the token with this SHA-256 digest, if it is known. Nothing changes. Refusals: 6, 60, 62, and 63 where a
 /// transaction is open, or two tokens have the digest.
-pub fn find_number<S: Alter>(
+pub(crate) fn find_number<S: Alter>(
     alloc: Global,
     connection: &mut Connection<S>,
     digest: &[u8; 32],

@@ -7,7 +7,9 @@ mod files;
 
 use crate::files::HostFiles;
 use bo_feed::run;
+use bo_house::{House, Shelf};
 use bo_line::{LineEnd, counted, tell_words};
+use sqlite::{Alter, Connection, File, FileStore};
 use std::io;
 use std::io::{Stdin, Stdout};
 use std::marker::Brand;
@@ -19,9 +21,17 @@ fn words(rt: &HostRuntime) -> io::Result<Vec<String>> {
     Ok(std::env::args(rt)?.collect(rt.alloc())?)
 }
 
-// Runs a command line over standard input and output and the files of this machine, with a ledger for each count of theirs.
-fn run_words<A: Ledger, B: Ledger, C: Ledger, D: Ledger>(
+// Runs a command line over standard input and output and these files, with a ledger for each count of theirs.
+fn run_words<
+    S: Alter + Drop,
+    F: Shelf<Connection<S>> + Drop,
+    A: Ledger,
+    B: Ledger,
+    C: Ledger,
+    D: Ledger,
+>(
     rt: &HostRuntime,
+    files: F,
     words: &[String],
     reads: Blank,
     read_failures: Blank,
@@ -38,7 +48,7 @@ fn run_words<A: Ledger, B: Ledger, C: Ledger, D: Ledger>(
     run(
         rt,
         rt.alloc(),
-        &HostFiles { rt },
+        &House::over(rt, files),
         words,
         &mut reader,
         &mut writer,
@@ -47,8 +57,9 @@ fn run_words<A: Ledger, B: Ledger, C: Ledger, D: Ledger>(
 
 fn main(rt: HostRuntime) -> ExitCode {
     let ended = match words(&rt) {
-        Ok(words) => run_words::<Brand, Brand, Brand, Brand>(
+        Ok(words) => run_words::<FileStore<File>, HostFiles<'_>, Brand, Brand, Brand, Brand>(
             &rt,
+            HostFiles { rt: &rt },
             words.as_slice(),
             Blank::new(1),
             Blank::new(1),

@@ -1,9 +1,6 @@
-use Rattle.std.proofs.Common.{ap, ◌∙◌}
+use Rattle.std.proofs.Common.{ap}
 use Rattle.bo_columns.specs.declared.rows.ShopRow.{ShopRow}
 use Rattle.bo_feed.proofs.opening.begin.Goals as goal
-
-pub returns-in-Ok-clause-office : goal.returns-in-Ok-clause-office
-returns-in-Ok-clause-office g c = (c.in-Ok.ensures.office.0 ∙ c.in_ok-organizer.ensures, c.in-Ok.ensures.office.1 ∙ c.in_ok-event.ensures, c.in-Ok.ensures.office.2)
 
 pub returns-in-Ok-clause-next : goal.returns-in-Ok-clause-next
 returns-in-Ok-clause-next g c clean = ap (λ (h : ShopRow). h.next_token) (c.in-Ok.ensures.made clean).head_is

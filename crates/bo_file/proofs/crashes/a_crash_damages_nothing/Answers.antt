@@ -7,8 +7,8 @@ use Rattle.bo_sound.specs.Sound.{IsSound}
 use Rattle.bo_tables.proofs.Told.{one_shop}
 use Rattle.bo_opens.proofs.FitLemmas.{of_machine}
 use Rattle.bo_opens.proofs.LimitLemmas.{sound_fits}
-use Rattle.bo_reopen.proofs.Least.{clear}
-use Rattle.bo_reopen.proofs.Undamaged.{undamaged}
+use Rattle.bo_file.proofs.Least.{clear}
+use Rattle.bo_file.proofs.Undamaged.{undamaged}
 use Rattle.bo_file.proofs.Damage.{leaves_some}
 use Rattle.bo_file.proofs.crashes.a_crash_damages_nothing.Goals as goal
 

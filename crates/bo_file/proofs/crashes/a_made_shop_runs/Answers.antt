@@ -1,5 +1,5 @@
 use Rattle.std.proofs.Common.{refl, inl}
-use Rattle.bo_made.specs.Made.{nothing_yet}
+use Rattle.bo_tables.specs.Made.{nothing_yet}
 use Rattle.bo_file.proofs.crashes.a_made_shop_runs.Goals as goal
 
 pub returns : goal.returns

@@ -7,7 +7,7 @@ use Rattle.bo_opens.specs.declared.error.OpenError.{OpenError}
 use Rattle.bo_opens.specs.Rests.{IsAt}
 use Rattle.bo_opens.specs.Causes.{IsReadable}
 use Rattle.bo_opens.specs.Lawful.{IsOfMachine}
-use Rattle.bo_reopen.specs.Opened.{IsReason, IsOpened}
+use Rattle.bo_file.specs.Opened.{IsReason, IsOpened}
 use Rattle.bo_file.proofs.opening.open_file.Goals as goal
 
 pub returns-in-Ok-clause-opened : goal.returns-in-Ok-clause-opened

@@ -2,7 +2,7 @@ use Rattle.std.proofs.Common.{◌≡◌, ◌∙◌, List, ℕ, IfOk, OnErr, ap, 
 use Rattle.sha2.specs.Sha256.{sha256}
 use Rattle.sqlite.specs.Held.{state}
 use Rattle.sqlite.specs.State.{HasCleanDisk}
-use Rattle.bo_made.specs.Tokens.{HasNoRoom}
+use Rattle.bo_tables.specs.Tokens.{HasNoRoom}
 use Rattle.bo_house.specs.Filed.{GetsToken}
 use Rattle.bo_schema.specs.Tables.{schema}
 use Rattle.bo_schema.specs.Whole.{IsOver, IsStill}

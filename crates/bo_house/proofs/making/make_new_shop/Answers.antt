@@ -6,6 +6,6 @@ use Rattle.bo_house.proofs.making.make_new_shop.Goals as goal
 
 pub returns-in-Ok-clause-made : goal.returns-in-Ok-clause-made
 returns-in-Ok-clause-made g c =
-    let made = c.in-Ok.made.0 in
-    subst (λ it. HasCleanDisk (state g.S.Store it) → HoldsNewShop c.args.organizer c.args.event (state g.S.Store c.args.connection) (state g.S.Store it)) (sym c.connection_of.ensures)
-    (λ clean. (made.head, made.next_row, c.in-Ok.ensures.made clean))
+    let tables = c.in-Ok.tables in
+    subst (λ it. HasCleanDisk (state g.S.Store it) → HoldsNewShop c.args.organizer c.args.event (state g.S.Store c.args.connection) (state g.S.Store it)) (sym c.into_connection.ensures)
+    (λ clean. (tables.head, tables.next_row, c.in-Ok.ensures.made clean))

@@ -1,0 +1,90 @@
+-- What was read of a file, and what its tables hold of an office.
+use Rattle.std.proofs.Common.{◌≡◌, ℕ, false, map, IsTrue, Result, Ok, Err, IfOk, OnOk, refl, sym, ap, subst, ◌∙◌}
+use Rattle.std.specs.List.Sorted.{IsPermutation}
+use Rattle.std.proofs.lemmas.List.Sorted.{IsPermutation-map, IsPermutation-refl}
+use Rattle.sqlite_trees.specs.Tree.{Trees}
+use Rattle.sqlite.specs.Effect.{Database}
+use Rattle.sqlite.specs.State.{State as Connected}
+use Rattle.bo_schema.specs.Tables.{schema}
+use Rattle.bo_lists.specs.Lists.{State}
+use Rattle.bo_columns.specs.declared.rows.ShopRow.{ShopRow}
+use Rattle.bo_columns.specs.declared.rows.VoucherRow.{VoucherRow}
+use Rattle.bo_columns.specs.Tables.{Tables, Holds}
+use Rattle.bo_stand.specs.Free.{IsFree}
+use Rattle.bo_stand.specs.Rows.{rows_of, redeemed_in}
+use Rattle.bo_stand.specs.Stands.{AreRowsOf, AreSameRows, Stand}
+use Rattle.bo_stand.proofs.Follow.{rows_along}
+use Rattle.bo_rules.specs.Rules.{File, IsCounted}
+use Rattle.bo_opens.specs.declared.file.FileTables.{FileTables}
+use Rattle.bo_columns.specs.declared.table_rows.TableRows.{TableRows}
+use Rattle.bo_opens.specs.Read.{AreTableRows, IsFileOf}
+use Rattle.bo_opens.specs.Rests.{IsAt, StaysOpen}
+use Rattle.bo_arrange.specs.Arranged.{arranged, rows_in, told_by, count_in, item_link, variation_link, list_link, IsInOrder}
+use Rattle.bo_typed.specs.Typed.{IsTypedShop}
+use Rattle.bo_file.specs.Opened.{IsOpened}
+
+-- the rows that were read are those of the tables
+pub same_rows : (t : Tables) (rows : TableRows) → AreTableRows t rows → AreSameRows (rows_of t) (rows_in rows)
+same_rows t rows h = record {
+  items = h.catalogue.items;
+  variations = h.catalogue.variations;
+  quotas = h.catalogue.quotas;
+  quota_items = IsPermutation-map item_link _ _ h.catalogue.quota_items;
+  quota_variations = IsPermutation-map variation_link _ _ h.catalogue.quota_variations;
+  vouchers = IsPermutation-map (λ (r : VoucherRow). r.voucher) _ _ h.sales.vouchers;
+  carts = h.sales.carts;
+  orders = h.sales.orders;
+  positions = h.sales.positions;
+  waiting = h.sales.waiting;
+  checkin_lists = h.doors.checkin_lists;
+  list_items = IsPermutation-map list_link _ _ h.doors.list_items;
+  checkins = h.doors.checkins;
+}
+
+pub stand_read : (t : Tables) (read : FileTables) → IsFileOf t read → IsInOrder (arranged read.shop read.tables) → AreRowsOf (told_by (rows_in read.tables)) (rows_in read.tables) → IsCounted (arranged read.shop read.tables)
+    → Stand read.shop t (arranged read.shop read.tables).state (map (λ r. r.kept) t.kept)
+stand_read t read of order whole counted = record {
+  shop_is = of.shop;
+  moment = refl;
+  next = refl;
+  rows = rows_along (told_by (rows_in read.tables)) (rows_of t) (rows_in read.tables) (same_rows t read.tables of.tables) whole;
+  ordered = order.lists;
+  used = subst (IsPermutation t.counts) counted.used of.tables.others.counts;
+  redeemed = subst (IsPermutation (redeemed_in t)) counted.redeemed (IsPermutation-map count_in _ _ of.tables.sales.vouchers);
+  kept = IsPermutation-refl _;
+}
+
+-- it is told by a state that is the file's
+pub stand_as : (t : Tables) (read : FileTables) (file : File) (s : State) → file ≡ arranged read.shop read.tables → s ≡ file.state → IsFileOf t read → IsInOrder (arranged read.shop read.tables) → AreRowsOf (told_by (rows_in read.tables)) (rows_in read.tables)
+    → IsCounted file → Stand read.shop t s (map (λ r. r.kept) t.kept)
+stand_as t read file s is state of order whole counted =
+    subst (λ z. Stand read.shop t z (map (λ r. r.kept) t.kept)) (sym (state ∙ ap (λ (f : File). f.state) is)) (stand_read t read of order whole (subst IsCounted is counted))
+
+-- of an open connection a crash leaves the last commit
+pub is_opened : (t : Tables) (head : ShopRow) (next : ℕ) (s : State) (old new : Connected) → ((db : Trees) → IsTrue new.is_open → new.may_leave db → db ≡ new.committed.trees) → IsTrue new.is_open → new.in_transaction ≡ false → StaysOpen old new
+    → (db : Database) → IsAt db old → db.schema ≡ schema → Holds db.trees t → Stand head t s (map (λ r. r.kept) t.kept) → ((u : Tables) → Holds db.trees u → IsFree next u) → IsTypedShop head t → IsOpened db.trees head next s new
+is_opened t head next s old new law opened outside stays db was has holds stand free typed =
+    let at = stays.stays db was in
+    let known : new.now.schema ≡ schema = ap (λ (d : Database). d.schema) at.now ∙ has in
+    let held : Holds new.now.trees t = subst (λ (d : Database). Holds d.trees t) (sym at.now) holds in
+    let settled : new.now ≡ new.committed = at.now ∙ sym at.committed in
+    record {
+      tables = t;
+      held = holds;
+      stand = stand;
+      typed = typed;
+      holds = λ is_open. record { known = known; outside = outside; settled = settled; tables = t; held = held; stand = stand; typed = typed; free = free t holds };
+      knows = λ u also is_open. record { told = record { known = known; tables = u; held = subst (λ (d : Database). Holds d.trees u) (sym at.now) also; told = λ digest. refl }; free = free u also };
+      leaves = λ left l.
+          let same : l.trees ≡ new.now.trees = law l.trees opened l.may ∙ sym (ap (λ (d : Database). d.trees) settled) in
+          l.only head t (record { state = s; kept = map (λ r. r.kept) t.kept }) (subst (λ d. Holds d t) (sym same) held) stand typed;
+    }
+
+-- what follows of a value from what holds of it
+pub both_on : {T E : Type 0} (r : Result T E) (P Q R : T → Type 0) {O : Type 0} → IfOk r P → IfOk r Q → OnOk r O → ((x : T) → P x → Q x → O → R x) → IfOk r R
+both_on (Ok x) P Q R h i o k = k x h i o
+both_on (Err e) P Q R h i o k = tt
+
+pub on_three : {T E : Type 0} (r : Result T E) (P Q R : T → Type 0) (O S : Type 0) → IfOk r P → IfOk r Q → IfOk r R → OnOk r O → ((x : T) → P x → Q x → R x → O → S) → OnOk r S
+on_three (Ok x) P Q R O S h i j o k = k x h i j o
+on_three (Err e) P Q R O S h i j o k = tt

@@ -1,0 +1,102 @@
+//! A book of the rows of a file.
+
+ghost use Rattle.std.specs.Prelude.{◌≡◌, map, IfOk, IfErr, OnOk};
+ghost use Rattle.bo_lists.specs.Lists.{empty};
+ghost use Rattle.bo_sound.specs.Sound.{IsSound};
+ghost use Rattle.bo_columns.specs.Tables.{Tables};
+ghost use Rattle.bo_stand.specs.Free.{IsFree};
+ghost use Rattle.bo_stand.specs.Stands.{Stand};
+ghost use Rattle.bo_rules.specs.declared.rule.Rule.{Rule};
+ghost use Rattle.bo_rules.specs.Rules.{Keeps};
+ghost use Rattle.bo_rules.specs.Told.{state_of, file_of};
+ghost use Rattle.bo_checks.specs.Last.{KeepsFirst};
+ghost use Rattle.bo_opens.specs.Read.{IsFileOf};
+ghost use Rattle.bo_typed.specs.Typed.{AreBelowNext};
+ghost use Rattle.bo_file.specs.Opened.{IsBroken, IsWhy};
+
+use crate::rows::{first_kept, free_number};
+use bo_base::Slug;
+use bo_checks::last_broken;
+use bo_columns::ShopRow;
+use bo_fill::fill;
+use bo_opens::{FileTables, OpenError};
+use bo_rules::FileRows;
+use bo_usage::Book;
+use std::alloc::Global;
+
+/// What a shop's file holds: the shop's row, whose shop it is, the number from which rows without an id of their own are numbered
+/// on, and a book with the rows of the box office.
+#[derive(Drop)]
+pub struct Reopened<B: Book + Drop> {
+    pub head: ShopRow,
+    pub organizer: Slug,
+    pub event: Slug,
+    pub next_row: u64,
+    pub book: B,
+}
+
+// An empty book, filled with rows that keep the first rules, where they keep the others too; and whose shop it is.
+// Refusals: 6, and 62 by rules 4 to 7.
+fn book_of<B: Book + Drop>(
+    alloc: Global,
+    book: B,
+    rows: FileRows,
+) -> Result<(B, (Slug, Slug)), OpenError>
+    requires empty { B.state book ≡ empty }
+    requires first { KeepsFirst (file_of rows) }
+    ensures state { IfOk result (λ it. B.state it.0 ≡ state_of rows) }
+    ensures names { IfOk result (λ it. (it.1.0 ≡ rows.organizer) × (it.1.1 ≡ rows.event)) }
+    ensures kept { OnOk result ((rule : Rule) → Keeps rule (file_of rows)) }
+    ensures refused { IfErr result (IsBroken (file_of rows)) }
+{
+    let mut book = book;
+    match fill(alloc, &mut book, rows) {
+        Ok(aside) => {
+            match last_broken(
+                alloc,
+                &book,
+                aside.used.as_slice(),
+                aside.redeemed.as_slice(),
+            ) {
+                Ok(None) => Ok((book, (aside.organizer, aside.event))),
+                Ok(Some(rule)) => Err(OpenError::Damaged(rule)),
+                Err(_) => Err(OpenError::Memory),
+            }
+        }
+        Err(_) => Err(OpenError::Memory),
+    }
+}
+
+/// What a file holds, with an empty book that gets its rows. Refusals: 6; 62 by the least rule that is broken; 63 where the store
+/// didn't show rows in order.
+pub(crate) fn open_rows<B: Book + Drop>(
+    alloc: Global,
+    book: B,
+    file: FileTables,
+) -> Result<Reopened<B>, OpenError>
+    requires { B.state book ≡ empty }
+    ensures head { IfOk result (λ it. it.head ≡ file.shop) }
+    ensures names { IfOk result (λ it. (it.organizer ≡ it.head.organizer) × (it.event ≡ it.head.event)) }
+    ensures sound { IfOk result (λ it. IsSound (B.state it.book)) }
+    ensures numbered { OnOk result (AreBelowNext file.shop file.tables.others.tokens.items) }
+    ensures held { IfOk result (λ it. (t : Tables) → IsFileOf t file → Stand it.head t (B.state it.book) (map (λ r. r.kept) t.kept) × IsFree it.next_row t) }
+    ensures refused { IfErr result (IsWhy file) }
+{
+    let FileTables { shop, tables } = file;
+    let Some(next_row) = free_number(&tables) else {
+        return Err(OpenError::Store);
+    };
+    match first_kept(alloc, &shop, tables) {
+        Ok(rows) => match book_of(alloc, book, rows) {
+            Ok((book, (organizer, event))) => Ok(Reopened {
+                head: shop,
+                organizer,
+                event,
+                next_row,
+                book,
+            }),
+            Err(error) => Err(error),
+        },
+        Err(error) => Err(error),
+    }
+}

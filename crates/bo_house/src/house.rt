@@ -1,0 +1,197 @@
+//! The commands on shops' files.
+
+ghost use Rattle.std.specs.Prelude.{◌≡◌, true, false, IfOk, IfErr, IsTrue, OnOk};
+ghost use Rattle.sqlite.specs.Held.{state};
+ghost use Rattle.sqlite.specs.State.{HasCleanDisk};
+ghost use Rattle.bo_base.specs.Slugs.{IsSlug};
+ghost use Rattle.bo_house.specs.Filed.{HoldsNewShop};
+ghost use Rattle.bo_house.specs.Shelved.{IsGiven, IsShelved, is_shelf_fault};
+
+use crate::adding::add_shop_token;
+use crate::filed::Filed;
+use crate::importing::import_shop;
+use crate::making::make_new_shop;
+use crate::reporting::report_shop;
+use crate::serving::serve_shop;
+use crate::shelf::Shelf;
+use crate::working::work_shop;
+use bo_base::{Body, Slug};
+use bo_devices::Drain;
+use bo_kept::Tables;
+use bo_line::{HouseFiles, Place, Report, RunFault};
+use bo_tables::SqlTables;
+use sqlite::{Alter, Connection};
+use std::alloc::{AllocError, Global};
+use std::marker::PhantomData;
+use std::net::{Net, TcpListener, TcpStream};
+use std::random::RandomSource;
+use std::time::Clock;
+
+/// The commands on shops' files: over the files of a shelf, on a system with a clock, chance and a network. Each opens its file, does what
+/// it has to with the shop in it, and closes the file.
+#[derive(Drop)]
+pub struct House<'a, R, S, F> {
+    rt: &'a R,
+    shelf: F,
+    base: PhantomData<S>,
+}
+
+// Both names as texts of their own.
+fn both_slugs(alloc: Global, organizer: &str, event: &str) -> Result<(Slug, Slug), AllocError>
+    requires organizer { IsSlug organizer.now }
+    requires event { IsSlug event.now }
+    ensures { IfOk result (λ both. (both.0 ≡ organizer.now) × (both.1 ≡ event.now)) }
+{
+    Ok((
+        Slug::copy_of(alloc, organizer)?,
+        Slug::copy_of(alloc, event)?,
+    ))
+}
+
+impl<'a, R, S: Alter + Drop, F: Shelf<Connection<S>>> House<'a, R, S, F> {
+    /// The commands over this system and the files of this shelf.
+    pub fn over(rt: &'a R, shelf: F) -> House<'a, R, S, F> {
+        House {
+            rt,
+            shelf,
+            base: PhantomData,
+        }
+    }
+
+    // The file of this name, which has to be there.
+    fn found(&self, file: &str) -> Result<Connection<S>, RunFault>
+        ensures given { IfOk result (λ connection. IsGiven F.stood F.gives true file.now connection) }
+        ensures refused { IfErr result (λ fault. IsTrue (is_shelf_fault fault)) }
+    {
+        if self.shelf.stands(file) {
+            self.shelf.open(file)
+        } else {
+            Err(RunFault::File)
+        }
+    }
+
+    // A shop for this organizer and this event, in a file of this name that wasn't there.
+    fn made(&self, alloc: Global, file: &str, organizer: Slug, event: Slug) -> Result<(), RunFault>
+        ensures { F.stood file.now false → IsShelved (IsGiven F.stood F.gives false) (λ connection left came. HasCleanDisk (state S.Store left)
+            → OnOk came (HoldsNewShop organizer event (state S.Store connection) (state S.Store left))) file.now result }
+    {
+        match self.shelf.open(file) {
+            Ok(connection) => self.ended(make_new_shop(alloc, connection, organizer, event)),
+            Err(fault) => Err(fault),
+        }
+    }
+
+    // What became of a command, whose connection is closed.
+    fn ended<T: Drop>(&self, filed: Filed<S, T>) -> Result<T, RunFault>
+        ensures { result ≡ filed.outcome }
+    {
+        let Filed {
+            connection,
+            outcome,
+        } = filed;
+        self.shelf.close(connection);
+        outcome
+    }
+}
+
+impl<
+    R: Net<Listener = TcpListener, Stream = TcpStream> + Clock + RandomSource,
+    S: Alter + Drop,
+    F: Shelf<Connection<S>>,
+> HouseFiles for House<'_, R, S, F> {
+    ghost use Rattle.std.specs.Prelude.{◌≡◌, ◌⊎◌, true, false, IfOk, OnOk, Result};
+    ghost use Rattle.sqlite.specs.Effect.{Database};
+    ghost use Rattle.sqlite.specs.Held.{state};
+    ghost use Rattle.sqlite.specs.State.{HasCleanDisk};
+    ghost use Rattle.sha2.specs.Sha256.{sha256};
+    ghost use Rattle.bo_schema.specs.Tables.{schema};
+    ghost use Rattle.bo_opens.specs.Rests.{IsAt};
+    ghost use Rattle.bo_desk.specs.Streams.{meaning};
+    ghost use Rattle.bo_line.specs.declared.fault.RunFault.{RunFault};
+    ghost use Rattle.bo_house.specs.Filed.{HoldsNewShop, KnowsToken};
+    ghost use Rattle.bo_house.specs.Imported.{IsOpenedAndImported};
+    ghost use Rattle.bo_house.specs.Reported.{IsOpenedAndReported};
+    ghost use Rattle.bo_house.specs.Served.{IsOpenedAndServed, StaysUnopened};
+    ghost use Rattle.bo_house.specs.Shelved.{IsGiven, IsShelved};
+    ghost use Rattle.bo_house.specs.Worked.{IsOpenedAndWorked};
+
+    ghost made = { λ file organizer event outcome. IsShelved (IsGiven F.stood F.gives false) (λ connection left came. HasCleanDisk (state S.Store left)
+        → OnOk came (HoldsNewShop organizer event (state S.Store connection) (state S.Store left))) file outcome };
+
+    ghost added = { λ file token outcome. IsShelved (IsGiven F.stood F.gives true) (λ connection left came. IfOk came (λ number. HasCleanDisk (state S.Store left)
+        → (db : Database) → IsAt db (state S.Store connection) → db.schema ≡ schema → KnowsToken db.trees (sha256 token) number (state S.Store left))) file outcome };
+
+    ghost served = { λ file addr most outcome. IsShelved (IsGiven F.stood F.gives true) (λ connection left came.
+        IsOpenedAndServed S.Store (meaning ⟦<SqlTables<S> as Tables>⟧.sure ⟦<SqlTables<S> as Tables>⟧.holds ⟦<SqlTables<S> as Tables>⟧.knows ⟦<SqlTables<S> as Tables>⟧.may_leave)
+        most (state S.Store connection) left came ⊎ StaysUnopened S.Store (state S.Store connection) left came) file outcome };
+
+    ghost worked = { λ file outcome. IsShelved (IsGiven F.stood F.gives true) (λ connection left came.
+        IsOpenedAndWorked S.Store (meaning ⟦<SqlTables<S> as Tables>⟧.sure ⟦<SqlTables<S> as Tables>⟧.holds ⟦<SqlTables<S> as Tables>⟧.knows ⟦<SqlTables<S> as Tables>⟧.may_leave)
+        (state S.Store connection) left came ⊎ StaysUnopened S.Store (state S.Store connection) left came) file outcome };
+
+    ghost reported = { λ file report outcome. IsShelved (IsGiven F.stood F.gives true) (λ connection left came.
+        IsOpenedAndReported S.Store report (state S.Store connection) left came ⊎ StaysUnopened S.Store (state S.Store connection) left came) file outcome };
+
+    ghost imported = { λ file csv outcome. IsShelved (IsGiven F.stood F.gives true) (λ connection left came. (source : Result _ RunFault)
+        × (IsOpenedAndImported S.Store (meaning ⟦<SqlTables<S> as Tables>⟧.sure ⟦<SqlTables<S> as Tables>⟧.holds ⟦<SqlTables<S> as Tables>⟧.knows ⟦<SqlTables<S> as Tables>⟧.may_leave)
+        source (state S.Store connection) left came ⊎ StaysUnopened S.Store (state S.Store connection) left came)) file outcome };
+
+    fn make(
+        &self,
+        alloc: Global,
+        file: &str,
+        organizer: &str,
+        event: &str,
+    ) -> Result<(), RunFault> {
+        if self.shelf.stands(file) {
+            return Err(RunFault::NotAShop);
+        }
+        match both_slugs(alloc, organizer, event) {
+            Ok((organizer, event)) => self.made(alloc, file, organizer, event),
+            Err(_) => Err(RunFault::Memory),
+        }
+    }
+
+    fn add_token(&self, alloc: Global, file: &str, token: &str) -> Result<u64, RunFault> {
+        match self.found(file) {
+            Ok(connection) => self.ended(add_shop_token(alloc, connection, token)),
+            Err(fault) => Err(fault),
+        }
+    }
+
+    fn serve<W: Drain>(
+        &self,
+        alloc: Global,
+        file: &str,
+        place: &Place<'_>,
+        writer: &mut W,
+    ) -> Result<(), RunFault> {
+        match self.found(file) {
+            Ok(connection) => self.ended(serve_shop(self.rt, alloc, connection, place, writer)),
+            Err(fault) => Err(fault),
+        }
+    }
+
+    fn work(&self, alloc: Global, file: &str) -> Result<Body, RunFault> {
+        match self.found(file) {
+            Ok(connection) => self.ended(work_shop(self.rt, alloc, connection)),
+            Err(fault) => Err(fault),
+        }
+    }
+
+    fn report(&self, alloc: Global, file: &str, report: Report) -> Result<Body, RunFault> {
+        match self.found(file) {
+            Ok(connection) => self.ended(report_shop(alloc, connection, report)),
+            Err(fault) => Err(fault),
+        }
+    }
+
+    fn import(&self, alloc: Global, file: &str, csv: &str) -> Result<Body, RunFault> {
+        match self.found(file) {
+            Ok(connection) => {
+                self.ended(import_shop(self.rt, alloc, connection, self.shelf.bytes(csv)))
+            }
+            Err(fault) => Err(fault),
+        }
+    }
+}

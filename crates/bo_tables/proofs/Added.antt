@@ -1,0 +1,175 @@
+-- A token that is added, and what it leaves as it was.
+use Rattle.std.proofs.Common.{◌≡◌, ◌⊎◌, ◌<◌, ◌≤◌, nat_lt, ℕ, Bool, true, false, cond, bytes_eq, List, ◌∷◌, find, Option, Some, None, option_map, IsTrue, inl, inr, Result, Ok, Err, IfOk, OnOk, OnErr, refl, sym, ap, subst, ◌∙◌, arith}
+use Rattle.std.proofs.lemmas.Bool.Decides.{nat_tests}
+use Rattle.std.proofs.lemmas.Slice.Eq.{bytes_eq-Decides}
+use Rattle.sqlite_trees.specs.Tree.{Trees}
+use Rattle.sqlite.specs.Effect.{Database}
+use Rattle.sqlite.specs.State.{State as Connected, HasCleanDisk, Survives}
+use Rattle.bo_schema.specs.Tables.{schema}
+use Rattle.bo_lists.specs.Lists.{State}
+use Rattle.bo_kept.specs.declared.kept.Kept.{Kept}
+use Rattle.bo_kept.specs.ShopView.{ShopView, IsSame}
+use Rattle.bo_columns.specs.declared.rows.ShopRow.{ShopRow}
+use Rattle.bo_columns.specs.declared.rows.Token.{Token}
+use Rattle.bo_columns.specs.Fit.{IsDigest}
+use Rattle.bo_columns.specs.Tables.{Tables, Holds}
+use Rattle.bo_loads.specs.Lookups.{has_digest}
+use Rattle.bo_schema.specs.Whole.{IsOver, IsStill, IsWritten, MayBeWritten}
+use Rattle.bo_tables.specs.Begun.{HasToken, token_added}
+use Rattle.bo_tables.proofs.Begins.{token_stands, token_free}
+use Rattle.bo_typed.proofs.Typed.{token_typed}
+use Rattle.bo_tables.specs.Held.{number_of}
+use Rattle.bo_tables.specs.Shops.{HoldsWhileOpen, Knows, KnowsWhileOpen, HoldNoOther, Leaves}
+use Rattle.bo_tables.proofs.ShopLemmas.{still_holds, still_knows, leaves_still}
+use Rattle.bo_tables.specs.Tokens.{most_tokens, also_known, IsNumbered, HasNoRoom, raised, next_one, head_after, tables_after}
+
+-- ---- nothing changed
+
+pub still_over : (old new : Connected) → IsStill old new → IsOver schema old → IsOver schema new
+still_over old new still over is_open =
+    let was = still.same is_open in
+    ap (λ (d : Database). d.schema) was.now ∙ over was.was_open
+
+pub still_shows : (old new : Connected) → IsStill old new → IsTrue new.is_open → (t : Tables) → Holds old.now.trees t → Holds new.now.trees t
+still_shows old new still is_open t held = subst (λ (d : Database). Holds d.trees t) (sym (still.same is_open).now) held
+
+-- ---- a digest that has a number
+
+told_again : (digest : List ℕ) (number : ℕ) (tokens : List ℕ → Option ℕ) (known : Some number ≡ tokens digest) (other : List ℕ) → also_known digest number tokens other ≡ tokens other
+told_again digest number tokens known other = elim (bytes_eq digest other) as (λ b. bytes_eq digest other ≡ b → cond b (Some number) (tokens other) ≡ tokens other) [
+  | true ↦ λ e. known ∙ ap tokens ((bytes_eq-Decides digest other).0 e)
+  | false ↦ λ e. refl
+] refl
+
+pub found_knows : (next : ℕ) (c : Connected) (digest : List ℕ) (number : ℕ) (tokens : List ℕ → Option ℕ) → Some number ≡ tokens digest → KnowsWhileOpen next c tokens → KnowsWhileOpen next c (also_known digest number tokens)
+found_knows next c digest number tokens known knows is_open =
+    let it = knows is_open in
+    record {
+      told = record { known = it.told.known; tables = it.told.tables; held = it.told.held; told = λ other. told_again digest number tokens known other ∙ it.told.told other };
+      free = it.free;
+    }
+
+-- ---- a token more
+
+module _ (head : ShopRow) (digest : List ℕ) (next : ℕ) (old new : Connected) where
+  abbrev token : Token
+  token = next_one head digest
+
+  abbrev adds : Database → Database → Type 0
+  adds = HasToken (raised head) token
+
+  pub added_holds : head.next_token ≤ most_tokens → IsDigest digest → IsWritten adds old new → (s : State) (ks : List Kept) → HoldsWhileOpen head next old s ks → HoldsWhileOpen (raised head) next new s ks
+  added_holds room is w s ks holds is_open =
+      let it = holds w.was_open in
+      record {
+        known = w.turned.known;
+        outside = w.outside;
+        settled = w.settled;
+        tables = token_added (raised head) token it.tables;
+        held = w.turned.holds it.tables it.held;
+        stand = token_stands head (raised head) token it.tables s ks refl refl it.stand;
+        typed = token_typed head digest it.tables (omega (arith, room)) is it.typed;
+        free = token_free (raised head) token it.tables next it.free;
+      }
+
+  pub number_too : (tokens : List ℕ → Option ℕ) (all : List Token) → ((other : List ℕ) → tokens other ≡ number_of all other) → (other : List ℕ) → also_known digest head.next_token tokens other ≡ number_of (token ∷ all) other
+  number_too tokens all told other = elim (bytes_eq digest other) as (λ b. cond b (Some head.next_token) (tokens other) ≡ option_map (λ (t : Token). t.id) (cond b (Some token) (find (has_digest other) all))) [ true ↦ refl | false ↦ told other ]
+
+  pub added_knows : IsWritten adds old new → (tokens : List ℕ → Option ℕ) → KnowsWhileOpen next old tokens → KnowsWhileOpen next new (also_known digest head.next_token tokens)
+  added_knows w tokens knows is_open =
+      let it = knows w.was_open in
+      record {
+        told = record {
+          known = w.turned.known;
+          tables = token_added (raised head) token it.told.tables;
+          held = w.turned.holds it.told.tables it.told.held;
+          told = number_too tokens it.told.tables.tokens it.told.told;
+        };
+        free = token_free (raised head) token it.told.tables next it.free;
+      }
+
+  left_so : head.next_token ≤ most_tokens → IsDigest digest → (db : Trees) → MayBeWritten schema (λ (_ : Unit {0}). adds) old db → (left : ShopView) → HoldNoOther db left → (s : State) (ks : List Kept) → HoldsWhileOpen head next old s ks → IsSame left (record { state = s; kept = ks })
+  left_so room is db may left only s ks holds =
+      let it = holds may.was_open in
+      let here : Holds db (token_added (raised head) token it.tables) = subst (λ d. Holds d (token_added (raised head) token it.tables)) (sym may.is) ((may.turned it.known).holds it.tables it.held) in
+      only (raised head) (token_added (raised head) token it.tables) (record { state = s; kept = ks }) here (token_stands head (raised head) token it.tables s ks refl refl it.stand) (token_typed head digest it.tables (omega (arith, room)) is it.typed)
+
+  pub leaves_or : head.next_token ≤ most_tokens → IsDigest digest → Survives old new (MayBeWritten schema (λ (_ : Unit {0}). adds) old) → (left : ShopView) → Leaves new left → Leaves old left ⊎ ((s : State) (ks : List Kept) → HoldsWhileOpen head next old s ks → IsSame left (record { state = s; kept = ks }))
+  leaves_or room is h left l =
+      let clean : HasCleanDisk old = let more = l.clean in omega (arith, h.clean) in
+      elim (h.crash l.clean l.trees l.may) [
+        | inl may ↦ inl (record { clean = clean; trees = l.trees; may = may; only = l.only })
+        | inr may ↦ inr (left_so room is l.trees may left l.only)
+      ]
+
+-- ---- by the number that the digest has already
+
+pub same_number : (number next : ℕ) (o : Option ℕ) → Some number ≡ o → IsNumbered o next number
+same_number number next (Some known) e = cc
+same_number number next None e = absurd cc
+
+pub same_head : (number : ℕ) (head : ShopRow) (o : Option ℕ) → Some number ≡ o → head ≡ head_after o head
+same_head number head (Some known) e = refl
+same_head number head None e = absurd cc
+
+pub same_tables : (number : ℕ) (head : ShopRow) (digest : List ℕ) (db : Trees) (t : Tables) (o : Option ℕ) → Some number ≡ o → Holds db t → Holds db (tables_after o head digest t)
+same_tables number head digest db t (Some known) e held = held
+same_tables number head digest db t None e held = absurd cc
+
+pub next_number : {E : Type 0} (r : Result ℕ E) (next : ℕ) (o : Option ℕ) → None ≡ o → IfOk r (λ number. (number ≡ next) × (next ≤ most_tokens)) → IfOk r (IsNumbered o next)
+next_number r next None e h = h
+next_number r next (Some known) e h = absurd cc
+
+pub no_room : (next : ℕ) (o : Option ℕ) → None ≡ o → most_tokens < next → HasNoRoom o next
+no_room next None e h = h
+no_room next (Some known) e h = absurd cc
+
+pub next_head : {T E : Type 0} (r : Result T E) (head now : ShopRow) (o : Option ℕ) → None ≡ o → OnOk r (now ≡ raised head) → OnOk r (now ≡ head_after o head)
+next_head r head now None e h = h
+next_head r head now (Some known) e h = absurd cc
+
+-- ---- after a look-up that found no number
+
+module _ {E : Type 0} (r : Result ℕ E) (head : ShopRow) (digest : List ℕ) (next : ℕ) (old mid new : Connected) where
+  pub then_tables : (o : Option ℕ) → None ≡ o → IsStill old mid → OnOk r (IsWritten (HasToken (raised head) (next_one head digest)) mid new)
+      → OnOk r ((t : Tables) → Holds old.now.trees t → Holds new.now.trees (tables_after o head digest t))
+  then_tables None e still = elim r as (λ x. OnOk x (IsWritten (HasToken (raised head) (next_one head digest)) mid new) → OnOk x ((t : Tables) → Holds old.now.trees t → Holds new.now.trees (token_added (raised head) (next_one head digest) t))) [
+    | Ok number ↦ λ w t held. w.turned.holds t (still_shows old mid still w.was_open t held)
+    | Err error ↦ λ w. tt
+  ]
+  then_tables (Some known) e still = absurd cc
+
+  pub then_knows : (n : ℕ) → n ≡ next → (tokens : List ℕ → Option ℕ) → IsStill old mid → KnowsWhileOpen next old tokens → IfOk r (λ number. (number ≡ head.next_token) × (head.next_token ≤ most_tokens))
+      → OnOk r (IsWritten (HasToken (raised head) (next_one head digest)) mid new) → IfOk r (λ number. KnowsWhileOpen n new (also_known digest number tokens))
+  then_knows n row tokens still knows = elim r as (λ x. IfOk x (λ number. (number ≡ head.next_token) × (head.next_token ≤ most_tokens)) → OnOk x (IsWritten (HasToken (raised head) (next_one head digest)) mid new) → IfOk x (λ number. KnowsWhileOpen n new (also_known digest number tokens))) [
+    | Ok number ↦ λ is w. rw (is.0, row) (added_knows head digest next mid new w tokens (still_knows next old mid tokens still knows))
+    | Err error ↦ λ is w. tt
+  ]
+
+  pub then_holds : (now : ShopRow) (n : ℕ) → n ≡ next → (s : State) (ks : List Kept) → IsStill old mid → HoldsWhileOpen head next old s ks → IsDigest digest → IfOk r (λ number. (number ≡ head.next_token) × (head.next_token ≤ most_tokens)) → OnOk r (now ≡ raised head) → OnErr r (now ≡ head)
+      → OnOk r (IsWritten (HasToken (raised head) (next_one head digest)) mid new) → OnErr r (IsStill mid new) → HoldsWhileOpen now n new s ks
+  then_holds now n row s ks still holds digest_is = elim r as (λ x. IfOk x (λ number. (number ≡ head.next_token) × (head.next_token ≤ most_tokens)) → OnOk x (now ≡ raised head) → OnErr x (now ≡ head) → OnOk x (IsWritten (HasToken (raised head) (next_one head digest)) mid new) → OnErr x (IsStill mid new) → HoldsWhileOpen now n new s ks) [
+    | Ok number ↦ λ known is _ w _. rw (is, row) (added_holds head digest next mid new known.1 digest_is w s ks (still_holds head next old mid s ks still holds))
+    | Err error ↦ λ _ _ is _ late. rw (is, row) (still_holds head next mid new s ks late (still_holds head next old mid s ks still holds))
+  ]
+
+  pub then_settled : ((db : Trees) → IsTrue new.is_open → new.may_leave db → db ≡ new.committed.trees) → OnOk r (IsWritten (HasToken (raised head) (next_one head digest)) mid new)
+      → OnOk r ((db : Trees) → new.may_leave db → db ≡ new.now.trees)
+  then_settled law = elim r as (λ x. OnOk x (IsWritten (HasToken (raised head) (next_one head digest)) mid new) → OnOk x ((db : Trees) → new.may_leave db → db ≡ new.now.trees)) [
+    | Ok number ↦ λ w db may. law db w.is_open may ∙ sym (ap (λ (d : Database). d.trees) w.settled)
+    | Err error ↦ λ w. tt
+  ]
+
+  pub then_leaves : IsDigest digest → (most_tokens < head.next_token → Survives mid new (λ _. ⊥)) → Survives old mid (λ _. ⊥) → (HasCleanDisk mid → IsStill old mid) → Survives mid new (MayBeWritten schema (λ (_ : Unit {0}). HasToken (raised head) (next_one head digest)) mid) → (left : ShopView) → Leaves new left
+      → Leaves old left ⊎ ((s : State) (ks : List Kept) → HoldsWhileOpen head next old s ks → IsSame left (record { state = s; kept = ks }))
+  then_leaves digest_is full one still two left l =
+      let clean : HasCleanDisk mid = let more = l.clean in omega (arith, two.clean) in
+      elim (nat_lt most_tokens head.next_token) as (λ b. nat_lt most_tokens head.next_token ≡ b → Leaves old left ⊎ ((s : State) (ks : List Kept) → HoldsWhileOpen head next old s ks → IsSame left (record { state = s; kept = ks }))) [
+        | true ↦ λ e. inl (leaves_still old mid one left (leaves_still mid new (full (grind (arith, nat_tests))) left l))
+        | false ↦ λ e.
+            let room : head.next_token ≤ most_tokens = grind (arith, nat_tests) in
+            elim (leaves_or head digest next mid new room digest_is two left l) [
+              | inl it ↦ inl (leaves_still old mid one left it)
+              | inr so ↦ inr (λ s ks holds. so s ks (still_holds head next old mid s ks (still clean) holds))
+            ]
+      ] refl

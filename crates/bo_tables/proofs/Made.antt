@@ -1,0 +1,48 @@
+-- A shop's file that was just made.
+use Rattle.std.proofs.Common.{◌≡◌, ℕ, List, [], IsTrue, refl, sym, ap, subst, ◌∙◌, arith}
+use Rattle.sqlite_trees.specs.Tree.{Trees}
+use Rattle.sqlite.specs.Effect.{Database}
+use Rattle.sqlite.specs.State.{State as Connected}
+use Rattle.bo_base.specs.Slugs.{IsSlug}
+use Rattle.bo_columns.specs.declared.rows.ShopRow.{ShopRow}
+use Rattle.bo_columns.specs.Tables.{Holds}
+use Rattle.bo_schema.specs.Whole.{IsWritten}
+use Rattle.bo_tables.specs.Begun.{IsBegun, first_tables}
+use Rattle.bo_tables.proofs.Begins.{begins_empty, begins_free}
+use Rattle.bo_typed.specs.Typed.{IsTypedShop}
+use Rattle.bo_typed.proofs.Typed.{first_typed}
+use Rattle.bo_tables.specs.Made.{first_shop, nothing_yet, IsMade}
+
+module _ (organizer event : List ℕ) (old new : Connected) where
+  abbrev first : ShopRow
+  first = first_shop organizer event
+
+  typed_so : IsSlug organizer → IsSlug event → IsTypedShop first (first_tables first)
+  typed_so org ev = first_typed first refl org ev (record { from_one = omega arith; within = omega arith })
+
+  -- of an open connection a crash leaves the last commit
+  pub is_made : ((db : Trees) → IsTrue new.is_open → new.may_leave db → db ≡ new.committed.trees) → IsSlug organizer → IsSlug event → (head : ShopRow) → head ≡ first → IsWritten (λ db after. IsBegun first after) old new → IsMade first old head 1 new
+  is_made law org ev head is w = subst (λ h. IsMade first old h 1 new) (sym is) (record {
+    was_open = w.was_open;
+    is_open = w.is_open;
+    head_is = refl;
+    known = w.turned.known;
+    held = w.turned.held;
+    holds = λ is_open. record {
+      known = w.turned.known;
+      outside = w.outside;
+      settled = w.settled;
+      tables = first_tables first;
+      held = w.turned.held;
+      stand = begins_empty first refl refl;
+      typed = typed_so org ev;
+      free = begins_free first 1;
+    };
+    knows = λ is_open. record {
+      told = record { known = w.turned.known; tables = first_tables first; held = w.turned.held; told = λ digest. refl };
+      free = begins_free first 1;
+    };
+    leaves = λ left l.
+        let db : l.trees ≡ new.now.trees = law l.trees w.is_open l.may ∙ sym (ap (λ (d : Database). d.trees) w.settled) in
+        l.only first (first_tables first) nothing_yet (subst (λ d. Holds d (first_tables first)) (sym db) w.turned.held) (begins_empty first refl refl) (typed_so org ev);
+  })
