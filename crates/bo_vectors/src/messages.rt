@@ -6,9 +6,34 @@ use bo_base::{Answer, Body, Methods, Response, StatusCode, Steps};
 use bo_devices::{Device, Drain, Refused};
 use bo_http::{FrameFault, Frames, write_answer, write_fault};
 use std::alloc::{AllocError, Global};
+use std::fmt::Write;
 use std::marker::Brand;
 use std::sync::ledger::{Blank, Ledger};
 use std::test::Fail;
+
+// Takes the messages that are there, and tells the length of each one's body, or the status of a fault. Whether the stream ends so.
+fn take_all(frames: &mut Frames, text: &mut String) -> Result<bool, AllocError> {
+    for _ in 0..1000 {
+        match frames.next() {
+            None => return Ok(false),
+            Some(Err(fault)) => {
+                write!(text, "{}", fault.status().as_u16())?;
+                return Ok(true);
+            }
+            Some(Ok(())) => {
+                let Some(frame) = frames.taken() else {
+                    return Ok(false);
+                };
+                write!(text, "{},", frame.body().len())?;
+                if frame.closes() {
+                    text.push_str("close")?;
+                    return Ok(true);
+                }
+            }
+        }
+    }
+    Ok(false)
+}
 
 // What the stream gives, cut in pieces of that many bytes: the length of each message's body, and the status of a fault.
 fn outcome(alloc: Global, bytes: &[u8], step: usize) -> Result<String, Fail>
@@ -18,23 +43,8 @@ fn outcome(alloc: Global, bytes: &[u8], step: usize) -> Result<String, Fail>
     let mut text = String::new(alloc);
     for piece in bytes.chunks(step) {
         frames.feed(piece)?;
-        for _ in 0..1000 {
-            match frames.next() {
-                None => break,
-                Some(Err(fault)) => {
-                    text.push_str(format!(in alloc; "{}", fault.status().as_u16())?.as_str())?;
-                    return Ok(text);
-                }
-                Some(Ok(())) => {
-                    if let Some(frame) = frames.taken() {
-                        text.push_str(format!(in alloc; "{},", frame.body().len())?.as_str())?;
-                        if frame.closes() {
-                            text.push_str("close")?;
-                            return Ok(text);
-                        }
-                    }
-                }
-            }
+        if take_all(&mut frames, &mut text)? {
+            break;
         }
     }
     Ok(text)

@@ -5,20 +5,55 @@ use bo_base::{
     read_code, secret,
 };
 use bo_times::{moment_text, read_day, read_moment};
+use std::process::Abort;
 use std::test::Fail;
+
+// What a text is read as.
+#[derive(Clone, Copy, Drop)]
+enum Reader {
+    Money,
+    Moment,
+    Day,
+    Code,
+}
+
+impl Reader {
+    // The number that a text reads as.
+    fn read(self, text: &str) -> Result<u64, ValueRefusal> {
+        match self {
+            Reader::Money => read_cents(text).map(|cents| cents.get()),
+            Reader::Moment => read_moment(text).map(|moment| moment.get()),
+            Reader::Day => read_day(text).map(|moment| moment.get()),
+            Reader::Code => read_code(text).map(|number| u64::from(number)),
+        }
+    }
+}
+
+// Each of these texts reads as the number beside it.
+fn read_as(rt: &impl Abort, reader: Reader, cases: &[(&str, u64)]) {
+    for (text, number) in cases {
+        assert_eq!(rt; reader.read(text), Ok(*number), "{text}");
+    }
+}
+
+// Each of these texts is refused so.
+fn refused_as(rt: &impl Abort, reader: Reader, why: ValueRefusal, texts: &[&str]) {
+    for text in texts {
+        assert_eq!(rt; reader.read(text), Err(why), "{text}");
+    }
+}
 
 #[test]
 fn money(rt: HostRuntime) -> Result<(), Fail> {
-    for (text, cents) in [
+    let cases = [
         ("99999999.99", 9_999_999_999),
         ("23", 2300),
         ("23.5", 2350),
         ("0.03", 3),
         ("007.10", 710),
-    ] {
-        assert_eq!(rt; read_cents(text).map(|c| c.get()), Ok(cents), "{text}");
-    }
-    for text in [
+    ];
+    read_as(&rt, Reader::Money, &cases);
+    let no_money = [
         "1.234",
         "",
         ".",
@@ -30,12 +65,10 @@ fn money(rt: HostRuntime) -> Result<(), Fail> {
         "1,50",
         "123456789.555",
         "1.2.3",
-    ] {
-        assert_eq!(rt; read_cents(text), Err(ValueRefusal::NotMoney), "{text}");
-    }
-    for text in ["100000000", "123456789.55", "000000001"] {
-        assert_eq!(rt; read_cents(text), Err(ValueRefusal::TooLarge), "{text}");
-    }
+    ];
+    refused_as(&rt, Reader::Money, ValueRefusal::NotMoney, &no_money);
+    let large = ["100000000", "123456789.55", "000000001"];
+    refused_as(&rt, Reader::Money, ValueRefusal::TooLarge, &large);
     let alloc = rt.alloc();
     for (amount, text) in [
         (Cents::new(1533), "15.33"),
@@ -50,19 +83,16 @@ fn money(rt: HostRuntime) -> Result<(), Fail> {
 
 #[test]
 fn moments(rt: HostRuntime) -> Result<(), Fail> {
-    for (text, seconds) in [
+    let cases = [
         ("2026-05-01T12:00:00.9+02:00", 1_777_629_600),
         ("1970-01-01T00:00:00Z", 0),
         ("9998-12-31T23:59:59Z", 253_370_764_799),
-    ] {
-        assert_eq!(rt; read_moment(text).map(|m| m.get()), Ok(seconds), "{text}");
-    }
-    for text in ["2026-05-01", "", "noon", "2026-05-01T10:00:00"] {
-        assert_eq!(rt; read_moment(text), Err(ValueRefusal::NotMoment), "{text}");
-    }
-    for text in ["1969-12-31T23:59:59Z", "9999-01-01T00:00:00Z"] {
-        assert_eq!(rt; read_moment(text), Err(ValueRefusal::OutOfRange), "{text}");
-    }
+    ];
+    read_as(&rt, Reader::Moment, &cases);
+    let no_moment = ["2026-05-01", "", "noon", "2026-05-01T10:00:00"];
+    refused_as(&rt, Reader::Moment, ValueRefusal::NotMoment, &no_moment);
+    let outside = ["1969-12-31T23:59:59Z", "9999-01-01T00:00:00Z"];
+    refused_as(&rt, Reader::Moment, ValueRefusal::OutOfRange, &outside);
     let alloc = rt.alloc();
     for (moment, text) in [
         (Moment::new(0), "1970-01-01T00:00:00Z"),
@@ -101,13 +131,12 @@ fn codes(rt: HostRuntime) -> Result<(), Fail> {
         (17_210_367, "99999"),
     ] {
         assert_eq!(rt; order_code(alloc, number)?.as_str(), text);
-        assert_eq!(rt; read_code(text), Ok(number), "{text}");
+        read_as(&rt, Reader::Code, &[(text, u64::from(number))]);
     }
-    for text in [
+    let no_codes = [
         "AAAAA", "AAAA0", "aaaab", "AAAb", "AAAB", "AAAAAB", "", "AAAÄ",
-    ] {
-        assert_eq!(rt; read_code(text), Err(ValueRefusal::NotCode), "{text}");
-    }
+    ];
+    refused_as(&rt, Reader::Code, ValueRefusal::NotCode, &no_codes);
     Ok(())
 }
 
@@ -123,15 +152,14 @@ fn secrets(rt: HostRuntime) -> Result<(), Fail> {
 
 #[test]
 fn days(rt: HostRuntime) {
-    for (text, seconds) in [
+    let cases = [
         ("2026-06-01", 1_780_358_399),
         ("1970-01-01", 86_399),
         ("2024-02-29", 1_709_251_199),
         ("9998-12-31", 253_370_764_799),
-    ] {
-        assert_eq!(rt; read_day(text).map(|m| m.get()), Ok(seconds), "{text}");
-    }
-    for text in [
+    ];
+    read_as(&rt, Reader::Day, &cases);
+    let no_days = [
         "2026-02-29",
         "20260601",
         "2026-6-1",
@@ -141,10 +169,8 @@ fn days(rt: HostRuntime) {
         "+002026-06-01",
         "2026/06/01",
         "",
-    ] {
-        assert_eq!(rt; read_day(text), Err(ValueRefusal::NotMoment), "{text}");
-    }
-    for text in ["1969-12-31", "9999-01-01"] {
-        assert_eq!(rt; read_day(text), Err(ValueRefusal::OutOfRange), "{text}");
-    }
+    ];
+    refused_as(&rt, Reader::Day, ValueRefusal::NotMoment, &no_days);
+    let outside = ["1969-12-31", "9999-01-01"];
+    refused_as(&rt, Reader::Day, ValueRefusal::OutOfRange, &outside);
 }
