@@ -15,10 +15,12 @@ feed_digest = sha256 (codes "feed")
 abbrev pub feed_tokens : List ℕ → Option ℕ
 feed_tokens digest = if bytes_eq feed_digest digest then Some 1 else None
 
--- an office without rows, of the organizer `house` and the event `hall`, over tables that hold it, keep no answer, and know that token
+-- an office without rows, of the organizer `house` and the event `hall`, over tables of the same names that hold it, keep no answer, and
+-- know that token
 pub record IsFreshShop {S : Type 0} (g : Ghosts S) (tables : SqlTables S) (organizer event : List ℕ) (office : State) : Type 0 where
   pub organizer_is : organizer ≡ codes "house"
   pub event_is : event ≡ codes "hall"
   pub empty_is : office ≡ empty
+  pub row_is : (tables.head.organizer ≡ organizer) × (tables.head.event ≡ event)
   pub holds : HoldsWhileOpen tables.head tables.next_row (state g tables.connection) empty []
   pub knows : KnowsWhileOpen tables.next_row (state g tables.connection) feed_tokens

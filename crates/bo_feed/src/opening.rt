@@ -6,6 +6,7 @@ ghost use Rattle.sqlite.specs.State.{HasCleanDisk};
 ghost use Rattle.sqlite.specs.Steps.{over_memory};
 ghost use Rattle.bo_lists.specs.Lists.{empty};
 ghost use Rattle.bo_tables.specs.Shops.{HoldsWhileOpen, KnowsWhileOpen};
+ghost use Rattle.bo_tables.specs.Tokens.{raised};
 ghost use Rattle.bo_feed.specs.Opened.{IsFreshShop, feed_digest, feed_tokens};
 
 use bo_base::Slug;
@@ -65,13 +66,14 @@ fn begin<S: Alter + Drop>(
     connection: Connection<S>,
 ) -> Result<(SqlTables<S>, Office<Counters>), AllocError>
     ensures office { IfOk result (λ made. (made.1.organizer ≡ codes "house") × (made.1.event ≡ codes "hall") × (made.1.state ≡ empty)) }
+    ensures row { IfOk result (λ made. HasCleanDisk (state S.Store made.0.connection) → (made.0.head.organizer ≡ codes "house") × (made.0.head.event ≡ codes "hall")) }
     ensures next { IfOk result (λ made. HasCleanDisk (state S.Store made.0.connection) → made.0.head.next_token ≡ 1) }
     ensures holds { IfOk result (λ made. HasCleanDisk (state S.Store made.0.connection) → HoldsWhileOpen made.0.head made.0.next_row (state S.Store made.0.connection) empty []) }
     ensures knows { IfOk result (λ made. HasCleanDisk (state S.Store made.0.connection) → KnowsWhileOpen made.0.next_row (state S.Store made.0.connection) (λ digest. None)) }
 {
     let of_office = names(alloc)?;
-    let (organizer, event) = names(alloc)?;
-    match create(alloc, connection, organizer, event) {
+    let of_tables = names(alloc)?;
+    match create(alloc, connection, of_tables.0, of_tables.1) {
         Ok(tables) => Ok((tables, empty_office(alloc, of_office))),
         Err(_) => Err(AllocError),
     }
@@ -80,6 +82,8 @@ fn begin<S: Alter + Drop>(
 // Adds the token `feed`, as the first one.
 fn add_feed<S: Alter>(tables: &mut SqlTables<S>) -> Result<(), AllocError>
     ensures clean { HasCleanDisk (state S.Store tables.new.connection) → HasCleanDisk (state S.Store tables.old.connection) }
+    ensures row { HasCleanDisk (state S.Store tables.new.connection) → KnowsWhileOpen tables.old.next_row (state S.Store tables.old.connection) (λ digest. None)
+        → OnOk result (tables.new.head ≡ raised tables.old.head) }
     ensures holds { HasCleanDisk (state S.Store tables.new.connection) → HoldsWhileOpen tables.old.head tables.old.next_row (state S.Store tables.old.connection) empty []
         → HoldsWhileOpen tables.new.head tables.new.next_row (state S.Store tables.new.connection) empty [] }
     ensures knows { HasCleanDisk (state S.Store tables.new.connection) → tables.old.head.next_token ≡ 1 → KnowsWhileOpen tables.old.next_row (state S.Store tables.old.connection) (λ digest. None)

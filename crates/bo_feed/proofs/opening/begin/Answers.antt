@@ -1,6 +1,11 @@
-use Rattle.std.proofs.Common.{ap}
+use Rattle.std.proofs.Common.{ap, ◌∙◌}
 use Rattle.bo_columns.specs.declared.rows.ShopRow.{ShopRow}
 use Rattle.bo_feed.proofs.opening.begin.Goals as goal
+
+pub returns-in-Ok-clause-row : goal.returns-in-Ok-clause-row
+returns-in-Ok-clause-row g c clean =
+    let head = (c.in-Ok.ensures.made clean).head_is in
+    (ap (λ (h : ShopRow). h.organizer) head ∙ c.in_ok-of_tables.ensures.0, ap (λ (h : ShopRow). h.event) head ∙ c.in_ok-of_tables.ensures.1)
 
 pub returns-in-Ok-clause-next : goal.returns-in-Ok-clause-next
 returns-in-Ok-clause-next g c clean = ap (λ (h : ShopRow). h.next_token) (c.in-Ok.ensures.made clean).head_is
