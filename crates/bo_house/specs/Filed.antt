@@ -1,13 +1,20 @@
 -- What a shop's database holds after a command.
-use Rattle.std.specs.Prelude.{◌≡◌, ◌⊎◌, ℕ, List, Option, IsTrue, map}
+use Rattle.std.specs.Prelude.{◌≡◌, ◌⊎◌, ℕ, List, Option, Result, Err, IfOk, IfErr, OnOk, OnErr, IsTrue, map}
+use Rattle.sqlite_trees.specs.declared.store.Store.{Ghosts}
 use Rattle.sqlite_trees.specs.Tree.{Trees}
 use Rattle.sqlite.specs.Effect.{Database}
-use Rattle.sqlite.specs.State.{State as Connected, HasCleanDisk}
+use Rattle.sqlite.specs.Held.{state}
+use Rattle.sqlite.specs.State.{State as Connected, HasCleanDisk, Survives}
+use Rattle.sqlite.specs.declared.connection.Connection.{Connection}
+use Rattle.bo_schema.specs.Blank.{blank_schema}
+use Rattle.bo_schema.specs.Tables.{schema}
+use Rattle.bo_schema.specs.Whole.{IsStill, MayBeWritten}
 use Rattle.bo_lists.specs.Lists.{State}
 use Rattle.bo_kept.specs.declared.kept.Kept.{Kept}
 use Rattle.bo_columns.specs.declared.rows.ShopRow.{ShopRow}
 use Rattle.bo_columns.specs.Tables.{Tables, Holds}
 use Rattle.bo_stand.specs.Stands.{Stand}
+use Rattle.bo_tables.specs.Begun.{IsBegun}
 use Rattle.bo_tables.specs.Held.{number_of}
 use Rattle.bo_tables.specs.Shops.{HoldsWhileOpen, KnowsWhileOpen}
 use Rattle.bo_tables.specs.Made.{IsMade, first_shop}
@@ -16,6 +23,8 @@ use Rattle.bo_tables.specs.declared.error.TokenError.{TokenError}
 use Rattle.bo_opens.specs.declared.error.OpenError.{OpenError}
 use Rattle.bo_file.specs.Opened.{IsReason}
 use Rattle.bo_line.specs.declared.fault.RunFault.{RunFault}
+use Rattle.bo_line.specs.declared.fault.RunFault.TheVariants as faults
+use Rattle.bo_opens.specs.Rests.{IsAt}
 use Rattle.bo_house.specs.Faults.{fault_of_opening, fault_of_token}
 
 -- a shop was made for this organizer and this event
@@ -57,3 +66,18 @@ pub record IsFullFor (db : Trees) (digest : List ℕ) : Type 0 where
 -- a fault is told for the reason that the file isn't opened, or that it takes no token
 abbrev pub IsToldFor : Database → RunFault → Type 0
 IsToldFor db fault = ((error : OpenError) × (fault ≡ fault_of_opening error) × IsReason db error) ⊎ ((error : TokenError) × (fault ≡ fault_of_token error))
+
+-- A shop was made in the database, or nothing has changed and it is told why not, 60 where there was a table; and a crash leaves all of it or
+-- nothing.
+pub record MakesShop {S : Type 0} (g : Ghosts S) (organizer event : List ℕ) (old : Connected) (left : Connection S) (outcome : Result (Unit {0}) RunFault) : Type 0 where
+  pub made : HasCleanDisk (state g left) → OnOk outcome (HoldsNewShop organizer event old (state g left))
+  pub none : HasCleanDisk (state g left) → OnErr outcome (IsStill old (state g left))
+  pub blank : ¬ (old.now.schema ≡ blank_schema) → outcome ≡ Err faults.NotAShop
+  pub crash : Survives old (state g left) (MayBeWritten blank_schema (λ (_ : Unit {0}) db after. IsBegun (first_shop organizer event) after) old)
+
+-- The shop in the database got this token, or nothing has changed and it is told why not, 16 only where it has no room for one.
+pub record AddsToken {S : Type 0} (g : Ghosts S) (digest : List ℕ) (old : Connected) (left : Connection S) (outcome : Result ℕ RunFault) : Type 0 where
+  pub added : IfOk outcome (λ number. HasCleanDisk (state g left) → (db : Database) → IsAt db old → db.schema ≡ schema → KnowsToken db.trees digest number (state g left))
+  pub cause : IfErr outcome (λ fault. HasCleanDisk (state g left) → IsTrue (state g left).is_open → (db : Database) → IsAt db old → IsToldFor db fault)
+  pub none : HasCleanDisk (state g left) → IsTrue (state g left).is_open → (db : Database) → IsAt db old → db.schema ≡ schema → OnErr outcome (IsAt db (state g left))
+  pub full : outcome ≡ Err faults.Full → HasCleanDisk (state g left) → IsTrue (state g left).is_open → (db : Database) → IsAt db old → db.schema ≡ schema → IsFullFor db.trees digest

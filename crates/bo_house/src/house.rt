@@ -1,10 +1,9 @@
 //! The commands on shops' files.
 
-ghost use Rattle.std.specs.Prelude.{◌≡◌, true, false, IfOk, IfErr, IsTrue, OnOk};
+ghost use Rattle.std.specs.Prelude.{◌≡◌, true, false, IfOk, IfErr, IsTrue};
 ghost use Rattle.sqlite.specs.Held.{state};
-ghost use Rattle.sqlite.specs.State.{HasCleanDisk};
 ghost use Rattle.bo_base.specs.Slugs.{IsSlug};
-ghost use Rattle.bo_house.specs.Filed.{HoldsNewShop};
+ghost use Rattle.bo_house.specs.Filed.{MakesShop};
 ghost use Rattle.bo_house.specs.Shelved.{IsGiven, IsShelved, is_shelf_fault};
 
 use crate::adding::add_shop_token;
@@ -72,8 +71,7 @@ impl<'a, R, S: Alter + Drop, F: Shelf<Connection<S>>> House<'a, R, S, F> {
 
     // A shop for this organizer and this event, in a file of this name that wasn't there.
     fn made(&self, alloc: Global, file: &str, organizer: Slug, event: Slug) -> Result<(), RunFault>
-        ensures { F.stood file.now false → IsShelved (IsGiven F.stood F.gives false) (λ connection left came. HasCleanDisk (state S.Store left)
-            → OnOk came (HoldsNewShop organizer event (state S.Store connection) (state S.Store left))) file.now result }
+        ensures { F.stood file.now false → IsShelved (IsGiven F.stood F.gives false) (λ connection left came. MakesShop S.Store organizer event (state S.Store connection) left came) file.now result }
     {
         match self.shelf.open(file) {
             Ok(connection) => self.ended(make_new_shop(alloc, connection, organizer, event)),
@@ -99,27 +97,23 @@ impl<
     S: Alter + Drop,
     F: Shelf<Connection<S>>,
 > HouseFiles for House<'_, R, S, F> {
-    ghost use Rattle.std.specs.Prelude.{◌≡◌, ◌⊎◌, true, false, IfOk, OnOk, Result};
-    ghost use Rattle.sqlite.specs.Effect.{Database};
+    ghost use Rattle.std.specs.Prelude.{◌⊎◌, true, false, Result};
     ghost use Rattle.sqlite.specs.Held.{state};
-    ghost use Rattle.sqlite.specs.State.{HasCleanDisk};
     ghost use Rattle.sha2.specs.Sha256.{sha256};
-    ghost use Rattle.bo_schema.specs.Tables.{schema};
-    ghost use Rattle.bo_opens.specs.Rests.{IsAt};
     ghost use Rattle.bo_desk.specs.Streams.{meaning};
     ghost use Rattle.bo_line.specs.declared.fault.RunFault.{RunFault};
-    ghost use Rattle.bo_house.specs.Filed.{HoldsNewShop, KnowsToken};
+    ghost use Rattle.bo_house.specs.Filed.{AddsToken, MakesShop};
     ghost use Rattle.bo_house.specs.Imported.{IsOpenedAndImported};
     ghost use Rattle.bo_house.specs.Reported.{IsOpenedAndReported};
     ghost use Rattle.bo_house.specs.Served.{IsOpenedAndServed, StaysUnopened};
     ghost use Rattle.bo_house.specs.Shelved.{IsGiven, IsShelved};
     ghost use Rattle.bo_house.specs.Worked.{IsOpenedAndWorked};
 
-    ghost made = { λ file organizer event outcome. IsShelved (IsGiven F.stood F.gives false) (λ connection left came. HasCleanDisk (state S.Store left)
-        → OnOk came (HoldsNewShop organizer event (state S.Store connection) (state S.Store left))) file outcome };
+    ghost made = { λ file organizer event outcome. IsShelved (IsGiven F.stood F.gives false) (λ connection left came.
+        MakesShop S.Store organizer event (state S.Store connection) left came) file outcome };
 
-    ghost added = { λ file token outcome. IsShelved (IsGiven F.stood F.gives true) (λ connection left came. IfOk came (λ number. HasCleanDisk (state S.Store left)
-        → (db : Database) → IsAt db (state S.Store connection) → db.schema ≡ schema → KnowsToken db.trees (sha256 token) number (state S.Store left))) file outcome };
+    ghost added = { λ file token outcome. IsShelved (IsGiven F.stood F.gives true) (λ connection left came.
+        AddsToken S.Store (sha256 token) (state S.Store connection) left came) file outcome };
 
     ghost served = { λ file addr most outcome. IsShelved (IsGiven F.stood F.gives true) (λ connection left came.
         IsOpenedAndServed S.Store (meaning ⟦<SqlTables<S> as Tables>⟧.sure ⟦<SqlTables<S> as Tables>⟧.holds ⟦<SqlTables<S> as Tables>⟧.knows ⟦<SqlTables<S> as Tables>⟧.may_leave)
@@ -133,7 +127,7 @@ impl<
         IsOpenedAndReported S.Store report (state S.Store connection) left came ⊎ StaysUnopened S.Store (state S.Store connection) left came) file outcome };
 
     ghost imported = { λ file csv outcome. IsShelved (IsGiven F.stood F.gives true) (λ connection left came. (source : Result _ RunFault)
-        × (IsOpenedAndImported S.Store (meaning ⟦<SqlTables<S> as Tables>⟧.sure ⟦<SqlTables<S> as Tables>⟧.holds ⟦<SqlTables<S> as Tables>⟧.knows ⟦<SqlTables<S> as Tables>⟧.may_leave)
+        × F.held csv source × (IsOpenedAndImported S.Store (meaning ⟦<SqlTables<S> as Tables>⟧.sure ⟦<SqlTables<S> as Tables>⟧.holds ⟦<SqlTables<S> as Tables>⟧.knows ⟦<SqlTables<S> as Tables>⟧.may_leave)
         source (state S.Store connection) left came ⊎ StaysUnopened S.Store (state S.Store connection) left came)) file outcome };
 
     fn make(

@@ -1,16 +1,20 @@
 //! Shops' files, by their names.
 
-ghost use Rattle.std.specs.Prelude.{◌≡◌, ℕ, Bool, List, IfOk, IfErr, IsTrue};
+ghost use Rattle.std.specs.Prelude.{◌≡◌, ℕ, Bool, List, Result, IfOk, IfErr, IsTrue};
+ghost use Rattle.bo_line.specs.declared.fault.RunFault.{RunFault};
 ghost use Rattle.bo_house.specs.Shelved.{is_shelf_fault};
 
 use bo_base::Body;
 use bo_line::RunFault;
 
 /// What has shops' files, by their names, and gives connections to them. What a file holds no clause can say, nor whether there is one: what
-/// is known of that, and of a connection, is the implementor's to say (`stood`, `gives`).
+/// is known of that, and of a connection, is the implementor's to say (`stood`, `held`, `gives`).
 pub trait Shelf<C> {
     // what is known where it is told whether there is a file of this name
     ghost stood: { List ℕ → Bool → Type 0 };
+
+    // what is known of the bytes of the file of this name, or of why they can't be had
+    ghost held: { List ℕ → Result (List ℕ) RunFault → Type 0 };
 
     // what is known of a connection to the file of this name
     ghost gives: { List ℕ → C → Type 0 };
@@ -26,7 +30,8 @@ pub trait Shelf<C> {
         ensures refused { IfErr result (λ fault. IsTrue (is_shelf_fault fault)) };
 
     /// The bytes of the file of this name. Faults: 80 where it can't be read, and 6.
-    fn bytes(&self, file: &str) -> Result<Body, RunFault>;
+    fn bytes(&self, file: &str) -> Result<Body, RunFault>
+        ensures { held file.now result };
 
     /// Closes a connection. What was committed stands in the file and its log, also where that fails.
     fn close(&self, connection: C);

@@ -38,6 +38,8 @@ fn unread(error: io::Error) -> RunFault {
 impl Shelf<Connection<FileStore<File>>> for HostFiles<'_> {
     ghost stood = { λ _ _. ⊤ };
 
+    ghost held = { λ _ _. ⊤ };
+
     ghost gives = { λ _ _. ⊤ };
 
     fn stands(&self, file: &str) -> bool {
