@@ -22,6 +22,8 @@ TOP = os.path.dirname(os.path.dirname(os.path.abspath(__file__)))
 PARTS = ("src", "specs", "proofs")
 # What a check of one crate was seen to take, in bytes, at most.
 CHECK = 3_500_000_000
+# What a check of the gate takes of the memory, in bytes, with three others beside it: the programs take 4.6 and 6.3 GB, most others less than 3.
+GATE_CHECK = 4_500_000_000
 # Held while the kit's rt is read: several threads may ask for it at once.
 KIT = threading.Lock()
 
@@ -194,6 +196,12 @@ def free():
 
 def lanes():
     return max(1, min(processors(), int(0.9 * free() / CHECK)))
+
+
+def gate_lanes():
+    """How many checks the gate runs side by side, each by one process: as many as processors and memory allow."""
+    rt = kit()
+    return max(1, min(rt.processors(), rt.free() // GATE_CHECK))
 
 
 def side_by_side(tasks, work, most=None):

@@ -1,15 +1,19 @@
 -- A token that tables got.
-use Rattle.std.proofs.Common.{◌≡◌, ◌∙◌, ℕ, List, Option, Result, Ok, Err, IfOk, OnErr, OnOk, IsTrue, Bool, true, false, ap, map, refl, sym, subst}
+use Rattle.std.proofs.Common.{◌≡◌, ◌∙◌, ◌⊎◌, inl, inr, ℕ, List, Option, Result, Ok, Err, IfOk, OnErr, OnOk, IsTrue, Bool, true, false, ap, map, refl, sym, subst}
 use Rattle.std.proofs.lemmas.Bool.{false≢true}
 use Rattle.sqlite.specs.Effect.{Database}
 use Rattle.sqlite_trees.specs.Tree.{Trees}
-use Rattle.sqlite.specs.State.{State as Connected, HasCleanDisk}
+use Rattle.sqlite_trees.specs.declared.store.Store.{Ghosts}
+use Rattle.sqlite.specs.declared.connection.Connection.{Connection}
+use Rattle.sqlite.specs.State.{State as Connected, HasCleanDisk, Survives}
 use Rattle.bo_lists.specs.Lists.{State}
 use Rattle.bo_kept.specs.declared.kept.Kept.{Kept}
 use Rattle.bo_columns.specs.declared.rows.ShopRow.{ShopRow}
+use Rattle.bo_columns.specs.Tables.{Holds}
 use Rattle.bo_line.specs.declared.fault.RunFault.{RunFault}
 use Rattle.bo_line.specs.declared.fault.RunFault.TheVariants as faults
-use Rattle.bo_tables.specs.Tokens.{HasNoRoom, IsNumbered, also_known, head_after}
+use Rattle.bo_tables.specs.Begun.{HasToken, token_added}
+use Rattle.bo_tables.specs.Tokens.{HasNoRoom, IsNumbered, also_known, head_after, next_one, raised}
 use Rattle.bo_tables.specs.declared.error.TokenError.{TokenError}
 use Rattle.bo_tables.specs.declared.error.TokenError.TheVariants as tokens
 use Rattle.bo_opens.specs.declared.error.OpenError.{OpenError}
@@ -19,11 +23,12 @@ use Rattle.bo_schema.specs.declared.error.RowError.TheVariants as rows
 use Rattle.bo_opens.specs.Rests.{IsAt, Rests}
 use Rattle.bo_file.specs.Opened.{IsOpened}
 use Rattle.bo_schema.specs.Tables.{schema}
-use Rattle.bo_schema.specs.Whole.{IsOver, IsStill}
+use Rattle.bo_schema.specs.Whole.{IsOver, IsStill, MayBeWritten}
 use Rattle.bo_tables.specs.Held.{number_of}
 use Rattle.bo_tables.specs.Shops.{HoldsWhileOpen, KnowsWhileOpen}
 use Rattle.bo_house.specs.Faults.{fault_of_opening, fault_of_rows, told_of_token}
-use Rattle.bo_house.specs.Filed.{GetsToken, IsFullFor, KnowsToken}
+use Rattle.bo_house.specs.Filed.{AddsToken, GetsToken, HasNextToken, IsFullFor, KnowsToken}
+use Rattle.bo_house.specs.Served.{StaysUnopened}
 
 -- what holds of a number that was given holds of one that is told
 pub told_number : (added : Result ℕ TokenError) (told : Result ℕ RunFault) (P : ℕ → Type 0) → told ≡ told_of_token added → IfOk added P → IfOk told P
@@ -121,3 +126,34 @@ known_by db head next office digest number old new o gets =
       holds = gets.holds tokens known office (map (λ r. r.kept) o.tables.kept) o.holds;
       knows = gets.knows tokens known;
     }
+
+-- what a crash leaves of a file that was opened, and whose tables may have got a token
+pub left_by : (db : Database) (head : ShopRow) (next : ℕ) (office : State) (digest : List ℕ) (old mid new : Connected) → Rests old mid → Survives old mid (λ _. ⊥)
+    → Survives mid new (MayBeWritten schema (λ (_ : Unit {0}). HasToken (raised head) (next_one head digest)) mid) → HasCleanDisk mid → HasCleanDisk new → IsAt db old → db.schema ≡ schema
+    → (IsTrue mid.is_open → IsOpened db.trees head next office mid) → (trees : Trees) → new.may_leave trees → old.may_leave trees ⊎ HasNextToken db.trees digest trees
+left_by db head next office digest old mid new rests first second cleared clean at known opens trees may = elim (second.crash clean trees may) [
+  | inl before ↦ elim (first.crash cleared trees before) [ inl was ↦ inl was | inr none ↦ absurd none ]
+  | inr written ↦
+      let shown : mid.now ≡ db = ((rests cleared written.was_open).stays db at).now in
+      let o = opens written.was_open in
+      let turned = written.turned (ap (λ (d : Database). d.schema) shown ∙ known) in
+      inr (record {
+        tables = o.tables;
+        held = o.held;
+        head = head;
+        office = office;
+        stand = o.stand;
+        holds = subst (λ (t : Trees). Holds t (token_added (raised head) (next_one head digest) o.tables)) (sym written.is)
+            (turned.holds o.tables (subst (λ (d : Database). Holds d.trees o.tables) (sym shown) o.held));
+      })
+]
+
+-- a file that isn't opened gets no token
+pub no_token : {S : Type 0} (g : Ghosts S) (digest : List ℕ) (old : Connected) (left : Connection S) (outcome : Result ℕ RunFault) → StaysUnopened g old left outcome → AddsToken g digest old left outcome
+no_token g digest old left outcome stays = subst (λ (o : Result ℕ RunFault). AddsToken g digest old left o) (sym stays.told) (record {
+  added = tt;
+  cause = λ clean is_open db at. inl (stays.error, refl, stays.cause clean is_open db at);
+  none = λ clean is_open db at known. (stays.rests clean is_open).stays db at;
+  full = λ is clean is_open db at known. never_full stays.error _ _ refl is;
+  crash = λ clean db at known trees may. elim (stays.crash.crash clean trees may) [ inl was ↦ inl was | inr none ↦ absurd none ];
+})

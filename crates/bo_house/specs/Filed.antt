@@ -14,11 +14,11 @@ use Rattle.bo_kept.specs.declared.kept.Kept.{Kept}
 use Rattle.bo_columns.specs.declared.rows.ShopRow.{ShopRow}
 use Rattle.bo_columns.specs.Tables.{Tables, Holds}
 use Rattle.bo_stand.specs.Stands.{Stand}
-use Rattle.bo_tables.specs.Begun.{IsBegun}
+use Rattle.bo_tables.specs.Begun.{IsBegun, token_added}
 use Rattle.bo_tables.specs.Held.{number_of}
 use Rattle.bo_tables.specs.Shops.{HoldsWhileOpen, KnowsWhileOpen}
 use Rattle.bo_tables.specs.Made.{IsMade, first_shop}
-use Rattle.bo_tables.specs.Tokens.{HasNoRoom, IsNumbered, also_known, head_after}
+use Rattle.bo_tables.specs.Tokens.{HasNoRoom, IsNumbered, also_known, head_after, next_one, raised}
 use Rattle.bo_tables.specs.declared.error.TokenError.{TokenError}
 use Rattle.bo_opens.specs.declared.error.OpenError.{OpenError}
 use Rattle.bo_file.specs.Opened.{IsReason}
@@ -63,6 +63,15 @@ pub record IsFullFor (db : Trees) (digest : List ℕ) : Type 0 where
   pub stand : Stand head tables office (map (λ r. r.kept) tables.kept)
   pub full : HasNoRoom (number_of tables.tokens digest) head.next_token
 
+-- the trees held a shop's tables, and these hold them with the digest as their next token
+pub record HasNextToken (db : Trees) (digest : List ℕ) (after : Trees) : Type 0 where
+  pub tables : Tables
+  pub held : Holds db tables
+  pub head : ShopRow
+  pub office : State
+  pub stand : Stand head tables office (map (λ r. r.kept) tables.kept)
+  pub holds : Holds after (token_added (raised head) (next_one head digest) tables)
+
 -- a fault is told for the reason that the file isn't opened, or that it takes no token
 abbrev pub IsToldFor : Database → RunFault → Type 0
 IsToldFor db fault = ((error : OpenError) × (fault ≡ fault_of_opening error) × IsReason db error) ⊎ ((error : TokenError) × (fault ≡ fault_of_token error))
@@ -75,9 +84,11 @@ pub record MakesShop {S : Type 0} (g : Ghosts S) (organizer event : List ℕ) (o
   pub blank : ¬ (old.now.schema ≡ blank_schema) → outcome ≡ Err faults.NotAShop
   pub crash : Survives old (state g left) (MayBeWritten blank_schema (λ (_ : Unit {0}) db after. IsBegun (first_shop organizer event) after) old)
 
--- The shop in the database got this token, or nothing has changed and it is told why not, 16 only where it has no room for one.
+-- The shop in the database got this token, or nothing has changed and it is told why not, 16 only where it has no room for one; and a crash
+-- leaves what one before it could have left, or the shop with the token.
 pub record AddsToken {S : Type 0} (g : Ghosts S) (digest : List ℕ) (old : Connected) (left : Connection S) (outcome : Result ℕ RunFault) : Type 0 where
   pub added : IfOk outcome (λ number. HasCleanDisk (state g left) → (db : Database) → IsAt db old → db.schema ≡ schema → KnowsToken db.trees digest number (state g left))
   pub cause : IfErr outcome (λ fault. HasCleanDisk (state g left) → IsTrue (state g left).is_open → (db : Database) → IsAt db old → IsToldFor db fault)
   pub none : HasCleanDisk (state g left) → IsTrue (state g left).is_open → (db : Database) → IsAt db old → db.schema ≡ schema → OnErr outcome (IsAt db (state g left))
   pub full : outcome ≡ Err faults.Full → HasCleanDisk (state g left) → IsTrue (state g left).is_open → (db : Database) → IsAt db old → db.schema ≡ schema → IsFullFor db.trees digest
+  pub crash : HasCleanDisk (state g left) → (db : Database) → IsAt db old → db.schema ≡ schema → (trees : Trees) → (state g left).may_leave trees → old.may_leave trees ⊎ HasNextToken db.trees digest trees

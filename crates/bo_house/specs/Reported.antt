@@ -36,10 +36,9 @@ report_on reports.Version version lists = Ok (version_text version)
 abbrev pub IsReport : Report → ℕ → Lists → Result (List ℕ) RunFault → Type 0
 IsReport report version lists outcome = (outcome ≡ report_on report version lists) ⊎ (outcome ≡ Err faults.Memory)
 
--- The report is one on the shop that the database is opened as, whose tables are of version 1, and the connection is as opening left it.
+-- the report is one on the shop that the database is opened as, and the connection is as opening left it
 pub record IsOpenedAndReported {S : Type 0} (g : Ghosts S) (report : Report) (old : Connected) (left : Connection S) (outcome : Result (List ℕ) RunFault) : Type 0 where
   pub desk : DeskView (SqlTables S)
   pub opens : OpensAs g old desk
-  pub version : desk.tables.head.version ≡ 1
   pub told : IsReport report desk.tables.head.version desk.state.lists outcome
   pub connection : left ≡ desk.tables.connection

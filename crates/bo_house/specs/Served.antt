@@ -18,12 +18,13 @@ use Rattle.bo_serve.specs.Visits.{AnswersCallers, between, most_of}
 use Rattle.bo_house.specs.Faults.{fault_of_opening}
 
 -- The desk is that of the shop in the database: where the disk returned what was written and the connection is open, its tables and its
--- office are what the rows are opened as. The office is sound, and opening changed nothing, in a crash too.
+-- office are what the rows are opened as. The tables are of version 1, the office is sound, and opening changed nothing, in a crash too.
 pub record OpensAs {S : Type 0} (g : Ghosts S) (old : Connected) (desk : DeskView (SqlTables S)) : Type 0 where
   pub opened : HasCleanDisk (state g desk.tables.connection) → IsTrue (state g desk.tables.connection).is_open → (db : Database) → IsAt db old → db.schema ≡ schema
       → IsOpened db.trees desk.tables.head desk.tables.next_row desk.state (state g desk.tables.connection)
   pub organizer : desk.organizer ≡ desk.tables.head.organizer
   pub event : desk.event ≡ desk.tables.head.event
+  pub version : desk.tables.head.version ≡ 1
   pub sound : IsSound desk.state
   pub rests : Rests old (state g desk.tables.connection)
   pub crash : Survives old (state g desk.tables.connection) (λ _. ⊥)
@@ -44,9 +45,10 @@ pub record IsOpenedAndServed {S : Type 0} (g : Ghosts S) (tables : Meaning (SqlT
 abbrev pub IsSilent : Page → Page → Type 0
 IsSilent old new = new ≡ old
 
--- the database isn't opened, for its cause alone, and nothing in it has changed
+-- the database isn't opened, for its cause alone, and nothing in it has changed, in a crash too
 pub record StaysUnopened {S A : Type 0} (g : Ghosts S) (old : Connected) (left : Connection S) (outcome : Result A RunFault) : Type 0 where
   pub error : OpenError
   pub told : outcome ≡ Err (fault_of_opening error)
   pub cause : HasCleanDisk (state g left) → IsTrue (state g left).is_open → (db : Database) → IsAt db old → IsReason db error
   pub rests : Rests old (state g left)
+  pub crash : Survives old (state g left) (λ _. ⊥)

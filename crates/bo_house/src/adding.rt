@@ -1,25 +1,24 @@
 //! A token is added to the shop in a database.
 
-ghost use Rattle.std.specs.Prelude.{◌≡◌, ℕ, List, Option, Err, IfOk, IfErr, OnErr, IsTrue};
+ghost use Rattle.std.specs.Prelude.{◌≡◌, ℕ, List, Option, Err, IfOk, IfErr, OnErr};
 ghost use Rattle.sha2.specs.Sha256.{sha256};
-ghost use Rattle.sqlite.specs.Effect.{Database};
 ghost use Rattle.sqlite.specs.Held.{state};
-ghost use Rattle.sqlite.specs.State.{HasCleanDisk};
+ghost use Rattle.sqlite.specs.State.{HasCleanDisk, Survives};
 ghost use Rattle.bo_schema.specs.Tables.{schema};
-ghost use Rattle.bo_schema.specs.Whole.{IsOver, IsStill};
-ghost use Rattle.bo_opens.specs.Rests.{IsAt};
+ghost use Rattle.bo_schema.specs.Whole.{IsOver, IsStill, MayBeWritten};
 ghost use Rattle.bo_line.specs.declared.fault.RunFault.TheVariants.{Full};
-ghost use Rattle.bo_tables.specs.Tokens.{HasNoRoom};
+ghost use Rattle.bo_tables.specs.Begun.{HasToken};
+ghost use Rattle.bo_tables.specs.Shops.{KnowsWhileOpen};
+ghost use Rattle.bo_tables.specs.Tokens.{HasNoRoom, next_one, raised};
 ghost use Rattle.bo_tables.specs.declared.error.TokenError.{TokenError};
 ghost use Rattle.bo_house.specs.Faults.{fault_of_token, told_of_token};
-ghost use Rattle.bo_tables.specs.Shops.{KnowsWhileOpen};
-ghost use Rattle.bo_house.specs.Filed.{GetsToken, IsFullFor, IsToldFor, KnowsToken};
+ghost use Rattle.bo_house.specs.Filed.{AddsToken, GetsToken};
 
-use crate::faults::{fault_of_opening, fault_of_token};
+use crate::faults::fault_of_token;
 use crate::filed::{Filed, connection_of};
-use bo_file::open_file;
+use crate::opening::open_shop;
 use bo_line::RunFault;
-use bo_tables::{HandedBack, SqlTables, TokenError, add_token};
+use bo_tables::{SqlTables, TokenError, add_token};
 use sha2::{Digest, Sha256};
 use sqlite::{Alter, Connection};
 use std::alloc::Global;
@@ -43,6 +42,8 @@ fn add_over<S: Alter + Drop, O: Drop>(opened: (SqlTables<S>, O), token: &str) ->
         → HasNoRoom (tokens (sha256 token.now)) opened.0.head.next_token }
     ensures clean { HasCleanDisk (state S.Store result.connection) → HasCleanDisk (state S.Store opened.0.connection) }
     ensures none { HasCleanDisk (state S.Store result.connection) → IsOver schema (state S.Store opened.0.connection) → OnErr result.outcome (IsStill (state S.Store opened.0.connection) (state S.Store result.connection)) }
+    ensures crash { Survives (state S.Store opened.0.connection) (state S.Store result.connection)
+        (MayBeWritten schema (λ (_ : Unit {0}). HasToken (raised opened.0.head) (next_one opened.0.head (sha256 token.now))) (state S.Store opened.0.connection)) }
 {
     let mut made = opened;
     let added = add_token(&mut made.0, &Sha256::digest(token.as_bytes()));
@@ -54,26 +55,17 @@ fn add_over<S: Alter + Drop, O: Drop>(opened: (SqlTables<S>, O), token: &str) ->
 
 /// `token-add`: opens the shop in a database and adds a token, which is known by its SHA-256 alone; tells the token's number. One that was
 /// added before keeps its number, and nothing changes. Faults: 60, 61 and 62 where the database holds no shop that is whole, each for its
-/// cause alone; 16 where the token is new and the shop has 1,000,000 of them; 6 and 63. Beside a fault nothing has changed.
+/// cause alone; 16 where the token is new and the shop has 1,000,000 of them; 6 and 63. Beside a fault nothing has changed. A crash leaves
+/// the shop as it was, or with the token.
 pub fn add_shop_token<S: Alter + Drop>(
     alloc: Global,
     connection: Connection<S>,
     token: &str,
 ) -> Filed<S, u64>
-    ensures added { IfOk result.outcome (λ number. HasCleanDisk (state S.Store result.connection) → (db : Database) → IsAt db (state S.Store connection) → db.schema ≡ schema
-        → KnowsToken db.trees (sha256 token.now) number (state S.Store result.connection)) }
-    ensures cause { IfErr result.outcome (λ fault. HasCleanDisk (state S.Store result.connection) → IsTrue (state S.Store result.connection).is_open → (db : Database) → IsAt db (state S.Store connection)
-        → IsToldFor db fault) }
-    ensures none { HasCleanDisk (state S.Store result.connection) → IsTrue (state S.Store result.connection).is_open → (db : Database) → IsAt db (state S.Store connection) → db.schema ≡ schema
-        → OnErr result.outcome (IsAt db (state S.Store result.connection)) }
-    ensures full { result.outcome ≡ Err Full → HasCleanDisk (state S.Store result.connection) → IsTrue (state S.Store result.connection).is_open → (db : Database) → IsAt db (state S.Store connection) → db.schema ≡ schema
-        → IsFullFor db.trees (sha256 token.now) }
+    ensures { AddsToken S.Store (sha256 token.now) (state S.Store connection) result.connection result.outcome }
 {
-    match open_file(alloc, connection) {
+    match open_shop(alloc, connection) {
         Ok(opened) => add_over(opened, token),
-        Err(HandedBack { connection, error }) => Filed {
-            connection,
-            outcome: Err(fault_of_opening(error)),
-        },
+        Err(filed) => filed,
     }
 }

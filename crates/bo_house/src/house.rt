@@ -147,10 +147,8 @@ impl<
     }
 
     fn add_token(&self, alloc: Global, file: &str, token: &str) -> Result<u64, RunFault> {
-        match self.found(file) {
-            Ok(connection) => self.ended(add_shop_token(alloc, connection, token)),
-            Err(fault) => Err(fault),
-        }
+        let connection = self.found(file)?;
+        self.ended(add_shop_token(alloc, connection, token))
     }
 
     fn serve<W: Drain>(
@@ -160,32 +158,22 @@ impl<
         place: &Place<'_>,
         writer: &mut W,
     ) -> Result<(), RunFault> {
-        match self.found(file) {
-            Ok(connection) => self.ended(serve_shop(self.rt, alloc, connection, place, writer)),
-            Err(fault) => Err(fault),
-        }
+        let connection = self.found(file)?;
+        self.ended(serve_shop(self.rt, alloc, connection, place, writer))
     }
 
     fn work(&self, alloc: Global, file: &str) -> Result<Body, RunFault> {
-        match self.found(file) {
-            Ok(connection) => self.ended(work_shop(self.rt, alloc, connection)),
-            Err(fault) => Err(fault),
-        }
+        let connection = self.found(file)?;
+        self.ended(work_shop(self.rt, alloc, connection))
     }
 
     fn report(&self, alloc: Global, file: &str, report: Report) -> Result<Body, RunFault> {
-        match self.found(file) {
-            Ok(connection) => self.ended(report_shop(alloc, connection, report)),
-            Err(fault) => Err(fault),
-        }
+        let connection = self.found(file)?;
+        self.ended(report_shop(alloc, connection, report))
     }
 
     fn import(&self, alloc: Global, file: &str, csv: &str) -> Result<Body, RunFault> {
-        match self.found(file) {
-            Ok(connection) => {
-                self.ended(import_shop(self.rt, alloc, connection, self.shelf.bytes(csv)))
-            }
-            Err(fault) => Err(fault),
-        }
+        let connection = self.found(file)?;
+        self.ended(import_shop(self.rt, alloc, connection, self.shelf.bytes(csv)))
     }
 }

@@ -8,18 +8,18 @@ ghost use Rattle.bo_house.specs.Served.{StaysUnopened};
 ghost use Rattle.bo_line.specs.declared.fault.RunFault.TheVariants.{Memory};
 
 use crate::acting::act_opened;
-use crate::faults::{fault_of_file, fault_of_opening};
+use crate::faults::fault_of_file;
 use crate::filed::{Filed, connection_of};
+use crate::opening::open_shop;
 use crate::words::ImportWords;
 use bo_base::{Body, List};
 use bo_commands::{Command, NewVoucher};
 use bo_csv::{codes_of, read_vouchers};
 use bo_desk::Office;
 use bo_dues::Dues;
-use bo_file::open_file;
 use bo_kept::Tables;
 use bo_line::RunFault;
-use bo_tables::{HandedBack, SqlTables};
+use bo_tables::SqlTables;
 use sqlite::{Alter, Connection};
 use std::alloc::Global;
 use std::random::RandomSource;
@@ -103,11 +103,8 @@ pub fn import_shop<R: Clock + RandomSource, S: Alter + Drop>(
     ensures { IsOpenedAndImported S.Store (meaning ⟦<SqlTables<S> as Tables>⟧.sure ⟦<SqlTables<S> as Tables>⟧.holds ⟦<SqlTables<S> as Tables>⟧.knows ⟦<SqlTables<S> as Tables>⟧.may_leave)
         source (state S.Store connection) result.connection result.outcome ⊎ StaysUnopened S.Store (state S.Store connection) result.connection result.outcome }
 {
-    match open_file(alloc, connection) {
+    match open_shop(alloc, connection) {
         Ok(opened) => import_opened(rt, alloc, opened, source),
-        Err(HandedBack { connection, error }) => Filed {
-            connection,
-            outcome: Err(fault_of_opening(error)),
-        },
+        Err(filed) => filed,
     }
 }

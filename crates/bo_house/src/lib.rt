@@ -9,6 +9,7 @@ pub mod filed;
 pub mod house;
 pub mod importing;
 pub mod making;
+mod opening;
 pub mod reporting;
 pub mod serving;
 pub mod shelf;

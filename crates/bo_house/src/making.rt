@@ -1,14 +1,7 @@
 //! A shop is made in a database.
 
-ghost use Rattle.std.specs.Prelude.{◌≡◌, Err, OnOk, OnErr};
 ghost use Rattle.sqlite.specs.Held.{state};
-ghost use Rattle.sqlite.specs.State.{HasCleanDisk, Survives};
-ghost use Rattle.bo_line.specs.declared.fault.RunFault.TheVariants.{NotAShop};
-ghost use Rattle.bo_schema.specs.Blank.{blank_schema};
-ghost use Rattle.bo_schema.specs.Whole.{IsStill, MayBeWritten};
-ghost use Rattle.bo_tables.specs.Begun.{IsBegun};
-ghost use Rattle.bo_tables.specs.Made.{first_shop};
-ghost use Rattle.bo_house.specs.Filed.{HoldsNewShop};
+ghost use Rattle.bo_house.specs.Filed.{MakesShop};
 
 use crate::faults::fault_of_rows;
 use crate::filed::Filed;
@@ -25,10 +18,7 @@ pub fn make_new_shop<S: Alter + Drop>(
     organizer: Slug,
     event: Slug,
 ) -> Filed<S, ()>
-    ensures made { HasCleanDisk (state S.Store result.connection) → OnOk result.outcome (HoldsNewShop organizer event (state S.Store connection) (state S.Store result.connection)) }
-    ensures none { HasCleanDisk (state S.Store result.connection) → OnErr result.outcome (IsStill (state S.Store connection) (state S.Store result.connection)) }
-    ensures blank { ¬ ((state S.Store connection).now.schema ≡ blank_schema) → result.outcome ≡ Err NotAShop }
-    ensures crash { Survives (state S.Store connection) (state S.Store result.connection) (MayBeWritten blank_schema (λ (_ : Unit {0}) db after. IsBegun (first_shop organizer event) after) (state S.Store connection)) }
+    ensures { MakesShop S.Store organizer event (state S.Store connection) result.connection result.outcome }
 {
     match create(alloc, connection, organizer, event) {
         Ok(tables) => Filed {

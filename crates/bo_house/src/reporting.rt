@@ -6,17 +6,16 @@ ghost use Rattle.bo_lists.specs.Lists.{Lists};
 ghost use Rattle.bo_house.specs.Reported.{IsOpenedAndReported, IsReport, version_text};
 ghost use Rattle.bo_house.specs.Served.{StaysUnopened};
 
-use crate::faults::fault_of_opening;
 use crate::filed::{Filed, connection_of};
+use crate::opening::open_shop;
 use crate::words::append_count;
 use bo_base::Body;
 use bo_csv::positions_text;
 use bo_desk::Office;
 use bo_dues::Dues;
-use bo_file::open_file;
 use bo_line::{Report, RunFault};
 use bo_reports::{door_text, sales_text};
-use bo_tables::{HandedBack, SqlTables};
+use bo_tables::SqlTables;
 use bo_usage::Book;
 use sqlite::{Alter, Connection};
 use std::alloc::{AllocError, Global};
@@ -105,11 +104,8 @@ pub fn report_shop<S: Alter + Drop>(
     ensures { IsOpenedAndReported S.Store report (state S.Store connection) result.connection result.outcome
         ⊎ StaysUnopened S.Store (state S.Store connection) result.connection result.outcome }
 {
-    match open_file(alloc, connection) {
+    match open_shop(alloc, connection) {
         Ok(opened) => report_opened(alloc, report, opened),
-        Err(HandedBack { connection, error }) => Filed {
-            connection,
-            outcome: Err(fault_of_opening(error)),
-        },
+        Err(filed) => filed,
     }
 }

@@ -6,16 +6,15 @@ ghost use Rattle.bo_desk.specs.Streams.{DeskView, desk_with, meaning};
 ghost use Rattle.bo_line.specs.Saying.{TellsListening};
 ghost use Rattle.bo_house.specs.Served.{IsOpenedAndServed, IsSilent, LeadsFrom, StaysUnopened};
 
-use crate::faults::fault_of_opening;
 use crate::filed::{Filed, connection_of};
+use crate::opening::open_shop;
 use bo_desk::{HouseWords, Office, ShopDesk};
 use bo_devices::Drain;
 use bo_dues::Dues;
-use bo_file::open_file;
 use bo_kept::Tables;
 use bo_line::{Place, RunFault};
 use bo_serve::serve_at;
-use bo_tables::{HandedBack, SqlTables};
+use bo_tables::SqlTables;
 use sqlite::{Alter, Connection};
 use std::alloc::Global;
 use std::net::{Net, TcpListener, TcpStream};
@@ -97,11 +96,8 @@ pub fn serve_shop<
         ⊎ (StaysUnopened S.Store (state S.Store connection) result.connection result.outcome
         × IsSilent (record { taken = W.taken writer.old; failures = W.failures writer.old }) (record { taken = W.taken writer.new; failures = W.failures writer.new })) }
 {
-    match open_file(alloc, connection) {
+    match open_shop(alloc, connection) {
         Ok(opened) => serve_opened(rt, alloc, place, opened, writer),
-        Err(HandedBack { connection, error }) => Filed {
-            connection,
-            outcome: Err(fault_of_opening(error)),
-        },
+        Err(filed) => filed,
     }
 }

@@ -7,14 +7,13 @@ ghost use Rattle.bo_house.specs.Served.{StaysUnopened};
 ghost use Rattle.bo_house.specs.Worked.{IsOpenedAndWorked};
 
 use crate::acting::act_opened;
-use crate::faults::fault_of_opening;
 use crate::filed::Filed;
+use crate::opening::open_shop;
 use crate::words::WorkWords;
 use bo_base::Body;
 use bo_commands::Command;
-use bo_file::open_file;
 use bo_kept::Tables;
-use bo_tables::{HandedBack, SqlTables};
+use bo_tables::SqlTables;
 use sqlite::{Alter, Connection};
 use std::alloc::Global;
 use std::random::RandomSource;
@@ -32,11 +31,8 @@ pub fn work_shop<R: Clock + RandomSource, S: Alter + Drop>(
     ensures { IsOpenedAndWorked S.Store (meaning ⟦<SqlTables<S> as Tables>⟧.sure ⟦<SqlTables<S> as Tables>⟧.holds ⟦<SqlTables<S> as Tables>⟧.knows ⟦<SqlTables<S> as Tables>⟧.may_leave)
         (state S.Store connection) result.connection result.outcome ⊎ StaysUnopened S.Store (state S.Store connection) result.connection result.outcome }
 {
-    match open_file(alloc, connection) {
+    match open_shop(alloc, connection) {
         Ok(opened) => act_opened(rt, alloc, opened, WorkWords, Command::Periodic),
-        Err(HandedBack { connection, error }) => Filed {
-            connection,
-            outcome: Err(fault_of_opening(error)),
-        },
+        Err(filed) => filed,
     }
 }

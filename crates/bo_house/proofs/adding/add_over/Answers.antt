@@ -1,11 +1,12 @@
 use Rattle.std.proofs.Common.{◌≡◌, ◌∙◌, List, ℕ, IfOk, OnErr, ap, arith, sym, subst}
 use Rattle.sha2.specs.Sha256.{sha256}
 use Rattle.sqlite.specs.Held.{state}
-use Rattle.sqlite.specs.State.{HasCleanDisk}
-use Rattle.bo_tables.specs.Tokens.{HasNoRoom}
+use Rattle.sqlite.specs.State.{HasCleanDisk, Survives}
+use Rattle.bo_tables.specs.Begun.{HasToken}
+use Rattle.bo_tables.specs.Tokens.{HasNoRoom, next_one, raised}
 use Rattle.bo_house.specs.Filed.{GetsToken}
 use Rattle.bo_schema.specs.Tables.{schema}
-use Rattle.bo_schema.specs.Whole.{IsOver, IsStill}
+use Rattle.bo_schema.specs.Whole.{IsOver, IsStill, MayBeWritten}
 use Rattle.bo_house.proofs.TokenLemmas.{got, told_full, told_none, told_number}
 use Rattle.bo_house.proofs.adding.add_over.Goals as goal
 
@@ -36,3 +37,11 @@ returns-clause-full g c = λ is clean known knows.
     let cleared : HasCleanDisk (state g.S.Store c.add_token-added.new.tables.connection) = subst (λ it. HasCleanDisk (state g.S.Store it)) c.connection_of.ensures clean in
     subst (λ (d : List ℕ). HasNoRoom (known d) c.args.opened.0.head.next_token) digest_is
     (c.add_token-added.ensures.full cleared known knows (told_full c.add_token-added.result (sym c.told.ensures ∙ is)))
+
+pub returns-clause-crash : goal.returns-clause-crash
+returns-clause-crash g c =
+    let tables = c.args.opened.0 in
+    let old = state g.S.Store tables.connection in
+    let digest_is : c.digest.result ≡ sha256 c.args.token.now = c.digest.ensures ∙ ap sha256 c.as_bytes.ensures.value in
+    subst (λ it. Survives old (state g.S.Store it) (MayBeWritten schema (λ (_ : Unit {0}). HasToken (raised tables.head) (next_one tables.head (sha256 c.args.token.now))) old)) (sym c.connection_of.ensures)
+    (subst (λ (d : List ℕ). Survives old (state g.S.Store c.add_token-added.new.tables.connection) (MayBeWritten schema (λ (_ : Unit {0}). HasToken (raised tables.head) (next_one tables.head d)) old)) digest_is c.add_token-added.ensures.crash)

@@ -1,11 +1,27 @@
-use Rattle.std.proofs.Common.{sym, subst}
+use Rattle.std.proofs.Common.{◌∙◌, Ok, Err, ap, sym, subst}
 use Rattle.sqlite.specs.Held.{state}
-use Rattle.sqlite.specs.State.{HasCleanDisk}
-use Rattle.bo_house.specs.Filed.{HoldsNewShop}
+use Rattle.bo_line.specs.declared.fault.RunFault.{RunFault}
+use Rattle.bo_house.specs.Faults.{fault_of_rows}
+use Rattle.bo_house.specs.Filed.{MakesShop}
 use Rattle.bo_house.proofs.making.make_new_shop.Goals as goal
 
-pub returns-in-Ok-clause-made : goal.returns-in-Ok-clause-made
-returns-in-Ok-clause-made g c =
+pub returns-in-Ok : goal.returns-in-Ok
+returns-in-Ok g c =
     let tables = c.in-Ok.tables in
-    subst (λ it. HasCleanDisk (state g.S.Store it) → HoldsNewShop c.args.organizer c.args.event (state g.S.Store c.args.connection) (state g.S.Store it)) (sym c.into_connection.ensures)
-    (λ clean. (tables.head, tables.next_row, c.in-Ok.ensures.made clean))
+    let made = c.in-Ok.ensures in
+    subst (λ it. MakesShop g.S.Store c.args.organizer c.args.event (state g.S.Store c.args.connection) it (Ok tt)) (sym c.into_connection.ensures) (record {
+      made = λ clean. (tables.head, tables.next_row, made.made clean);
+      none = λ clean. tt;
+      blank = λ other. absurd (made.blank other);
+      crash = made.crash;
+    })
+
+pub returns-in-Err : goal.returns-in-Err
+returns-in-Err g c =
+    let refused = c.in-Err.ensures in
+    record {
+      made = λ clean. tt;
+      none = refused.none;
+      blank = λ other. ap (λ (fault : RunFault). Err fault) (c.fault_of_rows.ensures ∙ ap fault_of_rows (refused.blank other));
+      crash = refused.crash_none;
+    }

@@ -1,4 +1,4 @@
-use Rattle.std.proofs.Common.{ap, Err, inr}
+use Rattle.std.proofs.Common.{inr}
 use Rattle.sqlite.specs.Held.{state}
 use Rattle.bo_desk.specs.Streams.{desk_with}
 use Rattle.bo_house.proofs.ActLemmas.{is_worked}
@@ -6,12 +6,8 @@ use Rattle.bo_house.proofs.working.work_shop.Goals as goal
 
 pub returns-in-Ok : goal.returns-in-Ok
 returns-in-Ok g c =
-    let e = c.in-Ok.ensures in
     let office = c.in-Ok.opened.1 in
-    is_worked _ g.S.Store (state g.S.Store c.args.connection) (desk_with c.in-Ok.opened.0 office.organizer office.event office.state) _ _
-    (record { opened = e.opened; organizer = e.names.0; event = e.names.1; sound = e.sound; rests = e.rests; crash = e.crash }) c.act_opened.ensures
+    is_worked _ g.S.Store (state g.S.Store c.args.connection) (desk_with c.in-Ok.opened.0 office.organizer office.event office.state) _ _ c.in-Ok.ensures.opens c.act_opened.ensures
 
 pub returns-in-Err : goal.returns-in-Err
-returns-in-Err g c =
-    let e = c.in-Err.ensures in
-    inr (record { error = c.in-Err.field-0.error; told = ap (λ f. Err f) c.fault_of_opening.ensures; cause = e.cause; rests = e.rests_none })
+returns-in-Err g c = inr c.in-Err.ensures.stays

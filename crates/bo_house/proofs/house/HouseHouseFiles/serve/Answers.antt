@@ -6,8 +6,8 @@ unsaid : (A B C : Type 0) → A ⊎ (B × C) → A ⊎ B
 unsaid A B C (inl a) = inl a
 unsaid A B C (inr h) = inr h.0
 
-pub returns-in-Ok-clause-said : goal.returns-in-Ok-clause-said
-returns-in-Ok-clause-said g c = rw c.ended.ensures c.serve_shop.ensures.said
+pub returns-clause-said : goal.returns-clause-said
+returns-clause-said g c = rw c.ended.ensures c.serve_shop.ensures.said
 
-pub returns-in-Ok-clause-served : goal.returns-in-Ok-clause-served
-returns-in-Ok-clause-served g c = inl (c.in-Ok.connection, c.serve_shop.result.connection, c.in-Ok.ensures.given, rw c.ended.ensures (unsaid _ _ _ c.serve_shop.ensures.served))
+pub returns-clause-served : goal.returns-clause-served
+returns-clause-served g c = inl (c.in_ok-connection.connection, c.serve_shop.result.connection, c.in_ok-connection.ensures.given, rw c.ended.ensures (unsaid _ _ _ c.serve_shop.ensures.served))

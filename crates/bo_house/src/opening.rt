@@ -1,0 +1,33 @@
+//! The shop in a database is opened for a command.
+
+ghost use Rattle.std.specs.Prelude.{IfOk, IfErr};
+ghost use Rattle.sqlite.specs.Held.{state};
+ghost use Rattle.bo_desk.specs.Streams.{desk_with};
+ghost use Rattle.bo_house.specs.Served.{OpensAs, StaysUnopened};
+
+use crate::faults::fault_of_opening;
+use crate::filed::Filed;
+use bo_counters::Counters;
+use bo_desk::Office;
+use bo_file::open_file;
+use bo_tables::{HandedBack, SqlTables};
+use sqlite::{Alter, Connection};
+use std::alloc::Global;
+
+/// Opens the shop in a database, or gives what becomes of the command that it was to be opened for. Faults: 60, 61 and 62 where the
+/// database holds no shop that is whole, each for its cause alone, 63 and 6. Opening changes nothing, in a crash too.
+pub(crate) fn open_shop<S: Alter, T: Drop>(
+    alloc: Global,
+    connection: Connection<S>,
+) -> Result<(SqlTables<S>, Office<Counters>), Filed<S, T>>
+    ensures opens { IfOk result (λ it. OpensAs S.Store (state S.Store connection) (desk_with it.0 it.1.organizer it.1.event it.1.state)) }
+    ensures stays { IfErr result (λ filed. StaysUnopened S.Store (state S.Store connection) filed.connection filed.outcome) }
+{
+    match open_file(alloc, connection) {
+        Ok(opened) => Ok(opened),
+        Err(HandedBack { connection, error }) => Err(Filed {
+            connection,
+            outcome: Err(fault_of_opening(error)),
+        }),
+    }
+}
