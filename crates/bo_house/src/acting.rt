@@ -100,9 +100,13 @@ pub(crate) fn act_opened<
 {
     match read_tick(rt) {
         Ok(tick) => act_at(alloc, tick, opened, wording, command),
-        Err(_) => Filed {
-            connection: connection_of(opened),
-            outcome: Err(RunFault::Run(Failure::Clock)),
-        },
+        // The command is let go by name, as a whole: part by part is a way of the proof for each of its kinds.
+        Err(_) => {
+            drop(command);
+            Filed {
+                connection: connection_of(opened),
+                outcome: Err(RunFault::Run(Failure::Clock)),
+            }
+        }
     }
 }

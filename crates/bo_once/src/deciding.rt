@@ -59,7 +59,12 @@ impl<T: Tables, B: Dues, W: Wording> Shop<T, B, W> {
         ensures sound { IfOk result (λ r. IsSound (applied r.0 at self.now.state)) }
     {
         match request {
-            Request::Write(command) => self.decide_command(alloc, at, draw, &command),
+            // The command is let go by name, as a whole: part by part is a way of the proof for each of its kinds.
+            Request::Write(command) => {
+                let decided = self.decide_command(alloc, at, draw, &command);
+                drop(command);
+                decided
+            }
             Request::WriteRefused(response) => {
                 let changes = self.pass(alloc, at);
                 Ok((changes, response))
