@@ -201,7 +201,8 @@ def lanes():
 def gate_lanes():
     """How many checks the gate runs side by side, each by one process: as many as processors and memory allow."""
     rt = kit()
-    return max(1, min(rt.processors(), rt.free() // GATE_CHECK))
+    most, room = getattr(rt, "processors", processors)(), getattr(rt, "free", free)()
+    return max(1, min(most, room // GATE_CHECK))
 
 
 def side_by_side(tasks, work, most=None):
