@@ -10,7 +10,7 @@ use bo_bodies::{Form, MoveName};
 use bo_commands::{Query, Resource};
 
 /// What a method asks for at a target.
-#[derive(Clone, Copy, Debug, PartialEq, Eq)]
+#[derive(Clone, Copy, PartialEq, Eq)]
 pub enum Endpoint {
     /// A page of a list, whose number stands in the target's query; the body isn't looked at.
     Page(Resource),

@@ -11,7 +11,7 @@ use bo_commands::Resource;
 use matchit::Router;
 
 /// What a path names, with the ids that stand in it.
-#[derive(Clone, Copy, Debug, PartialEq, Eq)]
+#[derive(Clone, Copy, PartialEq, Eq)]
 pub enum Target {
     /// The list of all rows of a kind.
     All(Resource),

@@ -9,7 +9,7 @@ use matchit::{InsertError, Router};
 use std::alloc::Global;
 
 /// A path of the table, whatever ids and codes stand in it.
-#[derive(Clone, Copy, Debug, Drop, PartialEq, Eq)]
+#[derive(Clone, Copy, Drop, PartialEq, Eq)]
 pub enum Route {
     Items,
     Item,

@@ -4,7 +4,7 @@ ghost use Rattle.std.specs.Prelude.{◌≡◌, bytes_eq};
 ghost use Rattle.bo_api.specs.Verbs.{verb_of, is_write};
 
 /// A method, as far as the shop has it.
-#[derive(Clone, Copy, Debug, PartialEq, Eq)]
+#[derive(Clone, Copy, PartialEq, Eq)]
 pub enum Verb {
     Get,
     Post,

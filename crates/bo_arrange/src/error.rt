@@ -6,7 +6,7 @@ ghost use Rattle.bo_arrange.specs.declared.error.ArrangeError.TheVariants.{Memor
 use std::alloc::AllocError;
 
 /// Why rows aren't arranged.
-#[derive(Clone, Copy, Debug, PartialEq, Eq, Drop)]
+#[derive(Clone, Copy, PartialEq, Eq, Drop)]
 pub enum ArrangeError {
     /// 6: out of memory.
     Memory,

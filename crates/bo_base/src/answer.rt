@@ -6,7 +6,7 @@ use crate::status_code::StatusCode;
 use std::marker::Model;
 
 /// The methods that a path has, where another one was asked for.
-#[derive(Clone, Copy, Debug, PartialEq, Eq)]
+#[derive(Clone, Copy, PartialEq, Eq)]
 pub struct Methods {
     pub get: bool,
     pub post: bool,
@@ -15,7 +15,7 @@ pub struct Methods {
 }
 
 /// The body of an answer, which contracts see as the list of its bytes.
-#[derive(Debug, Drop)]
+#[derive(Drop)]
 pub struct Body {
     bytes: Vec<u8>,
 }

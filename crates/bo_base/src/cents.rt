@@ -12,7 +12,7 @@ use std::marker::Model;
 pub const LAST_CENTS: u64 = 9_999_999_999;
 
 /// An amount of money, in whole cents, 0 to 9,999,999,999.
-#[derive(Clone, Copy, Debug, PartialEq, Eq, PartialOrd, Ord)]
+#[derive(Clone, Copy, PartialEq, Eq, PartialOrd, Ord)]
 pub struct Cents {
     count: u64,
 }

@@ -6,7 +6,7 @@ ghost use Rattle.bo_base.specs.Counts.{IsUses, IsSize, IsPriority};
 use std::marker::Model;
 
 /// How often a voucher may be used: 1 to 1,000,000 times.
-#[derive(Clone, Copy, Debug, PartialEq, Eq, PartialOrd, Ord)]
+#[derive(Clone, Copy, PartialEq, Eq, PartialOrd, Ord)]
 pub struct Uses {
     count: u32,
 }
@@ -43,7 +43,7 @@ impl Uses {
 }
 
 /// How many places a quota has: 0 to 1,000,000.
-#[derive(Clone, Copy, Debug, PartialEq, Eq, PartialOrd, Ord)]
+#[derive(Clone, Copy, PartialEq, Eq, PartialOrd, Ord)]
 pub struct Size {
     places: u32,
 }
@@ -80,7 +80,7 @@ impl Size {
 }
 
 /// How early an entry of the waiting list is served, higher first: -1,000,000 to 1,000,000.
-#[derive(Clone, Copy, Debug, PartialEq, Eq, PartialOrd, Ord)]
+#[derive(Clone, Copy, PartialEq, Eq, PartialOrd, Ord)]
 pub struct Priority {
     rank: i32,
 }

@@ -3,7 +3,7 @@
 ghost use Rattle.bo_base.specs.Draws.{IsDraw};
 
 /// Sixteen bytes by chance, handed in with each request. Nothing is promised of their being hard to guess.
-#[derive(Clone, Copy, Debug, PartialEq, Eq)]
+#[derive(Clone, Copy, PartialEq, Eq)]
 pub struct Draw {
     pub bytes: [u8; 16],
 }

@@ -7,7 +7,7 @@ use crate::known::Known;
 use std::marker::Model;
 
 /// Values in order, which contracts see as a list.
-#[derive(Debug, Drop)]
+#[derive(Drop)]
 pub struct List<T> {
     items: Vec<T>,
 }

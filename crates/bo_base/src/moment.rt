@@ -9,7 +9,7 @@ use std::marker::Model;
 pub const LAST_MOMENT: u64 = 253_370_764_799;
 
 /// Whole seconds since 1970-01-01T00:00:00Z, up to the end of the year 9998.
-#[derive(Clone, Copy, Debug, PartialEq, Eq, PartialOrd, Ord)]
+#[derive(Clone, Copy, PartialEq, Eq, PartialOrd, Ord)]
 pub struct Moment {
     seconds: u64,
 }

@@ -10,7 +10,7 @@ use std::marker::Model;
 const WHOLE: u64 = 10_000;
 
 /// A share, in hundredths of a percent, 0 to 10,000.
-#[derive(Clone, Copy, Debug, PartialEq, Eq)]
+#[derive(Clone, Copy, PartialEq, Eq)]
 pub struct Percent {
     hundredths: u64,
 }

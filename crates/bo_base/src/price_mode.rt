@@ -7,7 +7,7 @@ use crate::cents::Cents;
 use crate::percent::Percent;
 
 /// How a voucher changes a price.
-#[derive(Clone, Copy, Debug, PartialEq, Eq)]
+#[derive(Clone, Copy, PartialEq, Eq)]
 pub enum PriceMode {
     /// The base price stays.
     None,

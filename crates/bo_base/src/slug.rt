@@ -9,7 +9,7 @@ use std::marker::Model;
 
 /// A short name of an organizer or an event, as it stands in paths: 1 to 50 ASCII letters, digits, `-`, `.` and `_`.
 /// Contracts see the list of its bytes.
-#[derive(Debug, Drop)]
+#[derive(Drop)]
 pub struct Slug {
     chars: String,
 }

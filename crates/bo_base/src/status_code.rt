@@ -6,7 +6,7 @@ ghost use Rattle.bo_base.specs.StatusCode.{IsStatusCode};
 use std::marker::Model;
 
 /// The status of an answer, a number of three digits.
-#[derive(Clone, Copy, Debug, PartialEq, Eq)]
+#[derive(Clone, Copy, PartialEq, Eq)]
 pub struct StatusCode {
     code: u16,
 }

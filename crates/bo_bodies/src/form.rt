@@ -1,7 +1,7 @@
 //! Which fields a body has.
 
 /// A move of an order, by the last name of its path.
-#[derive(Clone, Copy, Debug, Drop, PartialEq, Eq)]
+#[derive(Clone, Copy, Drop, PartialEq, Eq)]
 pub enum MoveName {
     MarkPaid,
     MarkPending,
@@ -11,7 +11,7 @@ pub enum MoveName {
 }
 
 /// Which fields a body has, and the id of the row that the path names for them. A body is an object, but for `Carts`.
-#[derive(Clone, Copy, Debug, PartialEq, Eq)]
+#[derive(Clone, Copy, PartialEq, Eq)]
 pub enum Form {
     Item,
     ItemPatch(u64),

@@ -15,7 +15,7 @@ use bo_sorted::Ids;
 use std::alloc::{AllocError, Global};
 
 /// A new variation of an item. Where it has no price, the item's price holds.
-#[derive(Debug, Drop)]
+#[derive(Drop)]
 pub struct NewVariation {
     pub name: Text,
     pub default_price: Option<Cents>,
@@ -23,7 +23,7 @@ pub struct NewVariation {
 }
 
 /// A new item. With variations it is sold by them alone, for good; without any it is sold by itself.
-#[derive(Debug, Drop)]
+#[derive(Drop)]
 pub struct NewItem {
     pub name: Text,
     pub default_price: Cents,
@@ -32,7 +32,7 @@ pub struct NewItem {
 }
 
 /// What is to change of an item. What isn't given stays.
-#[derive(Debug, Drop)]
+#[derive(Drop)]
 pub struct ItemPatch {
     pub name: Option<Text>,
     pub default_price: Option<Cents>,
@@ -40,13 +40,13 @@ pub struct ItemPatch {
 }
 
 /// What is to change of a quota: its size, where one is given; a size that is none is unlimited.
-#[derive(Clone, Copy, Debug, PartialEq, Eq)]
+#[derive(Clone, Copy, PartialEq, Eq)]
 pub struct QuotaPatch {
     pub size: Option<Option<Size>>,
 }
 
 /// A new quota, with the ids as they are given. Without a size it is unlimited.
-#[derive(Debug, Drop)]
+#[derive(Drop)]
 pub struct NewQuota {
     pub name: Text,
     pub size: Option<Size>,

@@ -8,7 +8,7 @@ use bo_sorted::{Ids, Row};
 use std::alloc::{AllocError, Global};
 
 /// What is sold: by itself, or, where it is varied, by its variations alone.
-#[derive(Debug, Drop)]
+#[derive(Drop)]
 pub struct Item {
     pub id: u64,
     pub name: Text,
@@ -41,7 +41,7 @@ impl Item {
 }
 
 /// One kind of an item. Where it has no price, the item's price holds.
-#[derive(Debug, Drop)]
+#[derive(Drop)]
 pub struct Variation {
     pub id: u64,
     pub item: u64,
@@ -74,21 +74,21 @@ impl Variation {
 }
 
 /// An item with its variations, by id.
-#[derive(Debug, Drop)]
+#[derive(Drop)]
 pub struct ItemRows {
     pub item: Item,
     pub variations: List<Variation>,
 }
 
 /// A variation, and its base price: its own price, or else its item's.
-#[derive(Debug, Drop)]
+#[derive(Drop)]
 pub struct PricedVariation {
     pub row: Variation,
     pub price: Cents,
 }
 
 /// So many places, shared by some products. Where it has no size, it is unlimited.
-#[derive(Debug, Drop)]
+#[derive(Drop)]
 pub struct Quota {
     pub id: u64,
     pub name: Text,
@@ -138,7 +138,7 @@ impl Quota {
 }
 
 /// An item, or an item with one of its variations.
-#[derive(Clone, Copy, Debug, PartialEq, Eq)]
+#[derive(Clone, Copy, PartialEq, Eq)]
 pub struct Product {
     pub item: u64,
     pub variation: Option<u64>,

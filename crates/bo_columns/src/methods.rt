@@ -81,7 +81,7 @@ fn methods_in(text: &str) -> Option<Methods>
 }
 
 /// The methods of a path, which an answer may name, in a column.
-#[derive(Clone, Copy, Debug, PartialEq, Eq)]
+#[derive(Clone, Copy, PartialEq, Eq)]
 pub struct Allow {
     pub named: Option<Methods>,
 }

@@ -6,7 +6,7 @@ use bo_lists::{NextIds, Voucher};
 
 /// The row of the shop itself: the version of its tables, whose it is, the moment up to which it has got, and the ids that
 /// the next rows get.
-#[derive(Debug, Drop)]
+#[derive(Drop)]
 pub struct ShopRow {
     pub version: u64,
     pub organizer: Slug,
@@ -17,7 +17,7 @@ pub struct ShopRow {
 }
 
 /// A quota without its members.
-#[derive(Debug, Drop)]
+#[derive(Drop)]
 pub struct QuotaRow {
     pub id: u64,
     pub name: Text,
@@ -25,7 +25,7 @@ pub struct QuotaRow {
 }
 
 /// An item of a quota. The number of the row counts for nothing else.
-#[derive(Clone, Copy, Debug, PartialEq, Eq)]
+#[derive(Clone, Copy, PartialEq, Eq)]
 pub struct QuotaItem {
     pub rowid: u64,
     pub quota: u64,
@@ -33,7 +33,7 @@ pub struct QuotaItem {
 }
 
 /// A variation of a quota.
-#[derive(Clone, Copy, Debug, PartialEq, Eq)]
+#[derive(Clone, Copy, PartialEq, Eq)]
 pub struct QuotaVariation {
     pub rowid: u64,
     pub quota: u64,
@@ -41,14 +41,14 @@ pub struct QuotaVariation {
 }
 
 /// A voucher, and how often it is redeemed.
-#[derive(Debug, Drop)]
+#[derive(Drop)]
 pub struct VoucherRow {
     pub voucher: Voucher,
     pub redeemed: u64,
 }
 
 /// A check-in list without its items.
-#[derive(Debug, Drop)]
+#[derive(Drop)]
 pub struct ListRow {
     pub id: u64,
     pub name: Text,
@@ -59,7 +59,7 @@ pub struct ListRow {
 }
 
 /// An item of a check-in list.
-#[derive(Clone, Copy, Debug, PartialEq, Eq)]
+#[derive(Clone, Copy, PartialEq, Eq)]
 pub struct ListItem {
     pub rowid: u64,
     pub list: u64,
@@ -67,7 +67,7 @@ pub struct ListItem {
 }
 
 /// A token, by its SHA-256 digest.
-#[derive(Clone, Copy, Debug, PartialEq, Eq)]
+#[derive(Clone, Copy, PartialEq, Eq)]
 pub struct Token {
     pub id: u64,
     pub digest: [u8; 32],

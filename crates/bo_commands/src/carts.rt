@@ -8,7 +8,7 @@ use bo_faults::EntryFault;
 use bo_lists::CartPos;
 
 /// What a request asks for one position: a product, perhaps a price (cents) and the code of a voucher.
-#[derive(Debug, Drop)]
+#[derive(Drop)]
 pub struct Asked {
     pub item: u64,
     pub variation: Option<u64>,
@@ -17,7 +17,7 @@ pub struct Asked {
 }
 
 /// A new cart position. Without a cart id it gets one that is made, and without an end it is held for 1800 seconds.
-#[derive(Debug, Drop)]
+#[derive(Drop)]
 pub struct NewCart {
     pub asked: Asked,
     pub cart_id: Option<Text>,
@@ -25,7 +25,7 @@ pub struct NewCart {
 }
 
 /// An entry of a bulk call: a cart position that is asked for, or what is wrong with what stands in its place.
-#[derive(Debug, Drop)]
+#[derive(Drop)]
 pub enum Entry {
     /// A cart position that is asked for.
     New(NewCart),
@@ -34,7 +34,7 @@ pub enum Entry {
 }
 
 /// What became of an entry.
-#[derive(Debug, Drop)]
+#[derive(Drop)]
 pub enum Outcome {
     /// A cart position was added; this is a copy of it.
     Added(CartPos),

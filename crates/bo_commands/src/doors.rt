@@ -12,7 +12,7 @@ use std::alloc::AllocError;
 use thiserror::Error;
 
 /// A new check-in list, with the ids of its items as they are given: repeated ones count once.
-#[derive(Debug, Drop)]
+#[derive(Drop)]
 pub struct NewCheckinList {
     pub name: Text,
     pub all_products: bool,
@@ -23,7 +23,7 @@ pub struct NewCheckinList {
 }
 
 /// What a scanner shows of a ticket.
-#[derive(Debug, Drop)]
+#[derive(Drop)]
 pub enum Ticket {
     /// The id of its position.
     Position(u64),
@@ -35,7 +35,7 @@ pub enum Ticket {
 
 /// A scan at a door. Without a moment of its own it is made at the request's moment. A list and a position have a nonce
 /// once, for good, so a scan that is sent again with its nonce adds nothing.
-#[derive(Debug, Drop)]
+#[derive(Drop)]
 pub struct Scan {
     pub kind: CheckinKind,
     pub nonce: Option<Text>,
@@ -46,7 +46,7 @@ pub struct Scan {
 
 /// How many positions belong to a check-in list, how many of them have an entry, and how many are inside:
 /// those whose last check-in is an entry.
-#[derive(Clone, Copy, Debug, PartialEq, Eq)]
+#[derive(Clone, Copy, PartialEq, Eq)]
 pub struct DoorStatus {
     pub positions: u64,
     pub entered: u64,
@@ -54,7 +54,7 @@ pub struct DoorStatus {
 }
 
 /// A position that belongs to a check-in list, with its check-ins of that list, by id.
-#[derive(Debug, Drop)]
+#[derive(Drop)]
 pub struct ListedTicket {
     pub position: OrderPos,
     pub checkins: List<Checkin>,

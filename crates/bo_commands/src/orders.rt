@@ -16,7 +16,7 @@ use std::alloc::AllocError;
 use thiserror::Error;
 
 /// What an order starts as.
-#[derive(Clone, Copy, Debug, PartialEq, Eq)]
+#[derive(Clone, Copy, PartialEq, Eq)]
 pub enum Start {
     /// It waits for its payment.
     Pending,
@@ -26,7 +26,7 @@ pub enum Start {
 
 /// A new order, pending or paid at once. Without an end it is kept for 14 days.
 /// All cart positions of the carts that are named are consumed.
-#[derive(Debug, Drop)]
+#[derive(Drop)]
 pub struct NewOrder {
     pub email: Option<Text>,
     pub start: Start,
@@ -48,7 +48,7 @@ impl Start {
 }
 
 /// What is to become of an order.
-#[derive(Clone, Copy, Debug, PartialEq, Eq)]
+#[derive(Clone, Copy, PartialEq, Eq)]
 pub enum Move {
     /// A pending or an expired order becomes paid.
     MarkPaid,

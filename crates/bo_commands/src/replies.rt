@@ -14,7 +14,7 @@ use bo_catalogue::{CatalogueRefusal, ItemRows, PricedVariation, Quota};
 use bo_lists::{Availability, CartPos, CheckinList, OrderPos, OrderRows, Voucher, Waiting};
 
 /// Why a request is refused.
-#[derive(Clone, Copy, Debug, PartialEq, Eq)]
+#[derive(Clone, Copy, PartialEq, Eq)]
 pub enum Refusal {
     /// The catalogue's refusal, with its number.
     Catalogue(CatalogueRefusal),
@@ -47,7 +47,7 @@ impl Refusal {
 }
 
 /// A row as it is shown, a copy.
-#[derive(Debug, Drop)]
+#[derive(Drop)]
 pub enum Shown {
     /// An item with its variations.
     Item(ItemRows),
@@ -67,7 +67,7 @@ pub enum Shown {
 }
 
 /// A page of a list: how many rows the whole list has, and those of the page, at most 50.
-#[derive(Debug, Drop)]
+#[derive(Drop)]
 pub struct Page {
     pub resource: Resource,
     pub number: u64,
@@ -76,7 +76,7 @@ pub struct Page {
 }
 
 /// What a request is answered.
-#[derive(Debug, Drop)]
+#[derive(Drop)]
 pub enum Reply {
     /// A row that was made.
     Made(Shown),

@@ -11,7 +11,7 @@ use bo_base::{Known, List};
 use bo_catalogue::{ItemPatch, NewItem, NewQuota, NewVariation, QuotaPatch};
 
 /// A request that may change the box office.
-#[derive(Debug, Drop)]
+#[derive(Drop)]
 pub enum Command {
     /// Adds an item, with its variations.
     AddItem(NewItem),
@@ -58,7 +58,7 @@ pub enum Command {
 }
 
 /// Rows of one kind, which are listed by id, 50 a page. The id of an order is its number.
-#[derive(Clone, Copy, Debug, PartialEq, Eq)]
+#[derive(Clone, Copy, PartialEq, Eq)]
 pub enum Resource {
     /// Items, with their variations.
     Items,
@@ -79,7 +79,7 @@ pub enum Resource {
 }
 
 /// A request that only reads.
-#[derive(Clone, Copy, Debug, PartialEq, Eq)]
+#[derive(Clone, Copy, PartialEq, Eq)]
 pub enum Query {
     /// A page of a list; pages count from 1.
     List(Resource, u64),
@@ -92,7 +92,7 @@ pub enum Query {
 }
 
 /// Which kind of request it is.
-#[derive(Clone, Copy, Debug, PartialEq, Eq)]
+#[derive(Clone, Copy, PartialEq, Eq)]
 pub enum Kind {
     /// A command that adds an item.
     AddItem,

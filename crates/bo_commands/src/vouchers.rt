@@ -13,7 +13,7 @@ use thiserror::Error;
 
 /// A new voucher. Without a code it gets one that is made.
 /// Its value is in cents, or in hundredths of a percent where the mode is percent.
-#[derive(Debug, Drop)]
+#[derive(Drop)]
 pub struct NewVoucher {
     pub code: Option<Text>,
     pub max_usages: Uses,
@@ -30,7 +30,7 @@ pub struct NewVoucher {
 }
 
 /// What is to change of a voucher. What isn't given stays; what is given as none becomes none.
-#[derive(Debug, Drop)]
+#[derive(Drop)]
 pub struct VoucherPatch {
     pub code: Option<Text>,
     pub max_usages: Option<Uses>,
@@ -47,7 +47,7 @@ pub struct VoucherPatch {
 }
 
 /// What became of a row of a voucher file.
-#[derive(Debug, Drop)]
+#[derive(Drop)]
 pub enum Verdict {
     /// No voucher had its code: this one was added.
     Added(Voucher),

@@ -12,7 +12,7 @@ use thiserror::Error;
 
 /// A new entry of the waiting list: who waits for which product.
 /// Entries of a higher priority are served first.
-#[derive(Debug, Drop)]
+#[derive(Drop)]
 pub struct NewWaiting {
     pub email: Text,
     pub item: u64,
@@ -21,14 +21,14 @@ pub struct NewWaiting {
 }
 
 /// What is to change of an entry of the waiting list: its priority, where one is given.
-#[derive(Clone, Copy, Debug, PartialEq, Eq)]
+#[derive(Clone, Copy, PartialEq, Eq)]
 pub struct WaitingPatch {
     pub priority: Option<Priority>,
 }
 
 /// What periodic work did: how many pending orders expired, how many dead cart positions were deleted, and how many
 /// entries of the waiting list were sent a voucher.
-#[derive(Clone, Copy, Debug, PartialEq, Eq)]
+#[derive(Clone, Copy, PartialEq, Eq)]
 pub struct PeriodicCounts {
     pub expired: u64,
     pub deleted: u64,

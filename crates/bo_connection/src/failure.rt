@@ -4,7 +4,7 @@ ghost use Rattle.std.specs.Prelude.{◌≡◌};
 ghost use Rattle.bo_connection.specs.Failures.{failure_number};
 
 /// Why a connection ends before its bytes do.
-#[derive(Clone, Copy, Debug, Drop, PartialEq, Eq)]
+#[derive(Clone, Copy, Drop, PartialEq, Eq)]
 pub enum Failure {
     /// The reader failed.
     Input,
@@ -33,7 +33,7 @@ impl Failure {
 }
 
 /// How far a step came.
-#[derive(Clone, Copy, Debug, Drop, PartialEq, Eq)]
+#[derive(Clone, Copy, Drop, PartialEq, Eq)]
 pub enum Step {
     /// No message is whole yet.
     Waits,

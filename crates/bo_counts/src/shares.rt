@@ -12,7 +12,7 @@ use bo_usage::{Book, LookUps};
 use std::alloc::AllocError;
 
 /// The counts of a quota to which each row adds one place or none.
-#[derive(Clone, Copy, Debug, PartialEq, Eq)]
+#[derive(Clone, Copy, PartialEq, Eq)]
 pub enum PlaceCount {
     Paid,
     Pending,

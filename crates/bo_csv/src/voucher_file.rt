@@ -19,7 +19,7 @@ use std::alloc::{AllocError, Global};
 const MOST_LINES: u64 = 100_000;
 
 /// Why the vouchers of a file can't be read.
-#[derive(Clone, Copy, Debug, PartialEq, Eq)]
+#[derive(Clone, Copy, PartialEq, Eq)]
 pub enum FileFault {
     /// 6: there is no memory.
     Memory,

@@ -8,7 +8,7 @@ ghost use Rattle.bo_devices.specs.declared.device.Tick.{Tick};
 use bo_base::{Draw, Moment};
 
 /// A device refused a call, and counted it.
-#[derive(Clone, Copy, Debug, Drop, PartialEq, Eq)]
+#[derive(Clone, Copy, Drop, PartialEq, Eq)]
 pub struct Refused;
 
 /// A reader.
@@ -52,7 +52,7 @@ pub trait Drain {
 }
 
 /// What the clock shows and a draw, handed out together for each request.
-#[derive(Clone, Copy, Debug, PartialEq, Eq)]
+#[derive(Clone, Copy, PartialEq, Eq)]
 pub struct Tick {
     pub clock: Moment,
     pub draw: Draw,

@@ -7,7 +7,7 @@ use bo_base::Moment;
 use bo_lists::{Checkin, CheckinKind};
 
 /// When a check-in was made, its id, and whether it was an entry.
-#[derive(Clone, Copy, Debug, PartialEq, Eq)]
+#[derive(Clone, Copy, PartialEq, Eq)]
 pub struct Passage {
     pub datetime: Moment,
     pub id: u64,

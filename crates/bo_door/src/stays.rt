@@ -15,7 +15,7 @@ use bo_usage::Book;
 use std::alloc::{AllocError, Global};
 
 /// What a check-in list knows of a position: whether it has an entry, and its last check-in.
-#[derive(Clone, Copy, Debug)]
+#[derive(Clone, Copy)]
 pub struct Stay {
     pub position: u64,
     pub entered: bool,

@@ -19,7 +19,7 @@ use bo_usage::{Book, LookUps};
 use std::alloc::Global;
 
 /// A ticket that is let through, with a copy of its position.
-#[derive(Debug, Drop)]
+#[derive(Drop)]
 pub enum Admission {
     /// It was let through before, in this very scan.
     Again(OrderPos),

@@ -18,7 +18,7 @@ use std::marker::Brand;
 use std::sync::ledger::{Blank, Ledger};
 
 /// How much the book uses of the quota at a place.
-#[derive(Clone, Copy, Debug)]
+#[derive(Clone, Copy)]
 pub struct Base {
     pub place: u64,
     pub total: u128,

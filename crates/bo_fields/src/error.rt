@@ -8,7 +8,7 @@ use bo_faults::{Fault, Field, Problem};
 use std::alloc::AllocError;
 
 /// What is wrong with a body.
-#[derive(Clone, Copy, Debug, PartialEq, Eq)]
+#[derive(Clone, Copy, PartialEq, Eq)]
 pub enum BodyFault {
     /// It is no JSON or no UTF-8, or nests deeper than 127.
     NotJson,
@@ -19,7 +19,7 @@ pub enum BodyFault {
 }
 
 /// Why a body isn't read.
-#[derive(Clone, Copy, Debug, PartialEq, Eq)]
+#[derive(Clone, Copy, PartialEq, Eq)]
 pub enum ReadError {
     /// There is no memory.
     Memory,

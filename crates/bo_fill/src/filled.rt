@@ -17,7 +17,7 @@ use bo_usage::Book;
 use std::alloc::{AllocError, Global};
 
 /// What a file tells beside the rows of its office: whose shop it is, and the counts of its quotas and vouchers.
-#[derive(Debug, Drop)]
+#[derive(Drop)]
 pub struct Aside {
     pub organizer: Slug,
     pub event: Slug,

@@ -33,7 +33,7 @@ fn work_text(alloc: Global, counts: PeriodicCounts) -> Result<Vec<u8>, AllocErro
 }
 
 /// The words of periodic work: what was done, as `expired E, deleted D, sent S`. Of any other reply nothing is told.
-#[derive(Clone, Copy, Debug, PartialEq, Eq)]
+#[derive(Clone, Copy, PartialEq, Eq)]
 pub struct WorkWords;
 
 impl Wording for WorkWords {
@@ -49,7 +49,7 @@ impl Wording for WorkWords {
 }
 
 /// The words of an import: a line `CODE VERDICT` for each row. Of any other reply nothing is told.
-#[derive(Debug, Drop)]
+#[derive(Drop)]
 pub struct ImportWords {
     /// The codes of the rows.
     pub codes: List<Text>,

@@ -4,7 +4,7 @@ ghost use Rattle.std.specs.Prelude.{◌≡◌};
 ghost use Rattle.bo_indexed.specs.Keys.{no_keys};
 
 /// The keys by which a row is found beside its id. It has each of them or not.
-#[derive(Clone, Copy, Debug)]
+#[derive(Clone, Copy)]
 pub struct Keys {
     /// The moment at which it ends, in seconds since 1970.
     pub until: Option<u64>,

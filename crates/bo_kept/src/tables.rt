@@ -14,7 +14,7 @@ use bo_lists::{Changes, CountRows};
 use std::alloc::Global;
 
 /// Why the tables refuse.
-#[derive(Clone, Copy, Debug, PartialEq, Eq)]
+#[derive(Clone, Copy, PartialEq, Eq)]
 pub enum TablesError {
     /// 6: a growth was refused.
     Memory,

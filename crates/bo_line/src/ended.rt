@@ -6,7 +6,7 @@ ghost use Rattle.bo_line.specs.Line.{exit_status};
 use crate::fault::RunFault;
 
 /// How a command line ends.
-#[derive(Clone, Copy, Debug, PartialEq, Eq)]
+#[derive(Clone, Copy, PartialEq, Eq)]
 pub enum LineEnd {
     /// All was done.
     Well,

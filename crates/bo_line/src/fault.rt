@@ -9,7 +9,7 @@ use std::alloc::AllocError;
 use std::fmt;
 
 /// Why the program ends with status 1.
-#[derive(Clone, Copy, Debug, PartialEq, Eq)]
+#[derive(Clone, Copy, PartialEq, Eq)]
 pub enum RunFault {
     /// There is no memory to read the command line, or for a shop.
     Memory,

@@ -55,7 +55,7 @@ pub fn serve_values(listen: &str, connections: Option<&str>) -> Option<(SocketAd
 }
 
 /// Which report on a shop is asked for.
-#[derive(Clone, Copy, Debug, PartialEq, Eq)]
+#[derive(Clone, Copy, PartialEq, Eq)]
 pub enum Report {
     /// What was sold.
     Sales,
@@ -68,7 +68,7 @@ pub enum Report {
 }
 
 /// Why the words of a line ask for no report.
-#[derive(Clone, Copy, Debug, PartialEq, Eq)]
+#[derive(Clone, Copy, PartialEq, Eq)]
 pub enum ReportFault {
     /// There is no report of this name, or none with a list, or none without.
     Unknown,

@@ -13,7 +13,7 @@ use std::alloc::{AllocError, Global};
 const SHOPS_FILE: &str = "The shop's file";
 
 /// What a command line asks for.
-#[derive(Clone, Copy, Debug)]
+#[derive(Clone, Copy)]
 pub enum Line<'a> {
     /// `feed`: a run over a box office in memory.
     Feed(FeedLine<'a>),
@@ -36,7 +36,7 @@ pub enum Line<'a> {
 }
 
 /// The texts that follow `--from` and `--step`.
-#[derive(Clone, Copy, Debug)]
+#[derive(Clone, Copy)]
 pub struct FeedLine<'a> {
     /// The text of `--from`.
     pub from: &'a str,
@@ -45,7 +45,7 @@ pub struct FeedLine<'a> {
 }
 
 /// The texts of a line of `init`.
-#[derive(Clone, Copy, Debug)]
+#[derive(Clone, Copy)]
 pub struct InitLine<'a> {
     /// The name of the file.
     pub file: &'a str,
@@ -56,7 +56,7 @@ pub struct InitLine<'a> {
 }
 
 /// The texts of a line of `token-add`.
-#[derive(Clone, Copy, Debug)]
+#[derive(Clone, Copy)]
 pub struct TokenLine<'a> {
     /// The name of the file.
     pub file: &'a str,
@@ -65,7 +65,7 @@ pub struct TokenLine<'a> {
 }
 
 /// The texts of a line of `serve`.
-#[derive(Clone, Copy, Debug)]
+#[derive(Clone, Copy)]
 pub struct ServeLine<'a> {
     /// The name of the file.
     pub file: &'a str,
@@ -76,14 +76,14 @@ pub struct ServeLine<'a> {
 }
 
 /// The text of a line that names a file alone: one of `periodic`, `export` or `migrate`.
-#[derive(Clone, Copy, Debug)]
+#[derive(Clone, Copy)]
 pub struct FileLine<'a> {
     /// The name of the file.
     pub file: &'a str,
 }
 
 /// The texts of a line of `report`.
-#[derive(Clone, Copy, Debug)]
+#[derive(Clone, Copy)]
 pub struct ReportLine<'a> {
     /// The name of the file.
     pub file: &'a str,
@@ -94,7 +94,7 @@ pub struct ReportLine<'a> {
 }
 
 /// The texts of a line of `import-vouchers`.
-#[derive(Clone, Copy, Debug)]
+#[derive(Clone, Copy)]
 pub struct ImportLine<'a> {
     /// The name of the file.
     pub file: &'a str,

@@ -8,7 +8,7 @@ use bo_catalogue::{Item, Quota, Variation};
 use std::marker::Model;
 
 /// Puts or deletes one row.
-#[derive(Debug, Drop)]
+#[derive(Drop)]
 pub enum Change {
     /// Puts an item in the place of its id.
     PutItem(Item),

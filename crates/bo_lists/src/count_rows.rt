@@ -6,14 +6,14 @@ use crate::rows::Usage;
 use std::marker::Model;
 
 /// What uses a quota.
-#[derive(Clone, Copy, Debug, PartialEq, Eq)]
+#[derive(Clone, Copy, PartialEq, Eq)]
 pub struct QuotaCount {
     pub quota: u64,
     pub usage: Usage,
 }
 
 /// How often a voucher is redeemed.
-#[derive(Clone, Copy, Debug, PartialEq, Eq)]
+#[derive(Clone, Copy, PartialEq, Eq)]
 pub struct VoucherCount {
     pub voucher: u64,
     pub redeemed: u64,

@@ -19,7 +19,7 @@ use std::alloc::{AllocError, Global};
 
 /// A voucher. Its `value` is in cents, or in hundredths of a percent where the mode is percent.
 /// It is live up to and at `valid_until`. Tag and comment may be empty.
-#[derive(Debug, Drop)]
+#[derive(Drop)]
 pub struct Voucher {
     pub id: u64,
     pub code: Text,
@@ -37,7 +37,7 @@ pub struct Voucher {
 }
 
 /// A place that is held in a cart, up to and at the moment `expires`.
-#[derive(Debug, Drop)]
+#[derive(Drop)]
 pub struct CartPos {
     pub id: u64,
     pub cart_id: Text,
@@ -58,7 +58,7 @@ pub enum Status {
 }
 
 /// An order; its positions are rows of their own. Its `id` is its number, 1 to 17,210,367.
-#[derive(Debug, Drop)]
+#[derive(Drop)]
 pub struct Order {
     pub id: u64,
     pub email: Option<Text>,
@@ -68,7 +68,7 @@ pub struct Order {
 }
 
 /// One ticket of an order. `positionid` counts an order's positions from 1.
-#[derive(Debug, Drop)]
+#[derive(Drop)]
 pub struct OrderPos {
     pub id: u64,
     pub order: u64,
@@ -80,14 +80,14 @@ pub struct OrderPos {
 }
 
 /// An order with its positions, by id.
-#[derive(Debug, Drop)]
+#[derive(Drop)]
 pub struct OrderRows {
     pub order: Order,
     pub positions: List<OrderPos>,
 }
 
 /// An entry of the waiting list. It waits as long as it has no voucher.
-#[derive(Debug, Drop)]
+#[derive(Drop)]
 pub struct Waiting {
     pub id: u64,
     pub email: Text,
@@ -99,7 +99,7 @@ pub struct Waiting {
 
 /// A list by which a door checks tickets in.
 /// It is for all products, or else for the items of `limit_products`, whose ids rise.
-#[derive(Debug, Drop)]
+#[derive(Drop)]
 pub struct CheckinList {
     pub id: u64,
     pub name: Text,
@@ -111,7 +111,7 @@ pub struct CheckinList {
 }
 
 /// Whether a ticket came in or went out.
-#[derive(Clone, Copy, Debug, PartialEq, Eq)]
+#[derive(Clone, Copy, PartialEq, Eq)]
 pub enum CheckinKind {
     Entry,
     Exit,
@@ -119,7 +119,7 @@ pub enum CheckinKind {
 
 /// One check-in of an order position by a list, at the moment `datetime`.
 /// A list has a nonce once for a position.
-#[derive(Debug, Drop)]
+#[derive(Drop)]
 pub struct Checkin {
     pub id: u64,
     pub list: u64,
@@ -131,14 +131,14 @@ pub struct Checkin {
 
 /// A row that a request adds or revives, by its id.
 /// It doesn't count against the request where its voucher ignores quotas.
-#[derive(Clone, Copy, Debug, PartialEq, Eq)]
+#[derive(Clone, Copy, PartialEq, Eq)]
 pub enum Own {
     Cart(u64),
     Position(u64),
 }
 
 /// What uses a quota, in places.
-#[derive(Clone, Copy, Debug, PartialEq, Eq)]
+#[derive(Clone, Copy, PartialEq, Eq)]
 pub struct Usage {
     pub paid: u64,
     pub pending: u64,
@@ -148,7 +148,7 @@ pub struct Usage {
 }
 
 /// The ids that the next row of each table gets.
-#[derive(Clone, Copy, Debug, PartialEq, Eq)]
+#[derive(Clone, Copy, PartialEq, Eq)]
 pub struct NextIds {
     pub item: u64,
     pub variation: u64,
@@ -163,7 +163,7 @@ pub struct NextIds {
 }
 
 /// Whether places of a quota are left, and how many: `available_number` is none where the quota is unlimited.
-#[derive(Clone, Copy, Debug, PartialEq, Eq)]
+#[derive(Clone, Copy, PartialEq, Eq)]
 pub struct Availability {
     pub size: Option<Size>,
     pub usage: Usage,

@@ -10,7 +10,7 @@ use std::alloc::{AllocError, Global};
 use std::marker::Model;
 
 /// A row that a log touches or touched, and the last place where it does so.
-#[derive(Clone, Copy, Debug)]
+#[derive(Clone, Copy)]
 pub struct Touch {
     pub id: u64,
     pub place: Option<usize>,

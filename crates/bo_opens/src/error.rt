@@ -5,7 +5,7 @@ use bo_schema::RowError;
 use std::alloc::AllocError;
 
 /// Why a file isn't opened.
-#[derive(Clone, Copy, Debug, PartialEq, Eq, Drop)]
+#[derive(Clone, Copy, PartialEq, Eq, Drop)]
 pub enum OpenError {
     /// 6: out of memory.
     Memory,

@@ -21,7 +21,7 @@ use bo_usage::{Book, LookUps};
 use std::alloc::{AllocError, Global};
 
 /// The status that follows, and whether an order comes back to life.
-#[derive(Clone, Copy, Debug, PartialEq, Eq)]
+#[derive(Clone, Copy, PartialEq, Eq)]
 pub struct Transition {
     pub status: Status,
     pub revival: bool,

@@ -14,7 +14,7 @@ use bo_lists::Voucher;
 use bo_usage::Book;
 
 /// What is sold: a product, at a price, with a voucher or without one. Its base price is what it costs without a voucher.
-#[derive(Clone, Copy, Debug, PartialEq, Eq)]
+#[derive(Clone, Copy, PartialEq, Eq)]
 pub struct Sold {
     pub product: Product,
     pub base: Cents,

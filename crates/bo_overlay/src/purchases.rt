@@ -10,7 +10,7 @@ use bo_lists::{Change, OrderPos};
 use std::alloc::{AllocError, Global};
 
 /// What an order position is for, and the voucher that it names.
-#[derive(Clone, Copy, Debug)]
+#[derive(Clone, Copy)]
 pub struct Purchase {
     pub product: Product,
     pub voucher: Option<u64>,

@@ -19,7 +19,7 @@ use bo_usage::Book;
 use std::alloc::{AllocError, Global};
 
 /// Of the positions that belong to a check-in list: how many there are, have entered, and are inside.
-#[derive(Clone, Copy, Debug, PartialEq, Eq)]
+#[derive(Clone, Copy, PartialEq, Eq)]
 pub(crate) struct Entries {
     pub positions: u64,
     pub entered: u64,
@@ -27,7 +27,7 @@ pub(crate) struct Entries {
 }
 
 /// Those of an item.
-#[derive(Clone, Copy, Debug, PartialEq, Eq)]
+#[derive(Clone, Copy, PartialEq, Eq)]
 pub(crate) struct ItemEntries {
     pub item: u64,
     pub entries: Entries,

@@ -15,7 +15,7 @@ use bo_usage::Book;
 use std::alloc::{AllocError, Global};
 
 /// How many positions are in orders of each status, and what was paid for those in paid ones, in cents.
-#[derive(Clone, Copy, Debug, PartialEq, Eq)]
+#[derive(Clone, Copy, PartialEq, Eq)]
 pub(crate) struct Sales {
     pub paid: u64,
     pub pending: u64,
@@ -25,7 +25,7 @@ pub(crate) struct Sales {
 }
 
 /// What was sold of an item.
-#[derive(Clone, Copy, Debug, PartialEq, Eq)]
+#[derive(Clone, Copy, PartialEq, Eq)]
 pub(crate) struct ItemSales {
     pub item: u64,
     pub sales: Sales,

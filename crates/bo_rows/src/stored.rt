@@ -14,7 +14,7 @@ use bo_schema::RowError;
 use sqlite::{Alter, Transaction};
 
 /// The statements on one row of a table, whose first parameter is the row's number.
-#[derive(Clone, Copy, Debug)]
+#[derive(Clone, Copy)]
 pub struct Statements {
     /// INSERT of all columns.
     pub insert: &'static str,

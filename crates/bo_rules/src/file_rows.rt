@@ -9,7 +9,7 @@ use bo_lists::{
 
 /// What the tables of a file tell: whose shop it is, its moment and its next ids, the rows of the office in order of id, and the
 /// counts of its quotas and vouchers.
-#[derive(Debug, Drop)]
+#[derive(Drop)]
 pub struct FileRows {
     pub organizer: Slug,
     pub event: Slug,

@@ -4,7 +4,7 @@ ghost use Rattle.std.specs.Prelude.{◌≡◌};
 ghost use Rattle.bo_rules.specs.Numbers.{number};
 
 /// What the rows of a file can break, in the order in which it is told.
-#[derive(Clone, Copy, Debug, PartialEq, Eq)]
+#[derive(Clone, Copy, PartialEq, Eq)]
 pub enum Rule {
     /// There is one row of the shop; its slugs, its moment and its next ids are in range.
     Shop,

@@ -8,7 +8,7 @@ use sqlite_resolve::CompileError;
 use sqlite_syntax::error::ParseError;
 
 /// Why rows were not written or read.
-#[derive(Clone, Copy, Debug, PartialEq, Eq, Drop)]
+#[derive(Clone, Copy, PartialEq, Eq, Drop)]
 pub enum RowError {
     /// 6: out of memory.
     Memory,

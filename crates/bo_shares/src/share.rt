@@ -14,7 +14,7 @@ use bo_usage::Catalogue;
 use std::alloc::{AllocError, Global};
 
 /// How much comes to a quota, and how much goes.
-#[derive(Clone, Copy, Debug)]
+#[derive(Clone, Copy)]
 pub struct Shares {
     pub come: u64,
     pub gone: u64,

@@ -23,7 +23,7 @@ use std::alloc::{AllocError, Global};
 use std::marker::Model;
 
 /// Whether the uses of vouchers are known at one place of a log, and how many cart positions and vouchers there are.
-#[derive(Clone, Copy, Debug)]
+#[derive(Clone, Copy)]
 pub struct Standing {
     pub known: bool,
     pub carts: usize,
@@ -31,7 +31,7 @@ pub struct Standing {
 }
 
 /// How far the counts reach at one place of a log: the lengths of both journals, and what stands there.
-#[derive(Clone, Copy, Debug)]
+#[derive(Clone, Copy)]
 pub struct Reach {
     pub counts: usize,
     pub uses: usize,

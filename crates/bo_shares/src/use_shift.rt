@@ -16,7 +16,7 @@ use bo_usage::rules::{held_name, is_in_force, used_name};
 use bo_usage::{Book, LookUps};
 
 /// The voucher that a change gives a use, and the one from which it takes one.
-#[derive(Clone, Copy, Debug)]
+#[derive(Clone, Copy)]
 pub struct UseShift {
     pub come: Option<u64>,
     pub gone: Option<u64>,

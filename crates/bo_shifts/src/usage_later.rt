@@ -21,7 +21,7 @@ use bo_usage::rules::left_of;
 use std::sync::ledger::Ledger;
 
 /// What vouchers that ended no longer block, and the cart positions that count in their place.
-#[derive(Clone, Copy, Debug)]
+#[derive(Clone, Copy)]
 pub struct Release {
     pub blocked: u64,
     pub carts: u64,
@@ -157,7 +157,7 @@ fn moved_far(count: u64, come: u128, gone: u128) -> u64
 }
 
 /// What all vouchers that ended no longer block, and the cart positions that count in their place.
-#[derive(Clone, Copy, Debug)]
+#[derive(Clone, Copy)]
 pub struct Releases {
     pub blocked: u128,
     pub carts: u128,

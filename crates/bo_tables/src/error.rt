@@ -13,7 +13,7 @@ pub struct HandedBack<S: Alter, E: Drop> {
 }
 
 /// Why a token wasn't added.
-#[derive(Clone, Copy, Debug, PartialEq, Eq, Drop)]
+#[derive(Clone, Copy, PartialEq, Eq, Drop)]
 pub enum TokenError {
     /// 16: the table of tokens is full.
     Full,

@@ -241,7 +241,7 @@ fn told_value(alloc: Global, refusal: Refusal) -> Result<Value, AllocError>
 }
 
 /// How a request is told a refusal.
-#[derive(Clone, Copy, Debug, PartialEq, Eq)]
+#[derive(Clone, Copy, PartialEq, Eq)]
 pub(crate) enum Manner {
     /// What its path names isn't there.
     Missing,
