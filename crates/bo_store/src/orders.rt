@@ -3,7 +3,6 @@
 ghost use Rattle.std.specs.Prelude.{◌≡◌, ◌≤◌, ◌&&◌, ◌==◌, ◌++◌, length, map, count_by, is_some, IfOk};
 ghost use Rattle.std.specs.Option.{option_copied};
 ghost use Rattle.bo_base.specs.Texts.{same_text};
-ghost use Rattle.bo_catalogue.specs.Member.{is_in};
 ghost use Rattle.bo_lists.specs.Lists.{position_at, positions_of};
 ghost use Rattle.bo_lists.specs.Named.{with_secret};
 ghost use Rattle.bo_lists.specs.Due.{due_orders};
@@ -13,7 +12,6 @@ ghost use Rattle.bo_store.specs.Walks.{listed, passing, one_if};
 use crate::ids::{count_one, sorted};
 use crate::store::Store;
 use bo_base::{List, Moment};
-use bo_catalogue::Quota;
 use bo_index::Found;
 use bo_indexed::digest;
 use bo_lists::OrderPos;
@@ -79,31 +77,6 @@ impl Store {
         let ids = self.positions_ordered(order);
         for place in 0..ids.len() {
             count += self.pass_of(test, ids.at(place));
-        }
-        count
-    }
-
-    // 1 where the order position of an id is for a product of the quota.
-    #[tactic(auto, unfolding(crate::specs::Walks::one_if))]
-    fn in_quota_of(&self, quota: &Quota, id: u64) -> u64
-        ensures value { result ≡ one_if (λ p. is_in quota.now p.product) (position_at id self.now.state.lists) }
-        ensures small { result ≤ 1 }
-    {
-        match self.position(id) {
-            None => 0,
-            Some(row) => count_one(quota.has(row.product)),
-        }
-    }
-
-    /// How many positions of the order are for products of the quota: a walk over its positions.
-    pub fn ordered_in(&self, quota: &Quota, order: u64) -> u64
-        ensures value { result ≡ count_by (λ p. order == p.order && is_in quota.now p.product) self.now.state.lists.positions }
-        ensures few { result ≤ 4294967296 }
-    {
-        let mut count = 0;
-        let ids = self.positions_ordered(order);
-        for place in 0..ids.len() {
-            count += self.in_quota_of(quota, ids.at(place));
         }
         count
     }
