@@ -2,9 +2,6 @@
 
 rt keeps all others out of a crate's folder and of the folders below it while it works there. A room is a folder of its
 own with copies of the sources and links to the libraries, so that checks run side by side.
-
-Called by itself (`bin/rooms.py WORDS`) this is rt with those words, but for one thing: rt sums up a crate's sources once for
-each path through crates.txt that leads to it, and the paths double with each crate of a chain. Here each is read once a sum.
 """
 import importlib.machinery
 import importlib.util
@@ -156,7 +153,7 @@ class Running:
     alive = set()
     stopped = False
 
-    def __init__(self, words, at, seconds=None, program=(sys.executable, os.path.abspath(__file__))):
+    def __init__(self, words, at, seconds=None, program=("rt",)):
         how = {"stdin": subprocess.DEVNULL, "stdout": subprocess.PIPE, "stderr": subprocess.STDOUT}
         ran = subprocess.Popen([*program, *words], cwd=at, start_new_session=True, text=True, errors="replace", **how)
         Running.alive.add(ran)
@@ -273,31 +270,16 @@ class Clock:
 
 
 def kit():
-    """The kit's rt as a module, which reads each crate once for a sum of its sources."""
+    """The kit's rt as a module."""
     with KIT:
         return sys.modules["rt"] if "rt" in sys.modules else read_kit()
 
 
 def read_kit():
-    """Reads the kit's rt, and has it read each crate once for a sum."""
     loader = importlib.machinery.SourceFileLoader("rt", os.path.realpath(shutil.which("rt")))
     made = importlib.util.module_from_spec(importlib.util.spec_from_loader("rt", loader))
     sys.modules["rt"] = made
     loader.exec_module(made)
-    whole, turn = made.rtlib.Crate.stamp, threading.local()
-
-    def stamp(crate):
-        if getattr(turn, "sums", None) is None:
-            turn.sums = {}
-            try:
-                return stamp(crate)
-            finally:
-                turn.sums = None
-        if crate.folder not in turn.sums:
-            turn.sums[crate.folder] = whole(crate)
-        return turn.sums[crate.folder]
-
-    made.rtlib.Crate.stamp = stamp
     return made
 
 
@@ -307,8 +289,3 @@ def is_built(name, top=TOP):
         return kit().rtlib.Crate(folder(name, top), top, {}).is_built()
     except SystemExit:
         return False
-
-
-if __name__ == "__main__":
-    sys.dont_write_bytecode = True
-    sys.exit(kit().main(sys.argv[1:]))
