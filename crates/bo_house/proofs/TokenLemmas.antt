@@ -1,5 +1,5 @@
 -- A token that tables got.
-use Rattle.std.proofs.Common.{◌≡◌, ◌∙◌, ◌⊎◌, inl, inr, ℕ, List, Option, Result, Ok, Err, IfOk, OnErr, OnOk, IsTrue, Bool, true, false, ap, map, refl, sym, subst}
+use Rattle.std.proofs.Common.{◌≡◌, ◌∙◌, ◌⊎◌, inl, inr, ℕ, List, Option, Some, None, Result, Ok, Err, IfOk, OnErr, OnOk, IsTrue, Bool, true, false, ap, map, refl, sym, subst}
 use Rattle.std.proofs.lemmas.Bool.{false≢true}
 use Rattle.sqlite.specs.Effect.{Database}
 use Rattle.sqlite_trees.specs.Tree.{Trees}
@@ -27,7 +27,7 @@ use Rattle.bo_schema.specs.Whole.{IsOver, IsStill, MayBeWritten}
 use Rattle.bo_tables.specs.Held.{number_of}
 use Rattle.bo_tables.specs.Shops.{HoldsWhileOpen, KnowsWhileOpen}
 use Rattle.bo_house.specs.Faults.{fault_of_opening, fault_of_rows, told_of_token}
-use Rattle.bo_house.specs.Filed.{AddsToken, GetsToken, HasNextToken, IsFullFor, KnowsToken}
+use Rattle.bo_house.specs.Filed.{AddsTokenIn, GetsToken, HasNextToken, IsFullFor, KnowsToken}
 use Rattle.bo_house.specs.Served.{StaysUnopened}
 
 -- what holds of a number that was given holds of one that is told
@@ -127,30 +127,45 @@ known_by db head next office digest number old new o gets =
       knows = gets.knows tokens known;
     }
 
+-- a digest has a number, or none
+none_or_some : (found : Option ℕ) → (found ≡ None) ⊎ ((number : ℕ) × (found ≡ Some number))
+none_or_some None = inl refl
+none_or_some (Some number) = inr (number, refl)
+
 -- what a crash leaves of a file that was opened, and whose tables may have got a token
 pub left_by : (db : Database) (head : ShopRow) (next : ℕ) (office : State) (digest : List ℕ) (old mid new : Connected) → Rests old mid → Survives old mid (λ _. ⊥)
     → Survives mid new (MayBeWritten schema (λ (_ : Unit {0}). HasToken (raised head) (next_one head digest)) mid) → HasCleanDisk mid → HasCleanDisk new → IsAt db old → db.schema ≡ schema
-    → (IsTrue mid.is_open → IsOpened db.trees head next office mid) → (trees : Trees) → new.may_leave trees → old.may_leave trees ⊎ HasNextToken db.trees digest trees
-left_by db head next office digest old mid new rests first second cleared clean at known opens trees may = elim (second.crash clean trees may) [
+    → (IsTrue mid.is_open → IsOpened db.trees head next office mid)
+    → ((tokens : List ℕ → Option ℕ) → KnowsWhileOpen next mid tokens → (number : ℕ) → tokens digest ≡ Some number → Survives mid new (λ _. ⊥))
+    → (trees : Trees) → new.may_leave trees → old.may_leave trees ⊎ HasNextToken db.trees digest trees
+left_by db head next office digest old mid new rests first second cleared clean at known opens where_known trees may = elim (second.crash clean trees may) [
   | inl before ↦ elim (first.crash cleared trees before) [ inl was ↦ inl was | inr none ↦ absurd none ]
   | inr written ↦
       let shown : mid.now ≡ db = ((rests cleared written.was_open).stays db at).now in
       let o = opens written.was_open in
       let turned = written.turned (ap (λ (d : Database). d.schema) shown ∙ known) in
-      inr (record {
-        tables = o.tables;
-        held = o.held;
-        head = head;
-        office = office;
-        stand = o.stand;
-        holds = subst (λ (t : Trees). Holds t (token_added (raised head) (next_one head digest) o.tables)) (sym written.is)
-            (turned.holds o.tables (subst (λ (d : Database). Holds d.trees o.tables) (sym shown) o.held));
-      })
+      let tokens = number_of o.tables.tokens in
+      elim (none_or_some (tokens digest)) [
+        | inl is_new ↦ inr (record {
+          tables = o.tables;
+          held = o.held;
+          head = head;
+          office = office;
+          stand = o.stand;
+          is_new = is_new;
+          holds = subst (λ (t : Trees). Holds t (token_added (raised head) (next_one head digest) o.tables)) (sym written.is)
+              (turned.holds o.tables (subst (λ (d : Database). Holds d.trees o.tables) (sym shown) o.held));
+        })
+        | inr has ↦ elim ((where_known tokens (o.knows o.tables o.held) has.0 has.1).crash clean trees may) [
+          | inl before ↦ elim (first.crash cleared trees before) [ inl was ↦ inl was | inr none ↦ absurd none ]
+          | inr none ↦ absurd none
+        ]
+      ]
 ]
 
 -- a file that isn't opened gets no token
-pub no_token : {S : Type 0} (g : Ghosts S) (digest : List ℕ) (old : Connected) (left : Connection S) (outcome : Result ℕ RunFault) → StaysUnopened g old left outcome → AddsToken g digest old left outcome
-no_token g digest old left outcome stays = subst (λ (o : Result ℕ RunFault). AddsToken g digest old left o) (sym stays.told) (record {
+pub no_token : {S : Type 0} (g : Ghosts S) (digest : List ℕ) (old : Connected) (left : Connection S) (outcome : Result ℕ RunFault) → StaysUnopened g old left outcome → AddsTokenIn g digest old left outcome
+no_token g digest old left outcome stays = subst (λ (o : Result ℕ RunFault). AddsTokenIn g digest old left o) (sym stays.told) (record {
   added = tt;
   cause = λ clean is_open db at. inl (stays.error, refl, stays.cause clean is_open db at);
   none = λ clean is_open db at known. (stays.rests clean is_open).stays db at;

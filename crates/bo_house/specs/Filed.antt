@@ -1,5 +1,5 @@
 -- What a shop's database holds after a command.
-use Rattle.std.specs.Prelude.{◌≡◌, ◌⊎◌, ℕ, List, Option, Result, Err, IfOk, IfErr, OnOk, OnErr, IsTrue, map}
+use Rattle.std.specs.Prelude.{◌≡◌, ◌⊎◌, ℕ, List, Option, None, Result, Err, IfOk, IfErr, OnOk, OnErr, IsTrue, map}
 use Rattle.sqlite_trees.specs.declared.store.Store.{Ghosts}
 use Rattle.sqlite_trees.specs.Tree.{Trees}
 use Rattle.sqlite.specs.Effect.{Database}
@@ -63,13 +63,14 @@ pub record IsFullFor (db : Trees) (digest : List ℕ) : Type 0 where
   pub stand : Stand head tables office (map (λ r. r.kept) tables.kept)
   pub full : HasNoRoom (number_of tables.tokens digest) head.next_token
 
--- the trees held a shop's tables, and these hold them with the digest as their next token
+-- the trees held a shop's tables that didn't know the digest, and these hold them with it as their next token
 pub record HasNextToken (db : Trees) (digest : List ℕ) (after : Trees) : Type 0 where
   pub tables : Tables
   pub held : Holds db tables
   pub head : ShopRow
   pub office : State
   pub stand : Stand head tables office (map (λ r. r.kept) tables.kept)
+  pub is_new : number_of tables.tokens digest ≡ None
   pub holds : Holds after (token_added (raised head) (next_one head digest) tables)
 
 -- a fault is told for the reason that the file isn't opened, or that it takes no token
@@ -78,15 +79,15 @@ IsToldFor db fault = ((error : OpenError) × (fault ≡ fault_of_opening error) 
 
 -- A shop was made in the database, or nothing has changed and it is told why not, 60 where there was a table; and a crash leaves all of it or
 -- nothing.
-pub record MakesShop {S : Type 0} (g : Ghosts S) (organizer event : List ℕ) (old : Connected) (left : Connection S) (outcome : Result (Unit {0}) RunFault) : Type 0 where
+pub record MakesShopIn {S : Type 0} (g : Ghosts S) (organizer event : List ℕ) (old : Connected) (left : Connection S) (outcome : Result (Unit {0}) RunFault) : Type 0 where
   pub made : HasCleanDisk (state g left) → OnOk outcome (HoldsNewShop organizer event old (state g left))
   pub none : HasCleanDisk (state g left) → OnErr outcome (IsStill old (state g left))
   pub blank : ¬ (old.now.schema ≡ blank_schema) → outcome ≡ Err faults.NotAShop
   pub crash : Survives old (state g left) (MayBeWritten blank_schema (λ (_ : Unit {0}) db after. IsBegun (first_shop organizer event) after) old)
 
 -- The shop in the database got this token, or nothing has changed and it is told why not, 16 only where it has no room for one; and a crash
--- leaves what one before it could have left, or the shop with the token.
-pub record AddsToken {S : Type 0} (g : Ghosts S) (digest : List ℕ) (old : Connected) (left : Connection S) (outcome : Result ℕ RunFault) : Type 0 where
+-- leaves what one before it could have left, or the shop with the token, which is new then.
+pub record AddsTokenIn {S : Type 0} (g : Ghosts S) (digest : List ℕ) (old : Connected) (left : Connection S) (outcome : Result ℕ RunFault) : Type 0 where
   pub added : IfOk outcome (λ number. HasCleanDisk (state g left) → (db : Database) → IsAt db old → db.schema ≡ schema → KnowsToken db.trees digest number (state g left))
   pub cause : IfErr outcome (λ fault. HasCleanDisk (state g left) → IsTrue (state g left).is_open → (db : Database) → IsAt db old → IsToldFor db fault)
   pub none : HasCleanDisk (state g left) → IsTrue (state g left).is_open → (db : Database) → IsAt db old → db.schema ≡ schema → OnErr outcome (IsAt db (state g left))

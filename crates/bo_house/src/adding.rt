@@ -1,6 +1,6 @@
 //! A token is added to the shop in a database.
 
-ghost use Rattle.std.specs.Prelude.{◌≡◌, ℕ, List, Option, Err, IfOk, IfErr, OnErr};
+ghost use Rattle.std.specs.Prelude.{◌≡◌, ℕ, List, Option, Some, Err, IfOk, IfErr, OnErr};
 ghost use Rattle.sha2.specs.Sha256.{sha256};
 ghost use Rattle.sqlite.specs.Held.{state};
 ghost use Rattle.sqlite.specs.State.{HasCleanDisk, Survives};
@@ -12,7 +12,7 @@ ghost use Rattle.bo_tables.specs.Shops.{KnowsWhileOpen};
 ghost use Rattle.bo_tables.specs.Tokens.{HasNoRoom, next_one, raised};
 ghost use Rattle.bo_tables.specs.declared.error.TokenError.{TokenError};
 ghost use Rattle.bo_house.specs.Faults.{fault_of_token, told_of_token};
-ghost use Rattle.bo_house.specs.Filed.{AddsToken, GetsToken};
+ghost use Rattle.bo_house.specs.Filed.{AddsTokenIn, GetsToken};
 
 use crate::faults::fault_of_token;
 use crate::filed::{Filed, connection_of};
@@ -44,6 +44,8 @@ fn add_over<S: Alter + Drop, O: Drop>(opened: (SqlTables<S>, O), token: &str) ->
     ensures none { HasCleanDisk (state S.Store result.connection) → IsOver schema (state S.Store opened.0.connection) → OnErr result.outcome (IsStill (state S.Store opened.0.connection) (state S.Store result.connection)) }
     ensures crash { Survives (state S.Store opened.0.connection) (state S.Store result.connection)
         (MayBeWritten schema (λ (_ : Unit {0}). HasToken (raised opened.0.head) (next_one opened.0.head (sha256 token.now))) (state S.Store opened.0.connection)) }
+    ensures known_crash { HasCleanDisk (state S.Store result.connection) → (tokens : List ℕ → Option ℕ) → KnowsWhileOpen opened.0.next_row (state S.Store opened.0.connection) tokens
+        → (number : ℕ) → tokens (sha256 token.now) ≡ Some number → Survives (state S.Store opened.0.connection) (state S.Store result.connection) (λ _. ⊥) }
 {
     let mut made = opened;
     let added = add_token(&mut made.0, &Sha256::digest(token.as_bytes()));
@@ -56,13 +58,13 @@ fn add_over<S: Alter + Drop, O: Drop>(opened: (SqlTables<S>, O), token: &str) ->
 /// `token-add`: opens the shop in a database and adds a token, which is known by its SHA-256 alone; tells the token's number. One that was
 /// added before keeps its number, and nothing changes. Faults: 60, 61 and 62 where the database holds no shop that is whole, each for its
 /// cause alone; 16 where the token is new and the shop has 1,000,000 of them; 6 and 63. Beside a fault nothing has changed. A crash leaves
-/// the shop as it was, or with the token.
+/// the shop as it was, or with the token where it is new.
 pub fn add_shop_token<S: Alter + Drop>(
     alloc: Global,
     connection: Connection<S>,
     token: &str,
 ) -> Filed<S, u64>
-    ensures { AddsToken S.Store (sha256 token.now) (state S.Store connection) result.connection result.outcome }
+    ensures { AddsTokenIn S.Store (sha256 token.now) (state S.Store connection) result.connection result.outcome }
 {
     match open_shop(alloc, connection) {
         Ok(opened) => add_over(opened, token),

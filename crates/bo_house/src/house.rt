@@ -3,7 +3,7 @@
 ghost use Rattle.std.specs.Prelude.{◌≡◌, true, false, IfOk, IfErr, IsTrue};
 ghost use Rattle.sqlite.specs.Held.{state};
 ghost use Rattle.bo_base.specs.Slugs.{IsSlug};
-ghost use Rattle.bo_house.specs.Filed.{MakesShop};
+ghost use Rattle.bo_house.specs.Filed.{MakesShopIn};
 ghost use Rattle.bo_house.specs.Shelved.{IsGiven, IsShelved, is_shelf_fault};
 
 use crate::adding::add_shop_token;
@@ -49,7 +49,10 @@ fn both_slugs(alloc: Global, organizer: &str, event: &str) -> Result<(Slug, Slug
 
 impl<'a, R, S: Alter + Drop, F: Shelf<Connection<S>>> House<'a, R, S, F> {
     /// The commands over this system and the files of this shelf.
-    pub fn over(rt: &'a R, shelf: F) -> House<'a, R, S, F> {
+    pub fn over(rt: &'a R, shelf: F) -> House<'a, R, S, F>
+        ensures rt { result.rt.now ≡ rt.now }
+        ensures shelf { result.shelf ≡ shelf }
+    {
         House {
             rt,
             shelf,
@@ -71,7 +74,7 @@ impl<'a, R, S: Alter + Drop, F: Shelf<Connection<S>>> House<'a, R, S, F> {
 
     // A shop for this organizer and this event, in a file of this name that wasn't there.
     fn made(&self, alloc: Global, file: &str, organizer: Slug, event: Slug) -> Result<(), RunFault>
-        ensures { F.stood file.now false → IsShelved (IsGiven F.stood F.gives false) (λ connection left came. MakesShop S.Store organizer event (state S.Store connection) left came) file.now result }
+        ensures { F.stood file.now false → IsShelved (IsGiven F.stood F.gives false) (λ connection left came. MakesShopIn S.Store organizer event (state S.Store connection) left came) file.now result }
     {
         match self.shelf.open(file) {
             Ok(connection) => self.ended(make_new_shop(alloc, connection, organizer, event)),
@@ -102,7 +105,7 @@ impl<
     ghost use Rattle.sha2.specs.Sha256.{sha256};
     ghost use Rattle.bo_desk.specs.Streams.{meaning};
     ghost use Rattle.bo_line.specs.declared.fault.RunFault.{RunFault};
-    ghost use Rattle.bo_house.specs.Filed.{AddsToken, MakesShop};
+    ghost use Rattle.bo_house.specs.Filed.{AddsTokenIn, MakesShopIn};
     ghost use Rattle.bo_house.specs.Imported.{IsOpenedAndImported};
     ghost use Rattle.bo_house.specs.Reported.{IsOpenedAndReported};
     ghost use Rattle.bo_house.specs.Served.{IsOpenedAndServed, StaysUnopened};
@@ -110,10 +113,10 @@ impl<
     ghost use Rattle.bo_house.specs.Worked.{IsOpenedAndWorked};
 
     ghost made = { λ file organizer event outcome. IsShelved (IsGiven F.stood F.gives false) (λ connection left came.
-        MakesShop S.Store organizer event (state S.Store connection) left came) file outcome };
+        MakesShopIn S.Store organizer event (state S.Store connection) left came) file outcome };
 
     ghost added = { λ file token outcome. IsShelved (IsGiven F.stood F.gives true) (λ connection left came.
-        AddsToken S.Store (sha256 token) (state S.Store connection) left came) file outcome };
+        AddsTokenIn S.Store (sha256 token) (state S.Store connection) left came) file outcome };
 
     ghost served = { λ file addr most outcome. IsShelved (IsGiven F.stood F.gives true) (λ connection left came.
         IsOpenedAndServed S.Store (meaning ⟦<SqlTables<S> as Tables>⟧.sure ⟦<SqlTables<S> as Tables>⟧.holds ⟦<SqlTables<S> as Tables>⟧.knows ⟦<SqlTables<S> as Tables>⟧.may_leave)

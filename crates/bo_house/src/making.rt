@@ -1,7 +1,7 @@
 //! A shop is made in a database.
 
 ghost use Rattle.sqlite.specs.Held.{state};
-ghost use Rattle.bo_house.specs.Filed.{MakesShop};
+ghost use Rattle.bo_house.specs.Filed.{MakesShopIn};
 
 use crate::faults::fault_of_rows;
 use crate::filed::Filed;
@@ -18,7 +18,7 @@ pub fn make_new_shop<S: Alter + Drop>(
     organizer: Slug,
     event: Slug,
 ) -> Filed<S, ()>
-    ensures { MakesShop S.Store organizer event (state S.Store connection) result.connection result.outcome }
+    ensures { MakesShopIn S.Store organizer event (state S.Store connection) result.connection result.outcome }
 {
     match create(alloc, connection, organizer, event) {
         Ok(tables) => Filed {

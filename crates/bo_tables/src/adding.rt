@@ -1,6 +1,6 @@
 //! Tokens are added.
 
-ghost use Rattle.std.specs.Prelude.{◌≡◌, ◌⊎◌, ◌<◌, ◌≤◌, ℕ, List, Option, None, Err, IfOk, OnOk, OnErr, IsTrue};
+ghost use Rattle.std.specs.Prelude.{◌≡◌, ◌⊎◌, ◌<◌, ◌≤◌, ℕ, List, Option, Some, None, Err, IfOk, OnOk, OnErr, IsTrue};
 ghost use Rattle.sqlite_trees.specs.Tree.{Trees};
 ghost use Rattle.sqlite.specs.Held.{state};
 ghost use Rattle.sqlite.specs.State.{HasCleanDisk, Survives};
@@ -55,9 +55,9 @@ fn add_next<S: Alter>(tables: &mut SqlTables<S>, digest: &[u8; 32]) -> Result<u6
     }
 }
 
-/// Adds a token by its SHA-256 digest, and answers its number: a digest that stands keeps its number, and nothing changes; any
-/// other gets the next one, from 1 on. The office and the kept answers stay as they are. All of it is done or nothing, in a crash
-/// too. Refusals: 16 where the digest is new and the shop has 1,000,000 tokens, 6, 60, 62, and 63 where a transaction is open,
+/// Adds a token by its SHA-256 digest, and answers its number: a digest that stands keeps its number, and nothing changes, in a crash
+/// neither; any other gets the next one, from 1 on. The office and the kept answers stay as they are. All of it is done or nothing, in a
+/// crash too. Refusals: 16 where the digest is new and the shop has 1,000,000 tokens, 6, 60, 62, and 63 where a transaction is open,
 /// the connection is shut or the store fails.
 pub fn add_token<S: Alter>(tables: &mut SqlTables<S>, digest: &[u8; 32]) -> Result<u64, TokenError>
     ensures number { HasCleanDisk (state S.Store tables.new.connection) → (tokens : List ℕ → Option ℕ) → KnowsWhileOpen tables.old.next_row (state S.Store tables.old.connection) tokens
@@ -77,6 +77,8 @@ pub fn add_token<S: Alter>(tables: &mut SqlTables<S>, digest: &[u8; 32]) -> Resu
     ensures holds { HasCleanDisk (state S.Store tables.new.connection) → (s : State) (ks : List Kept) → HoldsWhileOpen tables.old.head tables.old.next_row (state S.Store tables.old.connection) s ks
         → HoldsWhileOpen tables.new.head tables.new.next_row (state S.Store tables.new.connection) s ks }
     ensures crash { Survives (state S.Store tables.old.connection) (state S.Store tables.new.connection) (MayBeWritten schema (λ (_ : Unit {0}). HasToken (raised tables.old.head) (next_one tables.old.head digest.now)) (state S.Store tables.old.connection)) }
+    ensures known_crash { HasCleanDisk (state S.Store tables.new.connection) → (tokens : List ℕ → Option ℕ) → KnowsWhileOpen tables.old.next_row (state S.Store tables.old.connection) tokens
+        → (number : ℕ) → tokens digest.now ≡ Some number → Survives (state S.Store tables.old.connection) (state S.Store tables.new.connection) (λ _. ⊥) }
     ensures leaves { (left : ShopView) → Leaves (state S.Store tables.new.connection) left → Leaves (state S.Store tables.old.connection) left
         ⊎ ((s : State) (ks : List Kept) → HoldsWhileOpen tables.old.head tables.old.next_row (state S.Store tables.old.connection) s ks → IsSame left (record { state = s; kept = ks })) }
     ensures settled { HasCleanDisk (state S.Store tables.new.connection) → (tokens : List ℕ → Option ℕ) → KnowsWhileOpen tables.old.next_row (state S.Store tables.old.connection) tokens → tokens digest.now ≡ None

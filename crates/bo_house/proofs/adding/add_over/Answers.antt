@@ -1,4 +1,4 @@
-use Rattle.std.proofs.Common.{◌≡◌, ◌∙◌, List, ℕ, IfOk, OnErr, ap, arith, sym, subst}
+use Rattle.std.proofs.Common.{◌≡◌, ◌∙◌, List, ℕ, Some, IfOk, OnErr, ap, arith, sym, subst}
 use Rattle.sha2.specs.Sha256.{sha256}
 use Rattle.sqlite.specs.Held.{state}
 use Rattle.sqlite.specs.State.{HasCleanDisk, Survives}
@@ -45,3 +45,11 @@ returns-clause-crash g c =
     let digest_is : c.digest.result ≡ sha256 c.args.token.now = c.digest.ensures ∙ ap sha256 c.as_bytes.ensures.value in
     subst (λ it. Survives old (state g.S.Store it) (MayBeWritten schema (λ (_ : Unit {0}). HasToken (raised tables.head) (next_one tables.head (sha256 c.args.token.now))) old)) (sym c.connection_of.ensures)
     (subst (λ (d : List ℕ). Survives old (state g.S.Store c.add_token-added.new.tables.connection) (MayBeWritten schema (λ (_ : Unit {0}). HasToken (raised tables.head) (next_one tables.head d)) old)) digest_is c.add_token-added.ensures.crash)
+
+pub returns-clause-known_crash : goal.returns-clause-known_crash
+returns-clause-known_crash g c = λ clean known knows number is.
+    let old = state g.S.Store c.args.opened.0.connection in
+    let digest_is : c.digest.result ≡ sha256 c.args.token.now = c.digest.ensures ∙ ap sha256 c.as_bytes.ensures.value in
+    let cleared : HasCleanDisk (state g.S.Store c.add_token-added.new.tables.connection) = subst (λ it. HasCleanDisk (state g.S.Store it)) c.connection_of.ensures clean in
+    subst (λ it. Survives old (state g.S.Store it) (λ _. ⊥)) (sym c.connection_of.ensures)
+    (c.add_token-added.ensures.known_crash cleared known knows number (subst (λ (d : List ℕ). known d ≡ Some number) (sym digest_is) is))

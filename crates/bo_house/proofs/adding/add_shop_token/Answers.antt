@@ -20,7 +20,8 @@ returns-in-Ok g c =
           (λ tokens knows. added.full is clean tokens knows);
       crash = λ clean db at known.
           let cleared = added.clean clean in
-          left_by db _ _ _ _ _ _ _ opened.rests opened.crash added.crash cleared clean at known (λ was_open. opened.opened cleared was_open db at known);
+          left_by db _ _ _ _ _ _ _ opened.rests opened.crash added.crash cleared clean at known (λ was_open. opened.opened cleared was_open db at known)
+          (λ tokens knows. added.known_crash clean tokens knows);
     }
 
 pub returns-in-Err : goal.returns-in-Err

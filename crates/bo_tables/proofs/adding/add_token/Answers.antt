@@ -97,6 +97,13 @@ returns-in-Ok-None-clause-holds g c clean s ks holds =
     let over = still_over old mid still (λ o. (holds o).known) in
     then_holds c.add_next.result c.args.tables.now.head c.args.digest.now c.args.tables.now.next_row old mid new c.add_next.new.tables.head c.add_next.new.tables.next_row c.add_next.ensures.next_row s ks still holds c.add_next.ensures.digest c.add_next.ensures.number c.add_next.ensures.head c.add_next.ensures.head_none (c.add_next.ensures.all clean over) (c.add_next.ensures.none clean over)
 
+pub returns-in-Ok-None-clause-known_crash : goal.returns-in-Ok-None-clause-known_crash
+returns-in-Ok-None-clause-known_crash g c clean tokens knows number is =
+    let early : HasCleanDisk (state g.S.Store c.find_number.new.connection) = omega (arith, c.add_next.ensures.crash.clean) in
+    let told = c.in-Ok-None.ensures.found early tokens (knows (c.in-Ok-None.ensures.open early)).told in
+    let none : None ≡ tokens c.args.digest.now = (let a = told in let b = c.in-Ok-None.field-0-is in let e = c.in-Ok-None.is in cc) in
+    absurd (let never : None ≡ Some number = none ∙ is in cc)
+
 pub returns-in-Ok-None-clause-leaves : goal.returns-in-Ok-None-clause-leaves
 returns-in-Ok-None-clause-leaves g c =
     let old = state g.S.Store c.args.tables.now.connection in
