@@ -10,6 +10,7 @@ use Rattle.bo_lists.specs.Named.{AreUnlike}
 use Rattle.bo_lists.proofs.EachRow.{all_weaker, all_both}
 use Rattle.bo_sound.specs.Checkins.{same_nonce, repeats, AreOnce}
 use Rattle.bo_sound.proofs.Apart.{AreApart}
+use Rattle.bo_sound.proofs.Changes.{nonce_flip}
 use Rattle.bo_sound.proofs.Codes.{same_text_flip}
 use Rattle.bo_alike.specs.Firsts.{has_id, is_first}
 
@@ -85,12 +86,6 @@ unlike_firsts rows o = (
 )
 
 -- check-ins
-nonce_flip : (a b : Option (List ℕ)) → same_nonce a b ≡ same_nonce b a
-nonce_flip None None = refl
-nonce_flip None (Some b) = refl
-nonce_flip (Some a) None = refl
-nonce_flip (Some a) (Some b) = same_text_flip a b
-
 id_flip : (a b : ℕ) → eqb a b ≡ eqb b a
 id_flip a b = grind (arith, nat_tests)
 

@@ -13,7 +13,7 @@ use Rattle.bo_stand.specs.Links.{Link, all_links}
 use Rattle.bo_stand.specs.Rows.{OfficeRows}
 use Rattle.bo_stand.specs.Stands.{AreRowsOf, AreOrdered, MembersRise, ItemsRise}
 use Rattle.bo_stand.proofs.Order.{same_order}
-use Rattle.bo_stand.proofs.Told.{order_of_parts}
+use Rattle.bo_stand.proofs.Told.{all_map, order_of_parts}
 use Rattle.bo_arrange.specs.Arranged.{quota_of, list_of, told_by}
 use Rattle.bo_arrange.specs.Members.{told, members_of, links_to, links_of}
 use Rattle.bo_arrange.proofs.Parts.{members_back}
@@ -45,10 +45,6 @@ items_rise i (h ∷ heads) = (rising_in_order (told h.id i), items_rise i heads)
 pub order_in_parts : {T U : Type 0} (key : T → ℕ) (part : T → U) (of : U → ℕ) → ((r : T) → of (part r) ≡ key r) → (n : ℕ) (rows : List T) → InOrderFrom of n (map part rows) → InOrderFrom key n rows
 order_in_parts key part of is n [] h = tt
 order_in_parts key part of is n (r ∷ rows) h = (subst (λ m. n ≤ m) (is r) h.0, subst (λ m. InOrderFrom key (m + 1) rows) (is r) (order_in_parts key part of is (of (part r) + 1) rows h.1))
-
-all_map : {A : Type 0} (P Q : A → Type 0) → ((a : A) → P a → Q a) → (xs : List A) → AllByRecursion P xs → AllByRecursion Q xs
-all_map P Q f [] h = tt
-all_map P Q f (x ∷ xs) h = (f x h.0, all_map P Q f xs h.1)
 
 quotas_back : (i v : List Link) (qs : List Quota) → map (λ (q : Quota). members_of q.id i) qs ≡ map (λ (q : Quota). q.items) qs → map (λ (q : Quota). members_of q.id v) qs ≡ map (λ (q : Quota). q.variations) qs → map (quota_of i v) (map head_of_quota qs) ≡ qs
 quotas_back i v [] e f = refl

@@ -1,8 +1,7 @@
 -- Counters, row by row, beside what is counted afresh.
 use Rattle.std.proofs.Common.{◌≡◌, ◌↔◌, ℕ, zero, suc, ◌+◌, ◌<◌, List, [], ◌∷◌, length, drop, map, get_or, Some, add-one, sym, ap, ◌∙◌, subst, arith}
-use Rattle.std.proofs.lemmas.List.{get_or_default}
 use Rattle.bo_sorted.specs.Tables.{row_at, AreInOrder}
-use Rattle.bo_sorted.proofs.Places.{row_at_place}
+use Rattle.bo_catalogue.proofs.Standing.{stands_at}
 use Rattle.bo_catalogue.specs.declared.rows.Quota.{Quota}
 use Rattle.bo_catalogue.specs.CatalogueLists.{CatalogueLists, quota_at}
 
@@ -31,9 +30,6 @@ module _ {A C : Type 0} (f : A → C) where
   breaks (x ∷ xs) (y ∷ ys) (suc i) c d r l1 l2 e1 e2 wrong h = breaks xs ys i c d r (omega arith) (omega arith) e1 e2 wrong h
 
 -- a quota that is one of the catalogue's is the one of its id
-stands_at : (quotas : List Quota) (i : ℕ) (d : Quota) → i < length quotas → AreInOrder (λ r. r.id) quotas → row_at (λ r. r.id) (get_or quotas i d).id quotas ≡ Some (get_or quotas i d)
-stands_at quotas i d lt order = row_at_place (λ (q : Quota). q.id) 0 quotas (get_or quotas i d).id i d order (record { in_range = lt; has_id = λ e. ap (λ (q : Quota). q.id) (get_or_default quotas i e d lt) })
-
 pub quota_stands : (catalogue lists : CatalogueLists) (quotas : List Quota) (quota : Quota) (i : ℕ) → catalogue ≡ lists → quotas ≡ catalogue.quotas → AreInOrder (λ r. r.id) catalogue.quotas → i < length quotas → quota ≡ get_or quotas i quota → quota_at quota.id lists ≡ Some quota
 quota_stands catalogue lists quotas quota i same own order lt is =
     ap (λ (l : CatalogueLists). quota_at quota.id l) (sym same)

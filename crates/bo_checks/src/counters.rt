@@ -4,27 +4,11 @@ ghost use Rattle.std.specs.Prelude.{◌≡◌, ◌↔◌, ◌<◌, IsTrue, Some}
 ghost use Rattle.std.specs.Bool.{Decides};
 ghost use Rattle.bo_catalogue.specs.CatalogueLists.{quota_at};
 ghost use Rattle.bo_lists.specs.CountRows.{quota_count, voucher_count, quota_counts, voucher_counts};
-ghost use Rattle.bo_lists.specs.Usage.{usage_of};
 ghost use Rattle.bo_checks.specs.Counted.{AreCounted};
 
-use bo_base::Steps;
 use bo_catalogue::Quota;
-use bo_lists::{QuotaCount, Usage, Voucher, VoucherCount};
-use bo_usage::Book;
-use std::marker::Brand;
-use std::sync::ledger::{Blank, Ledger};
-
-// What uses a quota of the book at its moment, in a ledger of steps that nobody reads.
-fn usage_in<B: Book, L: Ledger>(book: &B, quota: &Quota, blank: Blank) -> Usage
-    requires name { blank.name ≡ L.name }
-    requires parts { blank.parts ≡ L.parts }
-    requires some { 0 < blank.parts }
-    requires stands { quota_at quota.now.id (B.state book.now).lists.catalogue ≡ Some quota.now }
-    ensures { result ≡ usage_of (B.state book.now).lists (B.state book.now).moment quota.now }
-{
-    let mut steps = Steps::<L>::new(blank);
-    book.usage_at(quota, book.moment(), &mut steps)
-}
+use bo_lists::{QuotaCount, Voucher, VoucherCount};
+use bo_usage::{Book, usage_of};
 
 // The count of a quota of the book.
 fn quota_count<B: Book>(book: &B, quota: &Quota) -> QuotaCount
@@ -33,7 +17,7 @@ fn quota_count<B: Book>(book: &B, quota: &Quota) -> QuotaCount
 {
     QuotaCount {
         quota: quota.id,
-        usage: usage_in::<B, Brand>(book, quota, Blank::new(1)),
+        usage: usage_of(book, quota, book.moment()),
     }
 }
 

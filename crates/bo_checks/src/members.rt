@@ -1,116 +1,19 @@
 //! The tests of what quotas list.
 
-ghost use Rattle.std.specs.Prelude.{◌≡◌, ◌↔◌, IsTrue, IfOk};
-ghost use Rattle.std.specs.List.{list_all};
-ghost use Rattle.bo_catalogue.specs.CatalogueLists.{item_at, variation_at};
-ghost use Rattle.bo_catalogue.specs.QuotaAdded.{items_stand, variations_stand, variations_fit, items_fit, is_of_one, item_of, items_of, is_offered};
+ghost use Rattle.std.specs.Prelude.{◌↔◌, IsTrue, IfOk};
 ghost use Rattle.bo_sound.specs.Members.{HasMembers, AllHaveMembers};
 
 use bo_alike::rising::are_rising;
 use bo_catalogue::Quota;
-use bo_sorted::Ids;
+use bo_items::members::{items_fit, items_stand, variations_fit, variations_stand};
 use bo_usage::{Book, Catalogue};
 use std::alloc::{AllocError, Global};
-
-// Whether each item that the quota lists stands.
-#[tactic(auto, unfolding(bo_catalogue::specs::QuotaAdded::items_stand))]
-fn items_stand(catalogue: &Catalogue, quota: &Quota) -> bool
-    ensures { result ≡ items_stand quota.now catalogue.now.lists }
-{
-    quota
-        .items
-        .as_slice()
-        .iter()
-        .all(|id| catalogue.item(*id).is_some())
-}
-
-// Whether each variation that the quota lists stands.
-#[tactic(auto, unfolding(bo_catalogue::specs::QuotaAdded::variations_stand))]
-fn variations_stand(catalogue: &Catalogue, quota: &Quota) -> bool
-    ensures { result ≡ variations_stand quota.now catalogue.now.lists }
-{
-    quota
-        .variations
-        .as_slice()
-        .iter()
-        .all(|id| catalogue.variation(*id).is_some())
-}
-
-// Whether a variation's item is in the quota.
-fn is_of_one(catalogue: &Catalogue, variation: u64, quota: &Quota) -> bool
-    ensures { result ≡ is_of_one quota.now.items (variation_at variation catalogue.now.lists) }
-{
-    match catalogue.variation(variation) {
-        None => false,
-        Some(row) => quota.items.has(row.item),
-    }
-}
-
-// Whether each listed variation's item is listed too.
-#[tactic(auto, unfolding(bo_catalogue::specs::QuotaAdded::variations_fit))]
-fn variations_fit(catalogue: &Catalogue, quota: &Quota) -> bool
-    ensures { result ≡ variations_fit quota.now catalogue.now.lists }
-{
-    quota
-        .variations
-        .as_slice()
-        .iter()
-        .all(|id| is_of_one(catalogue, *id, quota))
-}
-
-// The item that a variation is of.
-fn item_of(catalogue: &Catalogue, variation: u64) -> Option<u64>
-    ensures { result ≡ item_of (variation_at variation catalogue.now.lists) }
-{
-    catalogue.variation(variation).map(|row| row.item)
-}
-
-// The items that these variations are of.
-fn items_of(
-    alloc: Global,
-    catalogue: &Catalogue,
-    variations: &[u64],
-) -> Result<Vec<u64>, AllocError>
-    ensures { IfOk result (λ items. items.items ≡ items_of variations.now catalogue.now.lists) }
-{
-    variations
-        .iter()
-        .filter_map(|id| item_of(catalogue, *id))
-        .collect(alloc)
-}
-
-// Whether an item is sold by itself, or is among those of which a variation is listed.
-fn is_offered(catalogue: &Catalogue, item: u64, offered: &Ids) -> bool
-    ensures { result ≡ is_offered offered.now (item_at item catalogue.now.lists) }
-{
-    match catalogue.item(item) {
-        None => false,
-        Some(row) => !row.varied || offered.has(row.id),
-    }
-}
-
-// Whether it is so of each of these items.
-fn are_offered(catalogue: &Catalogue, items: &[u64], offered: &Ids) -> bool
-    ensures { result ≡ list_all (λ id. is_offered offered.now (item_at id catalogue.now.lists)) items.now }
-{
-    items.iter().all(|id| is_offered(catalogue, *id, offered))
-}
-
-// Whether each listed item is sold by itself, or one of its variations is listed.
-#[tactic(auto, unfolding(bo_catalogue::specs::QuotaAdded::items_fit))]
-fn items_fit(alloc: Global, catalogue: &Catalogue, quota: &Quota) -> Result<bool, AllocError>
-    ensures { IfOk result (λ fit. fit ≡ items_fit quota.now catalogue.now.lists) }
-{
-    let items = items_of(alloc, catalogue, quota.variations.as_slice())?;
-    let offered = Ids::sorted(items);
-    Ok(are_offered(catalogue, quota.items.as_slice(), &offered))
-}
 
 // Whether the items and the variations of a quota rise, stand and fit together.
 fn has_members(alloc: Global, catalogue: &Catalogue, quota: &Quota) -> Result<bool, AllocError>
     ensures { IfOk result (λ kept. IsTrue kept ↔ HasMembers catalogue.now.lists quota.now) }
 {
-    let fit = items_fit(alloc, catalogue, quota)?;
+    let fit = items_fit(catalogue, alloc, quota)?;
     Ok(
         are_rising(&quota.items)
             && are_rising(&quota.variations)

@@ -3,40 +3,13 @@
 ghost use Rattle.std.specs.Prelude.{◌≡◌, ◌↔◌, true, IsTrue};
 ghost use Rattle.std.specs.List.{AllByRecursion};
 ghost use Rattle.bo_sound.specs.Sent.{voucher_stands, AllSent};
-ghost use Rattle.bo_sound.specs.Targets.{is_of_item, variation_stands};
 ghost use Rattle.bo_sound.specs.Varied.{is_of_varied, is_named_as_sold, IsProduct, AllVaried, AllProducts};
 ghost use Rattle.bo_lists.specs.Fits.{is_fit, AllFit};
 
 use bo_catalogue::{Product, Variation};
+use bo_items::targets::variation_stands;
 use bo_usage::rules::fits;
 use bo_usage::{Book, Catalogue};
-
-// Whether a variation is of the item, if one is named.
-fn is_of_item(item: Option<u64>, variation: &Variation) -> bool
-    ensures { result ≡ is_of_item item variation.now }
-{
-    match item {
-        None => true,
-        Some(item) => variation.item == item,
-    }
-}
-
-/// Whether the variation that is named stands, and is of the item that is named.
-pub(crate) fn variation_stands(
-    catalogue: &Catalogue,
-    item: Option<u64>,
-    variation: Option<u64>,
-) -> bool
-    ensures { result ≡ variation_stands catalogue.now.lists item variation }
-{
-    let Some(id) = variation else {
-        return true;
-    };
-    match catalogue.variation(id) {
-        None => false,
-        Some(row) => is_of_item(item, row),
-    }
-}
 
 // Whether a variation's item stands, and is sold by variation.
 fn is_of_varied(catalogue: &Catalogue, row: &Variation) -> bool

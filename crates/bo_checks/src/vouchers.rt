@@ -1,39 +1,12 @@
 //! The tests of what vouchers name.
 
 ghost use Rattle.std.specs.Prelude.{◌≡◌, ◌↔◌, IsTrue};
-ghost use Rattle.bo_sound.specs.Targets.{item_stands, quota_stands, has_one_target, HasTarget, AllHaveTargets};
+ghost use Rattle.bo_sound.specs.Targets.{HasTarget, AllHaveTargets};
 ghost use Rattle.bo_sound.specs.Varied.{is_plain, is_whole, AllWhole};
 
-use crate::products::variation_stands;
+use bo_items::targets::{has_one_target, item_stands, quota_stands, variation_stands};
 use bo_lists::Voucher;
 use bo_usage::{Book, Catalogue};
-
-// Whether the item that is named stands.
-fn item_stands(catalogue: &Catalogue, item: Option<u64>) -> bool
-    ensures { result ≡ item_stands catalogue.now.lists item }
-{
-    match item {
-        None => true,
-        Some(id) => catalogue.item(id).is_some(),
-    }
-}
-
-// Whether the quota that is named stands.
-fn quota_stands(catalogue: &Catalogue, quota: Option<u64>) -> bool
-    ensures { result ≡ quota_stands catalogue.now.lists quota }
-{
-    match quota {
-        None => true,
-        Some(id) => catalogue.quota(id).is_some(),
-    }
-}
-
-// Whether it doesn't name an item and a quota both, nor a variation without its item.
-fn has_one_target(row: &Voucher) -> bool
-    ensures { result ≡ has_one_target row.now }
-{
-    !(row.item.is_some() && row.quota.is_some()) && (row.item.is_some() || row.variation.is_none())
-}
 
 // Whether what it names stands, and is one thing.
 fn has_target(catalogue: &Catalogue, row: &Voucher) -> bool

@@ -4,16 +4,9 @@ use Rattle.bo_sorted.specs.Tables.{IsPlace}
 use Rattle.bo_catalogue.specs.declared.rows.Quota.{Quota}
 use Rattle.bo_lists.specs.declared.rows.Usage.{Usage}
 use Rattle.bo_lists.specs.Lists.{Lists}
-use Rattle.bo_lists.specs.Usage.{usage_of, blocked_by}
+use Rattle.bo_lists.specs.Usage.{usage_of}
+use Rattle.bo_lists.proofs.LikeUsage.{like_usage}
 use Rattle.bo_indexed.proofs.EntryLemmas.{map_at}
-
--- a quota of other name and size uses the same
-like_usage : (lists : Lists) (at : ℕ) (a b : Quota) → a.id ≡ b.id → a.items ≡ b.items → a.variations ≡ b.variations → usage_of lists at a ≡ usage_of lists at b
-unfolding usage_of blocked_by
-like_usage lists at a b id items variations =
-    ap (λ n. usage_of lists at (record { id = n; name = a.name; size = a.size; items = a.items; variations = a.variations })) id
-    ∙ ap (λ (l : List ℕ). usage_of lists at (record { id = b.id; name = a.name; size = a.size; items = l; variations = a.variations })) items
-    ∙ ap (λ (l : List ℕ). usage_of lists at (record { id = b.id; name = a.name; size = a.size; items = b.items; variations = l })) variations
 
 -- what is kept at the place of a quota is the usage of each that has its id and its products
 pub resized : (lists : Lists) (at : ℕ) (us : List Usage) (old quota : Quota) (i : ℕ) (d : Usage) → us ≡ map (usage_of lists at) lists.catalogue.quotas → IsPlace (λ q. q.id) lists.catalogue.quotas quota.id i → old ≡ get_or lists.catalogue.quotas i old → old.items ≡ quota.items → old.variations ≡ quota.variations → get_or us i d ≡ usage_of lists at quota

@@ -3,7 +3,7 @@
 use crate::counters::Counters;
 use bo_base::Moment;
 use bo_dues::Dues;
-use bo_store::ids::sorted;
+use bo_sorted::ids::sorted;
 use std::alloc::{AllocError, Global};
 
 impl Dues for Counters {

@@ -18,7 +18,8 @@ use Rattle.bo_lists.specs.declared.changes.Change.TheVariants.{PutQuota}
 use Rattle.bo_lists.specs.Change.{after_change, after_all}
 use Rattle.bo_lists.specs.CountRows.{CountRows}
 use Rattle.bo_counts.specs.Touched.{quotas_by}
-use Rattle.bo_counts.proofs.Untouched.{neither, unaltered}
+use Rattle.bo_sorted.proofs.Appended.{neither}
+use Rattle.bo_counts.proofs.Untouched.{unaltered}
 use Rattle.bo_lists.specs.Lists.{Lists, State, voucher_at}
 use Rattle.bo_lists.specs.Usage.{usage_of, redeemed}
 use Rattle.bo_lists.proofs.EachRow.{all_weaker, key-row_at}

@@ -7,6 +7,7 @@ use Rattle.std.proofs.lemmas.Bool.{false≢true}
 use Rattle.std.proofs.lemmas.List.Sums.{sum_by-cons}
 use Rattle.bo_sorted.specs.Tables.{has, row_at, AreInOrder}
 use Rattle.bo_sorted.specs.Rising.{rising}
+use Rattle.bo_sorted.proofs.Appended.{has-append, neither}
 use Rattle.bo_sorted.proofs.Edits.{row_at-with_row, row_at-without_row}
 use Rattle.bo_sorted.proofs.RisingLemmas.{has-rising, rising_in_order}
 use Rattle.bo_catalogue.specs.declared.rows.Quota.{Quota}
@@ -25,18 +26,6 @@ use Rattle.bo_counts.specs.Touched.{positions_by, vouchers_by, carts_by, entries
 use Rattle.bo_counts.specs.Shares.{use_of}
 use Rattle.bo_counts.proofs.FiveCounts.{redeemed_shifted}
 use Rattle.bo_counts.proofs.Ordered.{ordered_after}
-
-has-append : (k : ℕ) (xs ys : List ℕ) → has k (xs ++ ys) ≡ (has k xs || has k ys)
-has-append k [] ys = refl
-has-append k (x ∷ xs) ys = by_id (eqb x k) (has-append k xs ys)
-  where
-    by_id : (b : Bool) → has k (xs ++ ys) ≡ (has k xs || has k ys) → (b || has k (xs ++ ys)) ≡ ((b || has k xs) || has k ys)
-    by_id true more = refl
-    by_id false more = more
-
-pub neither : (a b : Bool) → (a || b) ≡ false → (a ≡ false) × (b ≡ false)
-neither true b h = absurd (cc h)
-neither false b h = (refl, h)
 
 pub absent_both : (k : ℕ) (xs ys : List ℕ) → has k (xs ++ ys) ≡ false → (has k xs ≡ false) × (has k ys ≡ false)
 absent_both k xs ys absent = neither (has k xs) (has k ys) (sym (has-append k xs ys) ∙ absent)

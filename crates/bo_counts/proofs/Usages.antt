@@ -6,6 +6,7 @@ use Rattle.bo_sorted.specs.Tables.{has, InOrderFrom, AreInOrder, AreKept}
 use Rattle.bo_catalogue.specs.declared.rows.Quota.{Quota}
 use Rattle.bo_catalogue.specs.CatalogueLists.{CatalogueLists, quota_at}
 use Rattle.bo_lists.proofs.EachRow.{key-row_at}
+use Rattle.bo_lists.proofs.LikeUsage.{like_usage}
 use Rattle.bo_lists.specs.declared.rows.Usage.{Usage}
 use Rattle.bo_lists.specs.declared.rows.CartPos.{CartPos}
 use Rattle.bo_lists.specs.declared.rows.OrderPos.{OrderPos}
@@ -23,7 +24,7 @@ use Rattle.bo_counts.specs.Told.{redeemed_each, Passage, IsPassage}
 use Rattle.bo_counts.specs.declared.touched.TouchedRows.{TouchedRows}
 use Rattle.bo_counts.specs.declared.shares.PlaceCount.TheVariants.{Paid, Pending, Carts, Waiting}
 use Rattle.bo_counts.proofs.Shifted.{shifted, value}
-use Rattle.bo_counts.proofs.Untouched.{neither}
+use Rattle.bo_sorted.proofs.Appended.{neither}
 use Rattle.bo_counts.proofs.FiveCounts.{paid_shifted, pending_shifted, blocked_shifted, carts_shifted, waiting_shifted, blocked_each}
 
 -- what is known of every book
@@ -75,14 +76,6 @@ fresh_is lists rows at q positions carts entries paid pending blocked inside wai
     (c ∙ ap (λ (l : Lists). sum_by (blocked_as l at q) (redeemed_each lists (map (λ v. v.id) lists.vouchers))) same ∙ blocked_each lists at q (map (λ (v : Voucher). v.id) lists.vouchers) ∙ all_values (λ (v : Voucher). v.id) (blocked_by lists at q) lists.vouchers k.vouchers.in_order)
     (d ∙ ap (λ (l : Lists). sum_by (share Carts l at q) carts) same ∙ ap (λ (l : List ℕ). sum_by (share Carts lists at q) l) cs ∙ all_values (λ (c : CartPos). c.id) (λ c. if cart_counts lists at q c then 1 else 0) lists.carts k.carts.in_order)
     (e ∙ ap (λ (l : Lists). sum_by (share Waiting l at q) entries) same ∙ ap (λ (l : List ℕ). sum_by (share Waiting lists at q) l) es ∙ all_values (λ (w : Entry). w.id) (λ w. if waits_for q w then 1 else 0) lists.waiting k.waiting.in_order)
-
--- a quota of other name and size uses the same
-pub like_usage : (lists : Lists) (at : ℕ) (a b : Quota) → a.id ≡ b.id → a.items ≡ b.items → a.variations ≡ b.variations → usage_of lists at a ≡ usage_of lists at b
-unfolding usage_of blocked_by
-like_usage lists at a b id items variations =
-    ap (λ n. usage_of lists at (record { id = n; name = a.name; size = a.size; items = a.items; variations = a.variations })) id
-    ∙ ap (λ (l : List ℕ). usage_of lists at (record { id = b.id; name = a.name; size = a.size; items = l; variations = a.variations })) items
-    ∙ ap (λ (l : List ℕ). usage_of lists at (record { id = b.id; name = a.name; size = a.size; items = b.items; variations = l })) variations
 
 -- a quota that has the products of the one that stood in its place
 pub as_stood : (lists : Lists) (at : ℕ) (old quota : Quota) (usage : Usage) → quota_at quota.id lists.catalogue ≡ Some old → usage ≡ usage_of lists at old → old.items ≡ quota.items → old.variations ≡ quota.variations → usage ≡ usage_of lists at quota

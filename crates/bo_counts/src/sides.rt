@@ -14,16 +14,15 @@ use crate::shares::{PlaceCount, moved};
 use crate::touched::TouchedRows;
 use crate::turned::turned;
 use crate::view::View;
-use bo_base::{Moment, Steps};
+use bo_base::Moment;
 use bo_catalogue::Quota;
 use bo_lists::{Usage, VoucherCount};
 use bo_log::ChangeLog;
 use bo_sorted::Row;
 use bo_tally::Tally;
-use bo_usage::Book;
+use bo_usage::{Book, usage_of};
 use std::alloc::{AllocError, Global};
-use std::marker::{Brand, Model};
-use std::sync::ledger::{Blank, Ledger};
+use std::marker::Model;
 
 /// A book before changes and after them, at a later moment.
 #[derive(Drop)]
@@ -170,7 +169,7 @@ impl<'s, B: Book> Sides<'s, B> {
         requires { quota_at quota.now.id self.now.before.lists.catalogue ≡ Some quota.now }
         ensures { result ≡ usage_of self.now.before.lists self.now.after.moment quota.now }
     {
-        usage_at(self.book, quota, self.at)
+        usage_of(self.book, quota, self.at)
     }
 
     // The same of any quota, counted over all rows.
@@ -196,28 +195,6 @@ fn same(a: &[u64], b: &[u64]) -> bool
     ensures { Decides result (a.now ≡ b.now) }
 {
     a == b
-}
-
-// What uses a quota of the book.
-pub fn usage_at<B: Book>(book: &B, quota: &Quota, at: Moment) -> Usage
-    requires moment { (B.state book.now).moment ≤ at }
-    requires stands { quota_at quota.now.id (B.state book.now).lists.catalogue ≡ Some quota.now }
-    ensures { result ≡ usage_of (B.state book.now).lists at quota.now }
-{
-    usage_in::<B, Brand>(book, quota, at, Blank::new(1))
-}
-
-// The same, in a ledger of steps that nobody reads.
-fn usage_in<B: Book, L: Ledger>(book: &B, quota: &Quota, at: Moment, blank: Blank) -> Usage
-    requires name { blank.name ≡ L.name }
-    requires parts { blank.parts ≡ L.parts }
-    requires some { 0 < blank.parts }
-    requires moment { (B.state book.now).moment ≤ at }
-    requires stands { quota_at quota.now.id (B.state book.now).lists.catalogue ≡ Some quota.now }
-    ensures { result ≡ usage_of (B.state book.now).lists at quota.now }
-{
-    let mut steps = Steps::<L>::new(blank);
-    book.usage_at(quota, at, &mut steps)
 }
 
 // What uses a quota by the book's rows, all of which are counted: for quotas that are made, or whose products change.

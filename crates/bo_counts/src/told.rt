@@ -7,9 +7,9 @@ ghost use Rattle.bo_lists.specs.CountRows.{same_usage, counts_after};
 ghost use Rattle.bo_counts.specs.Reached.{AreAsked};
 ghost use Rattle.bo_counts.specs.Told.{has_count, has_voucher, quota_told, voucher_told_as, gone_told, told_if, told_unless};
 
-use crate::sides::{Sides, usage_at};
+use crate::sides::Sides;
 use bo_lists::{QuotaCount, Usage, VoucherCount};
-use bo_usage::{Book, LookUps};
+use bo_usage::{Book, LookUps, usage_of};
 use std::alloc::{AllocError, Global};
 
 impl<'s, B: Book> Sides<'s, B> {
@@ -160,7 +160,7 @@ fn has_count<B: Book>(book: &B, count: QuotaCount) -> bool
     match catalogue.quota(count.quota) {
         None => false,
         Some(quota) => {
-            let usage = usage_at(book, quota, book.moment());
+            let usage = usage_of(book, quota, book.moment());
             same_usage(count.usage, usage)
         }
     }

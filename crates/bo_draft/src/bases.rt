@@ -5,17 +5,13 @@ ghost use Rattle.bo_sorted.specs.Tables.{AreInOrder};
 ghost use Rattle.bo_catalogue.specs.CatalogueLists.{quota_at};
 ghost use Rattle.bo_catalogue.specs.declared.rows.Quota.{Quota};
 ghost use Rattle.bo_draft.specs.Used.{used, AreBases};
-ghost use Rattle.bo_lists.specs.Usage.{usage_of};
 
-use bo_base::{Moment, Steps};
+use bo_base::Moment;
 use bo_catalogue::Quota;
-use bo_lists::Usage;
 use bo_sorted::{Row, place_of};
 use bo_tally::Tally;
-use bo_usage::Book;
+use bo_usage::{Book, usage_of};
 use std::alloc::AllocError;
-use std::marker::Brand;
-use std::sync::ledger::{Blank, Ledger};
 
 /// How much the book uses of the quota at a place.
 #[derive(Clone, Copy)]
@@ -118,27 +114,5 @@ fn used_in_book<B: Book>(book: &B, quota: &Quota, at: Moment) -> u128
     ensures value { result ≡ used (B.state book.now).lists at quota.now }
     ensures few { result ≤ 92233720368547758080 }
 {
-    usage_in_book(book, quota, at).total()
-}
-
-/// What uses a quota that stands in the book.
-pub fn usage_in_book<B: Book>(book: &B, quota: &Quota, at: Moment) -> Usage
-    requires moment { (B.state book.now).moment ≤ at }
-    requires stands { quota_at quota.now.id (B.state book.now).lists.catalogue ≡ Some quota.now }
-    ensures { result ≡ usage_of (B.state book.now).lists at quota.now }
-{
-    usage_in::<B, Brand>(book, quota, at, Blank::new(1))
-}
-
-// The same, in a ledger of steps that nobody reads.
-fn usage_in<B: Book, L: Ledger>(book: &B, quota: &Quota, at: Moment, blank: Blank) -> Usage
-    requires name { blank.name ≡ L.name }
-    requires parts { blank.parts ≡ L.parts }
-    requires some { 0 < blank.parts }
-    requires moment { (B.state book.now).moment ≤ at }
-    requires stands { quota_at quota.now.id (B.state book.now).lists.catalogue ≡ Some quota.now }
-    ensures { result ≡ usage_of (B.state book.now).lists at quota.now }
-{
-    let mut steps = Steps::<L>::new(blank);
-    book.usage_at(quota, at, &mut steps)
+    usage_of(book, quota, at).total()
 }

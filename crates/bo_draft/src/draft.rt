@@ -15,7 +15,7 @@ ghost use Rattle.bo_lists.specs.Usage.{redeemed, usage_of, waits_for};
 ghost use Rattle.bo_lists.specs.Total.{total};
 ghost use Rattle.bo_catalogue.specs.CatalogueLists.{quota_at};
 
-use crate::bases::{Base, ask_bases, usage_in_book};
+use crate::bases::{Base, ask_bases};
 use crate::over::{first_over, used_now};
 use bo_base::Moment;
 use bo_base::codes::LAST_ORDER;
@@ -24,7 +24,7 @@ use bo_lists::{
     CartPos, Change, Changes, Checkin, CheckinList, NextIds, Order, OrderPos, Own, Voucher, Waiting,
 };
 use bo_shares::{Overlay, Tallies};
-use bo_usage::{Book, LookUps};
+use bo_usage::{Book, LookUps, usage_of};
 use std::alloc::{AllocError, Global};
 use std::marker::Model;
 
@@ -165,7 +165,7 @@ impl<'a, B: Book> Draft<'a, B> {
         ensures { result ≡ count_by (waits_for quota.now) (now self.now).lists.waiting }
     {
         self.overlay.known();
-        usage_in_book(self.book, quota, self.moment).waiting
+        usage_of(self.book, quota, self.moment).waiting
     }
 
     /// Whether one more cart position may name the voucher.

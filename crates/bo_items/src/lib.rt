@@ -1,8 +1,11 @@
-//! May an item, a variation or a quota be added or changed, and what becomes of its row?
+//! May an item, a variation or a quota be added or changed, and what becomes of its row? Do the items and variations that a quota lists
+//! stand and fit together, and does what a voucher names stand?
 #![tactic(auto)]
 
 pub mod items;
+pub mod members;
 pub mod quotas;
+pub mod targets;
 
 pub use items::{add_item, add_variation, change_item};
 pub use quotas::{add_quota, resize};

@@ -1,15 +1,13 @@
 //! New quotas, and resized ones.
 
 ghost use Rattle.std.specs.Prelude.{◌≡◌, ◌≢◌, Ok, Err, IfOk, IfErr};
-ghost use Rattle.std.specs.List.{list_all};
-ghost use Rattle.bo_catalogue.specs.CatalogueLists.{item_at, variation_at};
-ghost use Rattle.bo_catalogue.specs.QuotaAdded.{quota_added, quota_test, items_stand, variations_stand, variations_fit, items_fit, is_of_one, item_of, items_of, is_offered};
+ghost use Rattle.bo_catalogue.specs.QuotaAdded.{quota_added, quota_test};
 ghost use Rattle.bo_catalogue.specs.Resized.{resized};
 
+use crate::members::{items_fit, items_stand, variations_fit, variations_stand};
 use bo_catalogue::{CatalogueRefusal, NewQuota, Quota, QuotaPatch, takes_row};
-use bo_sorted::Ids;
 use bo_stock::Catalogue;
-use std::alloc::{AllocError, Global};
+use std::alloc::Global;
 
 /// A quota as it is with another size. It is for the caller to put it.
 /// Refusals: 13 `NoQuota`.
@@ -69,98 +67,4 @@ fn test_quota(catalogue: &Catalogue, alloc: Global, quota: &Quota) -> Result<(),
         return Err(CatalogueRefusal::Full);
     }
     Ok(())
-}
-
-// Whether each item that the quota lists stands.
-#[tactic(auto, unfolding(bo_catalogue::specs::QuotaAdded::items_stand))]
-fn items_stand(catalogue: &Catalogue, quota: &Quota) -> bool
-    ensures { result ≡ items_stand quota.now catalogue.now.lists }
-{
-    quota
-        .items
-        .as_slice()
-        .iter()
-        .all(|id| catalogue.item(*id).is_some())
-}
-
-// Whether each variation that the quota lists stands.
-#[tactic(auto, unfolding(bo_catalogue::specs::QuotaAdded::variations_stand))]
-fn variations_stand(catalogue: &Catalogue, quota: &Quota) -> bool
-    ensures { result ≡ variations_stand quota.now catalogue.now.lists }
-{
-    quota
-        .variations
-        .as_slice()
-        .iter()
-        .all(|id| catalogue.variation(*id).is_some())
-}
-
-// Whether each listed variation's item is listed too.
-#[tactic(auto, unfolding(bo_catalogue::specs::QuotaAdded::variations_fit))]
-fn variations_fit(catalogue: &Catalogue, quota: &Quota) -> bool
-    ensures { result ≡ variations_fit quota.now catalogue.now.lists }
-{
-    quota
-        .variations
-        .as_slice()
-        .iter()
-        .all(|id| is_of_one(catalogue, *id, quota))
-}
-
-// Whether each listed item is sold by itself, or one of its variations is listed.
-#[tactic(auto, unfolding(bo_catalogue::specs::QuotaAdded::items_fit))]
-fn items_fit(catalogue: &Catalogue, alloc: Global, quota: &Quota) -> Result<bool, AllocError>
-    ensures { IfOk result (λ fit. fit ≡ items_fit quota.now catalogue.now.lists) }
-{
-    let items = items_of(catalogue, alloc, quota.variations.as_slice())?;
-    let offered = Ids::sorted(items);
-    Ok(are_offered(catalogue, quota.items.as_slice(), &offered))
-}
-
-// The items that these variations are of.
-fn items_of(
-    catalogue: &Catalogue,
-    alloc: Global,
-    variations: &[u64],
-) -> Result<Vec<u64>, AllocError>
-    ensures { IfOk result (λ items. items.items ≡ items_of variations.now catalogue.now.lists) }
-{
-    variations
-        .iter()
-        .filter_map(|id| item_of(catalogue, *id))
-        .collect(alloc)
-}
-
-// The item that a variation is of.
-fn item_of(catalogue: &Catalogue, variation: u64) -> Option<u64>
-    ensures { result ≡ item_of (variation_at variation catalogue.now.lists) }
-{
-    catalogue.variation(variation).map(|row| row.item)
-}
-
-// Whether a variation's item is in the quota.
-fn is_of_one(catalogue: &Catalogue, variation: u64, quota: &Quota) -> bool
-    ensures { result ≡ is_of_one quota.now.items (variation_at variation catalogue.now.lists) }
-{
-    match catalogue.variation(variation) {
-        None => false,
-        Some(row) => quota.items.has(row.item),
-    }
-}
-
-// Whether each of these items is sold by itself, or is among those of which a variation is listed.
-fn are_offered(catalogue: &Catalogue, items: &[u64], offered: &Ids) -> bool
-    ensures { result ≡ list_all (λ id. is_offered offered.now (item_at id catalogue.now.lists)) items.now }
-{
-    items.iter().all(|id| is_offered(catalogue, *id, offered))
-}
-
-// Whether an item is sold by itself, or is among those of which a variation is listed.
-fn is_offered(catalogue: &Catalogue, item: u64, offered: &Ids) -> bool
-    ensures { result ≡ is_offered offered.now (item_at item catalogue.now.lists) }
-{
-    match catalogue.item(item) {
-        None => false,
-        Some(row) => !row.varied || offered.has(row.id),
-    }
 }

@@ -7,3 +7,4 @@ pub mod Takes
 pub mod Lowers
 pub mod Orders
 pub mod LastPlaces
+pub mod LikeUsage

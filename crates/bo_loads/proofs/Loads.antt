@@ -15,6 +15,7 @@ use Rattle.sqlite.specs.declared.error.Error.{Error}
 use Rattle.sqlite.specs.Listing.{understood}
 use Rattle.sqlite.specs.State.{State, Shown, ShowsRows, KeepsCommit, IsNotRun, FailsToQuery, FailsToShow, IsTooLate}
 use Rattle.sqlite.proofs.Callers.{IsPlain, command_of, reads_as}
+use Rattle.bo_schema.proofs.WholeLemmas.{not_run}
 use Rattle.bo_schema.specs.Tables.{schema}
 use Rattle.bo_schema.specs.Parts.{shown}
 use Rattle.bo_schema.specs.Shapes.{command_in, over, plainly}
@@ -120,11 +121,6 @@ unfolding Shown
 reading_keeps old new sql params rows reads h =
     let it = subst (ShowsRows old new sql h.0 _ rows) (reads h.0 h.1.is) h.2 in
     record { was_open = λ _. it.3.0.was_open; committed = λ _. it.3.0.committed_is }
-
-not_run : (old new : State) (sql : List ℕ) (params : Row) (e : Error) → IsNotRun old new sql params e → KeepsCommit old new
-unfolding IsNotRun
-not_run old new sql params e (inl same) = record { was_open = λ _. same.1.0.was_open; committed = λ _. same.1.0.committed_is }
-not_run old new sql params e (inr fails) = record { was_open = fails.3.was_open; committed = λ o. (fails.3.undone o).1 }
 
 fails_keeps : (old new : State) (sql : List ℕ) (c : Compiled) (params : Row) (e : Error) (r : Option Returning) → FailsToShow old new sql c params e r → KeepsCommit old new
 fails_keeps old new sql c params e None h = record { was_open = λ _. h.3.0.was_open; committed = λ _. h.3.0.committed_is }

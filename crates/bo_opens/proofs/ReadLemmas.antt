@@ -6,6 +6,8 @@ use Rattle.sqlite.specs.State.{State, IsRolledBack}
 use Rattle.sqlite.proofs.Callers.{one_permutation}
 use Rattle.bo_columns.specs.declared.rows.ShopRow.{ShopRow}
 use Rattle.bo_columns.specs.Rows.{shop_row}
+pub use Rattle.bo_loads.proofs.Causes.{if_err, on_ok}
+pub use Rattle.bo_loads.proofs.Loads.{if_ok}
 use Rattle.bo_opens.specs.Rests.{StaysOpen}
 
 -- one table was read in a transaction, which was rolled back
@@ -17,14 +19,6 @@ rolled old mid new was same back is_open opened = record {
 
 pub then : (a b c : State) → StaysOpen a b → StaysOpen b c → StaysOpen a c
 then a b c h k = record { was_open = h.was_open; stays = λ db at. k.stays db (h.stays db at) }
-
-pub if_ok : {T E : Type 0} (r : Result T E) (P Q : T → Type 0) → IfOk r P → ((x : T) → P x → Q x) → IfOk r Q
-if_ok (Ok x) P Q h k = k x h
-if_ok (Err e) P Q h k = tt
-
-pub if_err : {T E : Type 0} (r : Result T E) (P Q : E → Type 0) → IfErr r P → ((e : E) → P e → Q e) → IfErr r Q
-if_err (Ok x) P Q h k = tt
-if_err (Err e) P Q h k = k e h
 
 pub if_some : {T : Type 0} (o : Option T) (P Q : T → Type 0) → IfSome o P → ((x : T) → P x → Q x) → IfSome o Q
 if_some (Some x) P Q h k = k x h
@@ -49,10 +43,6 @@ was_err r e P is h = subst (λ s. IfErr s P) is h
 
 pub was_some : {T : Type 0} (o : Option T) (x : T) (P : T → Type 0) → o ≡ Some x → IfSome o P → P x
 was_some o x P is h = subst (λ s. IfSome s P) is h
-
-pub on_ok : {T E : Type 0} (r : Result T E) (P : T → Type 0) (Q : Type 0) → IfOk r P → ((x : T) → P x → Q) → OnOk r Q
-on_ok (Ok x) P Q h k = k x h
-on_ok (Err e) P Q h k = tt
 
 -- the shop's row is the one that is shown
 pub one_shown : (shops : List ShopRow) (shop : ShopRow) (rows : List Row) → IsPermutation (map shop_row shops) rows → shops ≡ shop ∷ [] → rows ≡ shop_row shop ∷ []

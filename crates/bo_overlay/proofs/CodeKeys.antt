@@ -10,6 +10,7 @@ use Rattle.bo_lists.specs.declared.rows.Voucher.{Voucher}
 use Rattle.bo_lists.specs.declared.changes.Change.{Change}
 use Rattle.bo_lists.specs.declared.changes.Change.TheVariants.{PutItem, PutVariation, PutQuota, PutVoucher, PutCart, PutOrder, PutPosition, PutWaiting, DropVoucher, DropCart, DropWaiting, PutCheckinList, PutCheckin}
 use Rattle.bo_overlay.specs.Logs.{Log}
+pub use Rattle.bo_log.proofs.Indexes.{when_ok}
 use Rattle.bo_log.specs.Places.{further, touches, last_place}
 use Rattle.bo_log.specs.Puts.{voucher_put}
 use Rattle.bo_overlay.specs.Coded.{passes_if, IsLeast, lesser, IsBelow, IsFrom, HasCode, IsPutAt, IsPutBelow, IsPutFrom, put_if}
@@ -211,8 +212,3 @@ module _ (code : List ℕ) (log : Log) where
               by_order (inr s) =
                   let passes : has (get_or (take walked.front keys) p 0) ≡ true = ap has (get_or-take walked.front keys p 0 s.1) ∙ coded id p 0 below.0 e in
                   absurd (none_passes has (take walked.front keys) p 0 (sym walked.is) (omega (arith, s.1, length-take-le walked.front keys (omega (arith, walked.within, as_many log.changes)))) passes)
-
--- what a call that was accepted promises
-pub when_ok : {E : Type 0} (P : Type 0) (r : Result (Unit {0}) E) → is_err r ≡ false → OnOk r P → P
-when_ok P (Ok x) e h = h
-when_ok P (Err x) e h = absurd (cc)

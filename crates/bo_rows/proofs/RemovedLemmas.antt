@@ -22,7 +22,7 @@ use Rattle.bo_schema.specs.Parts.{shown}
 use Rattle.bo_schema.specs.Shapes.{over, plainly, by_owner}
 use Rattle.bo_schema.proofs.Answered.{passes}
 use Rattle.bo_schema.proofs.Generic.{asked}
-use Rattle.bo_schema.proofs.Keyed.{truth_back}
+use Rattle.bo_schema.proofs.Keyed.{same_filter, truth_back}
 use Rattle.bo_schema.proofs.Owner.{passes_owner, stays_true}
 use Rattle.bo_columns.specs.declared.rows.KeptRow.{KeptRow}
 use Rattle.bo_columns.specs.Cells.{number}
@@ -66,10 +66,6 @@ passes_past : (at : ℕ) → 86400 ≤ at → (r : Row) (w : KeptRow) → shown 
 passes_past at late r w e =
     let since : column r 3 ≡ number w.kept.at = ap (λ (x : Row). column x 3) e in
     stays_true _ ∙ ap (λ v. is_true (binary (Compare Le Binary) v (number (at - 86400)))) since ∙ at_most (pos w.kept.at) (pos (at - 86400)) ∙ is_past at w.kept.at late
-
-same_filter : {A : Type 0} (p q : A → Bool) → ((a : A) → p a ≡ q a) → (xs : List A) → filter p xs ≡ filter q xs
-same_filter p q same [] = refl
-same_filter p q same (a ∷ xs) = rw (same a, same_filter p q same xs)
 
 stay : (at : ℕ) (rows : List KeptRow) → filter (λ r. lasts at r.kept.at) rows ≡ filter (λ r. not (gone at r)) rows
 stay at rows = same_filter (λ (r : KeptRow). lasts at r.kept.at) (λ r. not (gone at r)) (λ r. sym (twice (lasts at r.kept.at))) rows

@@ -14,7 +14,7 @@ use Rattle.bo_schema.specs.Whole.{IsSame, IsStill, IsWritten, MayBeWritten}
 
 -- ---- a text that is only prepared
 
-not_run : (old new : State) (sql : List ℕ) (params : Row) (e : Error) → IsNotRun old new sql params e → KeepsCommit old new
+pub not_run : (old new : State) (sql : List ℕ) (params : Row) (e : Error) → IsNotRun old new sql params e → KeepsCommit old new
 unfolding IsNotRun
 not_run old new sql params e (inl same) = record { was_open = λ _. same.1.0.was_open; committed = λ _. same.1.0.committed_is }
 not_run old new sql params e (inr fails) = record { was_open = fails.3.was_open; committed = λ o. (fails.3.undone o).1 }

@@ -31,7 +31,7 @@ use Rattle.bo_schema.specs.Writes.{Edits}
 use Rattle.bo_schema.proofs.Answered.{passes, answered}
 use Rattle.bo_schema.specs.Plain.{IsPlainTable}
 use Rattle.bo_schema.proofs.Generic.{deletes, inserts, updates}
-use Rattle.bo_schema.proofs.Keyed.{without, put_fresh, equals_rowid, without_each}
+use Rattle.bo_schema.proofs.Keyed.{without, put_fresh, equals_rowid, same_filter, without_each}
 
 abbrev pub AreNumbered : List Row → Type 0
 AreNumbered = All (λ r. is_int (rowid r) ≡ true)
@@ -85,10 +85,6 @@ any_same id r (i ∷ ids) all false e =
 
 without_same : (id : ℤ) (ids : List ℤ) (rows : List Row) → All (λ i. i ≡ id) ids → (r : Row) → not (list_any (λ i. has_rowid i r) (id ∷ ids)) ≡ not (has_rowid id r)
 without_same id ids rows all r = ap not (any_same id r ids all (has_rowid id r) refl)
-
-same_filter : (p q : Row → Bool) → ((r : Row) → p r ≡ q r) → (rows : List Row) → filter p rows ≡ filter q rows
-same_filter p q same [] = refl
-same_filter p q same (r ∷ rows) = rw (same r, same_filter p q same rows)
 
 took_out : (id : ℤ) (ids : List ℤ) (rows : List Row) → All (λ i. i ≡ id) ids → length ids ≡ length (filter (has_rowid id) rows) → without_all rows ids ≡ without id rows
 took_out id [] rows all len = none_found id rows (sym len)

@@ -7,6 +7,7 @@ use Rattle.std.proofs.lemmas.Bool.Decides.{nat_tests, eqb_tells}
 use Rattle.std.proofs.lemmas.List.{take_more}
 use Rattle.bo_sorted.specs.Tables.{has, row_at, InOrderFrom, AreInOrder, IsPlace, IsGap}
 use Rattle.bo_sorted.specs.Rising.{rising}
+use Rattle.bo_sorted.proofs.Appended.{has-append, neither}
 use Rattle.bo_sorted.proofs.Edits.{row_at_above}
 use Rattle.bo_sorted.proofs.Places.{at_least, row_at_gap}
 use Rattle.bo_sorted.proofs.RisingLemmas.{has-rising}
@@ -25,17 +26,6 @@ use Rattle.bo_shares.specs.Touched.{IsOther, NoOther, NoneElse, Keeps, among, at
 use Rattle.bo_shares.proofs.Values.{count_push}
 
 -- ---- ids behind others
-pub has-append : (k : ℕ) (xs ys : List ℕ) → has k (xs ++ ys) ≡ (has k xs || has k ys)
-has-append k [] ys = refl
-has-append k (x ∷ xs) ys = by_id (eqb x k) (has-append k xs ys)
-  where
-    by_id : (b : Bool) → has k (xs ++ ys) ≡ (has k xs || has k ys) → (b || has k (xs ++ ys)) ≡ ((b || has k xs) || has k ys)
-    by_id true more = refl
-    by_id false more = more
-
-neither : (a b : Bool) → (a || b) ≡ false → (a ≡ false) × (b ≡ false)
-neither true b h = absurd (cc h)
-neither false b h = (refl, h)
 
 pub keeps_all : (ids : List ℕ) → Keeps ids ids
 keeps_all ids id h = h

@@ -585,25 +585,15 @@ pub fn vouchers_after<B: Book>(overlay: &Overlay<'_, B>, vouchers: usize, change
 {
     overlay.known();
     match change {
-        Change::PutVoucher(row) => without_voucher(vouchers + 1, overlay.voucher(row.id)),
-        Change::DropVoucher(id) => without_voucher(vouchers, overlay.voucher(*id)),
+        Change::PutVoucher(row) => without_one(vouchers + 1, overlay.voucher(row.id)),
+        Change::DropVoucher(id) => without_one(vouchers, overlay.voucher(*id)),
         _ => vouchers,
     }
 }
 
 // A number of rows, less one where such a row stood.
-fn without_one(count: usize, gone: Option<&CartPos>) -> usize
-    ensures { result ≡ count - sum_at (λ c. 1) (option_copied gone.entry) }
-{
-    match gone {
-        None => count,
-        Some(_) => count.saturating_sub(1),
-    }
-}
-
-// A number of vouchers, less the one that goes.
-fn without_voucher(count: usize, gone: Option<&Voucher>) -> usize
-    ensures { result ≡ count - sum_at (λ v. 1) (option_copied gone.entry) }
+fn without_one<T>(count: usize, gone: Option<&T>) -> usize
+    ensures { result ≡ count - sum_at (λ _. 1) (option_copied gone.entry) }
 {
     match gone {
         None => count,

@@ -17,7 +17,7 @@ use bo_base::Moment;
 use bo_lists::{CartPos, Change, Voucher};
 use bo_sorted::place_of;
 use bo_store::Store;
-use bo_store::ids::count_one;
+use bo_store::counts::count_one;
 use bo_usage::LookUps;
 use bo_usage::rules::held_name;
 

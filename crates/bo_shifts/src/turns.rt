@@ -21,7 +21,7 @@ use bo_catalogue::{Product, Quota};
 use bo_lists::{Change, Order, OrderPos, Usage, Voucher};
 use bo_sorted::place_of;
 use bo_store::Store;
-use bo_store::ids::count_one;
+use bo_store::counts::count_one;
 use bo_usage::LookUps;
 use bo_usage::rules::{
     blocked_share, is_in_force, is_paid, is_pending, paid_share, pending_share, used_name,

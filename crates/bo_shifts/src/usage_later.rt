@@ -16,7 +16,7 @@ use bo_base::{Moment, Steps};
 use bo_catalogue::Quota;
 use bo_lists::{CartPos, Usage, Voucher};
 use bo_store::Ended;
-use bo_store::ids::count_one;
+use bo_store::counts::count_one;
 use bo_usage::rules::left_of;
 use std::sync::ledger::Ledger;
 

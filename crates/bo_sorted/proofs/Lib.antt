@@ -2,3 +2,4 @@ pub mod Places
 pub mod RisingLemmas
 pub mod Edits
 pub mod Mapped
+pub mod Appended

@@ -8,6 +8,16 @@ use crate::rows::{Row, place_of};
 use std::alloc::{AllocError, Global};
 use std::marker::Model;
 
+/// These ids in rising order, each once.
+pub fn sorted(ids: Vec<u64>) -> Vec<u64>
+    ensures { result.items ≡ rising ids.items }
+{
+    let mut ids = ids;
+    ids.sort_unstable();
+    ids.dedup();
+    ids
+}
+
 /// Ids in rising order, each once, which contracts see as a list.
 #[derive(Drop)]
 pub struct Ids {
@@ -30,10 +40,7 @@ impl Ids {
     pub fn sorted(ids: Vec<u64>) -> Self
         ensures { result ≡ rising ids.items }
     {
-        let mut ids = ids;
-        ids.sort_unstable();
-        ids.dedup();
-        Ids { ids }
+        Ids { ids: sorted(ids) }
     }
 
     /// The ids in rising order, each once.

@@ -90,7 +90,7 @@ once_apart : (cs : List Checkin) → AreOnce cs → AreApart repeats cs
 once_apart [] h = tt
 once_apart (c ∷ cs) h = (h.0, once_apart cs h.1)
 
-nonce_flip : (a b : Option (List ℕ)) → same_nonce a b ≡ same_nonce b a
+pub nonce_flip : (a b : Option (List ℕ)) → same_nonce a b ≡ same_nonce b a
 nonce_flip None None = refl
 nonce_flip None (Some b) = refl
 nonce_flip (Some a) None = refl

@@ -3,4 +3,5 @@
 
 pub mod laws;
 pub mod made_codes;
+pub mod next_ids;
 pub mod reserved;

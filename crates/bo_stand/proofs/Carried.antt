@@ -67,7 +67,7 @@ set_is_put c n (x ∷ xs) h there =
 abbrev count_of : VoucherRow → VoucherCount
 count_of r = record { voucher = r.voucher.id; redeemed = r.redeemed }
 
-abbrev set_one : VoucherCount → VoucherRow → VoucherRow
+abbrev pub set_one : VoucherCount → VoucherRow → VoucherRow
 set_one c r = cond (r.voucher.id == c.voucher) (record { voucher = r.voucher; redeemed = c.redeemed }) r
 
 eq_of : (a b : ℕ) → (a == b) ≡ true → a ≡ b

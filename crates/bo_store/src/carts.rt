@@ -7,10 +7,10 @@ ghost use Rattle.bo_lists.specs.Due.{dead_carts};
 ghost use Rattle.bo_lists.specs.Lists.{cart_at};
 ghost use Rattle.bo_store.specs.Walks.{listed};
 
-use crate::ids::sorted;
 use crate::store::Store;
 use bo_base::{Moment, Text};
 use bo_indexed::digest;
+use bo_sorted::ids::sorted;
 use bo_usage::LookUps;
 use std::alloc::{AllocError, Global};
 

@@ -2,9 +2,9 @@
 #![tactic(auto)]
 
 pub mod carts;
+pub mod counts;
 pub mod door;
 pub mod ended;
-pub mod ids;
 pub mod naming;
 pub mod orders;
 pub mod queue;

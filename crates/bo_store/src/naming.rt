@@ -11,7 +11,7 @@ ghost use Rattle.bo_usage.specs.Naming.{naming};
 ghost use Rattle.bo_indexed.specs.Indexes.{Finds};
 ghost use Rattle.bo_store.specs.Walks.{one_if};
 
-use crate::ids::count_one;
+use crate::counts::count_one;
 use crate::store::Store;
 use bo_base::Moment;
 use bo_catalogue::Quota;

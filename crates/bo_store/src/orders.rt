@@ -9,12 +9,13 @@ ghost use Rattle.bo_lists.specs.Due.{due_orders};
 ghost use Rattle.bo_indexed.specs.Indexes.{Finds};
 ghost use Rattle.bo_store.specs.Walks.{listed, passing, one_if};
 
-use crate::ids::{count_one, sorted};
+use crate::counts::count_one;
 use crate::store::Store;
 use bo_base::{List, Moment};
 use bo_index::Found;
 use bo_indexed::digest;
 use bo_lists::OrderPos;
+use bo_sorted::ids::sorted;
 use bo_usage::{LookUps, PositionTest};
 use std::alloc::{AllocError, Global};
 

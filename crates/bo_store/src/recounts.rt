@@ -4,7 +4,7 @@ ghost use Rattle.std.specs.Prelude.{◌≡◌, ◌≤◌, ◌+◌, ◌*◌, coun
 ghost use Rattle.bo_lists.specs.Conditions.{is_paid, is_pending};
 ghost use Rattle.bo_lists.specs.Usage.{usage_of, position_counts, blocked_by, cart_counts, waits_for};
 
-use crate::ids::count_one;
+use crate::counts::count_one;
 use crate::store::Store;
 use bo_base::{Moment, Steps};
 use bo_catalogue::Quota;

@@ -13,6 +13,7 @@ use Rattle.bo_columns.specs.declared.rows.Token.{Token}
 use Rattle.bo_columns.specs.Changes.{IsInside, Changes, with_shop, without_shop, with_token}
 use Rattle.bo_columns.specs.Tables.{Tables, Holds, no_rows}
 use Rattle.bo_schema.specs.Blank.{blank_schema, IsEmptyOver}
+pub use Rattle.bo_rows.proofs.Rows.{inside_after}
 use Rattle.bo_stand.specs.Free.{IsFree}
 use Rattle.bo_stand.specs.Stands.{Stand}
 use Rattle.bo_tables.specs.Begun.{first_tables, token_added, IsBegun, HasToken}
@@ -35,9 +36,6 @@ blank_inside s inside known = record { known = known; inside = inside; empty = t
 
 pub inside_known : (s : Connected) → s.in_transaction ≡ true → s.now.schema ≡ schema → IsInside s
 inside_known s inside known = record { known = known; inside = inside }
-
-pub inside_after : (change : Tables → Tables) (old new : Connected) → Changes change old new → IsInside new
-inside_after change old new h = record { known = h.known; inside = h.inside }
 
 pub before : (old new : Connected) → Survives old new (λ _. ⊥) → HasCleanDisk new → HasCleanDisk old
 before old new s clean = omega (arith, s.clean)

@@ -14,6 +14,7 @@ use Rattle.bo_columns.specs.Tables.{Tables, Holds}
 use Rattle.bo_columns.specs.Changes.{Changes, ChangesFit}
 use Rattle.bo_rows.specs.Removed.{AreApart}
 use Rattle.bo_rows.specs.Vouchers as rows
+use Rattle.bo_stand.proofs.Carried.{set_one}
 use Rattle.bo_stand.specs.Free.{AreApart as AreApartNumbers}
 use Rattle.bo_stand.specs.Made.{put_voucher, set_redeemed}
 use Rattle.bo_stand.specs.RowsAfter.{redeemed_of, redeemed_by}
@@ -42,9 +43,6 @@ same_redeemed id (r ∷ xs) = elim (r.voucher.id == id) as (λ b. sum_at (λ (r 
 -- the voucher that is put keeps the count that stood
 pub voucher_put : (w : Voucher) (t : Tables) → rows.put_voucher w t ≡ put_voucher w t
 voucher_put w t = ap (λ n. record t { vouchers = record { voucher = w; redeemed = n } ∷ rows.without_id w.id t.vouchers }) (same_redeemed w.id t.vouchers)
-
-abbrev set_one : VoucherCount → VoucherRow → VoucherRow
-set_one c r = cond (r.voucher.id == c.voucher) (record { voucher = r.voucher; redeemed = c.redeemed }) r
 
 abbrev redeemed_so : VoucherCount → VoucherRow → VoucherRow
 redeemed_so c r = record { voucher = r.voucher; redeemed = c.redeemed }

@@ -5,6 +5,8 @@ use Rattle.sqlite.specs.State.{State}
 use Rattle.bo_schema.specs.Tables.{schema}
 use Rattle.bo_columns.specs.Tables.{Tables, Holds}
 use Rattle.bo_columns.specs.Changes.{IsInside, Changes, ChangesFit}
+pub use Rattle.bo_loads.proofs.Loads.{if_ok}
+pub use Rattle.bo_rows.proofs.Rows.{inside_after, on_ok}
 use Rattle.bo_tables.specs.Steps.{made_each, next_each}
 
 -- ---- lines
@@ -28,19 +30,8 @@ fits_as Fits change same old new is h = record {
   holds = λ t fits held. subst (Holds new.now.trees) (is t) (h.holds t fits held);
 }
 
-pub inside_after : (change : Tables → Tables) (old new : State) → Changes change old new → IsInside new
-inside_after change old new h = record { known = h.known; inside = h.inside }
-
 pub inside_fit : (Fits : Tables → Type 0) (change : Tables → Tables) (old new : State) → ChangesFit Fits change old new → IsInside new
 inside_fit Fits change old new h = record { known = h.known; inside = h.inside }
-
-pub on_ok : {T E : Type 0} (r : Result T E) (P Q : Type 0) → OnOk r P → (P → Q) → OnOk r Q
-on_ok (Ok x) P Q h k = k h
-on_ok (Err e) P Q h k = tt
-
-pub if_ok : {T E : Type 0} (r : Result T E) (P Q : T → Type 0) → IfOk r P → ((x : T) → P x → Q x) → IfOk r Q
-if_ok (Ok x) P Q h k = k x h
-if_ok (Err e) P Q h k = tt
 
 -- whatever the tables are
 abbrev pub any_tables : ℕ → Tables → Type 0

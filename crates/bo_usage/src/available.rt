@@ -1,13 +1,14 @@
-//! What is left of a quota.
+//! What is used of a quota, and what is left.
 
 ghost use Rattle.std.specs.Prelude.{◌≡◌, ◌≤◌, ◌<◌, Some};
 ghost use Rattle.bo_catalogue.specs.CatalogueLists.{quota_at};
 ghost use Rattle.bo_lists.specs.Available.{availability};
+ghost use Rattle.bo_lists.specs.Usage.{usage_of};
 
 use crate::book::Book;
 use bo_base::{Moment, Steps};
 use bo_catalogue::Quota;
-use bo_lists::Availability;
+use bo_lists::{Availability, Usage};
 use std::marker::Brand;
 use std::sync::ledger::{Blank, Ledger};
 
@@ -17,23 +18,27 @@ pub fn availability<B: Book>(book: &B, quota: &Quota, at: Moment) -> Availabilit
     requires stands { quota_at quota.now.id (B.state book.now).lists.catalogue ≡ Some quota.now }
     ensures { result ≡ availability (B.state book.now).lists at quota.now }
 {
-    availability_in::<B, Brand>(book, quota, at, Blank::new(1))
+    Availability::of(quota.size, usage_of(book, quota, at))
+}
+
+/// What uses a quota that stands, at a moment that isn't before the book's.
+pub fn usage_of<B: Book>(book: &B, quota: &Quota, at: Moment) -> Usage
+    requires moment { (B.state book.now).moment ≤ at }
+    requires stands { quota_at quota.now.id (B.state book.now).lists.catalogue ≡ Some quota.now }
+    ensures { result ≡ usage_of (B.state book.now).lists at quota.now }
+{
+    usage_in::<B, Brand>(book, quota, at, Blank::new(1))
 }
 
 // The same, in a ledger of steps that nobody reads.
-fn availability_in<B: Book, L: Ledger>(
-    book: &B,
-    quota: &Quota,
-    at: Moment,
-    blank: Blank,
-) -> Availability
+fn usage_in<B: Book, L: Ledger>(book: &B, quota: &Quota, at: Moment, blank: Blank) -> Usage
     requires name { blank.name ≡ L.name }
     requires parts { blank.parts ≡ L.parts }
     requires some { 0 < blank.parts }
     requires moment { (B.state book.now).moment ≤ at }
     requires stands { quota_at quota.now.id (B.state book.now).lists.catalogue ≡ Some quota.now }
-    ensures { result ≡ availability (B.state book.now).lists at quota.now }
+    ensures { result ≡ usage_of (B.state book.now).lists at quota.now }
 {
     let mut steps = Steps::<L>::new(blank);
-    Availability::of(quota.size, book.usage_at(quota, at, &mut steps))
+    book.usage_at(quota, at, &mut steps)
 }

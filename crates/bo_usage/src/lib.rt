@@ -6,7 +6,7 @@ pub mod book;
 pub mod look_ups;
 pub mod rules;
 
-pub use available::availability;
+pub use available::{availability, usage_of};
 pub use bo_stock::Catalogue;
 pub use book::{Book, PositionTest};
 pub use look_ups::LookUps;

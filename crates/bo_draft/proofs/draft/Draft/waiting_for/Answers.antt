@@ -5,8 +5,8 @@ use Rattle.bo_shares.proofs.Logs.{sales_catalogue}
 use Rattle.bo_draft.specs.DraftState.{DraftState, now}
 use Rattle.bo_draft.proofs.draft.Draft.waiting_for.Goals as goal
 
-pub usage_in_book-requires-clause-stands : goal.usage_in_book-requires-clause-stands
-usage_in_book-requires-clause-stands g c =
+pub usage_of-requires-clause-stands : goal.usage_of-requires-clause-stands
+usage_of-requires-clause-stands g c =
     let log = c.self.inside.overlay in
     let id = c.args.quota.now.id in
     ap (λ (l : Lists). quota_at id l.catalogue) (sym c.self.invariant.base)

@@ -1,20 +1,7 @@
-use Rattle.std.proofs.lemmas.List.Filters.{dedup_is}
-use Rattle.std.proofs.lemmas.List.Kept.{Contains-dedup_nat, Contains-from_dedup}
-use Rattle.std.proofs.lemmas.List.Sorted.{Contains-permutation, IsPermutation-sym}
-use Rattle.std.proofs.lemmas.Map.Keys.{IsStrictlyIncreasing-dedup}
-use Rattle.bo_sorted.proofs.RisingLemmas.{in_order, is_rising}
+use Rattle.std.proofs.Common.{ℕ, List, sym, subst}
+use Rattle.bo_sorted.specs.Tables.{AreInOrder}
+use Rattle.bo_sorted.proofs.RisingLemmas.{rising_in_order}
 use Rattle.bo_sorted.proofs.ids.Ids.sorted.Goals as goal
 
 pub invariant_of-result : goal.invariant_of-result
-invariant_of-result c =
-    let is = dedup_is _ _ _ c.dedup.ensures.filtered in
-    in_order _ (rw is (IsStrictlyIncreasing-dedup _ c.sort_unstable.ensures.sorted))
-
-pub returns : goal.returns
-returns c =
-    let is = dedup_is _ _ _ c.dedup.ensures.filtered in
-    let moved = c.sort_unstable.ensures.permutation in
-    is_rising _ _
-    (rw is (IsStrictlyIncreasing-dedup _ c.sort_unstable.ensures.sorted))
-    (λ k h. rw is (Contains-dedup_nat _ k (Contains-permutation _ _ k moved h)))
-    (λ k h. Contains-permutation _ _ k (IsPermutation-sym _ _ moved) (Contains-from_dedup _ _ k (rw is at h)))
+invariant_of-result c = subst (λ (l : List ℕ). AreInOrder (λ n. n) l) (sym c.sorted.ensures) (rising_in_order c.args.ids.items)

@@ -3,8 +3,8 @@ use Rattle.std.specs.List.{list_all}
 use Rattle.bo_sorted.specs.Rising.{rising}
 use Rattle.bo_catalogue.specs.CatalogueLists.{item_at}
 use Rattle.bo_catalogue.specs.QuotaAdded.{items_of, items_fit, is_offered}
-use Rattle.bo_checks.proofs.Offering.{offered_is}
-use Rattle.bo_checks.proofs.members.items_fit.Goals as goal
+use Rattle.bo_items.proofs.Offered.{offered_is}
+use Rattle.bo_items.proofs.members.items_fit.Goals as goal
 
 pub returns : goal.returns
 unfolding items_fit

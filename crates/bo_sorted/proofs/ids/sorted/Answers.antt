@@ -3,7 +3,7 @@ use Rattle.std.proofs.lemmas.List.Kept.{Contains-dedup_nat, Contains-from_dedup}
 use Rattle.std.proofs.lemmas.List.Sorted.{Contains-permutation, IsPermutation-sym}
 use Rattle.std.proofs.lemmas.Map.Keys.{IsStrictlyIncreasing-dedup}
 use Rattle.bo_sorted.proofs.RisingLemmas.{is_rising}
-use Rattle.bo_store.proofs.ids.sorted.Goals as goal
+use Rattle.bo_sorted.proofs.ids.sorted.Goals as goal
 
 pub returns : goal.returns
 returns c =

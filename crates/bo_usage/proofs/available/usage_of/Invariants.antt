@@ -1,4 +1,4 @@
-use Rattle.bo_checks.proofs.counters.quota_count.Given as goal
+use Rattle.bo_usage.proofs.available.usage_of.Given as goal
 
 abbrev pub ghosts-usage_in : goal.ghosts-usage_in
 ghosts-usage_in g a = record { name = a.blank.name; parts = a.blank.parts }
