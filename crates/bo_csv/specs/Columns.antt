@@ -9,6 +9,7 @@ use Rattle.bo_base.specs.Digits.{number_of}
 use Rattle.bo_base.specs.Money.{money_of}
 use Rattle.bo_base.specs.Texts.{is_text, same_text}
 use Rattle.bo_times.specs.Moments.{moment_of}
+use Rattle.bo_catalogue.specs.Limits.{last_id}
 
 -- a field, if there is one and it is a text
 abbrev pub text_or_empty : Option (List ℕ) → List ℕ
@@ -80,11 +81,12 @@ abbrev pub value_in : PriceMode → List ℕ → Option (Option ℕ)
 value_in mode [] = Some None
 value_in mode (b ∷ text) = value_if mode (money_of (b ∷ text))
 
-abbrev pub id_if : Option ℕ → Option (Option ℕ)
-id_if None = None
-id_if (Some id) = Some (Some id)
+-- ids count from 1 to the last one
+abbrev pub id_within : Option ℕ → Option (Option ℕ)
+id_within None = None
+id_within (Some id) = if nat_le 1 id && nat_le id last_id then Some (Some id) else None
 
--- an id, 1 to 18 digits, or none where the column is empty
+-- an id, or none where the column is empty
 abbrev pub id_in : List ℕ → Option (Option ℕ)
 id_in [] = Some None
-id_in (b ∷ text) = id_if (number_of (b ∷ text))
+id_in (b ∷ text) = id_within (number_of (b ∷ text))

@@ -6,6 +6,7 @@ ghost use Rattle.bo_base.specs.Texts.{IsText, same_text};
 ghost use Rattle.bo_csv.specs.Columns.{column, fits_mode, flag_in, id_in, is_code, is_column, is_named, mode_in, moment_in, uses_in, value_in};
 
 use bo_base::{Cents, Moment, PriceMode, Uses, is_text, number_of, read_cents};
+use bo_catalogue::LAST_ID;
 use bo_times::read_moment;
 use csv::ByteRecord;
 use std::str;
@@ -134,7 +135,7 @@ pub(crate) fn value_in(mode: PriceMode, text: &str) -> Option<Option<Cents>>
     }
 }
 
-/// An id, 1 to 18 digits, or none where the column is empty.
+/// An id, 1 to 9,007,199,254,740,991, or none where the column is empty.
 pub(crate) fn id_in(text: &str) -> Option<Option<u64>>
     ensures { result ≡ id_in text.now }
 {
@@ -142,7 +143,7 @@ pub(crate) fn id_in(text: &str) -> Option<Option<u64>>
         return Some(None);
     }
     match number_of(text.as_bytes()) {
-        Some(id) => Some(Some(id)),
-        None => None,
+        Some(id) if id >= 1 && id <= LAST_ID => Some(Some(id)),
+        _ => None,
     }
 }
