@@ -8,12 +8,12 @@ use Rattle.bo_lists.specs.Lists.{Lists, checkin_list_at}
 use Rattle.bo_commands.specs.declared.doors.DoorStatus.{DoorStatus}
 use Rattle.bo_door.specs.Status.{status_of}
 use Rattle.bo_reports.specs.declared.entries.Entries.{Entries}
-use Rattle.bo_reports.specs.Columns.{right}
+use Rattle.bo_reports.specs.Columns.{column, right}
 use Rattle.bo_reports.specs.Entered.{entries_of, items_on}
 
 -- how many positions there are, have entered, and are inside
 abbrev pub door_columns : ℕ → ℕ → ℕ → List ℕ
-door_columns positions entered inside = right 10 (decimal positions) ++ (right 10 (decimal entered) ++ right 10 (decimal inside))
+door_columns positions entered inside = column 9 (decimal positions) ++ (column 9 (decimal entered) ++ column 9 (decimal inside))
 
 -- an item's number, who came in, and its name
 abbrev pub door_line : Item → Entries → List ℕ

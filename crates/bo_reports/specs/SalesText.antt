@@ -7,12 +7,12 @@ use Rattle.bo_catalogue.specs.declared.rows.Item.{Item}
 use Rattle.bo_lists.specs.Lists.{Lists}
 use Rattle.bo_reports.specs.declared.sales.Sales.{Sales}
 use Rattle.bo_reports.specs.declared.sales.ItemSales.{ItemSales}
-use Rattle.bo_reports.specs.Columns.{right}
+use Rattle.bo_reports.specs.Columns.{column, right}
 use Rattle.bo_reports.specs.Sold.{all_sales, nothing, sales_of}
 
 -- how many positions are in paid, pending, expired and cancelled orders, and what was paid
 abbrev pub sales_columns : Sales → List ℕ
-sales_columns s = right 8 (decimal s.paid) ++ (right 8 (decimal s.pending) ++ (right 8 (decimal s.expired) ++ (right 8 (decimal s.cancelled) ++ right 15 (cents_text s.amount))))
+sales_columns s = column 7 (decimal s.paid) ++ (column 7 (decimal s.pending) ++ (column 7 (decimal s.expired) ++ (column 7 (decimal s.cancelled) ++ column 14 (cents_text s.amount))))
 
 -- an item's number, what was sold of it, and its name
 abbrev pub sales_line : Item → Sales → List ℕ

@@ -5,7 +5,7 @@ ghost use Rattle.bo_sound.specs.Sound.{IsSound};
 ghost use Rattle.bo_reports.specs.DoorText.{door_columns, door_line, door_text_of, status_line};
 ghost use Rattle.bo_reports.specs.ItemLines.{door_lines};
 
-use crate::columns::append_number;
+use crate::columns::{append_first, append_number};
 use crate::entries::{Entries, ItemEntries, all_entries};
 use bo_base::Body;
 use bo_catalogue::Item;
@@ -16,8 +16,8 @@ use bo_usage::Book;
 use std::alloc::{AllocError, Global};
 
 /// Who came in by a check-in list, as a text: a line for each item that the list is for, by id, and one for all. A line has the item's number
-/// in six columns; how many positions belong to the list, how many of them have entered, and how many are inside, each in ten; and behind
-/// two blanks its name. None where no list has the number.
+/// in six columns; how many positions belong to the list, how many of them have entered, and how many are inside, each behind a blank in
+/// nine; and behind two blanks its name. None where no list has the number.
 pub fn door_text<B: Book>(book: &B, alloc: Global, list: u64) -> Result<Option<Body>, AllocError>
     requires { IsSound (B.state book.now) }
     ensures { IfOk result (λ text. text ≡ door_text_of list (B.state book.now).lists) }
@@ -42,16 +42,16 @@ fn append_columns(
 ) -> Result<(), AllocError>
     ensures { OnOk result (text.new.items ≡ text.old.items ++ door_columns positions entered inside) }
 {
-    append_number(text, 10, positions)?;
-    append_number(text, 10, entered)?;
-    append_number(text, 10, inside)
+    append_number(text, 9, positions)?;
+    append_number(text, 9, entered)?;
+    append_number(text, 9, inside)
 }
 
 // Appends the line of an item.
 fn append_item(text: &mut Vec<u8>, item: &Item, entries: &Entries) -> Result<(), AllocError>
     ensures { OnOk result (text.new.items ≡ text.old.items ++ door_line item.now entries.now) }
 {
-    append_number(text, 6, item.id)?;
+    append_first(text, 6, item.id)?;
     append_columns(text, entries.positions, entries.entered, entries.inside)?;
     text.extend_from_slice(b"  ")?;
     text.extend_from_slice(item.name.as_str().as_bytes())?;

@@ -6,15 +6,15 @@ ghost use Rattle.bo_reports.specs.Noted.{AreFew, IsFew};
 ghost use Rattle.bo_reports.specs.SalesText.{sales_columns, sales_line, sales_text, total_line, total_of, with_sales};
 ghost use Rattle.bo_reports.specs.ItemLines.{lines_of};
 
-use crate::columns::{append_number, append_right};
+use crate::columns::{append_column, append_first, append_number};
 use crate::sales::{ItemSales, Sales, all_sales, nothing};
 use bo_base::{Body, total_text};
 use bo_catalogue::Item;
 use bo_usage::Book;
 use std::alloc::{AllocError, Global};
 
-/// What was sold, as a text: a line for each item, by id, and one for all. A line has the item's number in six columns; the positions in
-/// paid, pending, expired and cancelled orders, each in eight; what was paid, in fifteen; and behind two blanks its name.
+/// What was sold, as a text: a line for each item, by id, and one for all. A line has the item's number in six columns; behind a blank each,
+/// the positions in paid, pending, expired and cancelled orders in seven, and what was paid in fourteen; and behind two blanks its name.
 pub fn sales_text<B: Book>(book: &B, alloc: Global) -> Result<Body, AllocError>
     requires { IsSound (B.state book.now) }
     ensures { IfOk result (λ text. text ≡ sales_text (B.state book.now).lists) }
@@ -30,12 +30,12 @@ pub fn sales_text<B: Book>(book: &B, alloc: Global) -> Result<Body, AllocError>
 fn append_columns(text: &mut Vec<u8>, alloc: Global, sales: &Sales) -> Result<(), AllocError>
     ensures { OnOk result (text.new.items ≡ text.old.items ++ sales_columns sales.now) }
 {
-    append_number(text, 8, sales.paid)?;
-    append_number(text, 8, sales.pending)?;
-    append_number(text, 8, sales.expired)?;
-    append_number(text, 8, sales.cancelled)?;
+    append_number(text, 7, sales.paid)?;
+    append_number(text, 7, sales.pending)?;
+    append_number(text, 7, sales.expired)?;
+    append_number(text, 7, sales.cancelled)?;
     let amount = total_text(alloc, sales.amount)?;
-    append_right(text, 15, amount.as_bytes())
+    append_column(text, 14, amount.as_bytes())
 }
 
 // Appends the line of an item.
@@ -47,7 +47,7 @@ fn append_line(
 ) -> Result<(), AllocError>
     ensures { OnOk result (text.new.items ≡ text.old.items ++ sales_line item.now sales.now) }
 {
-    append_number(text, 6, item.id)?;
+    append_first(text, 6, item.id)?;
     append_columns(text, alloc, sales)?;
     text.extend_from_slice(b"  ")?;
     text.extend_from_slice(item.name.as_str().as_bytes())?;
