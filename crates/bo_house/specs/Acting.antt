@@ -1,5 +1,5 @@
 -- What becomes of a shop's database when the program asks something of the shop by itself.
-use Rattle.std.specs.Prelude.{◌≡◌, ◌⊎◌, ℕ, List, [], Result, Ok, Err, true}
+use Rattle.std.specs.Prelude.{◌≡◌, ◌⊎◌, ℕ, List, [], Result, Ok, Err, true, codes}
 use Rattle.sqlite.specs.declared.connection.Connection.{Connection}
 use Rattle.bo_base.specs.declared.answer.Answer.{Answer}
 use Rattle.bo_base.specs.declared.answer.Answer.TheVariants.{Decided, Unavailable}
@@ -20,6 +20,10 @@ use Rattle.bo_line.specs.declared.fault.RunFault.TheVariants as faults
 -- the arrival that a command of the program's own is: it has no key, and so it shows no token
 abbrev pub own_arrival : Command → Tick → Arrival
 own_arrival command tick = record { clock = tick.clock; draw = tick.draw; token = 0; key = []; request = requests.Write command }
+
+-- the body of a reply that the command doesn't cause
+abbrev pub untold : List ℕ
+untold = codes "{}"
 
 -- what is told of its answer; where it wasn't carried out the store, or memory, refused it
 abbrev pub told_of : Answer → Result (List ℕ) RunFault

@@ -1,5 +1,5 @@
 -- What becomes of a shop's database when the vouchers of a CSV file are added.
-use Rattle.std.specs.Prelude.{◌≡◌, ◌⊎◌, ℕ, List, [], None, Result, Ok, Err}
+use Rattle.std.specs.Prelude.{◌≡◌, ◌⊎◌, ℕ, List, None, Result, Ok, Err}
 use Rattle.sqlite_trees.specs.declared.store.Store.{Ghosts}
 use Rattle.sqlite.specs.State.{State as Connected}
 use Rattle.sqlite.specs.declared.connection.Connection.{Connection}
@@ -15,14 +15,14 @@ use Rattle.bo_tables.specs.declared.sql.SqlTables.{SqlTables}
 use Rattle.bo_desk.specs.Streams.{DeskView, Meaning}
 use Rattle.bo_line.specs.declared.fault.RunFault.{RunFault}
 use Rattle.bo_line.specs.declared.fault.RunFault.TheVariants as faults
-use Rattle.bo_house.specs.Acting.{ActsFrom}
+use Rattle.bo_house.specs.Acting.{ActsFrom, untold}
 use Rattle.bo_house.specs.Faults.{fault_of_file}
 use Rattle.bo_house.specs.Served.{OpensAs}
 
--- of the replies only that of an import is told, by the codes of its rows
+-- an import causes its own reply, a line for each row by its code, and no other
 abbrev pub import_body : List (List ℕ) → Reply → List ℕ
 import_body given (replies.Imported verdicts) = verdict_lines given verdicts
-import_body given _ = []
+import_body given _ = untold
 
 abbrev pub import_words : List (List ℕ) → Reply → Response
 import_words given reply = record { status = 200; allow = None; body = import_body given reply }

@@ -1,5 +1,5 @@
 -- What becomes of a shop's database when its periodic work is done.
-use Rattle.std.specs.Prelude.{ℕ, List, [], ◌++◌, None, Result, codes}
+use Rattle.std.specs.Prelude.{ℕ, List, ◌++◌, None, Result, codes}
 use Rattle.std.specs.Fmt.{decimal}
 use Rattle.sqlite_trees.specs.declared.store.Store.{Ghosts}
 use Rattle.sqlite.specs.State.{State as Connected}
@@ -12,17 +12,17 @@ use Rattle.bo_commands.specs.declared.waiting.PeriodicCounts.{PeriodicCounts}
 use Rattle.bo_tables.specs.declared.sql.SqlTables.{SqlTables}
 use Rattle.bo_desk.specs.Streams.{DeskView, Meaning}
 use Rattle.bo_line.specs.declared.fault.RunFault.{RunFault}
-use Rattle.bo_house.specs.Acting.{ActsFrom}
+use Rattle.bo_house.specs.Acting.{ActsFrom, untold}
 use Rattle.bo_house.specs.Served.{OpensAs}
 
 -- `expired E, deleted D, sent S`
 abbrev pub work_text : PeriodicCounts → List ℕ
 work_text counts = codes "expired " ++ (decimal counts.expired ++ (codes ", deleted " ++ (decimal counts.deleted ++ (codes ", sent " ++ decimal counts.sent))))
 
--- of the replies only that of periodic work is told
+-- periodic work causes its own reply, and no other
 abbrev pub work_body : Reply → List ℕ
 work_body (replies.Periodic counts) = work_text counts
-work_body _ = []
+work_body _ = untold
 
 abbrev pub work_words : Reply → Response
 work_words reply = record { status = 200; allow = None; body = work_body reply }

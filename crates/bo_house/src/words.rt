@@ -2,6 +2,7 @@
 
 ghost use Rattle.std.specs.Prelude.{◌≡◌, ◌++◌, None, IfOk, OnOk};
 ghost use Rattle.std.specs.Fmt.{decimal};
+ghost use Rattle.bo_house.specs.Acting.{untold};
 ghost use Rattle.bo_house.specs.Imported.{import_words};
 ghost use Rattle.bo_house.specs.Worked.{work_text, work_words};
 
@@ -32,7 +33,16 @@ fn work_text(alloc: Global, counts: PeriodicCounts) -> Result<Vec<u8>, AllocErro
     Ok(text)
 }
 
-/// The words of periodic work: what was done, as `expired E, deleted D, sent S`. Of any other reply nothing is told.
+// The body of a reply that the command doesn't cause.
+fn untold(alloc: Global) -> Result<Vec<u8>, AllocError>
+    ensures { IfOk result (λ text. text.items ≡ untold) }
+{
+    let mut text = Vec::new(alloc);
+    text.extend_from_slice(b"{}")?;
+    Ok(text)
+}
+
+/// The words of periodic work: what was done, as `expired E, deleted D, sent S`. Any other reply is `{}`.
 #[derive(Clone, Copy, PartialEq, Eq)]
 pub struct WorkWords;
 
@@ -42,13 +52,13 @@ impl Wording for WorkWords {
     fn words(&self, alloc: Global, reply: &Reply) -> Result<Response, AllocError> {
         let text = match reply {
             Reply::Periodic(counts) => work_text(alloc, *counts)?,
-            _ => Vec::new(alloc),
+            _ => untold(alloc)?,
         };
         Ok(told(text))
     }
 }
 
-/// The words of an import: a line `CODE VERDICT` for each row. Of any other reply nothing is told.
+/// The words of an import: a line `CODE VERDICT` for each row. Any other reply is `{}`.
 #[derive(Drop)]
 pub struct ImportWords {
     /// The codes of the rows.
@@ -63,7 +73,7 @@ impl Wording for ImportWords {
             Reply::Imported(verdicts) => {
                 verdict_lines(alloc, self.codes.as_slice(), verdicts.as_slice())?
             }
-            _ => Vec::new(alloc),
+            _ => untold(alloc)?,
         };
         Ok(told(text))
     }
