@@ -1,10 +1,10 @@
 //! The commands on shops' files.
 
-ghost use Rattle.std.specs.Prelude.{◌≡◌, true, false, IfOk, IfErr, IsTrue};
+ghost use Rattle.std.specs.Prelude.{◌≡◌, true, false, IfOk, IfErr};
 ghost use Rattle.sqlite.specs.Held.{state};
 ghost use Rattle.bo_base.specs.Slugs.{IsSlug};
 ghost use Rattle.bo_house.specs.Filed.{MakesShopIn};
-ghost use Rattle.bo_house.specs.Shelved.{IsGiven, IsShelved, is_shelf_fault};
+ghost use Rattle.bo_house.specs.Shelved.{IsGiven, IsMissing, IsShelved, IsTaken};
 
 use crate::adding::add_shop_token;
 use crate::filed::Filed;
@@ -63,7 +63,7 @@ impl<'a, R, S: Alter + Drop, F: Shelf<Connection<S>>> House<'a, R, S, F> {
     // The file of this name, which has to be there.
     fn found(&self, file: &str) -> Result<Connection<S>, RunFault>
         ensures given { IfOk result (λ connection. IsGiven F.stood F.gives true file.now connection) }
-        ensures refused { IfErr result (λ fault. IsTrue (is_shelf_fault fault)) }
+        ensures refused { IfErr result (λ fault. IsMissing F.stood F.refuses file.now fault) }
     {
         if self.shelf.stands(file) {
             self.shelf.open(file)
@@ -74,7 +74,7 @@ impl<'a, R, S: Alter + Drop, F: Shelf<Connection<S>>> House<'a, R, S, F> {
 
     // A shop for this organizer and this event, in a file of this name that wasn't there.
     fn made(&self, alloc: Global, file: &str, organizer: Slug, event: Slug) -> Result<(), RunFault>
-        ensures { F.stood file.now false → IsShelved (IsGiven F.stood F.gives false) (λ connection left came. MakesShopIn S.Store organizer event (state S.Store connection) left came) file.now result }
+        ensures { F.stood file.now false → IsShelved (IsGiven F.stood F.gives false) (IsTaken F.stood F.refuses) (λ connection left came. MakesShopIn S.Store organizer event (state S.Store connection) left came) file.now result }
     {
         match self.shelf.open(file) {
             Ok(connection) => self.ended(make_new_shop(alloc, connection, organizer, event)),
@@ -109,27 +109,27 @@ impl<
     ghost use Rattle.bo_house.specs.Imported.{IsOpenedAndImported};
     ghost use Rattle.bo_house.specs.Reported.{IsOpenedAndReported};
     ghost use Rattle.bo_house.specs.Served.{IsOpenedAndServed, StaysUnopened};
-    ghost use Rattle.bo_house.specs.Shelved.{IsGiven, IsShelved};
+    ghost use Rattle.bo_house.specs.Shelved.{IsGiven, IsMissing, IsShelved, IsTaken};
     ghost use Rattle.bo_house.specs.Worked.{IsOpenedAndWorked};
 
-    ghost made = { λ file organizer event outcome. IsShelved (IsGiven F.stood F.gives false) (λ connection left came.
+    ghost made = { λ file organizer event outcome. IsShelved (IsGiven F.stood F.gives false) (IsTaken F.stood F.refuses) (λ connection left came.
         MakesShopIn S.Store organizer event (state S.Store connection) left came) file outcome };
 
-    ghost added = { λ file token outcome. IsShelved (IsGiven F.stood F.gives true) (λ connection left came.
+    ghost added = { λ file token outcome. IsShelved (IsGiven F.stood F.gives true) (IsMissing F.stood F.refuses) (λ connection left came.
         AddsTokenIn S.Store (sha256 token) (state S.Store connection) left came) file outcome };
 
-    ghost served = { λ file addr most outcome. IsShelved (IsGiven F.stood F.gives true) (λ connection left came.
+    ghost served = { λ file addr most outcome. IsShelved (IsGiven F.stood F.gives true) (IsMissing F.stood F.refuses) (λ connection left came.
         IsOpenedAndServed S.Store (meaning ⟦<SqlTables<S> as Tables>⟧.sure ⟦<SqlTables<S> as Tables>⟧.holds ⟦<SqlTables<S> as Tables>⟧.knows ⟦<SqlTables<S> as Tables>⟧.may_leave)
         most (state S.Store connection) left came ⊎ StaysUnopened S.Store (state S.Store connection) left came) file outcome };
 
-    ghost worked = { λ file outcome. IsShelved (IsGiven F.stood F.gives true) (λ connection left came.
+    ghost worked = { λ file outcome. IsShelved (IsGiven F.stood F.gives true) (IsMissing F.stood F.refuses) (λ connection left came.
         IsOpenedAndWorked S.Store (meaning ⟦<SqlTables<S> as Tables>⟧.sure ⟦<SqlTables<S> as Tables>⟧.holds ⟦<SqlTables<S> as Tables>⟧.knows ⟦<SqlTables<S> as Tables>⟧.may_leave)
         (state S.Store connection) left came ⊎ StaysUnopened S.Store (state S.Store connection) left came) file outcome };
 
-    ghost reported = { λ file report outcome. IsShelved (IsGiven F.stood F.gives true) (λ connection left came.
+    ghost reported = { λ file report outcome. IsShelved (IsGiven F.stood F.gives true) (IsMissing F.stood F.refuses) (λ connection left came.
         IsOpenedAndReported S.Store report (state S.Store connection) left came ⊎ StaysUnopened S.Store (state S.Store connection) left came) file outcome };
 
-    ghost imported = { λ file csv outcome. IsShelved (IsGiven F.stood F.gives true) (λ connection left came. (source : Result _ RunFault)
+    ghost imported = { λ file csv outcome. IsShelved (IsGiven F.stood F.gives true) (IsMissing F.stood F.refuses) (λ connection left came. (source : Result _ RunFault)
         × F.held csv source × (IsOpenedAndImported S.Store (meaning ⟦<SqlTables<S> as Tables>⟧.sure ⟦<SqlTables<S> as Tables>⟧.holds ⟦<SqlTables<S> as Tables>⟧.knows ⟦<SqlTables<S> as Tables>⟧.may_leave)
         source (state S.Store connection) left came ⊎ StaysUnopened S.Store (state S.Store connection) left came)) file outcome };
 

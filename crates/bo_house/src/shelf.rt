@@ -1,14 +1,14 @@
 //! Shops' files, by their names.
 
-ghost use Rattle.std.specs.Prelude.{◌≡◌, ℕ, Bool, List, Result, IfOk, IfErr, IsTrue};
+ghost use Rattle.std.specs.Prelude.{ℕ, Bool, List, Result, IfOk, IfErr};
 ghost use Rattle.bo_line.specs.declared.fault.RunFault.{RunFault};
-ghost use Rattle.bo_house.specs.Shelved.{is_shelf_fault};
+ghost use Rattle.bo_house.specs.Shelved.{IsRefused};
 
 use bo_base::Body;
 use bo_line::RunFault;
 
 /// What has shops' files, by their names, and gives connections to them. What a file holds no clause can say, nor whether there is one: what
-/// is known of that, and of a connection, is the implementor's to say (`stood`, `held`, `gives`).
+/// is known of that, of a connection, and of why there is none, is the implementor's to say (`stood`, `held`, `gives`, `refuses`).
 pub trait Shelf<C> {
     // what is known where it is told whether there is a file of this name
     ghost stood: { List ℕ → Bool → Type 0 };
@@ -19,6 +19,9 @@ pub trait Shelf<C> {
     // what is known of a connection to the file of this name
     ghost gives: { List ℕ → C → Type 0 };
 
+    // what is known where a connection to the file of this name is refused, for this fault
+    ghost refuses: { List ℕ → RunFault → Type 0 };
+
     /// Whether there is a file, or something else, of this name.
     fn stands(&self, file: &str) -> bool
         ensures { stood file.now result };
@@ -27,7 +30,7 @@ pub trait Shelf<C> {
     /// database, 63 and 6.
     fn open(&self, file: &str) -> Result<C, RunFault>
         ensures given { IfOk result (λ connection. gives file.now connection) }
-        ensures refused { IfErr result (λ fault. IsTrue (is_shelf_fault fault)) };
+        ensures refused { IfErr result (λ fault. IsRefused refuses file.now fault) };
 
     /// The bytes of the file of this name. Faults: 80 where it can't be read, and 6.
     fn bytes(&self, file: &str) -> Result<Body, RunFault>

@@ -42,6 +42,8 @@ impl Shelf<Connection<FileStore<File>>> for HostFiles<'_> {
 
     ghost gives = { λ _ _. ⊤ };
 
+    ghost refuses = { λ _ _. ⊤ };
+
     fn stands(&self, file: &str) -> bool {
         fs::symlink_metadata(self.rt, file).is_ok()
     }
