@@ -8,14 +8,13 @@ use crate::feeding::feed_texts;
 use crate::filing::{add_token, import_vouchers, make_shop, report_shop, serve_shop, work_shop};
 use bo_devices::{Drain, Source};
 use bo_line::{
-    HouseFiles, Line, LineEnd, Report, ReportFault, RunFault, answer_line, plain_words, read_line,
-    report_of, tell_fault, tell_run, tell_unknown,
+    Console, HouseFiles, Line, LineEnd, Report, ReportFault, RunFault, answer_line, plain_words,
+    read_line, report_of, tell_fault, tell_run, tell_unknown,
 };
 use std::alloc::Global;
-use std::io::{Eprint, Print};
 
 // What a line of `report` comes to.
-fn report_file<O: Eprint, F: HouseFiles, W: Drain>(
+fn report_file<O: Console, F: HouseFiles, W: Drain>(
     rt: &O,
     alloc: Global,
     files: &F,
@@ -36,7 +35,7 @@ fn report_file<O: Eprint, F: HouseFiles, W: Drain>(
 /// Runs a command line, whose first word is the program, from the reader to the writer. What it asks for decides: the command
 /// that it names, help, or a wrong line; the last two, and a value that can't be read, read nothing and write nothing. The commands on a
 /// shop's file read nothing.
-pub fn run<O: Print + Eprint, F: HouseFiles, R: Source, W: Drain>(
+pub fn run<O: Console, F: HouseFiles, R: Source, W: Drain>(
     rt: &O,
     alloc: Global,
     files: &F,

@@ -36,6 +36,18 @@ pub shows_help_of_feed : (program : List ℕ) → asked (program ∷ codes "feed
 unfolding clap_on_literals asked
 shows_help_of_feed program = refl
 
+pub shows_version : (program : List ℕ) → asked (program ∷ codes "--version" ∷ []) ≡ none (kinds.DisplayVersion ∷ [])
+unfolding clap_on_literals asked
+shows_version program = refl
+
+pub shows_version_shortly : (program : List ℕ) → asked (program ∷ codes "-V" ∷ []) ≡ none (kinds.DisplayVersion ∷ [])
+unfolding clap_on_literals asked
+shows_version_shortly program = refl
+
+pub no_version_of_feed : (program : List ℕ) → asked (program ∷ codes "feed" ∷ codes "--version" ∷ []) ≡ none (kinds.UnknownArgument ∷ [])
+unfolding clap_on_literals asked
+no_version_of_feed program = refl
+
 pub words_behind_flags : asked (plain_words (codes "boxoffice" ∷ codes "feed" ∷ codes "--from" ∷ codes "2026-05-01T10:00:00Z" ∷ codes "--step" ∷ codes "60" ∷ []))
     ≡ runs (codes "2026-05-01T10:00:00Z") (codes "60")
 unfolding clap_on_literals asked

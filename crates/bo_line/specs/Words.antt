@@ -65,8 +65,12 @@ IsWith old made new = (added : Command) × (made ≡ Ok added) × ((app_of added
 abbrev pub needs_command : Shape → Shape
 needs_command top = record top { subcommand_required = true }
 
+-- `--version` is answered, by the program itself and by none of its commands
+abbrev pub shows_version : Shape → Shape
+shows_version top = record top { has_version = true }
+
 -- the program, with its nine commands
 abbrev pub program : App
 program =
-    with_subcommand (with_subcommand (with_subcommand (with_subcommand (with_subcommand (with_subcommand (with_subcommand (with_subcommand (with_subcommand (on_top needs_command (new_app (codes "boxoffice"))) feed_app.top) init_app.top) token_app.top) serve_app.top)
+    with_subcommand (with_subcommand (with_subcommand (with_subcommand (with_subcommand (with_subcommand (with_subcommand (with_subcommand (with_subcommand (on_top needs_command (on_top shows_version (new_app (codes "boxoffice")))) feed_app.top) init_app.top) token_app.top) serve_app.top)
     work_app.top) report_app.top) export_app.top) import_app.top) migrate_app.top

@@ -75,21 +75,16 @@ impl From<AllocError> for RunFault {
     }
 }
 
-/// Its number; of damage with the rule that is broken behind it, as `62.4`, and of a voucher file with the line, or the line and the
-/// column, as `71.2` and `72.1.4`.
+/// Its number; of damage with the rule that is broken behind it, as `62.4`.
 impl fmt::Display for RunFault {
     fn fmt<W: fmt::Write>(&self, f: &mut fmt::Formatter<W>) -> fmt::Result {
+        let number = self.number();
         match self {
             RunFault::Damaged(rule) => {
                 let rule = rule.number();
-                write!(f, "62.{rule}")
+                write!(f, "{number}.{rule}")
             }
-            RunFault::Line(line) => write!(f, "71.{line}"),
-            RunFault::Column(line, column) => write!(f, "72.{line}.{column}"),
-            _ => {
-                let number = self.number();
-                write!(f, "{number}")
-            }
+            _ => write!(f, "{number}"),
         }
     }
 }

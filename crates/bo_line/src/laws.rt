@@ -1,7 +1,7 @@
 //! Laws of the command line.
 
 ghost use Rattle.std.specs.Prelude.{◌≡◌, ◌++◌, ℕ, List, [], ◌∷◌, Some, None, codes};
-ghost use Rattle.clap.specs.declared.error.ErrorKind.TheVariants.{DisplayHelp, MissingRequiredArgument, MissingSubcommand, UnknownArgument};
+ghost use Rattle.clap.specs.declared.error.ErrorKind.TheVariants.{DisplayHelp, DisplayVersion, MissingRequiredArgument, MissingSubcommand, UnknownArgument};
 ghost use Rattle.bo_line.specs.Asked.{adds, asked, exports, imports, makes, migrates, none, plain_words, reports, runs, serves, works};
 
 /// A line with both flags asks for a run with their texts, in either order, whatever the texts are.
@@ -71,6 +71,13 @@ pub fn a_report_is_known_by_its_place()
 pub fn help_is_shown()
     ensures { (program : List ℕ) → (asked (program ∷ codes "--help" ∷ []) ≡ none (DisplayHelp ∷ []))
         × (asked (program ∷ codes "feed" ∷ codes "--help" ∷ []) ≡ none (DisplayHelp ∷ [])) }
+{}
+
+/// The version is shown where it is asked for, by the program alone.
+pub fn the_version_is_shown()
+    ensures long { (program : List ℕ) → asked (program ∷ codes "--version" ∷ []) ≡ none (DisplayVersion ∷ []) }
+    ensures short { (program : List ℕ) → asked (program ∷ codes "-V" ∷ []) ≡ none (DisplayVersion ∷ []) }
+    ensures alone { (program : List ℕ) → asked (program ∷ codes "feed" ∷ codes "--version" ∷ []) ≡ none (UnknownArgument ∷ []) }
 {}
 
 /// A line without a command, or without one of the two flags, is wrong.

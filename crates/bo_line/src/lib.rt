@@ -2,6 +2,8 @@
 //! ask of whoever has the files.
 #![tactic(auto)]
 
+pub mod advice;
+pub mod console;
 pub mod devices;
 pub mod ended;
 pub mod fault;
@@ -13,6 +15,8 @@ pub mod ticks;
 pub mod values;
 pub mod words;
 
+pub use advice::Advice;
+pub use console::Console;
 pub use devices::counted;
 pub use ended::LineEnd;
 pub use fault::RunFault;

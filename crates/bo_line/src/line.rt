@@ -5,23 +5,29 @@ ghost use Rattle.clap.specs.Words.{kind_of};
 ghost use Rattle.std.specs.IoError.{error_kind};
 ghost use Rattle.bo_line.specs.Line.{end_of_line, end_of_run, end_of_words};
 
+use crate::advice::Advice;
+use crate::console::Console;
 use crate::ended::LineEnd;
 use crate::fault::RunFault;
 use clap::Error;
 use clap::error::ErrorKind;
 use std::io;
-use std::io::{Eprint, Print};
+use std::io::Eprint;
 
-/// Says with which fault the program ends.
-pub fn tell_fault<O: Eprint>(rt: &O, fault: RunFault) -> LineEnd
+/// Says with which fault the program ends, on the last line; and on a terminal first, in a sentence, what is wrong and what to do.
+pub fn tell_fault<O: Console>(rt: &O, fault: RunFault) -> LineEnd
     ensures { result ≡ LineEnd.Failed fault }
 {
+    if rt.has_reader() {
+        let advice = Advice(fault);
+        let _ = eprintln!(rt; "{advice}");
+    }
     let _ = eprintln!(rt; "boxoffice: fault {fault}");
     LineEnd::Failed(fault)
 }
 
 /// Says why the words of the line can't be had: one of them isn't UTF-8, or there is no memory.
-pub fn tell_words<O: Eprint>(rt: &O, error: &io::Error) -> LineEnd
+pub fn tell_words<O: Console>(rt: &O, error: &io::Error) -> LineEnd
     ensures { result ≡ end_of_words (error_kind error.now) }
 {
     match error.kind() {
@@ -44,7 +50,7 @@ pub fn tell_unknown<O: Eprint>(rt: &O, name: &str) -> LineEnd
 }
 
 /// How a run ends, whose fault is told.
-pub fn tell_run<O: Eprint>(rt: &O, run: Result<(), RunFault>) -> LineEnd
+pub fn tell_run<O: Console>(rt: &O, run: Result<(), RunFault>) -> LineEnd
     ensures { result ≡ end_of_run run }
 {
     match run {
@@ -54,7 +60,7 @@ pub fn tell_run<O: Eprint>(rt: &O, run: Result<(), RunFault>) -> LineEnd
 }
 
 /// Prints what is wrong with a line, or the help that it asks for.
-pub fn answer_line<O: Print + Eprint>(rt: &O, error: &Error) -> LineEnd
+pub fn answer_line<O: Console>(rt: &O, error: &Error) -> LineEnd
     ensures { result ≡ end_of_line (kind_of error.now) }
 {
     match error.kind() {

@@ -12,6 +12,10 @@ use std::alloc::{AllocError, Global};
 // What is said of the file of a command.
 const SHOPS_FILE: &str = "The shop's file";
 
+// What follows the program's name where its version is asked for: the version, whose first number is that of the tables which it opens; that
+// of the tables; and the kit by which it is proved and compiled, as `rt version` prints it.
+const VERSION: &str = "1.0.0\ntables: version 1\nkit: rattle-kit-13f logic dac8208d650f15bf";
+
 /// What a command line asks for.
 #[derive(Clone, Copy)]
 pub enum Line<'a> {
@@ -135,6 +139,7 @@ fn feed_command<'a>(alloc: Global) -> Result<Command<'a>, AllocError>
 {
     Command::new(alloc, "feed")
         .about("Answers raw HTTP requests from standard input, over a box office in memory")
+        .after_help("Example:\n  boxoffice feed --from 2026-05-01T10:00:00Z --step 60 < requests")
         .arg(flag(
             alloc,
             "from",
@@ -149,17 +154,19 @@ fn feed_command<'a>(alloc: Global) -> Result<Command<'a>, AllocError>
         ))
 }
 
-// A command on the file of a shop, which it names first, with its help.
+// A command on the file of a shop, which it names first, with its help and an example.
 fn file_command<'a>(
     alloc: Global,
     name: &'a str,
     about: &'a str,
+    example: &'a str,
     file: &'a str,
 ) -> Result<Command<'a>, AllocError>
     ensures { IfOk result (λ command. app_of command ≡ file_app name.entry.now) }
 {
     Command::new(alloc, name)
         .about(about)
+        .after_help(example)
         .arg(word(alloc, "file", "FILE", file))
 }
 
@@ -171,6 +178,7 @@ fn init_command<'a>(alloc: Global) -> Result<Command<'a>, AllocError>
         alloc,
         "init",
         "Makes a shop in a new file",
+        "Example:\n  boxoffice init hall.db --organizer house --event hall",
         "The file that is made",
     )?
     .arg(flag(
@@ -195,6 +203,7 @@ fn token_command<'a>(alloc: Global) -> Result<Command<'a>, AllocError>
         alloc,
         "token-add",
         "Adds a token to a shop's file, by which requests are let in",
+        "Example:\n  boxoffice token-add hall.db SECRET",
         SHOPS_FILE,
     )?
     .arg(word(
@@ -213,6 +222,7 @@ fn serve_command<'a>(alloc: Global) -> Result<Command<'a>, AllocError>
         alloc,
         "serve",
         "Answers HTTP requests at an address, one connection after another, from a shop's file",
+        "Example:\n  boxoffice serve hall.db --listen 127.0.0.1:8080",
         SHOPS_FILE,
     )?
     .arg(flag(
@@ -237,6 +247,7 @@ fn work_command<'a>(alloc: Global) -> Result<Command<'a>, AllocError>
         alloc,
         "periodic",
         "Ends what is overdue in a shop's file, and serves its waiting list",
+        "Example:\n  boxoffice periodic hall.db",
         SHOPS_FILE,
     )
 }
@@ -249,6 +260,7 @@ fn report_command<'a>(alloc: Global) -> Result<Command<'a>, AllocError>
         alloc,
         "report",
         "Prints what was sold in a shop's file, or who came in by a check-in list",
+        "Example:\n  boxoffice report hall.db door --list 1",
         SHOPS_FILE,
     )?
     .arg(word(alloc, "report", "REPORT", "Which report: sales, or door"))?
@@ -268,6 +280,7 @@ fn export_command<'a>(alloc: Global) -> Result<Command<'a>, AllocError>
         alloc,
         "export",
         "Prints the order positions of a shop's file as CSV",
+        "Example:\n  boxoffice export hall.db > positions.csv",
         SHOPS_FILE,
     )
 }
@@ -280,6 +293,7 @@ fn import_command<'a>(alloc: Global) -> Result<Command<'a>, AllocError>
         alloc,
         "import-vouchers",
         "Adds the vouchers of a CSV file to a shop's file, and says of each row what became of it",
+        "Example:\n  boxoffice import-vouchers hall.db vouchers.csv",
         SHOPS_FILE,
     )?
     .arg(word(
@@ -298,6 +312,7 @@ fn migrate_command<'a>(alloc: Global) -> Result<Command<'a>, AllocError>
         alloc,
         "migrate",
         "Checks that a shop's file has the tables of this program's version, and prints it",
+        "Example:\n  boxoffice migrate hall.db",
         SHOPS_FILE,
     )
 }
@@ -318,6 +333,8 @@ fn commands<'a>(alloc: Global) -> Result<Command<'a>, AllocError>
 {
     let bare = Command::new(alloc, "boxoffice")
         .about("A ticket shop for one event")
+        .version(VERSION)
+        .after_help("Example:\n  boxoffice init hall.db --organizer house --event hall")
         .subcommand_required(true);
     let program = with(bare, feed_command(alloc))?;
     let program = with(program, init_command(alloc))?;
