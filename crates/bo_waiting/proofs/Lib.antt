@@ -5,6 +5,7 @@ pub mod Leaves
 pub mod Queue
 pub mod Waiters
 pub mod Order
+pub mod InTurn
 pub mod Trades
 pub mod Served
 pub mod Sent

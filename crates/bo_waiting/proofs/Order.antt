@@ -20,7 +20,7 @@ use Rattle.bo_waiting.proofs.Queue.{all_in_place}
 
 module _ {T : Type 0} (lt : T → T → Bool) where
   -- none goes before one that stands before it
-  abbrev InOrder : List T → Type 0
+  abbrev pub InOrder : List T → Type 0
   InOrder [] = Unit {0}
   InOrder (x ∷ xs) = AllByRecursion (λ z. lt z x ≡ false) xs × InOrder xs
 
@@ -65,7 +65,7 @@ module _ {T : Type 0} (lt : T → T → Bool) where
 abbrev order : Turn → Turn → Ordering
 order x y = ordering_then (int_cmp y.priority.0 x.priority.0) (ordering_then (nat_cmp x.created y.created) (nat_cmp x.id y.id))
 
-order_total : IsTotalOrder order
+pub order_total : IsTotalOrder order
 order_total = then_total (back_total (on_total (λ (t : Turn). t.priority.0) int_cmp_total)) (then_total (on_total (λ (t : Turn). t.created) nat_cmp_total) (on_total (λ (t : Turn). t.id) nat_cmp_total))
 
 weak_turns : IsStrictWeakOrder (λ x y. is_lt (order x y))
@@ -79,7 +79,7 @@ first_equal Less b e = e
 first_equal Equal b e = refl
 first_equal Greater b e = e
 
-second_equal : (a b : Ordering) → ordering_then a b ≡ Equal → b ≡ Equal
+pub second_equal : (a b : Ordering) → ordering_then a b ≡ Equal → b ≡ Equal
 second_equal Less b e = absurd (cc)
 second_equal Equal b e = e
 second_equal Greater b e = absurd (cc)
@@ -111,7 +111,7 @@ placed_in_order e (x ∷ es) s = by_turn (goes_before e x) refl (placed_in_order
         ((back, all_weaker (λ z. goes_before z x ≡ false) (λ z. goes_before z e ≡ false) (λ z h. weak_entries.chain z x e h back) es s.0), s)
     by_turn false is more = (all_in_place (λ z. goes_before z x ≡ false) e es is s.0, more)
 
-turned_in_order : (es : List Waiting) → InOrder goes_before (in_turn es)
+pub turned_in_order : (es : List Waiting) → InOrder goes_before (in_turn es)
 turned_in_order [] = tt
 turned_in_order (e ∷ es) = placed_in_order e (in_turn es) (turned_in_order es)
 

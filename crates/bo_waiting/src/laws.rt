@@ -1,13 +1,16 @@
 //! Laws of the decisions on the waiting list.
 
-ghost use Rattle.std.specs.Prelude.{◌≡◌, ◌≤◌, ◌+◌, ℕ, Ok};
+ghost use Rattle.std.specs.Prelude.{◌≡◌, ◌≤◌, ◌+◌, ℕ, Ok, IsPermutation};
+ghost use Rattle.std.specs.List.Sorted.{IsStrictlySortedBy};
 ghost use Rattle.bo_base.specs.Draws.{IsDraw};
 ghost use Rattle.bo_base.specs.declared.draw.Draw.{Draw};
 ghost use Rattle.bo_catalogue.specs.declared.rows.Quota.{Quota};
-ghost use Rattle.bo_lists.specs.Lists.{State};
+ghost use Rattle.bo_lists.specs.Lists.{Lists, State};
 ghost use Rattle.bo_lists.specs.Takes.{used};
 ghost use Rattle.bo_lists.specs.Usage.{usage_of};
+ghost use Rattle.bo_lists.specs.Waits.{waiters};
 ghost use Rattle.bo_lists.specs.declared.rows.Waiting.{Waiting};
+ghost use Rattle.bo_sorted.specs.Tables.{AreInOrder};
 ghost use Rattle.bo_sound.specs.Sound.{IsSound};
 ghost use Rattle.bo_commands.specs.FitRequests.{IsFitWaiting, IsFitWaitingPatch};
 ghost use Rattle.bo_commands.specs.declared.waiting.NewWaiting.{NewWaiting};
@@ -16,7 +19,15 @@ ghost use Rattle.bo_waiting.specs.Joined.{entry_joined};
 ghost use Rattle.bo_waiting.specs.Changed.{entry_changed};
 ghost use Rattle.bo_waiting.specs.Left.{entry_left};
 ghost use Rattle.bo_waiting.specs.Sending.{place_in, TradesPlace, voucher_sent};
-ghost use Rattle.bo_waiting.specs.Serving.{served_in_turn, all_served};
+ghost use Rattle.bo_waiting.specs.Serving.{served_in_turn, all_served, queue, turn};
+
+/// The queue has the entries without voucher, all of them and no others. Where ids rise, each entry goes before all that
+/// stand behind it: by priority downward, then by the moment it was made, then by id.
+pub fn the_queue_is_in_turn()
+    ensures same_entries { (lists : Lists) → IsPermutation (waiters lists) (queue lists) }
+    ensures earlier_first { (lists : Lists) → AreInOrder (λ e. e.id) lists.waiting →
+        IsStrictlySortedBy turn (queue lists) }
+{}
 
 /// Sending a voucher to a waiting entry leaves every quota's usage as it was: one waits less, and one is blocked more,
 /// in exactly the quotas of the product.
