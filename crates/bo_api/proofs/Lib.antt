@@ -9,3 +9,4 @@ pub mod RoutePaths
 pub mod ShopPaths
 pub mod PagePaths
 pub mod Keys
+pub mod StatusLemmas

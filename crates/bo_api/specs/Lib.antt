@@ -10,3 +10,4 @@ pub mod Verbs
 pub mod Endpoints
 pub mod Call
 pub mod Fit
+pub mod Statuses

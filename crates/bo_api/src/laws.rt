@@ -1,14 +1,21 @@
-//! Laws of the routes, of the pages of lists, and of keys.
+//! Laws of the routes, of the pages of lists, of keys, and of statuses.
 
-ghost use Rattle.std.specs.Prelude.{◌≡◌, ◌∷◌, ◌++◌, ◌<◌, ◌^◌, true, false, List, [], ℕ, Some, None, codes};
+ghost use Rattle.std.specs.Prelude.{◌≡◌, ◌∷◌, ◌++◌, ◌<◌, ◌^◌, true, false, Bool, List, [], ℕ, Option, Some, None, codes};
 ghost use Rattle.std.specs.List.{AllByRecursion};
+ghost use Rattle.bo_base.specs.declared.answer.Answer.{Answer};
+ghost use Rattle.bo_base.specs.declared.answer.Methods.{Methods};
 ghost use Rattle.bo_commands.specs.declared.requests.Resource.{Resource};
 ghost use Rattle.bo_http.specs.Messages.{Header, Message, same_word};
+ghost use Rattle.bo_http.specs.Text.{answer_text, fault_status, text};
+ghost use Rattle.bo_http.specs.declared.fault.FrameFault.{FrameFault};
 ghost use Rattle.bo_words.specs.Pages.{page_path};
+ghost use Rattle.bo_words.specs.Statuses.{is_given};
+ghost use Rattle.bo_api.specs.Call.{call};
 ghost use Rattle.bo_api.specs.Key.{key_name, key_of};
 ghost use Rattle.bo_api.specs.Page.{IsNamed, page_of};
 ghost use Rattle.bo_api.specs.Path.{in_shop, target_by, target_of, ticket_named};
 ghost use Rattle.bo_api.specs.Routes.{route_of};
+ghost use Rattle.bo_api.specs.Statuses.{IsRefusedByGiven, status_of};
 ghost use Rattle.bo_api.specs.Table.{IsInTable, IsName, IsSegment, has, path_with};
 
 use crate::path::Target;
@@ -77,4 +84,15 @@ pub fn the_first_key_counts()
     ensures none { (m : Message) → AllByRecursion (λ h. same_word h.0 key_name ≡ false) m.fields → key_of m ≡ [] }
     ensures any_case { same_word (codes "X-IDEMPOTENCY-Key") key_name ≡ true }
     ensures other_word { same_word (codes "Idempotency-Key") key_name ≡ false }
+{}
+
+/// Every answer has one of twelve statuses: a reply has, and so have a request that is refused before it is read as one (400,
+/// 401, 404, 405), a framing fault, and 503. The text of an answer has its status.
+pub fn statuses_are_few()
+    ensures calls { (organizer event : List ℕ) (m : Message) (known : Option ℕ) →
+        IsRefusedByGiven (call organizer event m known) }
+    ensures faults { (fault : FrameFault) → is_given (fault_status fault) ≡ true }
+    ensures unavailable { is_given (status_of Answer.Unavailable) ≡ true }
+    ensures texts { (answer : Answer) (closes : Bool) →
+        (allow : Option Methods) × (body : List ℕ) × (text answer closes ≡ answer_text (status_of answer) allow body closes) }
 {}

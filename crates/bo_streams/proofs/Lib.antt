@@ -1,2 +1,3 @@
 pub mod StreamLemmas
 pub mod RowLemmas
+pub mod GivenLemmas

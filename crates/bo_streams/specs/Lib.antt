@@ -2,4 +2,5 @@ pub mod DeskView
 pub mod Coming
 pub mod Served
 pub mod Streams
+pub mod Given
 pub mod Deliveries

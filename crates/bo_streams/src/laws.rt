@@ -10,6 +10,7 @@ ghost use Rattle.bo_deliveries.specs.Shops.{Views, StandsFor};
 ghost use Rattle.bo_connection.specs.declared.failure.Failure.{Failure};
 ghost use Rattle.bo_connection.specs.Run.{Item, Runs, Devices, with_desk, RunLeads};
 ghost use Rattle.bo_streams.specs.DeskView.{DeskView, House, IsOf, meaning, words_of};
+ghost use Rattle.bo_streams.specs.Given.{AreGiven, ServesGiven};
 ghost use Rattle.bo_streams.specs.Served.{Serves};
 ghost use Rattle.bo_streams.specs.Streams.{Decides, ServesList, ServesRunning, ServesAndKeeps};
 
@@ -69,4 +70,15 @@ pub fn runs_are_alike<T: Tables, U: Tables>()
         → T.sure new.tables → U.sure newer.tables → IsOf tables house old → IsOf others house other
         → Views T.holds old.tables old.state v → Views U.holds other.tables other.state v
         → (a ≡ b) × ((w : ShopView) × Views T.holds new.tables new.state w × Views U.holds newer.tables newer.state w) }
+{}
+
+/// Whatever a stream brings, and wherever it breaks off: each of its messages is answered with one of twelve statuses, where the
+/// answers that the shop keeps have such statuses; and those that it keeps at the end have.
+pub fn each_status_is_given<T: Tables>()
+    ensures { (house : House) (v : ShopView) (old new : Devices (DeskView T)) (result : Result (Unit {0}) Failure)
+        → let tables = meaning T.sure T.holds T.knows T.may_leave in
+        AreGiven v.kept → RunLeads (Serves tables) old new result → T.sure new.desk.tables → IsOf tables house old.desk
+        → Views T.holds old.desk.tables old.desk.state v
+        → (w : ShopView) × RunLeads (ServesGiven house) (with_desk old v) (with_desk new w) result
+        × IsOf tables house new.desk × Views T.holds new.desk.tables new.desk.state w × AreGiven w.kept }
 {}

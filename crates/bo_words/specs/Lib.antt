@@ -5,3 +5,4 @@ pub mod Refusals
 pub mod Results
 pub mod Pages
 pub mod Replies
+pub mod Statuses
