@@ -1,3 +1,4 @@
 pub mod StreamLemmas
 pub mod RowLemmas
+pub mod CutLemmas
 pub mod GivenLemmas

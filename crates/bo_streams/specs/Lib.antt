@@ -2,5 +2,6 @@ pub mod DeskView
 pub mod Coming
 pub mod Served
 pub mod Streams
+pub mod Cuts
 pub mod Given
 pub mod Deliveries

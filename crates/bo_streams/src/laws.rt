@@ -9,6 +9,7 @@ ghost use Rattle.bo_deliveries.specs.Histories.{Running, IsRunning};
 ghost use Rattle.bo_deliveries.specs.Shops.{Views, StandsFor};
 ghost use Rattle.bo_connection.specs.declared.failure.Failure.{Failure};
 ghost use Rattle.bo_connection.specs.Run.{Item, Runs, Devices, with_desk, RunLeads};
+ghost use Rattle.bo_streams.specs.Cuts.{RunsWhole};
 ghost use Rattle.bo_streams.specs.DeskView.{DeskView, House, IsOf, meaning, words_of};
 ghost use Rattle.bo_streams.specs.Given.{AreGiven, ServesGiven};
 ghost use Rattle.bo_streams.specs.Served.{Serves};
@@ -70,6 +71,19 @@ pub fn runs_are_alike<T: Tables, U: Tables>()
         → T.sure new.tables → U.sure newer.tables → IsOf tables house old → IsOf others house other
         → Views T.holds old.tables old.state v → Views U.holds other.tables other.state v
         → (a ≡ b) × ((w : ShopView) × Views T.holds new.tables new.state w × Views U.holds newer.tables newer.state w) }
+{}
+
+/// However a stream is cut into reads: of two runs over the same bytes that end well, with the same ticks, from the same shop,
+/// each over tables of its own, in which nothing is answered 503, both write the same and lead to the same shop.
+pub fn cuts_are_alike<T: Tables, U: Tables>()
+    ensures { (house : House) (v : ShopView) (bytes : List ℕ) (ticks : List Tick) (written : List ℕ)
+        (old new : Devices (DeskView T)) (other newer : Devices (DeskView U))
+        → let tables = meaning T.sure T.holds T.knows T.may_leave in
+        let others = meaning U.sure U.holds U.knows U.may_leave in
+        RunsWhole tables house v bytes ticks written old new → RunsWhole others house v bytes ticks written other newer
+        → new.told ≡ newer.told
+        → (new.taken ≡ newer.taken) × ((w : ShopView) × Views T.holds new.desk.tables new.desk.state w
+        × Views U.holds newer.desk.tables newer.desk.state w) }
 {}
 
 /// Whatever a stream brings, and wherever it breaks off: each of its messages is answered with one of twelve statuses, where the
