@@ -49,7 +49,7 @@ pub put_headroom : (row : OrderPos) (state : State) → IsReady row.id state →
 put_headroom row state h left = headroom_position state.moment row state.lists h.positions.in_order h.vouchers (by_force (stands_as is_in_force (order_at row.order state.lists)) (has_use state.moment state.lists row.voucher) left) h.headroom
 
 -- and then the next one can be
-ready_put : (row : OrderPos) (state : State) → IsReady row.id state → has_use state.moment state.lists row.voucher ≡ true → IsReady (row.id + 1) (changed (PutPosition row) state)
+pub ready_put : (row : OrderPos) (state : State) → IsReady row.id state → has_use state.moment state.lists row.voucher ≡ true → IsReady (row.id + 1) (changed (PutPosition row) state)
 ready_put row state h left = record { from_one = omega arith; positions = numbered_put (λ r. r.id) row row.id state.lists.positions refl h.from_one h.positions; vouchers = h.vouchers; headroom = put_headroom row state h left }
 
 pub ready_next : (row : OrderPos) (state after : State) → position_put row state ≡ Ok after → IsReady row.id state → IsReady (row.id + 1) after

@@ -4,6 +4,7 @@ pub mod Sold
 pub mod Carts
 pub mod Bulk
 pub mod Created
+pub mod Whole
 pub mod Moves
 pub mod Dropped
 pub mod Expired

@@ -10,6 +10,7 @@ ghost use Rattle.bo_lists.specs.Lists.{State, order_at};
 ghost use Rattle.bo_lists.specs.Over.{first_over, ignores};
 ghost use Rattle.bo_lists.specs.declared.rows.CartPos.{CartPos};
 ghost use Rattle.bo_lists.specs.declared.rows.Order.{Order};
+ghost use Rattle.bo_lists.specs.declared.rows.OrderPos.{OrderPos};
 ghost use Rattle.bo_lists.specs.declared.rows.OrderRows.{OrderRows};
 ghost use Rattle.bo_lists.specs.declared.rows.Own.{Own};
 ghost use Rattle.bo_sound.specs.Sound.{IsSound};
@@ -21,10 +22,11 @@ ghost use Rattle.bo_commands.specs.declared.orders.NewOrder.{NewOrder};
 ghost use Rattle.bo_commands.specs.declared.carts.Outcome.{Outcome};
 ghost use Rattle.bo_orders.specs.Bulk.{all_added, many_added, after_outcomes};
 ghost use Rattle.bo_orders.specs.Carts.{position_added};
-ghost use Rattle.bo_orders.specs.Created.{order_created};
+ghost use Rattle.bo_orders.specs.Created.{order_created, order_row, rows_for, with_order_row, with_positions};
 ghost use Rattle.bo_orders.specs.Dropped.{position_dropped};
 ghost use Rattle.bo_orders.specs.Expired.{orders_expired, carts_dropped};
 ghost use Rattle.bo_orders.specs.Moves.{order_moved};
+ghost use Rattle.bo_orders.specs.Whole.{put_whole};
 ghost use Rattle.bo_commands.specs.declared.orders.Move.{Move};
 ghost use Rattle.bo_lists.specs.Takes.{used, TakesNoMore};
 
@@ -90,6 +92,16 @@ pub fn created_takes_no_more()
 pub fn created_sound()
     ensures { (new : NewOrder) (draw : Draw) (before after : State) (rows : OrderRows) →
         IsFitOrder new → IsDraw draw → IsSound before → order_created new draw before ≡ Ok (after, rows) → IsSound after }
+{}
+
+/// The uses of an order's vouchers are tested position by position, each against what those before it left. In a sound box
+/// office that is one test of the whole: it refuses exactly where, with all positions put, some voucher is named more often
+/// than it may be; elsewhere all of them are put.
+pub fn uses_are_tested_as_a_whole()
+    ensures { (new : NewOrder) (draw : Draw) (state : State) (rows : List OrderPos) → IsSound state →
+        rows_for draw state state.next.position 1 new.positions ≡ Ok rows →
+        let placed = with_order_row (order_row new state) new.consume_carts state in
+        with_positions rows (Ok placed) ≡ put_whole rows placed }
 {}
 
 /// Each order that comes back to life was weighed: it takes too much of no quota, where its positions don't weigh if

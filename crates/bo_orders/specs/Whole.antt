@@ -1,0 +1,28 @@
+-- The uses of an order's vouchers, tested once for all of its positions.
+use Rattle.std.specs.Prelude.{ℕ, ◌+◌, Bool, nat_le, List, [], ◌∷◌, Result, Ok}
+use Rattle.std.specs.List.{list_all}
+use Rattle.bo_base.specs.Deciding.{◌>>◌, check}
+use Rattle.bo_lists.specs.declared.rows.OrderPos.{OrderPos}
+use Rattle.bo_lists.specs.declared.changes.Change.TheVariants.{PutPosition}
+use Rattle.bo_lists.specs.Lists.{Lists, State}
+use Rattle.bo_lists.specs.Change.{changed}
+use Rattle.bo_lists.specs.Headroom.{held}
+use Rattle.bo_lists.specs.Usage.{redeemed}
+use Rattle.bo_commands.specs.declared.vouchers.VoucherRefusal.TheVariants.{NoHeadroom}
+use Rattle.bo_commands.specs.declared.orders.OrderRefusal.{OrderRefusal}
+use Rattle.bo_commands.specs.declared.orders.OrderRefusal.TheVariants.{Voucher as OfVoucher}
+
+-- the box office with all of these positions
+abbrev pub with_all : List OrderPos → State → State
+with_all [] state = state
+with_all (row ∷ rows) state = with_all rows (changed (PutPosition row) state)
+
+-- no voucher is named more often than it may be
+abbrev pub are_within : ℕ → Lists → Bool
+are_within at lists = list_all (λ v. nat_le (redeemed v.id lists + held at v.id lists) v.max_usages) lists.vouchers
+
+-- all positions are put, and refused where some voucher is named more often then than it may be
+abbrev pub put_whole : List OrderPos → State → Result State OrderRefusal
+put_whole rows state = do
+  check (are_within state.moment (with_all rows state).lists) (OfVoucher NoHeadroom)
+  Ok (with_all rows state)
