@@ -5,6 +5,7 @@ use Rattle.bo_base.specs.declared.answer.Answer.{Answer}
 use Rattle.bo_base.specs.declared.answer.Answer.TheVariants.{Decided, Unavailable}
 use Rattle.bo_base.specs.declared.answer.Response.{Response}
 use Rattle.bo_lists.specs.Lists.{State}
+use Rattle.bo_sound.specs.Sound.{IsSound}
 use Rattle.bo_commands.specs.declared.replies.Reply.{Reply}
 use Rattle.bo_deliveries.specs.declared.arrival.Arrival.{Arrival}
 use Rattle.bo_kept.specs.declared.kept.Kept.{Kept}
@@ -37,14 +38,18 @@ after-unexecuted words a r write not_executed =
 
 module _ {T : Type 0} (holds : T → State → List Kept → Type 0) (may_leave : T → ShopView → Type 0) (words : Reply → Response) (a : Arrival) (write : is_write a.request ≡ true)
     (tables tables' : T) (state state' : State) (r : Running) (running : IsRunning words holds may_leave tables state r)
-    (crash : (left : ShopView) → may_leave tables' left → may_leave tables left ⊎ ((v : ShopView) → Views holds tables state v → IsSame left (served words a v).0)) where
+    (crash : (left : ShopView) → may_leave tables' left → may_leave tables left ⊎ ((v : ShopView) → Views holds tables state v → IsSame left (served words a v).0 × IsSound left.state)) where
   -- what a crash may leave, where it may leave the arrival's own shop
   left-by : (s : Running) → ((x : ShopView) → MayLeave words r x → MayLeave words s x) → MayLeave words s (served words a r.shop).0
       → (left : ShopView) → may_leave tables' left → (x : ShopView) × MayLeave words s x × IsSame left x
   left-by s still own left may = elim (crash left may) [
     | inl old ↦ let x = running.leaves left old in (x.0, still x.0 x.1, x.2)
-    | inr new ↦ ((served words a r.shop).0, own, new r.shop running.views)
+    | inr new ↦ ((served words a r.shop).0, own, (new r.shop running.views).0)
   ]
+
+  -- and all of it is sound
+  sound-left : (left : ShopView) → may_leave tables' left → IsSound left.state
+  sound-left left may = elim (crash left may) [ inl old ↦ running.leaves_sound left old | inr new ↦ (new r.shop running.views).1 ]
 
   told-leaves : (executed : Bool) → executes a r.shop ≡ executed
       → ((v : ShopView) → Views holds tables state v → executes a v ≡ true → (left : ShopView) → may_leave tables' left → IsSame left (served words a v).0)
@@ -57,12 +62,17 @@ module _ {T : Type 0} (holds : T → State → List Kept → Type 0) (may_leave 
   also-left x (inl e) = inl e
   also-left x (inr (b, among, e)) = inr (b, among-also b a r.undecided among, e)
 
-  pub runs-on : (answer : Answer) → IsAnswered words a r.shop answer (λ w. Views holds tables' state' w)
+  pub runs-on : (answer : Answer) → IsSound state' → IsAnswered words a r.shop answer (λ w. Views holds tables' state' w)
       → IsDecided answer ((v : ShopView) → Views holds tables state v → executes a v ≡ true → (left : ShopView) → may_leave tables' left → IsSame left (served words a v).0)
       → IsRunning words holds may_leave tables' state' (after_act words a answer r) × TellsIt words a answer r.shop
-  runs-on (Decided t) answered settled = (record { views = answered.0; leaves = told-leaves (executes a r.shop) refl settled }, answered.1)
-  runs-on Unavailable answered settled =
-      (record { views = answered; leaves = left-by (after_none words a r) also-left (inr (a, itself a r.undecided write, refl)) }, tt)
+  runs-on (Decided t) sound answered settled = (
+    record { views = answered.0; sound = subst IsSound answered.0.state_is sound; leaves = told-leaves (executes a r.shop) refl settled; leaves_sound = sound-left },
+    answered.1,
+  )
+  runs-on Unavailable sound answered settled = (
+    record { views = answered; sound = running.sound; leaves = left-by (after_none words a r) also-left (inr (a, itself a r.undecided write, refl)); leaves_sound = sound-left },
+    tt,
+  )
 
 -- a read leaves a running shop as it is
 after-read : (words : Reply → Response) (a : Arrival) (answer : Answer) (r : Running) → is_write a.request ≡ false → after_act words a answer r ≡ r
@@ -106,7 +116,8 @@ pub reopened : {T : Type 0} (holds : T → State → List Kept → Type 0) (may_
 reopened holds may_leave reorders words before after state left r running again =
     let found = running.leaves left again.may in
     let x = found.0 in
-    let same = found.2 in (
+    let same = found.2 in
+    let sound = running.leaves_sound left again.may in (
       x,
       found.1,
       record {
@@ -115,6 +126,8 @@ reopened holds may_leave reorders words before after state left r running again 
           held = reorders after x.state left.kept x.kept (subst (λ (s : State). holds after s left.kept) same.state again.held) same.kept;
           one = one-left words r x running.views.one found.1;
         };
+        sound = subst IsSound same.state sound;
         leaves = λ other may. let is = again.only other may in (x, inl refl, record { state = is.state ∙ same.state; kept = IsPermutation-trans other.kept left.kept x.kept is.kept same.kept });
+        leaves_sound = λ other may. subst IsSound (sym (again.only other may).state) sound;
       },
     )

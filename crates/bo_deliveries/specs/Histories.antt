@@ -4,6 +4,7 @@ use Rattle.bo_base.specs.declared.answer.Answer.{Answer}
 use Rattle.bo_base.specs.declared.answer.Answer.TheVariants.{Decided, Unavailable}
 use Rattle.bo_base.specs.declared.answer.Response.{Response}
 use Rattle.bo_lists.specs.Lists.{State}
+use Rattle.bo_sound.specs.Sound.{IsSound}
 use Rattle.bo_commands.specs.declared.replies.Reply.{Reply}
 use Rattle.bo_deliveries.specs.declared.arrival.Arrival.{Arrival}
 use Rattle.bo_kept.specs.declared.kept.Kept.{Kept}
@@ -62,10 +63,13 @@ module _ (words : Reply → Response) where
   ComesTo p ds open_ (Unanswered a ∷ es) whole = ComesTo p (ds ++ turned_away a ∷ []) (also_undecided a open_) es whole
   ComesTo p ds open_ (Crashed ∷ es) whole = ComesTo p ds [] es whole ⊎ ((a : Arrival) × IsAmong a open_ × ComesTo p (ds ++ came a ∷ []) [] es whole)
 
-  -- a shop with its tables is running so: a crash leaves in them what it may leave of that shop, its answers in some order
+  -- a shop with its tables is running so: it is sound, and a crash leaves in them what it may leave of that shop, its answers in some
+  -- order, and nothing that isn't sound
   pub record IsRunning {T : Type 0} (holds : T → State → List Kept → Type 0) (may_leave : T → ShopView → Type 0) (tables : T) (state : State) (r : Running) : Type 0 where
     pub views : Views holds tables state r.shop
+    pub sound : IsSound r.shop.state
     pub leaves : (left : ShopView) → may_leave tables left → (x : ShopView) × MayLeave r x × IsSame left x
+    pub leaves_sound : (left : ShopView) → may_leave tables left → IsSound left.state
 
   -- after an arrival that was answered so
   abbrev pub after_act : Arrival → Answer → Running → Running

@@ -1,10 +1,10 @@
 //! What becomes of one message, step by step.
 
-ghost use Rattle.std.specs.Prelude.{◌≡◌, ◌++◌, ℕ, List, [], ◌∷◌, Option, Ok, IfOk};
+ghost use Rattle.std.specs.Prelude.{◌≡◌, ◌++◌, List, [], ◌∷◌, Ok, IfOk};
 ghost use Rattle.bo_streams.specs.Deliveries.{Opening, Delivery, told, Running, IsRunning, after_act, Views, StandsFor, IsAnswered, delivered};
 ghost use Rattle.bo_kept.specs.ShopView.{ShopView};
 ghost use Rattle.bo_streams.specs.Coming.{arrival_with, number_of};
-ghost use Rattle.bo_streams.specs.DeskView.{meaning, worded};
+ghost use Rattle.bo_streams.specs.DeskView.{House, meaning, worded};
 ghost use Rattle.bo_streams.specs.Served.{ServesOnce};
 
 use crate::desk::ShopDesk;
@@ -23,9 +23,9 @@ impl<T: Tables, B: Dues> ShopDesk<T, B> {
         ensures event { self.new.event ≡ self.old.event }
         ensures office { self.new.state ≡ self.old.state }
         ensures sure { T.sure self.new.tables → T.sure self.old.tables }
-        ensures found { T.sure self.new.tables → (tokens : List ℕ → Option ℕ) → T.knows self.old.tables tokens → IfOk result (λ number. number ≡ number_of tokens frame.now) }
+        ensures found { T.sure self.new.tables → (house : House) → T.knows self.old.tables house → IfOk result (λ number. number ≡ number_of house.tokens frame.now) }
         ensures same { T.sure self.new.tables → (v : ShopView) → Views T.holds self.old.tables self.old.state v → Views T.holds self.new.tables self.new.state v }
-        ensures tokens { T.sure self.new.tables → (tokens : List ℕ → Option ℕ) → T.knows self.old.tables tokens → T.knows self.new.tables tokens }
+        ensures house { T.sure self.new.tables → (house : House) → T.knows self.old.tables house → T.knows self.new.tables house }
         ensures crash { (left : ShopView) → T.may_leave self.new.tables left → T.may_leave self.old.tables left }
     {
         match self.shop.wording().token_digest(frame) {
@@ -39,7 +39,7 @@ impl<T: Tables, B: Dues> ShopDesk<T, B> {
         ensures organizer { self.new.organizer ≡ self.old.organizer }
         ensures event { self.new.event ≡ self.old.event }
         ensures sure { T.sure self.new.tables → T.sure self.old.tables }
-        ensures tokens { T.sure self.new.tables → (tokens : List ℕ → Option ℕ) → T.knows self.old.tables tokens → T.knows self.new.tables tokens }
+        ensures house { T.sure self.new.tables → (house : House) → T.knows self.old.tables house → T.knows self.new.tables house }
         ensures served { T.sure self.new.tables → (v : ShopView) → Views T.holds self.old.tables self.old.state v
             → IsAnswered (worded self.old) arrival v result (λ w. Views T.holds self.new.tables self.new.state w) }
         ensures stands { T.sure self.new.tables → (p : Opening) (ds : List Delivery) → StandsFor (worded self.old) T.holds self.old.tables self.old.state p ds

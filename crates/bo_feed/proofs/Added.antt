@@ -1,13 +1,25 @@
--- The first token.
-use Rattle.std.proofs.Common.{◌≡◌, ◌∙◌, ℕ, List, None, subst}
+-- The house of `feed`, before its first token and with it.
+use Rattle.std.proofs.Common.{◌≡◌, ◌+◌, ◌∙◌, ap, ℕ, List, [], None, codes, sym, subst}
 use Rattle.sqlite.specs.State.{State as Connected}
-use Rattle.bo_tables.specs.Shops.{KnowsWhileOpen}
-use Rattle.bo_tables.specs.Tokens.{also_known, IsNumbered}
-use Rattle.bo_feed.specs.Opened.{feed_digest, feed_tokens}
+use Rattle.bo_kept.specs.House.{House}
+use Rattle.bo_columns.specs.declared.rows.ShopRow.{ShopRow}
+use Rattle.bo_tables.specs.Made.{first_shop}
+use Rattle.bo_tables.specs.Shops.{IsOfHouse, KnowsWhileOpen, LeavesHouse, house_of_rows}
+use Rattle.bo_tables.specs.Tokens.{also_known, house_with, IsNumbered, raised}
+use Rattle.bo_feed.specs.Opened.{bare_house, feed_digest, feed_house}
 
--- a connection that knew no token, and knows that of `feed` by the number that was next, the first one
-pub knows_feed : (next_row number next : ℕ) (c : Connected) (digest : List ℕ) → digest ≡ feed_digest → next ≡ 1 → IsNumbered None next number
-    → KnowsWhileOpen next_row c (also_known digest number (λ other. None)) → KnowsWhileOpen next_row c feed_tokens
-knows_feed next_row number next c digest is first numbered knows =
-    subst (λ (d : List ℕ). KnowsWhileOpen next_row c (also_known d 1 (λ other. None))) is
-    (subst (λ (n : ℕ). KnowsWhileOpen next_row c (also_known digest n (λ other. None))) (numbered.0 ∙ first) knows)
+pub made_bare : (organizer event : List ℕ) (head : ShopRow) (next : ℕ) (c : Connected) → organizer ≡ codes "house" → event ≡ codes "hall"
+    → IsOfHouse head next c (house_of_rows (first_shop organizer event) []) → IsOfHouse head next c bare_house
+made_bare organizer event head next c a b =
+    let same : house_of_rows (first_shop organizer event) [] ≡ bare_house = λ i. record { organizer = a i; event = b i; tokens = λ digest. None; next_token = 1 } in
+    subst (IsOfHouse head next c) same
+
+-- its first token has the number that was next
+pub knows_feed : (head later : ShopRow) (next_row number : ℕ) (c : Connected) (digest : List ℕ) → digest ≡ feed_digest → head.next_token ≡ 1 → later ≡ raised head → IsNumbered None head.next_token number
+    → KnowsWhileOpen later next_row c (house_with digest number later.next_token bare_house) → LeavesHouse c (house_with digest number later.next_token bare_house) → IsOfHouse later next_row c feed_house
+knows_feed head later next_row number c digest is first goes_on numbered knows left =
+    let one : number ≡ 1 = numbered.0 ∙ first in
+    let two : later.next_token ≡ 2 = ap (λ (h : ShopRow). h.next_token) goes_on ∙ ap (λ (n : ℕ). n + 1) first in
+    let same : house_with digest number later.next_token bare_house ≡ feed_house =
+    λ i. record { organizer = codes "house"; event = codes "hall"; tokens = also_known (is i) (one i) (λ other. None); next_token = two i } in
+    subst (IsOfHouse later next_row c) same (record { now = knows; left = left })

@@ -50,7 +50,7 @@ module _ {T : Type 0} (tables : Meaning T) (first : DeskView T) (from step : ℕ
 -- the desk of a shop that was just opened
 pub desk_is_fresh : {S : Type 0} (g : Ghosts S) (tables : SqlTables S) (organizer event : List ℕ) (office : State) → IsFreshShop g tables organizer event office → IsFresh (in_store g) (desk_with tables organizer event office)
 desk_is_fresh g tables organizer event office fresh = record {
-  of = record { organizer = fresh.organizer_is; event = fresh.event_is; tokens = fresh.knows };
+  of = record { organizer = fresh.organizer_is; event = fresh.event_is; known = fresh.knows };
   state = fresh.empty_is;
   held = fresh.holds;
 }

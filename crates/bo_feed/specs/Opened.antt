@@ -4,8 +4,9 @@ use Rattle.sha2.specs.Sha256.{sha256}
 use Rattle.sqlite_trees.specs.declared.store.Store.{Ghosts}
 use Rattle.sqlite.specs.Held.{state}
 use Rattle.bo_lists.specs.Lists.{State, empty}
+use Rattle.bo_kept.specs.House.{House}
 use Rattle.bo_tables.specs.declared.sql.SqlTables.{SqlTables}
-use Rattle.bo_tables.specs.Shops.{HoldsWhileOpen, KnowsWhileOpen}
+use Rattle.bo_tables.specs.Shops.{HoldsWhileOpen, IsOfHouse}
 
 -- the digest of the token `feed`
 unfoldable pub feed_digest : List ℕ
@@ -15,12 +16,19 @@ feed_digest = sha256 (codes "feed")
 abbrev pub feed_tokens : List ℕ → Option ℕ
 feed_tokens digest = if bytes_eq feed_digest digest then Some 1 else None
 
+-- the organizer `house`, the event `hall`, and no token; and the same with that one
+abbrev pub bare_house : House
+bare_house = record { organizer = codes "house"; event = codes "hall"; tokens = λ digest. None; next_token = 1 }
+
+abbrev pub feed_house : House
+feed_house = record { organizer = codes "house"; event = codes "hall"; tokens = feed_tokens; next_token = 2 }
+
 -- an office without rows, of the organizer `house` and the event `hall`, over tables of the same names that hold it, keep no answer, and
--- know that token
+-- know that house
 pub record IsFreshShop {S : Type 0} (g : Ghosts S) (tables : SqlTables S) (organizer event : List ℕ) (office : State) : Type 0 where
   pub organizer_is : organizer ≡ codes "house"
   pub event_is : event ≡ codes "hall"
   pub empty_is : office ≡ empty
   pub row_is : (tables.head.organizer ≡ organizer) × (tables.head.event ≡ event)
   pub holds : HoldsWhileOpen tables.head tables.next_row (state g tables.connection) empty []
-  pub knows : KnowsWhileOpen tables.next_row (state g tables.connection) feed_tokens
+  pub knows : IsOfHouse tables.head tables.next_row (state g tables.connection) feed_house

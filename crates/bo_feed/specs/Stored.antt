@@ -5,13 +5,13 @@ use Rattle.sqlite.specs.Held.{state}
 use Rattle.sqlite.specs.State.{HasCleanDisk}
 use Rattle.sqlite.specs.Steps.{over_memory}
 use Rattle.bo_tables.specs.declared.sql.SqlTables.{SqlTables}
-use Rattle.bo_tables.specs.Shops.{HoldsWhileOpen, KnowsWhileOpen, Leaves}
+use Rattle.bo_tables.specs.Shops.{HoldsWhileOpen, IsOfHouse, Leaves}
 use Rattle.bo_desk.specs.Streams.{DeskView, Meaning, meaning}
 
 -- whatever SQLite keeps them in
 abbrev pub in_store : {S : Type 0} → Ghosts S → Meaning (SqlTables S)
 in_store g = meaning (λ t. HasCleanDisk (state g t.connection)) (λ t s ks. HoldsWhileOpen t.head t.next_row (state g t.connection) s ks)
-    (λ t tokens. KnowsWhileOpen t.next_row (state g t.connection) tokens) (λ t left. Leaves (state g t.connection) left)
+    (λ t house. IsOfHouse t.head t.next_row (state g t.connection) house) (λ t left. Leaves (state g t.connection) left)
 
 -- in its memory
 abbrev pub in_memory : Meaning (SqlTables MemStore)

@@ -1,13 +1,13 @@
 //! A shop is opened in a database that has no tables yet.
 
-ghost use Rattle.std.specs.Prelude.{◌≡◌, [], None, Ok, Err, IfOk, IfErr, OnOk, codes};
+ghost use Rattle.std.specs.Prelude.{◌≡◌, [], Ok, Err, IfOk, IfErr, OnOk, codes};
 ghost use Rattle.sqlite.specs.Held.{state};
 ghost use Rattle.sqlite.specs.State.{HasCleanDisk};
 ghost use Rattle.sqlite.specs.Steps.{over_memory};
 ghost use Rattle.bo_lists.specs.Lists.{empty};
-ghost use Rattle.bo_tables.specs.Shops.{HoldsWhileOpen, KnowsWhileOpen};
+ghost use Rattle.bo_tables.specs.Shops.{HoldsWhileOpen, IsOfHouse};
 ghost use Rattle.bo_tables.specs.Tokens.{raised};
-ghost use Rattle.bo_feed.specs.Opened.{IsFreshShop, feed_digest, feed_tokens};
+ghost use Rattle.bo_feed.specs.Opened.{IsFreshShop, bare_house, feed_digest, feed_house};
 
 use bo_base::Slug;
 use bo_counters::Counters;
@@ -60,7 +60,7 @@ fn empty_office(alloc: Global, names: (Slug, Slug)) -> Office<Counters>
     Office::over(organizer, event, Counters::new(alloc))
 }
 
-// The tables of the shop in a database that has none yet, with its office. They know no token.
+// The tables of the shop in a database that has none yet, with its office. They know the house without a token.
 fn begin<S: Alter + Drop>(
     alloc: Global,
     connection: Connection<S>,
@@ -69,7 +69,7 @@ fn begin<S: Alter + Drop>(
     ensures row { IfOk result (λ made. HasCleanDisk (state S.Store made.0.connection) → (made.0.head.organizer ≡ codes "house") × (made.0.head.event ≡ codes "hall")) }
     ensures next { IfOk result (λ made. HasCleanDisk (state S.Store made.0.connection) → made.0.head.next_token ≡ 1) }
     ensures holds { IfOk result (λ made. HasCleanDisk (state S.Store made.0.connection) → HoldsWhileOpen made.0.head made.0.next_row (state S.Store made.0.connection) empty []) }
-    ensures knows { IfOk result (λ made. HasCleanDisk (state S.Store made.0.connection) → KnowsWhileOpen made.0.next_row (state S.Store made.0.connection) (λ digest. None)) }
+    ensures knows { IfOk result (λ made. HasCleanDisk (state S.Store made.0.connection) → IsOfHouse made.0.head made.0.next_row (state S.Store made.0.connection) bare_house) }
 {
     let of_office = names(alloc)?;
     let of_tables = names(alloc)?;
@@ -82,12 +82,12 @@ fn begin<S: Alter + Drop>(
 // Adds the token `feed`, as the first one.
 fn add_feed<S: Alter>(tables: &mut SqlTables<S>) -> Result<(), AllocError>
     ensures clean { HasCleanDisk (state S.Store tables.new.connection) → HasCleanDisk (state S.Store tables.old.connection) }
-    ensures row { HasCleanDisk (state S.Store tables.new.connection) → KnowsWhileOpen tables.old.next_row (state S.Store tables.old.connection) (λ digest. None)
+    ensures row { HasCleanDisk (state S.Store tables.new.connection) → IsOfHouse tables.old.head tables.old.next_row (state S.Store tables.old.connection) bare_house
         → OnOk result (tables.new.head ≡ raised tables.old.head) }
     ensures holds { HasCleanDisk (state S.Store tables.new.connection) → HoldsWhileOpen tables.old.head tables.old.next_row (state S.Store tables.old.connection) empty []
         → HoldsWhileOpen tables.new.head tables.new.next_row (state S.Store tables.new.connection) empty [] }
-    ensures knows { HasCleanDisk (state S.Store tables.new.connection) → tables.old.head.next_token ≡ 1 → KnowsWhileOpen tables.old.next_row (state S.Store tables.old.connection) (λ digest. None)
-        → OnOk result (KnowsWhileOpen tables.new.next_row (state S.Store tables.new.connection) feed_tokens) }
+    ensures knows { HasCleanDisk (state S.Store tables.new.connection) → tables.old.head.next_token ≡ 1 → IsOfHouse tables.old.head tables.old.next_row (state S.Store tables.old.connection) bare_house
+        → OnOk result (IsOfHouse tables.new.head tables.new.next_row (state S.Store tables.new.connection) feed_house) }
 {
     match add_token(tables, &digest_of_feed()) {
         Ok(_) => Ok(()),

@@ -21,6 +21,7 @@ use Rattle.bo_opens.specs.Read.{AreTableRows, IsFileOf}
 use Rattle.bo_opens.specs.Rests.{IsAt, StaysOpen}
 use Rattle.bo_arrange.specs.Arranged.{arranged, rows_in, told_by, count_in, item_link, variation_link, list_link, IsInOrder}
 use Rattle.bo_typed.specs.Typed.{IsTypedShop}
+use Rattle.bo_tables.proofs.Told.{shop_again}
 use Rattle.bo_file.specs.Opened.{IsOpened}
 
 -- the rows that were read are those of the tables
@@ -74,7 +75,15 @@ is_opened t head next s old new law opened outside stays db was has holds stand 
       stand = stand;
       typed = typed;
       holds = λ is_open. record { known = known; outside = outside; settled = settled; tables = t; held = held; stand = stand; typed = typed; free = free t holds };
-      knows = λ u also is_open. record { told = record { known = known; tables = u; held = subst (λ (d : Database). Holds d.trees u) (sym at.now) also; told = λ digest. refl }; free = free u also };
+      knows = λ u also.
+          let row = shop_again db.trees t u holds also head stand.shop_is in
+          let here : Holds new.now.trees u = subst (λ (d : Database). Holds d.trees u) (sym at.now) also in
+          record {
+            now = λ is_open. record { known = known; tells = record { tables = u; held = here; shop_is = row; told = refl }; free = free u also };
+            left = λ trees may.
+                let same : trees ≡ new.now.trees = law trees opened may ∙ sym (ap (λ (d : Database). d.trees) settled) in
+                (head, record { tables = u; held = subst (λ d. Holds d u) (sym same) here; shop_is = row; told = refl });
+          };
       leaves = λ left l.
           let same : l.trees ≡ new.now.trees = law l.trees opened l.may ∙ sym (ap (λ (d : Database). d.trees) settled) in
           l.only head t (record { state = s; kept = map (λ r. r.kept) t.kept }) (subst (λ d. Holds d t) (sym same) held) stand typed;

@@ -1,34 +1,37 @@
--- A token that is in or out.
-use Rattle.std.proofs.Common.{◌≡◌, ℕ, List, Option, sym, subst, ◌∙◌}
+-- The house that is known of a file that is opened, and a token that is in or out.
+use Rattle.std.proofs.Common.{◌≡◌, ◌+◌, ℕ, List, [], ◌∷◌, ap, sym, subst, ◌∙◌}
 use Rattle.sqlite_trees.specs.Tree.{Trees}
 use Rattle.sqlite.specs.State.{State as Connected}
 use Rattle.bo_schema.specs.Tables.{schema}
+use Rattle.bo_lists.specs.Lists.{State}
+use Rattle.bo_kept.specs.House.{House}
 use Rattle.bo_columns.specs.declared.rows.ShopRow.{ShopRow}
-use Rattle.bo_columns.specs.Tables.{Tables, Holds}
+use Rattle.bo_columns.specs.Tables.{Holds}
 use Rattle.bo_schema.specs.Whole.{MayBeWritten}
 use Rattle.bo_tables.specs.Begun.{HasToken, token_added}
-use Rattle.bo_tables.specs.Held.{number_of}
-use Rattle.bo_tables.specs.Shops.{Knows, KnowsWhileOpen}
-use Rattle.bo_tables.specs.Tokens.{also_known, raised, next_one}
-use Rattle.bo_tables.proofs.Added.{number_too}
+use Rattle.bo_tables.specs.Shops.{IsOfHouse, Knows, Tells, house_of_rows}
+use Rattle.bo_tables.specs.Tokens.{house_with, raised, next_one}
+use Rattle.bo_tables.proofs.Added.{added_tells}
+use Rattle.bo_tables.proofs.Told.{shop_again}
+use Rattle.bo_file.specs.Opened.{IsOpened}
 
--- the trees hold tables that tell these tokens
-pub record Tell (db : Trees) (tokens : List ℕ → Option ℕ) : Type 0 where
-  pub tables : Tables
-  pub held : Holds db tables
-  pub told : (digest : List ℕ) → tokens digest ≡ number_of tables.tokens digest
+-- tables that are opened of trees which tell a house know it, and have its names
+pub known_as : (db : Trees) (row head : ShopRow) (next : ℕ) (z : State) (c : Connected) (house : House) → Tells db row house → IsOpened db head next z c
+    → IsOfHouse head next c house × (head.organizer ≡ house.organizer) × (head.event ≡ house.event)
+known_as db row head next z c house tells o =
+    let u = tells.tables in
+    let mine = shop_again db o.tables u o.held tells.held head o.stand.shop_is in
+    let both : row ∷ [] ≡ head ∷ [] = sym tells.shop_is ∙ mine in
+    let same : row ≡ head = cc in
+    let is : house ≡ house_of_rows head u.tokens = tells.told ∙ ap (λ (h : ShopRow). house_of_rows h u.tokens) same in
+    (subst (IsOfHouse head next c) (sym is) (o.knows u tells.held), ap (λ (h : House). h.organizer) (sym is), ap (λ (h : House). h.event) (sym is))
 
-pub known_as : (db : Trees) (next : ℕ) (c : Connected) (tokens : List ℕ → Option ℕ) → Tell db tokens → ((t : Tables) → Holds db t → KnowsWhileOpen next c (number_of t.tokens)) → KnowsWhileOpen next c tokens
-known_as db next c tokens tell knows is_open =
-    let it = knows tell.tables tell.held is_open in
-    record { told = record { known = it.told.known; tables = it.told.tables; held = it.told.held; told = λ digest. tell.told digest ∙ it.told.told digest }; free = it.free }
+pub token_out : (head : ShopRow) (next : ℕ) (old : Connected) (db : Trees) (house : House) → db ≡ old.now.trees → Knows head next old.now house → Tells db head house
+token_out head next old db house is knows = subst (λ d. Tells d head house) (sym is) knows.tells
 
-pub token_out : (next : ℕ) (old : Connected) (db : Trees) (tokens : List ℕ → Option ℕ) → db ≡ old.now.trees → Knows next old.now tokens → Tell db tokens
-token_out next old db tokens is knows = record { tables = knows.told.tables; held = subst (λ d. Holds d knows.told.tables) (sym is) knows.told.held; told = knows.told.told }
-
-pub token_in : (head : ShopRow) (digest : List ℕ) (next : ℕ) (old : Connected) (db : Trees) (tokens : List ℕ → Option ℕ) → MayBeWritten schema (λ (_ : Unit {0}). HasToken (raised head) (next_one head digest)) old db → Knows next old.now tokens → Tell db (also_known digest head.next_token tokens)
-token_in head digest next old db tokens may knows = record {
-  tables = token_added (raised head) (next_one head digest) knows.told.tables;
-  held = subst (λ d. Holds d (token_added (raised head) (next_one head digest) knows.told.tables)) (sym may.is) ((may.turned knows.told.known).holds knows.told.tables knows.told.held);
-  told = number_too head digest next old old tokens knows.told.tables.tokens knows.told.told;
-}
+pub token_in : (head : ShopRow) (digest : List ℕ) (next : ℕ) (old : Connected) (db : Trees) (house : House) → MayBeWritten schema (λ (_ : Unit {0}). HasToken (raised head) (next_one head digest)) old db → Knows head next old.now house
+    → Tells db (raised head) (house_with digest head.next_token (head.next_token + 1) house)
+token_in head digest next old db house may knows =
+    let t = knows.tells.tables in
+    added_tells head digest next old old db house t knows.tells.shop_is knows.tells.told
+    (subst (λ d. Holds d (token_added (raised head) (next_one head digest) t)) (sym may.is) ((may.turned knows.known).holds t knows.tells.held))

@@ -24,8 +24,7 @@ use Rattle.bo_opens.specs.Read.{tables_of}
 use Rattle.bo_opens.specs.Numbers.{Rise}
 use Rattle.bo_columns.specs.declared.table_rows.TableRows.{TableRows}
 use Rattle.bo_arrange.specs.Arranged.{arranged, rows_in, IsInOrder}
-use Rattle.bo_tables.specs.Held.{number_of}
-use Rattle.bo_tables.specs.Shops.{HoldsWhileOpen, KnowsWhileOpen, Leaves}
+use Rattle.bo_tables.specs.Shops.{HoldsWhileOpen, IsOfHouse, Leaves, house_of_rows}
 
 -- ---- what is wrong
 
@@ -86,13 +85,13 @@ IsReason db Store = Unit {0}
 -- ---- what was opened
 
 -- The trees hold tables, whose shop's row is this one; they hold the office with all answers that stand in them. All values are what their
--- types promise, the numbers of tokens are below the next one, and each token is known, in whatever order they are listed. And a crash leaves
--- nothing else.
+-- types promise, the numbers of tokens are below the next one, and the house is known that the shop's row and the tokens tell, in whatever
+-- order they are listed. And a crash leaves nothing else.
 pub record IsOpened (db : Trees) (head : ShopRow) (next : ℕ) (state : State) (new : Connected) : Type 0 where
   pub tables : Tables
   pub held : Holds db tables
   pub stand : Stand head tables state (map (λ r. r.kept) tables.kept)
   pub holds : HoldsWhileOpen head next new state (map (λ r. r.kept) tables.kept)
   pub typed : IsTypedShop head tables
-  pub knows : (same : Tables) → Holds db same → KnowsWhileOpen next new (number_of same.tokens)
+  pub knows : (same : Tables) → Holds db same → IsOfHouse head next new (house_of_rows head same.tokens)
   pub leaves : (left : ShopView) → Leaves new left → IsSame left (record { state = state; kept = map (λ r. r.kept) tables.kept })

@@ -1,14 +1,14 @@
 //! Laws of a shop's file over crashes.
 
-ghost use Rattle.std.specs.Prelude.{◌≡◌, ◌⊎◌, ℕ, List, [], ◌∷◌, ◌++◌, map, Option, IsTrue};
+ghost use Rattle.std.specs.Prelude.{◌≡◌, ◌⊎◌, ◌+◌, ℕ, List, [], ◌∷◌, ◌++◌, map, IsTrue};
 ghost use Rattle.sqlite.specs.Held.{state};
 ghost use Rattle.sqlite.specs.State.{Survives};
 ghost use Rattle.bo_base.specs.declared.answer.Response.{Response};
 ghost use Rattle.bo_lists.specs.Lists.{State, empty};
-ghost use Rattle.bo_sound.specs.Sound.{IsSound};
 ghost use Rattle.bo_commands.specs.declared.replies.Reply.{Reply};
 ghost use Rattle.bo_schema.specs.Tables.{schema};
 ghost use Rattle.bo_kept.specs.declared.kept.Kept.{Kept};
+ghost use Rattle.bo_kept.specs.House.{House};
 ghost use Rattle.bo_kept.specs.ShopView.{ShopView, IsSame};
 ghost use Rattle.bo_schema.specs.Whole.{MayBeWritten};
 ghost use Rattle.bo_tables.specs.Begun.{HasToken};
@@ -21,7 +21,7 @@ ghost use Rattle.bo_deliveries.specs.Deliveries.{Delivery, Opening};
 ghost use Rattle.bo_deliveries.specs.Shops.{Stands, stood};
 ghost use Rattle.bo_deliveries.specs.Histories.{Event, Crashed, Running, MayLeave, Happens, ComesTo, IsRunning, Reopened, opened};
 ghost use Rattle.bo_tables.specs.Made.{IsMade};
-ghost use Rattle.bo_tables.specs.Tokens.{also_known, raised, next_one};
+ghost use Rattle.bo_tables.specs.Tokens.{house_with, raised, next_one};
 ghost use Rattle.bo_file.specs.Found.{IsFound};
 
 use bo_kept::Tables;
@@ -38,8 +38,9 @@ pub fn a_made_shop_runs<S: Alter>(blank: &Connection<S>, made: &SqlTables<S>)
 }
 
 /// What is opened of a file after a crash is one of the shops that the crash may have left, with its answers, and nothing else: the
-/// premise of the law of histories. So a shop that was running is running again, as it was or with one undecided write carried
-/// out; and whatever happened to it before, it stands for the list of arrivals that its history comes to, with this crash in it.
+/// premise of the law of histories. It is of the same house: its names, the number of each token, and the one that the next token gets.
+/// So a shop that was running is running again, as it was or with one undecided write carried out; and whatever happened to it before, it
+/// stands for the list of arrivals that its history comes to, with this crash in it.
 pub fn a_shop_runs_on_after_a_crash<S: Alter>(
     before: &SqlTables<S>,
     fresh: &Connection<S>,
@@ -47,6 +48,9 @@ pub fn a_shop_runs_on_after_a_crash<S: Alter>(
 )
     ensures reopened { IsFound (state S.Store before.now.connection) (state S.Store fresh.now) → (z : State) (o : IsOpened (state S.Store fresh.now).now.trees after.now.head after.now.next_row z (state S.Store after.now.connection))
         → Reopened ⟦<SqlTables<S> as Tables>⟧.holds ⟦<SqlTables<S> as Tables>⟧.may_leave before.now after.now (record { state = z; kept = map (λ r. r.kept) o.tables.kept }) }
+    ensures house { (house : House) → ⟦<SqlTables<S> as Tables>⟧.knows before.now house → IsFound (state S.Store before.now.connection) (state S.Store fresh.now)
+        → (z : State) → IsOpened (state S.Store fresh.now).now.trees after.now.head after.now.next_row z (state S.Store after.now.connection)
+        → ⟦<SqlTables<S> as Tables>⟧.knows after.now house × (after.now.head.organizer ≡ house.organizer) × (after.now.head.event ≡ house.event) }
     ensures runs { (words : Reply → Response) (s : State) (r : Running) → IsRunning words ⟦<SqlTables<S> as Tables>⟧.holds ⟦<SqlTables<S> as Tables>⟧.may_leave before.now s r
         → IsFound (state S.Store before.now.connection) (state S.Store fresh.now) → (z : State) → IsOpened (state S.Store fresh.now).now.trees after.now.head after.now.next_row z (state S.Store after.now.connection)
         → (x : ShopView) × MayLeave words r x × IsRunning words ⟦<SqlTables<S> as Tables>⟧.holds ⟦<SqlTables<S> as Tables>⟧.may_leave after.now z (opened words x) }
@@ -75,6 +79,10 @@ pub fn a_crash_while_opening_loses_nothing<S: Alter>(
 )
     ensures found { IsFound (state S.Store before.now.connection) (state S.Store fresh.now) → IsTrue (state S.Store fresh.now).is_open → Survives (state S.Store fresh.now) (state S.Store tried.now) (λ _. ⊥)
         → IsFound (state S.Store tried.now) (state S.Store again.now) → IsFound (state S.Store before.now.connection) (state S.Store again.now) × ((state S.Store again.now).now ≡ (state S.Store fresh.now).now) }
+    ensures house { (house : House) → ⟦<SqlTables<S> as Tables>⟧.knows before.now house
+        → IsFound (state S.Store before.now.connection) (state S.Store fresh.now) → IsTrue (state S.Store fresh.now).is_open → Survives (state S.Store fresh.now) (state S.Store tried.now) (λ _. ⊥)
+        → IsFound (state S.Store tried.now) (state S.Store again.now) → (z : State) → IsOpened (state S.Store again.now).now.trees after.now.head after.now.next_row z (state S.Store after.now.connection)
+        → ⟦<SqlTables<S> as Tables>⟧.knows after.now house }
     ensures runs { (words : Reply → Response) (s : State) (r : Running) → IsRunning words ⟦<SqlTables<S> as Tables>⟧.holds ⟦<SqlTables<S> as Tables>⟧.may_leave before.now s r
         → IsFound (state S.Store before.now.connection) (state S.Store fresh.now) → IsTrue (state S.Store fresh.now).is_open → Survives (state S.Store fresh.now) (state S.Store tried.now) (λ _. ⊥)
         → IsFound (state S.Store tried.now) (state S.Store again.now) → (z : State) → IsOpened (state S.Store again.now).now.trees after.now.head after.now.next_row z (state S.Store after.now.connection)
@@ -86,10 +94,10 @@ pub fn a_crash_while_opening_loses_nothing<S: Alter>(
 }
 
 /// After a crash of a running shop its file holds a shop, and so is opened, or refused for want of memory or because the store
-/// fails, and never with 60, 61 or 62: where each shop is sound that the crash may have left.
+/// fails, and never with 60, 61 or 62.
 pub fn a_crash_damages_nothing<S: Alter>(before: &SqlTables<S>, fresh: &Connection<S>)
     ensures { (words : Reply → Response) (s : State) (r : Running) → IsRunning words ⟦<SqlTables<S> as Tables>⟧.holds ⟦<SqlTables<S> as Tables>⟧.may_leave before.now s r
-        → IsFound (state S.Store before.now.connection) (state S.Store fresh.now) → ((x : ShopView) → MayLeave words r x → IsSound x.state)
+        → IsFound (state S.Store before.now.connection) (state S.Store fresh.now)
         → (error : OpenError) → IsReason (state S.Store fresh.now).now error → IsOfMachine error }
 {
     let _ = before;
@@ -109,19 +117,19 @@ pub fn a_token_leaves_a_shop_running<S: Alter>(old: &SqlTables<S>, new: &SqlTabl
     let _ = new;
 }
 
-/// After a crash while a token is added it is wholly in or out: the tables that are opened know the tokens that were known, or these and
-/// the new one.
+/// After a crash while a token is added it is wholly in or out: the tables that are opened know the house that was known, or the same with
+/// the new token by the number that was next, and the number after it as the next one.
 pub fn a_token_is_in_or_out<S: Alter>(
     old: &SqlTables<S>,
     new: &SqlTables<S>,
     fresh: &Connection<S>,
     after: &SqlTables<S>,
 )
-    ensures { (digest : List ℕ) (tokens : List ℕ → Option ℕ) (s : State) (ks : List Kept) → IsTrue (state S.Store old.now.connection).is_open
-        → HoldsWhileOpen old.now.head old.now.next_row (state S.Store old.now.connection) s ks → KnowsWhileOpen old.now.next_row (state S.Store old.now.connection) tokens
+    ensures { (digest : List ℕ) (house : House) (s : State) (ks : List Kept) → IsTrue (state S.Store old.now.connection).is_open
+        → HoldsWhileOpen old.now.head old.now.next_row (state S.Store old.now.connection) s ks → KnowsWhileOpen old.now.head old.now.next_row (state S.Store old.now.connection) house
         → Survives (state S.Store old.now.connection) (state S.Store new.now.connection) (MayBeWritten schema (λ (_ : Unit {0}). HasToken (raised old.now.head) (next_one old.now.head digest)) (state S.Store old.now.connection))
         → IsFound (state S.Store new.now.connection) (state S.Store fresh.now) → (z : State) → IsOpened (state S.Store fresh.now).now.trees after.now.head after.now.next_row z (state S.Store after.now.connection)
-        → KnowsWhileOpen after.now.next_row (state S.Store after.now.connection) tokens ⊎ KnowsWhileOpen after.now.next_row (state S.Store after.now.connection) (also_known digest old.now.head.next_token tokens) }
+        → ⟦<SqlTables<S> as Tables>⟧.knows after.now house ⊎ ⟦<SqlTables<S> as Tables>⟧.knows after.now (house_with digest old.now.head.next_token (old.now.head.next_token + 1) house) }
 {
     let _ = old;
     let _ = new;

@@ -10,6 +10,7 @@ use Rattle.bo_deliveries.specs.declared.arrival.Arrival.{Arrival}
 use Rattle.bo_devices.specs.declared.device.Tick.{Tick}
 use Rattle.bo_kept.specs.ShopView.{IsSame, ShopView}
 use Rattle.bo_lists.specs.Lists.{State}
+use Rattle.bo_sound.specs.Sound.{IsSound}
 use Rattle.bo_tables.specs.declared.sql.SqlTables.{SqlTables}
 use Rattle.bo_desk.specs.Streams.{DeskView, Meaning, desk_with}
 use Rattle.bo_line.specs.declared.fault.RunFault.{RunFault}
@@ -29,7 +30,7 @@ module _ {T : Type 0} (words : Reply → Response) (command : Command) (tables :
 
   abbrev Leaves : Arrival → T → State → T → Type 0
   Leaves a before s after = tables.sure after → (left : ShopView) → tables.may_leave after left → tables.may_leave before left
-      ⊎ ((v : ShopView) → Views tables.holds before s v → IsSame left (served words a v).0)
+      ⊎ ((v : ShopView) → Views tables.holds before s v → IsSame left (served words a v).0 × IsSound left.state)
 
   -- what a crash may leave once it is told
   abbrev Settles : Arrival → Answer → T → State → T → Type 0

@@ -8,12 +8,13 @@ use Rattle.sqlite.specs.declared.connection.Connection.{Connection}
 use Rattle.sqlite.specs.State.{State as Connected, HasCleanDisk, Survives}
 use Rattle.bo_lists.specs.Lists.{State}
 use Rattle.bo_kept.specs.declared.kept.Kept.{Kept}
+use Rattle.bo_kept.specs.House.{House}
 use Rattle.bo_columns.specs.declared.rows.ShopRow.{ShopRow}
 use Rattle.bo_columns.specs.Tables.{Holds}
 use Rattle.bo_line.specs.declared.fault.RunFault.{RunFault}
 use Rattle.bo_line.specs.declared.fault.RunFault.TheVariants as faults
 use Rattle.bo_tables.specs.Begun.{HasToken, token_added}
-use Rattle.bo_tables.specs.Tokens.{HasNoRoom, IsNumbered, also_known, head_after, next_one, raised}
+use Rattle.bo_tables.specs.Tokens.{HasNoRoom, IsNumbered, head_after, house_with, next_one, raised}
 use Rattle.bo_tables.specs.declared.error.TokenError.{TokenError}
 use Rattle.bo_tables.specs.declared.error.TokenError.TheVariants as tokens
 use Rattle.bo_opens.specs.declared.error.OpenError.{OpenError}
@@ -25,7 +26,7 @@ use Rattle.bo_file.specs.Opened.{IsOpened}
 use Rattle.bo_schema.specs.Tables.{schema}
 use Rattle.bo_schema.specs.Whole.{IsOver, IsStill, MayBeWritten}
 use Rattle.bo_tables.specs.Held.{number_of}
-use Rattle.bo_tables.specs.Shops.{HoldsWhileOpen, KnowsWhileOpen}
+use Rattle.bo_tables.specs.Shops.{HoldsWhileOpen, IsOfHouse, KnowsWhileOpen, LeavesHouse, house_of_rows}
 use Rattle.bo_house.specs.Faults.{fault_of_opening, fault_of_rows, told_of_token}
 use Rattle.bo_house.specs.Filed.{AddsTokenIn, GetsToken, HasNextToken, IsFullFor, KnowsToken}
 use Rattle.bo_house.specs.Served.{StaysUnopened}
@@ -74,12 +75,12 @@ never_full error fault P told is = absurd (false≢true (sym (full_opening error
 pub full_by : (told : Result ℕ RunFault) (db : Database) (head : ShopRow) (next : ℕ) (office : State) (digest : List ℕ) (old mid new : Connected) → told ≡ Err faults.Full
     → Rests old mid → HasCleanDisk mid → IsTrue new.is_open → IsAt db old → db.schema ≡ schema → (IsOver schema mid → OnErr told (IsStill mid new))
     → (IsTrue mid.is_open → IsOpened db.trees head next office mid)
-    → ((known : List ℕ → Option ℕ) → KnowsWhileOpen next mid known → HasNoRoom (known digest) head.next_token) → IsFullFor db.trees digest
+    → ((house : House) → KnowsWhileOpen head next mid house → HasNoRoom (house.tokens digest) head.next_token) → IsFullFor db.trees digest
 full_by (Ok number) db head next office digest old mid new is rests clean is_open at known still opens full = absurd (false≢true (ap is_full_in is))
 full_by (Err fault) db head next office digest old mid new is rests clean is_open at known still opens full =
     let over : IsOver schema mid = λ was_open. ap (λ (d : Database). d.schema) ((rests clean was_open).stays db at).now ∙ known in
     let o = opens ((still over).same is_open).was_open in
-    record { tables = o.tables; held = o.held; head = head; office = office; stand = o.stand; full = full (number_of o.tables.tokens) (o.knows o.tables o.held) }
+    record { tables = o.tables; held = o.held; head = head; office = office; stand = o.stand; full = full (house_of_rows head o.tables.tokens) (o.knows o.tables o.held).now }
 
 -- a file that was opened, and whose tables took no token, shows what it showed
 pub stays_at : (told : Result ℕ RunFault) (db : Database) (old mid new : Connected) → Rests old mid → HasCleanDisk mid → IsTrue new.is_open → IsAt db old → db.schema ≡ schema
@@ -94,27 +95,32 @@ stays_at (Err fault) db old mid new rests clean is_open at known still =
 -- what adding a token promises, as one record
 pub got : (added : Result ℕ TokenError) (head later : ShopRow) (next after : ℕ) (digest : List ℕ) (old new : Connected) → (HasCleanDisk new → HasCleanDisk old)
     → (HasCleanDisk new → OnOk added (IsTrue old.is_open)) → after ≡ next
-    → (HasCleanDisk new → (tokens : List ℕ → Option ℕ) → KnowsWhileOpen next old tokens → IfOk added (IsNumbered (tokens digest) head.next_token))
-    → (HasCleanDisk new → (tokens : List ℕ → Option ℕ) → KnowsWhileOpen next old tokens → OnOk added (later ≡ head_after (tokens digest) head))
-    → (HasCleanDisk new → (tokens : List ℕ → Option ℕ) → KnowsWhileOpen next old tokens → IfOk added (λ number. KnowsWhileOpen after new (also_known digest number tokens)))
+    → (HasCleanDisk new → (house : House) → KnowsWhileOpen head next old house → IfOk added (IsNumbered (house.tokens digest) head.next_token))
+    → (HasCleanDisk new → (house : House) → KnowsWhileOpen head next old house → OnOk added (later ≡ head_after (house.tokens digest) head))
+    → (HasCleanDisk new → (house : House) → KnowsWhileOpen head next old house → IfOk added (λ number. KnowsWhileOpen later after new (house_with digest number later.next_token house)))
+    → (HasCleanDisk new → (house : House) → KnowsWhileOpen head next old house → LeavesHouse old house → IfOk added (λ number. LeavesHouse new (house_with digest number later.next_token house)))
     → (HasCleanDisk new → (s : State) (ks : List Kept) → HoldsWhileOpen head next old s ks → HoldsWhileOpen later after new s ks)
     → IfOk added (λ number. HasCleanDisk new → GetsToken head next digest number old new)
-got (Ok number) head later next after digest old new cleans opened stays numbered goes_on knows holds = λ clean. record {
+got (Ok number) head later next after digest old new cleans opened stays numbered goes_on knows leaves holds = λ clean. record {
   clean = cleans clean;
   was_open = opened clean;
-  numbered = λ tokens known. numbered clean tokens known;
-  knows = λ tokens known. subst (λ (n : ℕ). KnowsWhileOpen n new (also_known digest number tokens)) stays (knows clean tokens known);
-  holds = λ tokens known s ks held.
-      subst (λ (h : ShopRow). HoldsWhileOpen h next new s ks) (goes_on clean tokens known) (subst (λ (n : ℕ). HoldsWhileOpen later n new s ks) stays (holds clean s ks held));
+  numbered = λ house known. numbered clean house known;
+  knows = λ house of.
+      subst (λ (h : ShopRow). IsOfHouse h next new (house_with digest number h.next_token house)) (goes_on clean house of.now) (record {
+        now = subst (λ (n : ℕ). KnowsWhileOpen later n new (house_with digest number later.next_token house)) stays (knows clean house of.now);
+        left = leaves clean house of.now of.left;
+      });
+  holds = λ house known s ks held.
+      subst (λ (h : ShopRow). HoldsWhileOpen h next new s ks) (goes_on clean house known) (subst (λ (n : ℕ). HoldsWhileOpen later n new s ks) stays (holds clean s ks held));
 }
-got (Err error) head later next after digest old new cleans opened stays numbered goes_on knows holds = tt
+got (Err error) head later next after digest old new cleans opened stays numbered goes_on knows leaves holds = tt
 
 -- tables that were opened of a file, and then got a token
 pub known_by : (db : Trees) (head : ShopRow) (next : ℕ) (office : State) (digest : List ℕ) (number : ℕ) (old new : Connected) → IsOpened db head next office old
     → GetsToken head next digest number old new → KnowsToken db digest number new
 known_by db head next office digest number old new o gets =
-    let tokens = number_of o.tables.tokens in
-    let known = o.knows o.tables o.held in
+    let house = house_of_rows head o.tables.tokens in
+    let of = o.knows o.tables o.held in
     record {
       tables = o.tables;
       held = o.held;
@@ -122,9 +128,9 @@ known_by db head next office digest number old new o gets =
       next = next;
       office = office;
       stand = o.stand;
-      numbered = gets.numbered tokens known;
-      holds = gets.holds tokens known office (map (λ r. r.kept) o.tables.kept) o.holds;
-      knows = gets.knows tokens known;
+      numbered = gets.numbered house of.now;
+      holds = gets.holds house of.now office (map (λ r. r.kept) o.tables.kept) o.holds;
+      knows = gets.knows house of;
     }
 
 -- a digest has a number, or none
@@ -136,7 +142,7 @@ none_or_some (Some number) = inr (number, refl)
 pub left_by : (db : Database) (head : ShopRow) (next : ℕ) (office : State) (digest : List ℕ) (old mid new : Connected) → Rests old mid → Survives old mid (λ _. ⊥)
     → Survives mid new (MayBeWritten schema (λ (_ : Unit {0}). HasToken (raised head) (next_one head digest)) mid) → HasCleanDisk mid → HasCleanDisk new → IsAt db old → db.schema ≡ schema
     → (IsTrue mid.is_open → IsOpened db.trees head next office mid)
-    → ((tokens : List ℕ → Option ℕ) → KnowsWhileOpen next mid tokens → (number : ℕ) → tokens digest ≡ Some number → Survives mid new (λ _. ⊥))
+    → ((house : House) → KnowsWhileOpen head next mid house → (number : ℕ) → house.tokens digest ≡ Some number → Survives mid new (λ _. ⊥))
     → (trees : Trees) → new.may_leave trees → old.may_leave trees ⊎ HasNextToken db.trees digest trees
 left_by db head next office digest old mid new rests first second cleared clean at known opens where_known trees may = elim (second.crash clean trees may) [
   | inl before ↦ elim (first.crash cleared trees before) [ inl was ↦ inl was | inr none ↦ absurd none ]
@@ -156,7 +162,7 @@ left_by db head next office digest old mid new rests first second cleared clean 
           holds = subst (λ (t : Trees). Holds t (token_added (raised head) (next_one head digest) o.tables)) (sym written.is)
               (turned.holds o.tables (subst (λ (d : Database). Holds d.trees o.tables) (sym shown) o.held));
         })
-        | inr has ↦ elim ((where_known tokens (o.knows o.tables o.held) has.0 has.1).crash clean trees may) [
+        | inr has ↦ elim ((where_known (house_of_rows head o.tables.tokens) (o.knows o.tables o.held).now has.0 has.1).crash clean trees may) [
           | inl before ↦ elim (first.crash cleared trees before) [ inl was ↦ inl was | inr none ↦ absurd none ]
           | inr none ↦ absurd none
         ]

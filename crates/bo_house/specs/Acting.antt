@@ -12,6 +12,7 @@ use Rattle.bo_deliveries.specs.declared.arrival.Arrival.{Arrival}
 use Rattle.bo_deliveries.specs.declared.arrival.Request.TheVariants as requests
 use Rattle.bo_devices.specs.declared.device.Tick.{Tick}
 use Rattle.bo_kept.specs.ShopView.{IsSame, ShopView}
+use Rattle.bo_sound.specs.Sound.{IsSound}
 use Rattle.bo_tables.specs.declared.sql.SqlTables.{SqlTables}
 use Rattle.bo_desk.specs.Streams.{DeskView, Meaning}
 use Rattle.bo_line.specs.declared.fault.RunFault.{RunFault}
@@ -31,7 +32,7 @@ told_of (Decided response) = Ok response.body
 told_of Unavailable = Err faults.Store
 
 -- The command is an arrival with what the system's clock shows and a draw. It is answered like any other, and what it did is told. A crash
--- leaves what one before it could have left, or the whole of it; and once what it did is told, only that.
+-- leaves what one before it could have left, or the whole of it, which is sound; and once what it did is told, only that.
 pub record Acts {T : Type 0} (words : Reply → Response) (command : Command) (tables : Meaning T) (first last : DeskView T) (outcome : Result (List ℕ) RunFault) : Type 0 where
   pub tick : Tick
   pub answer : Answer
@@ -40,7 +41,7 @@ pub record Acts {T : Type 0} (words : Reply → Response) (command : Command) (t
   pub answered : tables.sure last.tables → (v : ShopView) → Views tables.holds first.tables first.state v
       → IsAnswered words (own_arrival command tick) v answer (λ w. Views tables.holds last.tables last.state w)
   pub crash : tables.sure last.tables → (left : ShopView) → tables.may_leave last.tables left → tables.may_leave first.tables left
-      ⊎ ((v : ShopView) → Views tables.holds first.tables first.state v → IsSame left (served words (own_arrival command tick) v).0)
+      ⊎ ((v : ShopView) → Views tables.holds first.tables first.state v → IsSame left (served words (own_arrival command tick) v).0 × IsSound left.state)
   pub settled : tables.sure last.tables → IsDecided answer ((v : ShopView) → Views tables.holds first.tables first.state v → executes (own_arrival command tick) v ≡ true
       → (left : ShopView) → tables.may_leave last.tables left → IsSame left (served words (own_arrival command tick) v).0)
 

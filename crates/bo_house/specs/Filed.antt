@@ -1,5 +1,5 @@
 -- What a shop's database holds after a command.
-use Rattle.std.specs.Prelude.{◌≡◌, ◌⊎◌, ℕ, List, Option, None, Result, Err, IfOk, IfErr, OnOk, OnErr, IsTrue, map}
+use Rattle.std.specs.Prelude.{◌≡◌, ◌⊎◌, ℕ, List, None, Result, Err, IfOk, IfErr, OnOk, OnErr, IsTrue, map}
 use Rattle.sqlite_trees.specs.declared.store.Store.{Ghosts}
 use Rattle.sqlite_trees.specs.Tree.{Trees}
 use Rattle.sqlite.specs.Effect.{Database}
@@ -11,14 +11,15 @@ use Rattle.bo_schema.specs.Tables.{schema}
 use Rattle.bo_schema.specs.Whole.{IsStill, MayBeWritten}
 use Rattle.bo_lists.specs.Lists.{State}
 use Rattle.bo_kept.specs.declared.kept.Kept.{Kept}
+use Rattle.bo_kept.specs.House.{House}
 use Rattle.bo_columns.specs.declared.rows.ShopRow.{ShopRow}
 use Rattle.bo_columns.specs.Tables.{Tables, Holds}
 use Rattle.bo_stand.specs.Stands.{Stand}
 use Rattle.bo_tables.specs.Begun.{IsBegun, token_added}
 use Rattle.bo_tables.specs.Held.{number_of}
-use Rattle.bo_tables.specs.Shops.{HoldsWhileOpen, KnowsWhileOpen}
+use Rattle.bo_tables.specs.Shops.{HoldsWhileOpen, IsOfHouse, KnowsWhileOpen, house_of_rows}
 use Rattle.bo_tables.specs.Made.{IsMade, first_shop}
-use Rattle.bo_tables.specs.Tokens.{HasNoRoom, IsNumbered, also_known, head_after, next_one, raised}
+use Rattle.bo_tables.specs.Tokens.{HasNoRoom, IsNumbered, head_after, house_with, next_one, raised}
 use Rattle.bo_tables.specs.declared.error.TokenError.{TokenError}
 use Rattle.bo_opens.specs.declared.error.OpenError.{OpenError}
 use Rattle.bo_file.specs.Opened.{IsReason}
@@ -31,18 +32,19 @@ use Rattle.bo_house.specs.Faults.{fault_of_opening, fault_of_token}
 abbrev pub HoldsNewShop : List ℕ → List ℕ → Connected → Connected → Type 0
 HoldsNewShop organizer event old new = (head : ShopRow) × (next : ℕ) × IsMade (first_shop organizer event) old head next new
 
--- Of tables with this row of the shop: the connection was open, over a disk that returned what was written. Whatever tokens they knew, the
--- digest is known by this number, which is the one that it had, or else the next one, and every other digest is known as it was; and whatever
--- office and answers they held, they hold.
+-- Of tables with this row of the shop: the connection was open, over a disk that returned what was written. Whatever house they knew, they
+-- know the same with the digest by this number, which is the one that it had, or else the next one, and every other digest as it was; so does
+-- what a crash leaves; and whatever office and answers they held, they hold.
 pub record GetsToken (head : ShopRow) (next : ℕ) (digest : List ℕ) (number : ℕ) (old new : Connected) : Type 0 where
   pub clean : HasCleanDisk old
   pub was_open : IsTrue old.is_open
-  pub numbered : (tokens : List ℕ → Option ℕ) → KnowsWhileOpen next old tokens → IsNumbered (tokens digest) head.next_token number
-  pub knows : (tokens : List ℕ → Option ℕ) → KnowsWhileOpen next old tokens → KnowsWhileOpen next new (also_known digest number tokens)
-  pub holds : (tokens : List ℕ → Option ℕ) → KnowsWhileOpen next old tokens → (s : State) (ks : List Kept) → HoldsWhileOpen head next old s ks → HoldsWhileOpen (head_after (tokens digest) head) next new s ks
+  pub numbered : (house : House) → KnowsWhileOpen head next old house → IsNumbered (house.tokens digest) head.next_token number
+  pub knows : (house : House) → IsOfHouse head next old house
+      → let after = head_after (house.tokens digest) head in IsOfHouse after next new (house_with digest number after.next_token house)
+  pub holds : (house : House) → KnowsWhileOpen head next old house → (s : State) (ks : List Kept) → HoldsWhileOpen head next old s ks → HoldsWhileOpen (head_after (house.tokens digest) head) next new s ks
 
--- The trees held a shop's tables. What they hold now is the same office with the same answers; the digest is known by this number, which is
--- the one that it had, or else the next one; and every other digest is known as it was.
+-- The trees held a shop's tables. What they hold now is the same office with the same answers; they know the same house with the digest by
+-- this number, which is the one that it had, or else the next one, and every other digest as it was; and so does what a crash leaves.
 pub record KnowsToken (db : Trees) (digest : List ℕ) (number : ℕ) (new : Connected) : Type 0 where
   pub tables : Tables
   pub held : Holds db tables
@@ -52,7 +54,9 @@ pub record KnowsToken (db : Trees) (digest : List ℕ) (number : ℕ) (new : Con
   pub stand : Stand head tables office (map (λ r. r.kept) tables.kept)
   pub numbered : IsNumbered (number_of tables.tokens digest) head.next_token number
   pub holds : HoldsWhileOpen (head_after (number_of tables.tokens digest) head) next new office (map (λ r. r.kept) tables.kept)
-  pub knows : KnowsWhileOpen next new (also_known digest number (number_of tables.tokens))
+  pub knows :
+      let after = head_after (number_of tables.tokens digest) head in
+      IsOfHouse after next new (house_with digest number after.next_token (house_of_rows head tables.tokens))
 
 -- the shop in these trees doesn't know the digest, and has all the tokens that it may have
 pub record IsFullFor (db : Trees) (digest : List ℕ) : Type 0 where

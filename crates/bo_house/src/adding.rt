@@ -1,9 +1,10 @@
 //! A token is added to the shop in a database.
 
-ghost use Rattle.std.specs.Prelude.{◌≡◌, ℕ, List, Option, Some, Err, IfOk, IfErr, OnErr};
+ghost use Rattle.std.specs.Prelude.{◌≡◌, ℕ, Some, Err, IfOk, IfErr, OnErr};
 ghost use Rattle.sha2.specs.Sha256.{sha256};
 ghost use Rattle.sqlite.specs.Held.{state};
 ghost use Rattle.sqlite.specs.State.{HasCleanDisk, Survives};
+ghost use Rattle.bo_kept.specs.House.{House};
 ghost use Rattle.bo_schema.specs.Tables.{schema};
 ghost use Rattle.bo_schema.specs.Whole.{IsOver, IsStill, MayBeWritten};
 ghost use Rattle.bo_line.specs.declared.fault.RunFault.TheVariants.{Full};
@@ -38,14 +39,14 @@ fn add_over<S: Alter + Drop, O: Drop>(opened: (SqlTables<S>, O), token: &str) ->
     ensures gets { IfOk result.outcome (λ number. HasCleanDisk (state S.Store result.connection)
         → GetsToken opened.0.head opened.0.next_row (sha256 token.now) number (state S.Store opened.0.connection) (state S.Store result.connection)) }
     ensures cause { IfErr result.outcome (λ fault. (error : TokenError) × (fault ≡ fault_of_token error)) }
-    ensures full { result.outcome ≡ Err Full → HasCleanDisk (state S.Store result.connection) → (tokens : List ℕ → Option ℕ) → KnowsWhileOpen opened.0.next_row (state S.Store opened.0.connection) tokens
-        → HasNoRoom (tokens (sha256 token.now)) opened.0.head.next_token }
+    ensures full { result.outcome ≡ Err Full → HasCleanDisk (state S.Store result.connection) → (house : House) → KnowsWhileOpen opened.0.head opened.0.next_row (state S.Store opened.0.connection) house
+        → HasNoRoom (house.tokens (sha256 token.now)) opened.0.head.next_token }
     ensures clean { HasCleanDisk (state S.Store result.connection) → HasCleanDisk (state S.Store opened.0.connection) }
     ensures none { HasCleanDisk (state S.Store result.connection) → IsOver schema (state S.Store opened.0.connection) → OnErr result.outcome (IsStill (state S.Store opened.0.connection) (state S.Store result.connection)) }
     ensures crash { Survives (state S.Store opened.0.connection) (state S.Store result.connection)
         (MayBeWritten schema (λ (_ : Unit {0}). HasToken (raised opened.0.head) (next_one opened.0.head (sha256 token.now))) (state S.Store opened.0.connection)) }
-    ensures known_crash { HasCleanDisk (state S.Store result.connection) → (tokens : List ℕ → Option ℕ) → KnowsWhileOpen opened.0.next_row (state S.Store opened.0.connection) tokens
-        → (number : ℕ) → tokens (sha256 token.now) ≡ Some number → Survives (state S.Store opened.0.connection) (state S.Store result.connection) (λ _. ⊥) }
+    ensures known_crash { HasCleanDisk (state S.Store result.connection) → (house : House) → KnowsWhileOpen opened.0.head opened.0.next_row (state S.Store opened.0.connection) house
+        → (number : ℕ) → house.tokens (sha256 token.now) ≡ Some number → Survives (state S.Store opened.0.connection) (state S.Store result.connection) (λ _. ⊥) }
 {
     let mut made = opened;
     let added = add_token(&mut made.0, &Sha256::digest(token.as_bytes()));

@@ -8,6 +8,7 @@ pub mod faults;
 pub mod filed;
 pub mod house;
 pub mod importing;
+pub mod laws;
 pub mod making;
 mod opening;
 pub mod reporting;

@@ -1,10 +1,11 @@
 //! Where a shop keeps its rows and its answers.
 
-ghost use Rattle.std.specs.Prelude.{◌≡◌, ◌⊎◌, ℕ, List, Option, IfOk, OnOk, OnErr, IsPermutation};
+ghost use Rattle.std.specs.Prelude.{◌≡◌, ◌⊎◌, ℕ, List, IfOk, OnOk, OnErr, IsPermutation};
 ghost use Rattle.bo_lists.specs.Lists.{State};
 ghost use Rattle.bo_lists.specs.Change.{applied};
 ghost use Rattle.bo_lists.specs.CountRows.{counts_after};
 ghost use Rattle.bo_kept.specs.declared.kept.Kept.{Kept};
+ghost use Rattle.bo_kept.specs.House.{House};
 ghost use Rattle.bo_kept.specs.KeptAnswers.{AreOneForEachKey, told_by};
 ghost use Rattle.bo_kept.specs.ShopView.{ShopView, IsSame, committed};
 
@@ -22,8 +23,8 @@ pub enum TablesError {
     Store,
 }
 
-/// Tables that hold the rows of an office, the answers that are kept, and the tokens that are known. What they promise they
-/// promise of all rows, answers and tokens that they hold, where the store has returned what was written.
+/// Tables that hold the rows of an office and the answers that are kept, and know their house: its names and its tokens. What they
+/// promise they promise of all rows, answers and houses that they hold, where the store has returned what was written.
 pub trait Tables {
     /// So far the store has returned what was written.
     ghost sure: { Self → Type 0 };
@@ -31,8 +32,9 @@ pub trait Tables {
     /// The tables hold these rows and these answers, the answers in some order.
     ghost holds: { Self → State → List Kept → Type 0 };
 
-    /// The tables know these tokens: the number of each digest that has one.
-    ghost knows: { Self → (List ℕ → Option ℕ) → Type 0 };
+    /// The tables know this house, and so do any that are opened after a crash: no call of these changes a name, a token or the
+    /// number that the next one gets.
+    ghost knows: { Self → House → Type 0 };
 
     /// Tables that are opened after a crash may hold these.
     ghost may_leave: { Self → ShopView → Type 0 };
@@ -43,9 +45,9 @@ pub trait Tables {
     /// The number of the token with this SHA-256 digest, if it is known.
     fn token_of(&mut self, digest: &[u8; 32]) -> Result<Option<u64>, TablesError>
         ensures sure { sure self.new → sure self.old }
-        ensures found { sure self.new → (tokens : List ℕ → Option ℕ) → knows self.old tokens → IfOk result (λ number. number ≡ tokens digest.now) }
+        ensures found { sure self.new → (house : House) → knows self.old house → IfOk result (λ number. number ≡ house.tokens digest.now) }
         ensures same { sure self.new → (s : State) (ks : List Kept) → holds self.old s ks → holds self.new s ks }
-        ensures tokens { sure self.new → (tokens : List ℕ → Option ℕ) → knows self.old tokens → knows self.new tokens }
+        ensures house { sure self.new → (house : House) → knows self.old house → knows self.new house }
         ensures crash { (left : ShopView) → may_leave self.new left → may_leave self.old left };
 
     /// What was told under a key of a token that is still kept at a moment.
@@ -59,7 +61,7 @@ pub trait Tables {
         ensures sure { sure self.new → sure self.old }
         ensures found { sure self.new → (s : State) (ks : List Kept) → holds self.old s ks → AreOneForEachKey ks → IfOk result (λ response. response ≡ told_by token key.now at ks) }
         ensures same { sure self.new → (s : State) (ks : List Kept) → holds self.old s ks → holds self.new s ks }
-        ensures tokens { sure self.new → (tokens : List ℕ → Option ℕ) → knows self.old tokens → knows self.new tokens }
+        ensures house { sure self.new → (house : House) → knows self.old house → knows self.new house }
         ensures crash { (left : ShopView) → may_leave self.new left → may_leave self.old left };
 
     /// Makes these changes at a moment, with the counts that they change, and keeps this answer, all of it or nothing; what is
@@ -75,7 +77,7 @@ pub trait Tables {
         ensures all { sure self.new → (s : State) (ks : List Kept) → holds self.old s ks → counts.now ≡ counts_after s (applied changes.now at s)
             → OnOk result (holds self.new (committed changes.now at kept.entry s ks).state (committed changes.now at kept.entry s ks).kept) }
         ensures none { sure self.new → (s : State) (ks : List Kept) → holds self.old s ks → OnErr result (holds self.new s ks) }
-        ensures tokens { sure self.new → (tokens : List ℕ → Option ℕ) → knows self.old tokens → knows self.new tokens }
+        ensures house { sure self.new → (house : House) → knows self.old house → knows self.new house }
         ensures crash { (left : ShopView) → may_leave self.new left → may_leave self.old left
             ⊎ ((s : State) (ks : List Kept) → holds self.old s ks → counts.now ≡ counts_after s (applied changes.now at s) → IsSame left (committed changes.now at kept.entry s ks)) }
         ensures settled { sure self.new → OnOk result ((left : ShopView) → may_leave self.new left → (s : State) (ks : List Kept) → holds self.old s ks

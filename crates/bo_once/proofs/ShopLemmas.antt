@@ -106,6 +106,21 @@ module _ {T : Type 0} (holds : T → State → List Kept → Type 0) (words : Re
   executed-same tables left v views all =
       subst (IsSame left) (ap (λ (x : ShopView × Response). x.0) (is-executed v views.state_is)) (all v.state v.kept views.held (counted-there v views.state_is))
 
+  -- and it is sound
+  executed-sound : (tables : T) (left v : ShopView) → IsSound (applied changes at state) → Views holds tables state v
+      → ((s : State) (ks : List Kept) → holds tables s ks → counts ≡ counts_after s (applied changes at s) → IsSame left (record { state = applied changes at s; kept = with_kept at ks rows }))
+      → IsSame left (executed_at words a at v).0 × IsSound left.state
+  executed-sound tables left v sound views all =
+      let same = all v.state v.kept views.held (counted-there v views.state_is) in
+      (executed-same tables left v views all, subst IsSound (sym same.state) (subst (λ (s : State). IsSound (applied changes at s)) views.state_is sound))
+
+  -- what a crash may leave of it could be left before, or it is that
+  pub executed-leaves : (tables : T) (left : ShopView) (Before : Type 0) → IsSound (applied changes at state)
+      → Before ⊎ ((s : State) (ks : List Kept) → holds tables s ks → counts ≡ counts_after s (applied changes at s) → IsSame left (record { state = applied changes at s; kept = with_kept at ks rows }))
+      → Before ⊎ ((v : ShopView) → Views holds tables state v → IsSame left (executed_at words a at v).0 × IsSound left.state)
+  executed-leaves tables left Before sound (inl old) = inl old
+  executed-leaves tables left Before sound (inr new) = inr (λ v views. executed-sound tables left v sound views new)
+
 pub no-key : (key : List ℕ) → not (has_key key) ≡ true → key ≡ []
 no-key [] e = refl
 no-key (byte ∷ bytes) e = absurd (let both : false ≡ true = e in cc)
@@ -138,14 +153,15 @@ pub crash-same : {T : Type 0} (holds : T → State → List Kept → Type 0) (ma
     → ((v : ShopView) → Views holds tables state v → (let none : Option Response = None in none ≡ told_by a.token a.key at v.kept))
     → ((v : ShopView) → Views holds tables state v → Views holds mid state_mid v)
     → ((left : ShopView) → may_leave mid left → may_leave tables left)
-    → (left : ShopView) → may_leave mid left ⊎ ((v : ShopView) → Views holds mid state_mid v → IsSame left (executed_at words a at v).0)
-    → may_leave tables left ⊎ ((v : ShopView) → Views holds tables state v → IsSame left (served words a v).0)
+    → (left : ShopView) → may_leave mid left ⊎ ((v : ShopView) → Views holds mid state_mid v → IsSame left (executed_at words a at v).0 × IsSound left.state)
+    → may_leave tables left ⊎ ((v : ShopView) → Views holds tables state v → IsSame left (served words a v).0 × IsSound left.state)
 crash-same holds may_leave words a at tables mid tables' state state_mid write now found same still left (inl old) = inl (still left old)
 crash-same holds may_leave words a at tables mid tables' state state_mid write now found same still left (inr new) =
     inr (λ v views.
     let there : at ≡ moment_of v a = now ∙ ap (λ (s : State). moment_at a.clock s) views.state_is in
     let is = served-new words a at v there write (none-held a at v.kept (sym (found v views))) in
-    subst (IsSame left) (ap (λ (x : ShopView × Response). x.0) (sym is)) (new v (same v views)))
+    let was = new v (same v views) in
+    (subst (IsSame left) (ap (λ (x : ShopView × Response). x.0) (sym is)) was.0, was.1))
 
 pub stands-from : {T : Type 0} (holds : T → State → List Kept → Type 0) (words : Reply → Response) (tables tables' : T) (state state' : State) (a : Arrival) (answer : Answer)
     → ((v : ShopView) → Views holds tables state v → IsAnswered words a v answer (λ w. Views holds tables' state' w))

@@ -1,6 +1,8 @@
 //! A shop: an office, its tables and its wording.
 
-ghost use Rattle.std.specs.Prelude.{◌≡◌, ◌≤◌, ℕ, List, Option, IfOk};
+ghost use Rattle.std.specs.Prelude.{◌≡◌, ◌≤◌, IfOk};
+ghost use Rattle.bo_sound.specs.Sound.{IsSound};
+ghost use Rattle.bo_kept.specs.House.{House};
 ghost use Rattle.bo_kept.specs.ShopView.{ShopView};
 ghost use Rattle.bo_deliveries.specs.Shops.{Views, moment_at};
 
@@ -54,12 +56,19 @@ impl<T: Tables, B: Book, W: Wording> Shop<T, B, W> {
         ensures office { self.new.state ≡ self.old.state }
         ensures wording { self.new.wording ≡ self.old.wording }
         ensures sure { T.sure self.new.tables → T.sure self.old.tables }
-        ensures found { T.sure self.new.tables → (tokens : List ℕ → Option ℕ) → T.knows self.old.tables tokens → IfOk result (λ number. number ≡ tokens digest.now) }
+        ensures found { T.sure self.new.tables → (house : House) → T.knows self.old.tables house → IfOk result (λ number. number ≡ house.tokens digest.now) }
         ensures same { T.sure self.new.tables → (v : ShopView) → Views T.holds self.old.tables self.old.state v → Views T.holds self.new.tables self.new.state v }
-        ensures tokens { T.sure self.new.tables → (tokens : List ℕ → Option ℕ) → T.knows self.old.tables tokens → T.knows self.new.tables tokens }
+        ensures house { T.sure self.new.tables → (house : House) → T.knows self.old.tables house → T.knows self.new.tables house }
         ensures crash { (left : ShopView) → T.may_leave self.new.tables left → T.may_leave self.old.tables left }
     {
         self.tables.token_of(digest)
+    }
+
+    // Its office is sound.
+    pub(crate) fn known(&self)
+        ensures { IsSound self.now.state }
+    {
+        let _ = self.office.book();
     }
 
     // The moment of a request: the clock's, but never before the office's.

@@ -1,6 +1,8 @@
 //! Writes, each carried out once.
 
-ghost use Rattle.std.specs.Prelude.{◌≡◌, ◌⊎◌, ◌≤◌, ◌++◌, ℕ, List, [], ◌∷◌, Option, None, IfOk, OnOk, OnErr, true};
+ghost use Rattle.std.specs.Prelude.{◌≡◌, ◌⊎◌, ◌≤◌, ◌++◌, List, [], ◌∷◌, None, IfOk, OnOk, OnErr, true};
+ghost use Rattle.bo_sound.specs.Sound.{IsSound};
+ghost use Rattle.bo_kept.specs.House.{House};
 ghost use Rattle.bo_kept.specs.KeptAnswers.{told_by};
 ghost use Rattle.bo_kept.specs.ShopView.{ShopView, IsSame, listed, own_row};
 ghost use Rattle.bo_deliveries.specs.Deliveries.{Opening, Delivery, is_write, told};
@@ -26,12 +28,12 @@ impl<T: Tables, B: Dues, W: Wording> Shop<T, B, W> {
         requires later { self.old.state.moment ≤ at }
         ensures wording { self.new.wording ≡ self.old.wording }
         ensures sure { T.sure self.new.tables → T.sure self.old.tables }
-        ensures tokens { T.sure self.new.tables → (tokens : List ℕ → Option ℕ) → T.knows self.old.tables tokens → T.knows self.new.tables tokens }
+        ensures house { T.sure self.new.tables → (house : House) → T.knows self.old.tables house → T.knows self.new.tables house }
         ensures done { T.sure self.new.tables → (v : ShopView) → Views T.holds self.old.tables self.old.state v → (told_by arrival.token arrival.key at v.kept ≡ None)
             → IfOk result (λ told. Views T.holds self.new.tables self.new.state (executed_at (W.words self.old.wording) arrival at v).0 × (told ≡ (executed_at (W.words self.old.wording) arrival at v).1)) }
         ensures none { T.sure self.new.tables → (v : ShopView) → Views T.holds self.old.tables self.old.state v → OnErr result (Views T.holds self.new.tables self.new.state v) }
         ensures crash { (left : ShopView) → T.may_leave self.new.tables left → T.may_leave self.old.tables left
-            ⊎ ((v : ShopView) → Views T.holds self.old.tables self.old.state v → IsSame left (executed_at (W.words self.old.wording) arrival at v).0) }
+            ⊎ ((v : ShopView) → Views T.holds self.old.tables self.old.state v → IsSame left (executed_at (W.words self.old.wording) arrival at v).0 × IsSound left.state) }
         ensures settled { T.sure self.new.tables → OnOk result ((left : ShopView) → T.may_leave self.new.tables left → (v : ShopView) → Views T.holds self.old.tables self.old.state v
             → IsSame left (executed_at (W.words self.old.wording) arrival at v).0) }
     {
@@ -72,7 +74,7 @@ impl<T: Tables, B: Dues, W: Wording> Shop<T, B, W> {
         ensures wording { self.new.wording ≡ self.old.wording }
         ensures office { self.new.state ≡ self.old.state }
         ensures sure { T.sure self.new.tables → T.sure self.old.tables }
-        ensures tokens { T.sure self.new.tables → (tokens : List ℕ → Option ℕ) → T.knows self.old.tables tokens → T.knows self.new.tables tokens }
+        ensures house { T.sure self.new.tables → (house : House) → T.knows self.old.tables house → T.knows self.new.tables house }
         ensures found { T.sure self.new.tables → (v : ShopView) → Views T.holds self.old.tables self.old.state v → IfOk result (λ told. told ≡ told_by arrival.now.token arrival.now.key at v.kept) }
         ensures same { T.sure self.new.tables → (v : ShopView) → Views T.holds self.old.tables self.old.state v → Views T.holds self.new.tables self.new.state v }
         ensures crash { (left : ShopView) → T.may_leave self.new.tables left → T.may_leave self.old.tables left }
@@ -89,11 +91,11 @@ impl<T: Tables, B: Dues, W: Wording> Shop<T, B, W> {
         requires { is_write arrival.request ≡ true }
         ensures wording { self.new.wording ≡ self.old.wording }
         ensures sure { T.sure self.new.tables → T.sure self.old.tables }
-        ensures tokens { T.sure self.new.tables → (tokens : List ℕ → Option ℕ) → T.knows self.old.tables tokens → T.knows self.new.tables tokens }
+        ensures house { T.sure self.new.tables → (house : House) → T.knows self.old.tables house → T.knows self.new.tables house }
         ensures answered { T.sure self.new.tables → (v : ShopView) → Views T.holds self.old.tables self.old.state v
             → IsAnswered (W.words self.old.wording) arrival v result (λ w. Views T.holds self.new.tables self.new.state w) }
         ensures crash { T.sure self.new.tables → (left : ShopView) → T.may_leave self.new.tables left → T.may_leave self.old.tables left
-            ⊎ ((v : ShopView) → Views T.holds self.old.tables self.old.state v → IsSame left (served (W.words self.old.wording) arrival v).0) }
+            ⊎ ((v : ShopView) → Views T.holds self.old.tables self.old.state v → IsSame left (served (W.words self.old.wording) arrival v).0 × IsSound left.state) }
         ensures settled { T.sure self.new.tables → IsDecided result ((v : ShopView) → Views T.holds self.old.tables self.old.state v → executes arrival v ≡ true
             → (left : ShopView) → T.may_leave self.new.tables left → IsSame left (served (W.words self.old.wording) arrival v).0) }
     {
@@ -117,12 +119,13 @@ impl<T: Tables, B: Dues, W: Wording> Shop<T, B, W> {
 
     /// Does a write: one whose key is still kept for its token is told again what its first one was told, whatever it asks; any
     /// other is carried out at its moment, and its answer is kept with its changes, a refusal too. Where it is answered 503,
-    /// nothing has changed. After a crash the write was carried out whole or not at all, and whole where it was answered.
+    /// nothing has changed. After a crash the write was carried out whole or not at all, and whole where it was answered; what it leaves
+    /// then is sound.
     pub fn act(&mut self, alloc: Global, arrival: Arrival) -> Answer
         requires { is_write arrival.request ≡ true }
         ensures wording { self.new.wording ≡ self.old.wording }
         ensures sure { T.sure self.new.tables → T.sure self.old.tables }
-        ensures tokens { T.sure self.new.tables → (tokens : List ℕ → Option ℕ) → T.knows self.old.tables tokens → T.knows self.new.tables tokens }
+        ensures house { T.sure self.new.tables → (house : House) → T.knows self.old.tables house → T.knows self.new.tables house }
         ensures answered { T.sure self.new.tables → (v : ShopView) → Views T.holds self.old.tables self.old.state v
             → IsAnswered (W.words self.old.wording) arrival v result (λ w. Views T.holds self.new.tables self.new.state w) }
         ensures stands { T.sure self.new.tables → (p : Opening) (ds : List Delivery) → StandsFor (W.words self.old.wording) T.holds self.old.tables self.old.state p ds
@@ -130,11 +133,13 @@ impl<T: Tables, B: Dues, W: Wording> Shop<T, B, W> {
         ensures running { T.sure self.new.tables → (r : Running) → IsRunning (W.words self.old.wording) T.holds T.may_leave self.old.tables self.old.state r
             → IsRunning (W.words self.old.wording) T.holds T.may_leave self.new.tables self.new.state (after_act (W.words self.old.wording) arrival result r) × TellsIt (W.words self.old.wording) arrival result r.shop }
         ensures crash { T.sure self.new.tables → (left : ShopView) → T.may_leave self.new.tables left → T.may_leave self.old.tables left
-            ⊎ ((v : ShopView) → Views T.holds self.old.tables self.old.state v → IsSame left (served (W.words self.old.wording) arrival v).0) }
+            ⊎ ((v : ShopView) → Views T.holds self.old.tables self.old.state v → IsSame left (served (W.words self.old.wording) arrival v).0 × IsSound left.state) }
         ensures settled { T.sure self.new.tables → IsDecided result ((v : ShopView) → Views T.holds self.old.tables self.old.state v → executes arrival v ≡ true
             → (left : ShopView) → T.may_leave self.new.tables left → IsSame left (served (W.words self.old.wording) arrival v).0) }
     {
-        self.write(alloc, arrival)
+        let answer = self.write(alloc, arrival);
+        self.known();
+        answer
     }
 }
 

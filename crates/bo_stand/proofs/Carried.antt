@@ -331,3 +331,12 @@ tokens_stay shop changes counts from at ks t h =
     ap (λ (u : Tables). u.tokens) (all_but_kept at (next_after changes from) ks full)
     ∙ ap (λ (u : Tables). u.tokens) (counted_is counts (made changes from (put_shop shop t)))
     ∙ (stays changes from (next_after changes from) (put_shop shop t) (made changes from (put_shop shop t)) (all_turned changes from (put_shop shop t) (free_shop shop from t h))).tokens
+
+-- and the shop's row is the one that it puts
+pub shop_put : (shop : ShopRow) (changes : List Change) (counts : CountRows) (from at : ℕ) (ks : List Kept) (t : Tables) → IsFree from t → (done shop changes counts from ks at t).shop ≡ shop ∷ []
+shop_put shop changes counts from at ks t h =
+    let full = counted counts (made changes from (put_shop shop t)) in
+    ap (λ (u : Tables). u.shop) (all_but_kept at (next_after changes from) ks full)
+    ∙ ap (λ (u : Tables). u.shop) (counted_is counts (made changes from (put_shop shop t)))
+    ∙ (stays changes from (next_after changes from) (put_shop shop t) (made changes from (put_shop shop t)) (all_turned changes from (put_shop shop t) (free_shop shop from t h))).shop
+    ∙ ap (λ (l : List ShopRow). shop ∷ l) (none_left t.shop)

@@ -21,20 +21,20 @@ use Rattle.bo_streams.specs.Served.{IsServed, IsListed, ServesOnce, Serves, afte
 use Rattle.bo_streams.specs.Streams.{Decides, ServesList, ServesRunning}
 
 module _ {T : Type 0} (tables : Meaning T) (house : House) where
-  pub is-house : (d : DeskView T) → IsOf tables house d → house_of d house.tokens ≡ house
-  is-house d is = ap₂ (λ (a b : List ℕ). let h : House = record { organizer = a; event = b; tokens = house.tokens } in h) is.organizer is.event
+  pub is-house : (d : DeskView T) → IsOf tables house d → house_of d house ≡ house
+  is-house d is = ap₂ (λ (a b : List ℕ). let h : House = record house { organizer = a; event = b } in h) is.organizer is.event
 
   -- a message as this house has it
   pub once-of : (old : DeskView T) (t : Tick) (m : Message) (answer : Answer) (new : DeskView T) → IsOf tables house old → tables.sure new.tables → Serves tables old t m answer new
       → ServesOnce tables (words_of house) old (arrival house t m) answer new
   once-of old t m answer new is sure serves =
-      subst (λ (h : House). ServesOnce tables (words_of h) old (arrival h t m) answer new) (is-house old is) (serves.once sure house.tokens is.tokens)
+      subst (λ (h : House). ServesOnce tables (words_of h) old (arrival h t m) answer new) (is-house old is) (serves.once sure house is.known)
 
   pub is-still : (old : DeskView T) (t : Tick) (m : Message) (answer : Answer) (new : DeskView T) → IsOf tables house old → tables.sure new.tables → Serves tables old t m answer new → IsOf tables house new
   is-still old t m answer new is sure serves = record {
     organizer = serves.organizer ∙ is.organizer;
     event = serves.event ∙ is.event;
-    tokens = (once-of old t m answer new is sure serves).tokens house.tokens is.tokens;
+    known = (once-of old t m answer new is sure serves).house house is.known;
   }
 
   -- a desk of this house that is seen so

@@ -1,9 +1,10 @@
 -- What a contract sees of the desk of a shop.
-use Rattle.std.specs.Prelude.{◌≡◌, ℕ, List, Option}
+use Rattle.std.specs.Prelude.{◌≡◌, ℕ, List}
 use Rattle.bo_base.specs.declared.answer.Response.{Response}
 use Rattle.bo_lists.specs.Lists.{State}
 use Rattle.bo_commands.specs.declared.replies.Reply.{Reply}
 use Rattle.bo_kept.specs.declared.kept.Kept.{Kept}
+pub use Rattle.bo_kept.specs.House.{House}
 use Rattle.bo_kept.specs.ShopView.{ShopView}
 use Rattle.bo_words.specs.Replies.{words}
 
@@ -14,25 +15,19 @@ pub record DeskView (T : Type 0) : Type 0 where
   pub tables : T
   pub state : State
 
--- What a trait says of the tables of a shop: when they are sure, what they hold, which tokens they know, and what a crash may
--- leave.
+-- What a trait says of the tables of a shop: when they are sure, what they hold, which house they know, and what a crash may leave.
 pub record Meaning (T : Type 0) : Type 1 where
   pub sure : T → Type 0
   pub holds : T → State → List Kept → Type 0
-  pub knows : T → (List ℕ → Option ℕ) → Type 0
+  pub knows : T → House → Type 0
   pub may_leave : T → ShopView → Type 0
 
-abbrev pub meaning : {T : Type 0} → (T → Type 0) → (T → State → List Kept → Type 0) → (T → (List ℕ → Option ℕ) → Type 0) → (T → ShopView → Type 0) → Meaning T
+abbrev pub meaning : {T : Type 0} → (T → Type 0) → (T → State → List Kept → Type 0) → (T → House → Type 0) → (T → ShopView → Type 0) → Meaning T
 meaning sure holds knows may_leave = record { sure = sure; holds = holds; knows = knows; may_leave = may_leave }
 
--- by what a message is read: the short names of the organizer and the event, and the number of each known token by its digest
-pub record House : Type 0 where
-  pub organizer : List ℕ
-  pub event : List ℕ
-  pub tokens : List ℕ → Option ℕ
-
-abbrev pub house_of : {T : Type 0} → DeskView T → (List ℕ → Option ℕ) → House
-house_of desk tokens = record { organizer = desk.organizer; event = desk.event; tokens = tokens }
+-- by what a message is read at a desk: its own names, and the tokens of the house that its tables know
+abbrev pub house_of : {T : Type 0} → DeskView T → House → House
+house_of desk house = record house { organizer = desk.organizer; event = desk.event }
 
 -- what a reply is told there
 abbrev pub words_of : House → Reply → Response
@@ -42,11 +37,11 @@ words_of house = words house.organizer house.event
 abbrev pub worded : {T : Type 0} → DeskView T → Reply → Response
 worded desk = words desk.organizer desk.event
 
--- a desk of this house
+-- a desk of this house, which its tables know too
 pub record IsOf {T : Type 0} (tables : Meaning T) (house : House) (desk : DeskView T) : Type 0 where
   pub organizer : desk.organizer ≡ house.organizer
   pub event : desk.event ≡ house.event
-  pub tokens : tables.knows desk.tables house.tokens
+  pub known : tables.knows desk.tables house
 
 -- the desk of an office over tables
 abbrev pub desk_with : {T : Type 0} → T → List ℕ → List ℕ → State → DeskView T

@@ -1,5 +1,5 @@
 -- What the desk of a shop does with one message, and what it answers.
-use Rattle.std.specs.Prelude.{◌≡◌, ℕ, ⊤, List, [], ◌∷◌, ◌++◌, Option, Result, Ok, Err}
+use Rattle.std.specs.Prelude.{◌≡◌, ⊤, List, [], ◌∷◌, ◌++◌, Result, Ok, Err}
 use Rattle.bo_base.specs.declared.answer.Answer.{Answer}
 use Rattle.bo_base.specs.declared.answer.Answer.TheVariants.{Decided, Unavailable}
 use Rattle.bo_base.specs.declared.answer.Response.{Response}
@@ -13,7 +13,7 @@ use Rattle.bo_deliveries.specs.Histories.{Running, IsRunning, after_act}
 use Rattle.bo_deliveries.specs.Shops.{Views, StandsFor, IsAnswered, delivered}
 use Rattle.bo_kept.specs.ShopView.{ShopView}
 use Rattle.bo_streams.specs.Coming.{arrival}
-use Rattle.bo_streams.specs.DeskView.{DeskView, Meaning, house_of, words_of}
+use Rattle.bo_streams.specs.DeskView.{DeskView, House, Meaning, house_of, words_of}
 
 -- without an arrival it is 401, in these words, or 503
 abbrev pub IsRefused : Response → Answer → Type 0
@@ -52,14 +52,14 @@ pub record ServesOnce {T : Type 0} (tables : Meaning T) (words : Reply → Respo
       → IsListed words coming p ds answer (λ es. StandsFor words tables.holds new.tables new.state p es)
   pub running : (r : Running) → IsRunning words tables.holds tables.may_leave old.tables old.state r
       → IsRunning words tables.holds tables.may_leave new.tables new.state (after_message words coming answer r)
-  pub tokens : (tokens : List ℕ → Option ℕ) → tables.knows old.tables tokens → tables.knows new.tables tokens
+  pub house : (house : House) → tables.knows old.tables house → tables.knows new.tables house
   pub fit : IsFitComing coming answer
 
 -- A desk keeps its names. Where its tables are sure after a message they were so before it, and the message is served once, as
--- the arrival that it is by the tokens that they know.
+-- the arrival that it is by the house that they know.
 pub record Serves {T : Type 0} (tables : Meaning T) (old : DeskView T) (tick : Tick) (m : Message) (answer : Answer) (new : DeskView T) : Type 0 where
   pub organizer : new.organizer ≡ old.organizer
   pub event : new.event ≡ old.event
   pub was_sure : tables.sure new.tables → tables.sure old.tables
-  pub once : tables.sure new.tables → (tokens : List ℕ → Option ℕ) → tables.knows old.tables tokens
-      → let house = house_of old tokens in ServesOnce tables (words_of house) old (arrival house tick m) answer new
+  pub once : tables.sure new.tables → (known : House) → tables.knows old.tables known
+      → let house = house_of old known in ServesOnce tables (words_of house) old (arrival house tick m) answer new

@@ -1,5 +1,5 @@
 -- A token that is added, and what it leaves as it was.
-use Rattle.std.proofs.Common.{◌≡◌, ◌⊎◌, ◌<◌, ◌≤◌, nat_lt, ℕ, Bool, true, false, cond, bytes_eq, List, ◌∷◌, find, Option, Some, None, option_map, IsTrue, inl, inr, Result, Ok, Err, IfOk, OnOk, OnErr, refl, sym, ap, subst, ◌∙◌, arith}
+use Rattle.std.proofs.Common.{◌≡◌, ◌⊎◌, ◌+◌, ◌<◌, ◌≤◌, nat_lt, ℕ, Bool, true, false, cond, bytes_eq, List, [], ◌∷◌, find, Option, Some, None, option_map, IsTrue, inl, inr, Result, Ok, Err, IfOk, OnOk, OnErr, refl, sym, ap, subst, ◌∙◌, arith}
 use Rattle.std.proofs.lemmas.Bool.Decides.{nat_tests}
 use Rattle.std.proofs.lemmas.Slice.Eq.{bytes_eq-Decides}
 use Rattle.sqlite_trees.specs.Tree.{Trees}
@@ -8,10 +8,12 @@ use Rattle.sqlite.specs.State.{State as Connected, HasCleanDisk, Survives}
 use Rattle.bo_schema.specs.Tables.{schema}
 use Rattle.bo_lists.specs.Lists.{State}
 use Rattle.bo_kept.specs.declared.kept.Kept.{Kept}
+use Rattle.bo_kept.specs.House.{House}
 use Rattle.bo_kept.specs.ShopView.{ShopView, IsSame}
 use Rattle.bo_columns.specs.declared.rows.ShopRow.{ShopRow}
 use Rattle.bo_columns.specs.declared.rows.Token.{Token}
 use Rattle.bo_columns.specs.Fit.{IsDigest}
+use Rattle.bo_columns.specs.Changes.{with_shop, without_shop}
 use Rattle.bo_columns.specs.Tables.{Tables, Holds}
 use Rattle.bo_loads.specs.Lookups.{has_digest}
 use Rattle.bo_schema.specs.Whole.{IsOver, IsStill, IsWritten, MayBeWritten}
@@ -19,9 +21,9 @@ use Rattle.bo_tables.specs.Begun.{HasToken, token_added}
 use Rattle.bo_tables.proofs.Begins.{token_stands, token_free}
 use Rattle.bo_typed.proofs.Typed.{token_typed}
 use Rattle.bo_tables.specs.Held.{number_of}
-use Rattle.bo_tables.specs.Shops.{HoldsWhileOpen, Knows, KnowsWhileOpen, HoldNoOther, Leaves}
-use Rattle.bo_tables.proofs.ShopLemmas.{still_holds, still_knows, leaves_still}
-use Rattle.bo_tables.specs.Tokens.{most_tokens, also_known, IsNumbered, HasNoRoom, raised, next_one, head_after, tables_after}
+use Rattle.bo_tables.specs.Shops.{HoldsWhileOpen, Tells, Knows, KnowsWhileOpen, LeavesHouse, HoldNoOther, Leaves, house_of_rows}
+use Rattle.bo_tables.proofs.ShopLemmas.{still_holds, still_knows, house_still, leaves_still}
+use Rattle.bo_tables.specs.Tokens.{most_tokens, also_known, house_with, IsNumbered, HasNoRoom, raised, next_one, head_after, tables_after}
 
 -- ---- nothing changed
 
@@ -41,13 +43,24 @@ told_again digest number tokens known other = elim (bytes_eq digest other) as (�
   | false ↦ λ e. refl
 ] refl
 
-pub found_knows : (next : ℕ) (c : Connected) (digest : List ℕ) (number : ℕ) (tokens : List ℕ → Option ℕ) → Some number ≡ tokens digest → KnowsWhileOpen next c tokens → KnowsWhileOpen next c (also_known digest number tokens)
-found_knows next c digest number tokens known knows is_open =
+same_with : (house : House) (digest : List ℕ) (number next : ℕ) → Some number ≡ house.tokens digest → house.next_token ≡ next → house ≡ house_with digest number next house
+same_with house digest number next known is =
+    let all = λ (other : List ℕ). sym (told_again digest number house.tokens known other) in
+    λ i. record { organizer = house.organizer; event = house.event; tokens = λ other. all other i; next_token = is i }
+
+next_is : (head : ShopRow) (next : ℕ) (db : Database) (house : House) → Knows head next db house → house.next_token ≡ head.next_token
+next_is head next db house k = ap (λ (h : House). h.next_token) k.tells.told
+
+pub found_knows : (head : ShopRow) (next : ℕ) (c : Connected) (digest : List ℕ) (number : ℕ) (house : House) → Some number ≡ house.tokens digest → KnowsWhileOpen head next c house
+    → KnowsWhileOpen head next c (house_with digest number head.next_token house)
+found_knows head next c digest number house known knows is_open =
     let it = knows is_open in
-    record {
-      told = record { known = it.told.known; tables = it.told.tables; held = it.told.held; told = λ other. told_again digest number tokens known other ∙ it.told.told other };
-      free = it.free;
-    }
+    subst (λ (h : House). Knows head next c.now h) (same_with house digest number head.next_token known (next_is head next c.now house it)) it
+
+pub found_leaves : (head : ShopRow) (next : ℕ) (old new : Connected) (digest : List ℕ) (number : ℕ) (house : House) → Some number ≡ house.tokens digest → Knows head next old.now house → HasCleanDisk new
+    → Survives old new (λ _. ⊥) → LeavesHouse old house → LeavesHouse new (house_with digest number head.next_token house)
+found_leaves head next old new digest number house known it clean h left =
+    subst (LeavesHouse new) (same_with house digest number head.next_token known (next_is head next old.now house it)) (house_still old new house clean h left)
 
 -- ---- a token more
 
@@ -75,18 +88,38 @@ module _ (head : ShopRow) (digest : List ℕ) (next : ℕ) (old new : Connected)
   pub number_too : (tokens : List ℕ → Option ℕ) (all : List Token) → ((other : List ℕ) → tokens other ≡ number_of all other) → (other : List ℕ) → also_known digest head.next_token tokens other ≡ number_of (token ∷ all) other
   number_too tokens all told other = elim (bytes_eq digest other) as (λ b. cond b (Some head.next_token) (tokens other) ≡ option_map (λ (t : Token). t.id) (cond b (Some token) (find (has_digest other) all))) [ true ↦ refl | false ↦ told other ]
 
-  pub added_knows : IsWritten adds old new → (tokens : List ℕ → Option ℕ) → KnowsWhileOpen next old tokens → KnowsWhileOpen next new (also_known digest head.next_token tokens)
-  added_knows w tokens knows is_open =
+  abbrev with_next : House → House
+  with_next house = house_with digest head.next_token (head.next_token + 1) house
+
+  same_added : (house : House) (all : List Token) → house ≡ house_of_rows head all → with_next house ≡ house_of_rows (raised head) (token ∷ all)
+  same_added house all told =
+      let too = number_too house.tokens all (λ other. ap (λ (h : House). h.tokens other) told) in
+      λ i. record { organizer = (told i).organizer; event = (told i).event; tokens = λ other. too other i; next_token = head.next_token + 1 }
+
+  pub added_tells : (db : Trees) (house : House) (t : Tables) → t.shop ≡ head ∷ [] → house ≡ house_of_rows head t.tokens → Holds db (token_added (raised head) token t) → Tells db (raised head) (with_next house)
+  added_tells db house t row told held = record {
+    tables = token_added (raised head) token t;
+    held = held;
+    shop_is = ap (λ (l : List ShopRow). (with_shop (raised head) (without_shop 1 (record t { shop = l }))).shop) row;
+    told = same_added house t.tokens told;
+  }
+
+  pub added_knows : IsWritten adds old new → (house : House) → KnowsWhileOpen head next old house → KnowsWhileOpen (raised head) next new (with_next house)
+  unfolding added_tells
+  added_knows w house knows is_open =
       let it = knows w.was_open in
+      let t = it.tells.tables in
       record {
-        told = record {
-          known = w.turned.known;
-          tables = token_added (raised head) token it.told.tables;
-          held = w.turned.holds it.told.tables it.told.held;
-          told = number_too tokens it.told.tables.tokens it.told.told;
-        };
-        free = token_free (raised head) token it.told.tables next it.free;
+        known = w.turned.known;
+        tells = added_tells new.now.trees house t it.tells.shop_is it.tells.told (w.turned.holds t it.tells.held);
+        free = token_free (raised head) token t next it.free;
       }
+
+  -- of an open connection a crash leaves the last commit
+  pub added_leaves : ((db : Trees) → IsTrue new.is_open → new.may_leave db → db ≡ new.committed.trees) → IsWritten adds old new → (house : House) → KnowsWhileOpen head next old house → LeavesHouse new (with_next house)
+  added_leaves law w house knows trees may =
+      let same : trees ≡ new.now.trees = law trees w.is_open may ∙ sym (ap (λ (d : Database). d.trees) w.settled) in
+      (raised head, subst (λ (db : Trees). Tells db (raised head) (with_next house)) (sym same) (added_knows w house knows w.is_open).tells)
 
   left_so : head.next_token ≤ most_tokens → IsDigest digest → (db : Trees) → MayBeWritten schema (λ (_ : Unit {0}). adds) old db → (left : ShopView) → HoldNoOther db left → (s : State) (ks : List Kept) → HoldsWhileOpen head next old s ks → IsSame left (record { state = s; kept = ks })
   left_so room is db may left only s ks holds =
@@ -139,11 +172,24 @@ module _ {E : Type 0} (r : Result ℕ E) (head : ShopRow) (digest : List ℕ) (n
   ]
   then_tables (Some known) e still = absurd cc
 
-  pub then_knows : (n : ℕ) → n ≡ next → (tokens : List ℕ → Option ℕ) → IsStill old mid → KnowsWhileOpen next old tokens → IfOk r (λ number. (number ≡ head.next_token) × (head.next_token ≤ most_tokens))
-      → OnOk r (IsWritten (HasToken (raised head) (next_one head digest)) mid new) → IfOk r (λ number. KnowsWhileOpen n new (also_known digest number tokens))
-  then_knows n row tokens still knows = elim r as (λ x. IfOk x (λ number. (number ≡ head.next_token) × (head.next_token ≤ most_tokens)) → OnOk x (IsWritten (HasToken (raised head) (next_one head digest)) mid new) → IfOk x (λ number. KnowsWhileOpen n new (also_known digest number tokens))) [
-    | Ok number ↦ λ is w. rw (is.0, row) (added_knows head digest next mid new w tokens (still_knows next old mid tokens still knows))
-    | Err error ↦ λ is w. tt
+  abbrev IsNext : Result ℕ E → Type 0
+  IsNext x = IfOk x (λ number. (number ≡ head.next_token) × (head.next_token ≤ most_tokens))
+
+  abbrev Writes : Result ℕ E → Type 0
+  Writes x = OnOk x (IsWritten (HasToken (raised head) (next_one head digest)) mid new)
+
+  pub then_knows : (now : ShopRow) (n : ℕ) → n ≡ next → (house : House) → IsStill old mid → KnowsWhileOpen head next old house → IsNext r → OnOk r (now ≡ raised head) → Writes r
+      → IfOk r (λ number. KnowsWhileOpen now n new (house_with digest number now.next_token house))
+  then_knows now n row house still knows = elim r as (λ x. IsNext x → OnOk x (now ≡ raised head) → Writes x → IfOk x (λ number. KnowsWhileOpen now n new (house_with digest number now.next_token house))) [
+    | Ok number ↦ λ is now_is w. rw (is.0, row, now_is) (added_knows head digest next mid new w house (still_knows head next old mid house still knows))
+    | Err error ↦ λ is now_is w. tt
+  ]
+
+  pub then_leaves_house : ((db : Trees) → IsTrue new.is_open → new.may_leave db → db ≡ new.committed.trees) → (now : ShopRow) (house : House) → IsStill old mid → KnowsWhileOpen head next old house
+      → IsNext r → OnOk r (now ≡ raised head) → Writes r → IfOk r (λ number. LeavesHouse new (house_with digest number now.next_token house))
+  then_leaves_house law now house still knows = elim r as (λ x. IsNext x → OnOk x (now ≡ raised head) → Writes x → IfOk x (λ number. LeavesHouse new (house_with digest number now.next_token house))) [
+    | Ok number ↦ λ is now_is w. rw (is.0, now_is) (added_leaves head digest next mid new law w house (still_knows head next old mid house still knows))
+    | Err error ↦ λ is now_is w. tt
   ]
 
   pub then_holds : (now : ShopRow) (n : ℕ) → n ≡ next → (s : State) (ks : List Kept) → IsStill old mid → HoldsWhileOpen head next old s ks → IsDigest digest → IfOk r (λ number. (number ≡ head.next_token) × (head.next_token ≤ most_tokens)) → OnOk r (now ≡ raised head) → OnErr r (now ≡ head)

@@ -12,6 +12,7 @@ use Rattle.bo_tables.proofs.Begins.{begins_empty, begins_free}
 use Rattle.bo_typed.specs.Typed.{IsTypedShop}
 use Rattle.bo_typed.proofs.Typed.{first_typed}
 use Rattle.bo_tables.specs.Made.{first_shop, nothing_yet, IsMade}
+use Rattle.bo_tables.specs.Shops.{Tells, house_of_rows}
 
 module _ (organizer event : List ℕ) (old new : Connected) where
   abbrev first : ShopRow
@@ -20,8 +21,12 @@ module _ (organizer event : List ℕ) (old new : Connected) where
   typed_so : IsSlug organizer → IsSlug event → IsTypedShop first (first_tables first)
   typed_so org ev = first_typed first refl org ev (record { from_one = omega arith; within = omega arith })
 
+  told : (db : Trees) → Holds db (first_tables first) → Tells db first (house_of_rows first [])
+  told db held = record { tables = first_tables first; held = held; shop_is = refl; told = refl }
+
   -- of an open connection a crash leaves the last commit
   pub is_made : ((db : Trees) → IsTrue new.is_open → new.may_leave db → db ≡ new.committed.trees) → IsSlug organizer → IsSlug event → (head : ShopRow) → head ≡ first → IsWritten (λ db after. IsBegun first after) old new → IsMade first old head 1 new
+  unfolding told
   is_made law org ev head is w = subst (λ h. IsMade first old h 1 new) (sym is) (record {
     was_open = w.was_open;
     is_open = w.is_open;
@@ -38,9 +43,11 @@ module _ (organizer event : List ℕ) (old new : Connected) where
       typed = typed_so org ev;
       free = begins_free first 1;
     };
-    knows = λ is_open. record {
-      told = record { known = w.turned.known; tables = first_tables first; held = w.turned.held; told = λ digest. refl };
-      free = begins_free first 1;
+    knows = record {
+      now = λ is_open. record { known = w.turned.known; tells = told new.now.trees w.turned.held; free = begins_free first 1 };
+      left = λ trees may.
+          let db : trees ≡ new.now.trees = law trees w.is_open may ∙ sym (ap (λ (d : Database). d.trees) w.settled) in
+          (first, told trees (subst (λ d. Holds d (first_tables first)) (sym db) w.turned.held));
     };
     leaves = λ left l.
         let db : l.trees ≡ new.now.trees = law l.trees w.is_open l.may ∙ sym (ap (λ (d : Database). d.trees) w.settled) in

@@ -11,20 +11,22 @@ use Rattle.bo_lists.specs.CountRows.{CountRows, counts_after}
 use Rattle.bo_lists.specs.Lists.{State}
 use Rattle.bo_lists.specs.declared.rows.NextIds.{NextIds}
 use Rattle.bo_kept.specs.declared.kept.Kept.{Kept}
+use Rattle.bo_kept.specs.House.{House}
 use Rattle.bo_kept.specs.ShopView.{ShopView, IsSame, listed, with_kept, committed}
 use Rattle.bo_columns.specs.declared.rows.ShopRow.{ShopRow}
 use Rattle.bo_columns.specs.declared.rows.Token.{Token}
 use Rattle.bo_columns.specs.Tables.{Tables, Holds}
+use Rattle.bo_stand.specs.Free.{IsFree}
 use Rattle.bo_stand.specs.Lawful.{puts_come_first}
 use Rattle.bo_stand.specs.Made.{done, next_after}
 use Rattle.bo_stand.specs.Stands.{IsRising, Stand}
-use Rattle.bo_stand.proofs.Carried.{carried, free_done, tokens_stay}
+use Rattle.bo_stand.proofs.Carried.{carried, free_done, shop_put, tokens_stay}
 use Rattle.bo_typed.specs.Typed.{IsTypedChange, IsTypedKept, IsTypedShop, IsSameShop}
 use Rattle.bo_typed.proofs.Typed.{committed_typed}
 use Rattle.bo_schema.specs.Whole.{IsStill, IsWritten, MayBeWritten}
 use Rattle.bo_tables.specs.Held.{KnowsTokens, number_of}
 use Rattle.bo_tables.specs.Committed.{Turns}
-use Rattle.bo_tables.specs.Shops.{Keeps, HoldsWhileOpen, Knows, KnowsWhileOpen, HoldNoOther, Leaves}
+use Rattle.bo_tables.specs.Shops.{Keeps, HoldsWhileOpen, Tells, Knows, KnowsWhileOpen, LeavesHouse, IsOfHouse, HoldNoOther, Leaves, house_of_rows}
 
 -- ---- nothing changed
 
@@ -43,10 +45,20 @@ still_holds head next old new s ks still holds is_open =
       free = it.free;
     }
 
-pub still_knows : (next : ℕ) (old new : Connected) (tokens : List ℕ → Option ℕ) → IsStill old new → KnowsWhileOpen next old tokens → KnowsWhileOpen next new tokens
-still_knows next old new tokens still knows is_open =
+pub still_knows : (head : ShopRow) (next : ℕ) (old new : Connected) (house : House) → IsStill old new → KnowsWhileOpen head next old house → KnowsWhileOpen head next new house
+still_knows head next old new house still knows is_open =
     let was = still.same is_open in
-    subst (λ (d : Database). Knows next d tokens) (sym was.now) (knows was.was_open)
+    subst (λ (d : Database). Knows head next d house) (sym was.now) (knows was.was_open)
+
+pub house_still : (old new : Connected) (house : House) → HasCleanDisk new → Survives old new (λ _. ⊥) → LeavesHouse old house → LeavesHouse new house
+house_still old new house clean h left trees may = elim (h.crash clean trees may) [ inl was ↦ left trees was | inr none ↦ absurd none ]
+
+pub still_house : (head : ShopRow) (next : ℕ) (old new : Connected) (house : House) → HasCleanDisk new → IsStill old new → Survives old new (λ _. ⊥) → IsOfHouse head next old house → IsOfHouse head next new house
+still_house head next old new house clean still survives of = record { now = still_knows head next old new house still of.now; left = house_still old new house clean survives of.left }
+
+-- a house that is known tells the number of each digest
+pub tells_tokens : (head : ShopRow) (next : ℕ) (db : Database) (house : House) → Knows head next db house → KnowsTokens db house.tokens
+tells_tokens head next db house k = record { known = k.known; tables = k.tells.tables; held = k.tells.held; told = λ digest. ap (λ (h : House). h.tokens digest) k.tells.told }
 
 pub leaves_still : (old new : Connected) → Survives old new (λ _. ⊥) → (left : ShopView) → Leaves new left → Leaves old left
 leaves_still old new h left l =
@@ -93,14 +105,43 @@ module _ (head shop : ShopRow) (changes : Changed) (counts : CountRows) (from : 
         free = rw w.turned.0 (free_done shop changes.list counts from (listed o) shop.moment it.tables it.free);
       }
 
-  pub written_knows : (free : ℕ) → IsWritten (turns free) old new → (tokens : List ℕ → Option ℕ) → KnowsWhileOpen from old tokens → KnowsWhileOpen free new tokens
-  written_knows free w tokens knows is_open =
+  -- the shop's row has the names that it had, and no token came or went
+  same_house : (t : Tables) → IsFree from t → house_of_rows head t.tokens ≡ house_of_rows shop (change t).tokens
+  same_house t free =
+      let organizer = sym same.organizer in
+      let event = sym same.event in
+      let all = sym (tokens_stay shop changes.list counts from shop.moment (listed o) t free) in
+      let next = sym same.token in
+      λ i. record { organizer = organizer i; event = event i; tokens = number_of (all i); next_token = next i }
+
+  tells_on : (db : Trees) (house : House) (t : Tables) → IsFree from t → house ≡ house_of_rows head t.tokens → Holds db (change t) → Tells db shop house
+  tells_on db house t free told held =
+      record { tables = change t; held = held; shop_is = shop_put shop changes.list counts from shop.moment (listed o) t free; told = told ∙ same_house t free }
+
+  pub written_knows : (free : ℕ) → IsWritten (turns free) old new → (house : House) → KnowsWhileOpen head from old house → KnowsWhileOpen shop free new house
+  unfolding tells_on
+  written_knows free w house knows is_open =
       let it = knows w.was_open in
-      let same = tokens_stay shop changes.list counts from shop.moment (listed o) it.told.tables it.free in
+      let t = it.tells.tables in
       record {
-        told = record { known = w.turned.1.known; tables = change it.told.tables; held = w.turned.1.holds it.told.tables it.free it.told.held; told = λ digest. it.told.told digest ∙ ap (λ (l : List Token). number_of l digest) (sym same) };
-        free = rw w.turned.0 (free_done shop changes.list counts from (listed o) shop.moment it.told.tables it.free);
+        known = w.turned.1.known;
+        tells = tells_on new.now.trees house t it.free it.tells.told (w.turned.1.holds t it.free it.tells.held);
+        free = rw w.turned.0 (free_done shop changes.list counts from (listed o) shop.moment t it.free);
       }
+
+  -- what a crash leaves of it is of the same house, whether it was made or not
+  pub written_leaves : HasCleanDisk new → Survives old new (MayBeWritten schema turns old) → (house : House) → IsOfHouse head from old house → LeavesHouse new house
+  written_leaves clean h house of trees may = elim (h.crash clean trees may) [
+    | inl was ↦ of.left trees was
+    | inr made ↦
+        let it = of.now made.was_open in
+        let t = it.tells.tables in
+        let turned = made.turned it.known in
+        (shop, tells_on trees house t it.free it.tells.told (subst (λ d. Holds d (change t)) (sym made.is) (turned.1.holds t it.free it.tells.held)))
+  ]
+
+  pub written_house : (free : ℕ) → HasCleanDisk new → IsWritten (turns free) old new → Survives old new (MayBeWritten schema turns old) → (house : House) → IsOfHouse head from old house → IsOfHouse shop free new house
+  written_house free clean w h house of = record { now = written_knows free w house of.now; left = written_leaves clean h house of }
 
   left_so : (db : Trees) → MayBeWritten schema turns old db → (left : ShopView) → HoldNoOther db left → (s : State) (ks : List Kept) → HoldsWhileOpen head from old s ks → is_right s → IsSame left (committed changes shop.moment o s ks)
   left_so db may left only s ks holds right =

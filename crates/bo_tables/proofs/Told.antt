@@ -39,6 +39,10 @@ module _ (db : Trees) (t u : Tables) (h : Holds db t) (k : Holds db u) where
   same_answers : IsPermutation (map (λ r. r.kept) t.kept) (map (λ r. r.kept) u.kept)
   same_answers = IsPermutation-map (λ r. r.kept) t.kept u.kept (alike kept_row kept_in kept_back t.kept u.kept _ h.1.1.1.1.1.1.1.1.1.1.1.1.1.1.1.1.0 k.1.1.1.1.1.1.1.1.1.1.1.1.1.1.1.1.0)
 
+  -- the one row of the shop
+  pub shop_again : (head : ShopRow) → t.shop ≡ head ∷ [] → u.shop ≡ head ∷ []
+  shop_again head is = one_permutation head u.shop (subst (λ l. IsPermutation l u.shop) is same_shops)
+
   module _ (a b : ShopRow) (x y : State) (ks js : List Kept) (s : Stand a t x ks) (r : Stand b u y js) where
     same_head : a ≡ b
     same_head =

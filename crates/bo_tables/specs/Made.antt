@@ -1,5 +1,5 @@
 -- A shop's file that was just made.
-use Rattle.std.specs.Prelude.{◌≡◌, ℕ, List, [], Option, None, IsTrue}
+use Rattle.std.specs.Prelude.{◌≡◌, ℕ, List, [], IsTrue}
 use Rattle.sqlite.specs.State.{State as Connected}
 use Rattle.bo_schema.specs.Tables.{schema}
 use Rattle.bo_lists.specs.Lists.{empty, first_ids}
@@ -7,7 +7,7 @@ use Rattle.bo_columns.specs.declared.rows.ShopRow.{ShopRow}
 use Rattle.bo_columns.specs.Tables.{Holds}
 use Rattle.bo_tables.specs.Begun.{first_tables}
 use Rattle.bo_kept.specs.ShopView.{ShopView, IsSame}
-use Rattle.bo_tables.specs.Shops.{HoldsWhileOpen, KnowsWhileOpen, Leaves}
+use Rattle.bo_tables.specs.Shops.{HoldsWhileOpen, IsOfHouse, Leaves, house_of_rows}
 
 -- the shop's row before its first change: version 1, moment 0, and each id begins with 1
 abbrev pub first_shop : List ℕ → List ℕ → ShopRow
@@ -18,7 +18,7 @@ abbrev pub nothing_yet : ShopView
 nothing_yet = record { state = empty; kept = [] }
 
 -- The connection was open and is. The tables are a shop's, with its first row alone; they hold an office without rows and no answer,
--- and know no token; a crash leaves them so.
+-- and know its house with no token; a crash leaves them so.
 pub record IsMade (first : ShopRow) (old : Connected) (head : ShopRow) (next : ℕ) (new : Connected) : Type 0 where
   pub was_open : IsTrue old.is_open
   pub is_open : IsTrue new.is_open
@@ -26,5 +26,5 @@ pub record IsMade (first : ShopRow) (old : Connected) (head : ShopRow) (next : �
   pub known : new.now.schema ≡ schema
   pub held : Holds new.now.trees (first_tables first)
   pub holds : HoldsWhileOpen head next new empty []
-  pub knows : KnowsWhileOpen next new (λ digest. None)
+  pub knows : IsOfHouse head next new (house_of_rows first [])
   pub leaves : (left : ShopView) → Leaves new left → IsSame left nothing_yet

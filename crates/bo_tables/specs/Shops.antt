@@ -1,5 +1,5 @@
--- What the file of a shop holds of its office, and what a crash may leave of it.
-use Rattle.std.specs.Prelude.{◌≡◌, ℕ, false, List, Option, IsTrue, IsPermutation, map}
+-- What the file of a shop holds of its office, what it knows of its house, and what a crash may leave of both.
+use Rattle.std.specs.Prelude.{◌≡◌, ℕ, false, List, [], ◌∷◌, IsTrue, IsPermutation, map}
 use Rattle.std.proofs.lemmas.List.Sorted.{IsPermutation-trans}
 use Rattle.sqlite_trees.specs.Tree.{Trees}
 use Rattle.sqlite.specs.Effect.{Database}
@@ -7,13 +7,15 @@ use Rattle.sqlite.specs.State.{State as Connected, HasCleanDisk}
 use Rattle.bo_schema.specs.Tables.{schema}
 use Rattle.bo_lists.specs.Lists.{State}
 use Rattle.bo_kept.specs.declared.kept.Kept.{Kept}
+use Rattle.bo_kept.specs.House.{House}
 use Rattle.bo_kept.specs.ShopView.{ShopView, IsSame}
 use Rattle.bo_columns.specs.declared.rows.ShopRow.{ShopRow}
+use Rattle.bo_columns.specs.declared.rows.Token.{Token}
 use Rattle.bo_columns.specs.Tables.{Tables, Holds}
 use Rattle.bo_stand.specs.Free.{IsFree}
 use Rattle.bo_stand.specs.Stands.{Stand}
 use Rattle.bo_typed.specs.Typed.{IsTypedShop}
-use Rattle.bo_tables.specs.Held.{KnowsTokens}
+use Rattle.bo_tables.specs.Held.{number_of}
 
 -- the connection shows what was committed, outside a transaction; it has a shop's tables, which hold this office and these
 -- answers, and this is the shop's row; all values are what their types promise, and each token's number is below the next one;
@@ -32,13 +34,34 @@ pub record Keeps (head : ShopRow) (next : ℕ) (c : Connected) (s : State) (answ
 abbrev pub HoldsWhileOpen : ShopRow → ℕ → Connected → State → List Kept → Type 0
 HoldsWhileOpen head next c s answers = IsTrue c.is_open → Keeps head next c s answers
 
--- it knows these tokens, and rows may be numbered from here on
-pub record Knows (next : ℕ) (db : Database) (tokens : List ℕ → Option ℕ) : Type 0 where
-  pub told : KnowsTokens db tokens
-  pub free : IsFree next told.tables
+-- the house that the shop's row and its tokens tell
+abbrev pub house_of_rows : ShopRow → List Token → House
+house_of_rows shop tokens = record { organizer = shop.organizer; event = shop.event; tokens = number_of tokens; next_token = shop.next_token }
 
-abbrev pub KnowsWhileOpen : ℕ → Connected → (List ℕ → Option ℕ) → Type 0
-KnowsWhileOpen next c tokens = IsTrue c.is_open → Knows next c.now tokens
+-- these trees hold a shop's tables; this is the shop's row, and with their tokens it tells this house
+pub record Tells (trees : Trees) (head : ShopRow) (house : House) : Type 0 where
+  pub tables : Tables
+  pub held : Holds trees tables
+  pub shop_is : tables.shop ≡ head ∷ []
+  pub told : house ≡ house_of_rows head tables.tokens
+
+-- the database has a shop's tables, which tell this house, and rows may be numbered from here on
+pub record Knows (head : ShopRow) (next : ℕ) (db : Database) (house : House) : Type 0 where
+  pub known : db.schema ≡ schema
+  pub tells : Tells db.trees head house
+  pub free : IsFree next tells.tables
+
+abbrev pub KnowsWhileOpen : ShopRow → ℕ → Connected → House → Type 0
+KnowsWhileOpen head next c house = IsTrue c.is_open → Knows head next c.now house
+
+-- whatever a crash leaves tells this house
+abbrev pub LeavesHouse : Connected → House → Type 0
+LeavesHouse c house = (trees : Trees) → c.may_leave trees → (head : ShopRow) × Tells trees head house
+
+-- the connection knows this house while it is open, and so does what a crash leaves
+pub record IsOfHouse (head : ShopRow) (next : ℕ) (c : Connected) (house : House) : Type 0 where
+  pub now : KnowsWhileOpen head next c house
+  pub left : LeavesHouse c house
 
 -- whatever shop these trees hold, with values that are what their types promise, is this one
 abbrev pub HoldNoOther : Trees → ShopView → Type 0

@@ -1,5 +1,6 @@
 -- A token is added.
 use Rattle.std.specs.Prelude.{◌≡◌, ℕ, ◌+◌, ◌<◌, ◌≤◌, List, Option, Some, None, bytes_eq, if◌then◌else◌}
+use Rattle.bo_kept.specs.House.{House}
 use Rattle.bo_columns.specs.declared.rows.ShopRow.{ShopRow}
 use Rattle.bo_columns.specs.declared.rows.Token.{Token}
 use Rattle.bo_columns.specs.Tables.{Tables}
@@ -12,6 +13,10 @@ most_tokens = 1000000
 -- the number of each digest once this one has a number
 abbrev pub also_known : List ℕ → ℕ → (List ℕ → Option ℕ) → List ℕ → Option ℕ
 also_known digest number tokens other = if bytes_eq digest other then Some number else tokens other
+
+-- the same house once this digest has this number, and the next token gets that one
+abbrev pub house_with : List ℕ → ℕ → ℕ → House → House
+house_with digest number next house = record house { tokens = also_known digest number house.tokens; next_token = next }
 
 -- a digest that has a number keeps it, and any other gets the next one, while there is one
 abbrev pub IsNumbered : Option ℕ → ℕ → ℕ → Type 0

@@ -1,20 +1,21 @@
 //! Tokens are added.
 
-ghost use Rattle.std.specs.Prelude.{◌≡◌, ◌⊎◌, ◌<◌, ◌≤◌, ℕ, List, Option, Some, None, Err, IfOk, OnOk, OnErr, IsTrue};
+ghost use Rattle.std.specs.Prelude.{◌≡◌, ◌⊎◌, ◌<◌, ◌≤◌, ℕ, List, Some, None, Err, IfOk, OnOk, OnErr, IsTrue};
 ghost use Rattle.sqlite_trees.specs.Tree.{Trees};
 ghost use Rattle.sqlite.specs.Held.{state};
 ghost use Rattle.sqlite.specs.State.{HasCleanDisk, Survives};
 ghost use Rattle.bo_schema.specs.Tables.{schema};
 ghost use Rattle.bo_lists.specs.Lists.{State};
 ghost use Rattle.bo_kept.specs.declared.kept.Kept.{Kept};
+ghost use Rattle.bo_kept.specs.House.{House};
 ghost use Rattle.bo_kept.specs.ShopView.{ShopView, IsSame};
 ghost use Rattle.bo_columns.specs.Fit.{IsDigest};
 ghost use Rattle.bo_columns.specs.Tables.{Tables, Holds};
 ghost use Rattle.bo_schema.specs.Whole.{IsOver, IsStill, IsWritten, MayBeWritten};
-ghost use Rattle.bo_tables.specs.Shops.{HoldsWhileOpen, KnowsWhileOpen, Leaves};
+ghost use Rattle.bo_tables.specs.Shops.{HoldsWhileOpen, KnowsWhileOpen, Leaves, LeavesHouse};
 ghost use Rattle.bo_tables.specs.Begun.{HasToken};
 ghost use Rattle.bo_tables.specs.declared.error.TokenError.TheVariants.{Full};
-ghost use Rattle.bo_tables.specs.Tokens.{most_tokens, also_known, IsNumbered, HasNoRoom, raised, next_one, head_after, tables_after};
+ghost use Rattle.bo_tables.specs.Tokens.{most_tokens, house_with, IsNumbered, HasNoRoom, raised, next_one, head_after, tables_after};
 
 use crate::add::put_token;
 use crate::error::TokenError;
@@ -60,28 +61,30 @@ fn add_next<S: Alter>(tables: &mut SqlTables<S>, digest: &[u8; 32]) -> Result<u6
 /// crash too. Refusals: 16 where the digest is new and the shop has 1,000,000 tokens, 6, 60, 62, and 63 where a transaction is open,
 /// the connection is shut or the store fails.
 pub fn add_token<S: Alter>(tables: &mut SqlTables<S>, digest: &[u8; 32]) -> Result<u64, TokenError>
-    ensures number { HasCleanDisk (state S.Store tables.new.connection) → (tokens : List ℕ → Option ℕ) → KnowsWhileOpen tables.old.next_row (state S.Store tables.old.connection) tokens
-        → IfOk result (IsNumbered (tokens digest.now) tables.old.head.next_token) }
-    ensures full { HasCleanDisk (state S.Store tables.new.connection) → (tokens : List ℕ → Option ℕ) → KnowsWhileOpen tables.old.next_row (state S.Store tables.old.connection) tokens
-        → result ≡ Err Full → HasNoRoom (tokens digest.now) tables.old.head.next_token }
-    ensures head { HasCleanDisk (state S.Store tables.new.connection) → (tokens : List ℕ → Option ℕ) → KnowsWhileOpen tables.old.next_row (state S.Store tables.old.connection) tokens
-        → OnOk result (tables.new.head ≡ head_after (tokens digest.now) tables.old.head) }
+    ensures number { HasCleanDisk (state S.Store tables.new.connection) → (house : House) → KnowsWhileOpen tables.old.head tables.old.next_row (state S.Store tables.old.connection) house
+        → IfOk result (IsNumbered (house.tokens digest.now) tables.old.head.next_token) }
+    ensures full { HasCleanDisk (state S.Store tables.new.connection) → (house : House) → KnowsWhileOpen tables.old.head tables.old.next_row (state S.Store tables.old.connection) house
+        → result ≡ Err Full → HasNoRoom (house.tokens digest.now) tables.old.head.next_token }
+    ensures head { HasCleanDisk (state S.Store tables.new.connection) → (house : House) → KnowsWhileOpen tables.old.head tables.old.next_row (state S.Store tables.old.connection) house
+        → OnOk result (tables.new.head ≡ head_after (house.tokens digest.now) tables.old.head) }
     ensures head_none { OnErr result (tables.new.head ≡ tables.old.head) }
     ensures next_row { tables.new.next_row ≡ tables.old.next_row }
     ensures was_open { HasCleanDisk (state S.Store tables.new.connection) → OnOk result (IsTrue (state S.Store tables.old.connection).is_open) }
-    ensures tables { HasCleanDisk (state S.Store tables.new.connection) → (tokens : List ℕ → Option ℕ) → KnowsWhileOpen tables.old.next_row (state S.Store tables.old.connection) tokens → IsTrue (state S.Store tables.new.connection).is_open
-        → OnOk result ((t : Tables) → Holds (state S.Store tables.old.connection).now.trees t → Holds (state S.Store tables.new.connection).now.trees (tables_after (tokens digest.now) tables.old.head digest.now t)) }
-    ensures knows { HasCleanDisk (state S.Store tables.new.connection) → (tokens : List ℕ → Option ℕ) → KnowsWhileOpen tables.old.next_row (state S.Store tables.old.connection) tokens
-        → IfOk result (λ number. KnowsWhileOpen tables.new.next_row (state S.Store tables.new.connection) (also_known digest.now number tokens)) }
+    ensures tables { HasCleanDisk (state S.Store tables.new.connection) → (house : House) → KnowsWhileOpen tables.old.head tables.old.next_row (state S.Store tables.old.connection) house → IsTrue (state S.Store tables.new.connection).is_open
+        → OnOk result ((t : Tables) → Holds (state S.Store tables.old.connection).now.trees t → Holds (state S.Store tables.new.connection).now.trees (tables_after (house.tokens digest.now) tables.old.head digest.now t)) }
+    ensures knows { HasCleanDisk (state S.Store tables.new.connection) → (house : House) → KnowsWhileOpen tables.old.head tables.old.next_row (state S.Store tables.old.connection) house
+        → IfOk result (λ number. KnowsWhileOpen tables.new.head tables.new.next_row (state S.Store tables.new.connection) (house_with digest.now number tables.new.head.next_token house)) }
+    ensures leaves_house { HasCleanDisk (state S.Store tables.new.connection) → (house : House) → KnowsWhileOpen tables.old.head tables.old.next_row (state S.Store tables.old.connection) house
+        → LeavesHouse (state S.Store tables.old.connection) house → IfOk result (λ number. LeavesHouse (state S.Store tables.new.connection) (house_with digest.now number tables.new.head.next_token house)) }
     ensures none { HasCleanDisk (state S.Store tables.new.connection) → IsOver schema (state S.Store tables.old.connection) → OnErr result (IsStill (state S.Store tables.old.connection) (state S.Store tables.new.connection)) }
     ensures holds { HasCleanDisk (state S.Store tables.new.connection) → (s : State) (ks : List Kept) → HoldsWhileOpen tables.old.head tables.old.next_row (state S.Store tables.old.connection) s ks
         → HoldsWhileOpen tables.new.head tables.new.next_row (state S.Store tables.new.connection) s ks }
     ensures crash { Survives (state S.Store tables.old.connection) (state S.Store tables.new.connection) (MayBeWritten schema (λ (_ : Unit {0}). HasToken (raised tables.old.head) (next_one tables.old.head digest.now)) (state S.Store tables.old.connection)) }
-    ensures known_crash { HasCleanDisk (state S.Store tables.new.connection) → (tokens : List ℕ → Option ℕ) → KnowsWhileOpen tables.old.next_row (state S.Store tables.old.connection) tokens
-        → (number : ℕ) → tokens digest.now ≡ Some number → Survives (state S.Store tables.old.connection) (state S.Store tables.new.connection) (λ _. ⊥) }
+    ensures known_crash { HasCleanDisk (state S.Store tables.new.connection) → (house : House) → KnowsWhileOpen tables.old.head tables.old.next_row (state S.Store tables.old.connection) house
+        → (number : ℕ) → house.tokens digest.now ≡ Some number → Survives (state S.Store tables.old.connection) (state S.Store tables.new.connection) (λ _. ⊥) }
     ensures leaves { (left : ShopView) → Leaves (state S.Store tables.new.connection) left → Leaves (state S.Store tables.old.connection) left
         ⊎ ((s : State) (ks : List Kept) → HoldsWhileOpen tables.old.head tables.old.next_row (state S.Store tables.old.connection) s ks → IsSame left (record { state = s; kept = ks })) }
-    ensures settled { HasCleanDisk (state S.Store tables.new.connection) → (tokens : List ℕ → Option ℕ) → KnowsWhileOpen tables.old.next_row (state S.Store tables.old.connection) tokens → tokens digest.now ≡ None
+    ensures settled { HasCleanDisk (state S.Store tables.new.connection) → (house : House) → KnowsWhileOpen tables.old.head tables.old.next_row (state S.Store tables.old.connection) house → house.tokens digest.now ≡ None
         → OnOk result ((db : Trees) → (state S.Store tables.new.connection).may_leave db → db ≡ (state S.Store tables.new.connection).now.trees) }
 {
     match find_number(tables.alloc, &mut tables.connection, digest) {

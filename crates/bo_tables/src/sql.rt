@@ -7,7 +7,7 @@ ghost use Rattle.sqlite.specs.State.{HasCleanDisk};
 ghost use Rattle.bo_kept.specs.ShopView.{listed};
 ghost use Rattle.bo_typed.specs.Typed.{IsTypedChange, IsTypedKept};
 ghost use Rattle.bo_tables.specs.Refusals.{refusal_of};
-ghost use Rattle.bo_tables.specs.Shops.{HoldsWhileOpen, KnowsWhileOpen, Leaves, reordered};
+ghost use Rattle.bo_tables.specs.Shops.{HoldsWhileOpen, IsOfHouse, Leaves, reordered};
 
 use crate::answers::find_answer;
 use crate::committing::Commit;
@@ -79,7 +79,7 @@ impl<S: Alter> Tables for SqlTables<S> {
 
     ghost holds = { λ t s ks. HoldsWhileOpen t.head t.next_row (state S.Store t.connection) s ks };
 
-    ghost knows = { λ t tokens. KnowsWhileOpen t.next_row (state S.Store t.connection) tokens };
+    ghost knows = { λ t house. IsOfHouse t.head t.next_row (state S.Store t.connection) house };
 
     ghost may_leave = { λ t left. Leaves (state S.Store t.connection) left };
 

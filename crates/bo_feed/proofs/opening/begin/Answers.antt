@@ -1,5 +1,6 @@
 use Rattle.std.proofs.Common.{ap, ◌∙◌}
 use Rattle.bo_columns.specs.declared.rows.ShopRow.{ShopRow}
+use Rattle.bo_feed.proofs.Added.{made_bare}
 use Rattle.bo_feed.proofs.opening.begin.Goals as goal
 
 pub returns-in-Ok-clause-row : goal.returns-in-Ok-clause-row
@@ -14,4 +15,4 @@ pub returns-in-Ok-clause-holds : goal.returns-in-Ok-clause-holds
 returns-in-Ok-clause-holds g c clean = (c.in-Ok.ensures.made clean).holds
 
 pub returns-in-Ok-clause-knows : goal.returns-in-Ok-clause-knows
-returns-in-Ok-clause-knows g c clean = (c.in-Ok.ensures.made clean).knows
+returns-in-Ok-clause-knows g c clean = made_bare _ _ _ _ _ c.in_ok-of_tables.ensures.0 c.in_ok-of_tables.ensures.1 (c.in-Ok.ensures.made clean).knows

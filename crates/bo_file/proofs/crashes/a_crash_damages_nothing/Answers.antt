@@ -1,9 +1,7 @@
-use Rattle.std.proofs.Common.{sym, subst}
 use Rattle.sqlite.specs.Held.{state}
 use Rattle.bo_opens.specs.declared.error.OpenError.{OpenError}
 use Rattle.bo_opens.specs.declared.error.OpenError.TheVariants.{Memory, NotAShop, Version, Damaged, Store}
 use Rattle.bo_opens.specs.Lawful.{IsOfMachine}
-use Rattle.bo_sound.specs.Sound.{IsSound}
 use Rattle.bo_tables.proofs.Told.{one_shop}
 use Rattle.bo_opens.proofs.FitLemmas.{of_machine}
 use Rattle.bo_opens.proofs.LimitLemmas.{sound_fits}
@@ -21,15 +19,14 @@ settled (Damaged rule) h = h (λ x. x)
 settled Store h = tt
 
 pub returns : goal.returns
-returns g c = λ words s r running found sound error why.
+returns g c = λ words s r running found error why.
     let db = (state g.S.Store c.args.fresh.now).now in
     settled error (λ no. leaves_some words r (λ left. running.leaves left (record {
       clean = found.clean;
       trees = db.trees;
       may = found.may;
       only = λ head tables it held stand is.
-          let left_so = running.leaves it (record { clean = found.clean; trees = db.trees; may = found.may; only = λ other rows more holds stands _. one_shop db.trees tables rows held holds head other it.state more.state it.kept more.kept stand stands }) in
-          let good = subst IsSound (sym left_so.2.state) (sound left_so.0 left_so.1) in
+          let good = running.leaves_sound it (record { clean = found.clean; trees = db.trees; may = found.may; only = λ other rows more holds stands _. one_shop db.trees tables rows held holds head other it.state more.state it.kept more.kept stand stands }) in
           let limits = sound_fits head tables it.state it.kept is.first is.organizer is.event is.token stand good is.rows in
           absurd (no (clear db found.known (of_machine db found.known tables held limits) (undamaged head tables it.state it.kept stand db.trees held is.numbered is.organizer is.event good) error why));
     })))

@@ -7,6 +7,7 @@ use Rattle.bo_deliveries.specs.Histories.{Crashed, opened}
 use Rattle.bo_deliveries.proofs.Crashes.{come_from_opening}
 use Rattle.bo_deliveries.proofs.Running.{reopened}
 use Rattle.bo_file.proofs.Again.{happens_on}
+use Rattle.bo_file.proofs.Tokens.{known_as}
 use Rattle.bo_file.proofs.crashes.a_shop_runs_on_after_a_crash.Goals as goal
 
 pub returns-clause-reopened : goal.returns-clause-reopened
@@ -18,6 +19,11 @@ returns-clause-reopened g c = λ found z o.
       held = o.holds;
       only = o.leaves;
     }
+
+pub returns-clause-house : goal.returns-clause-house
+returns-clause-house g c = λ house of found z o.
+    let left = of.left (state g.S.Store c.args.fresh.now).now.trees found.may in
+    known_as (state g.S.Store c.args.fresh.now).now.trees left.0 c.args.after.now.head c.args.after.now.next_row z (state g.S.Store c.args.after.now.connection) house left.1 o
 
 pub returns-clause-runs : goal.returns-clause-runs
 returns-clause-runs g c = λ words s r running found z o.

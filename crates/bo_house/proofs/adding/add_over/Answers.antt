@@ -19,7 +19,7 @@ returns-clause-gets g c =
     let e = c.add_token-added.ensures in
     let digest_is : c.digest.result ≡ sha256 c.args.token.now = c.digest.ensures ∙ ap sha256 c.as_bytes.ensures.value in
     let cleans : HasCleanDisk new → HasCleanDisk old = λ clean. omega (arith, clean, e.crash.clean) in
-    let all = got c.add_token-added.result tables.head later.head tables.next_row later.next_row c.digest.result old new cleans e.was_open e.next_row e.number e.head e.knows e.holds in
+    let all = got c.add_token-added.result tables.head later.head tables.next_row later.next_row c.digest.result old new cleans e.was_open e.next_row e.number e.head e.knows e.leaves_house e.holds in
     let by_digest : IfOk c.add_token-added.result (λ number. HasCleanDisk new → GetsToken tables.head tables.next_row (sha256 c.args.token.now) number old new) =
     subst (λ (d : List ℕ). IfOk c.add_token-added.result (λ number. HasCleanDisk new → GetsToken tables.head tables.next_row d number old new)) digest_is all in
     told_number c.add_token-added.result c.told.result _ c.told.ensures
@@ -32,11 +32,11 @@ returns-clause-none g c =
     (λ clean over. told_none c.add_token-added.result c.told.result _ c.told.ensures (c.add_token-added.ensures.none clean over))
 
 pub returns-clause-full : goal.returns-clause-full
-returns-clause-full g c = λ is clean known knows.
+returns-clause-full g c = λ is clean house knows.
     let digest_is : c.digest.result ≡ sha256 c.args.token.now = c.digest.ensures ∙ ap sha256 c.as_bytes.ensures.value in
     let cleared : HasCleanDisk (state g.S.Store c.add_token-added.new.tables.connection) = subst (λ it. HasCleanDisk (state g.S.Store it)) c.connection_of.ensures clean in
-    subst (λ (d : List ℕ). HasNoRoom (known d) c.args.opened.0.head.next_token) digest_is
-    (c.add_token-added.ensures.full cleared known knows (told_full c.add_token-added.result (sym c.told.ensures ∙ is)))
+    subst (λ (d : List ℕ). HasNoRoom (house.tokens d) c.args.opened.0.head.next_token) digest_is
+    (c.add_token-added.ensures.full cleared house knows (told_full c.add_token-added.result (sym c.told.ensures ∙ is)))
 
 pub returns-clause-crash : goal.returns-clause-crash
 returns-clause-crash g c =
@@ -47,9 +47,9 @@ returns-clause-crash g c =
     (subst (λ (d : List ℕ). Survives old (state g.S.Store c.add_token-added.new.tables.connection) (MayBeWritten schema (λ (_ : Unit {0}). HasToken (raised tables.head) (next_one tables.head d)) old)) digest_is c.add_token-added.ensures.crash)
 
 pub returns-clause-known_crash : goal.returns-clause-known_crash
-returns-clause-known_crash g c = λ clean known knows number is.
+returns-clause-known_crash g c = λ clean house knows number is.
     let old = state g.S.Store c.args.opened.0.connection in
     let digest_is : c.digest.result ≡ sha256 c.args.token.now = c.digest.ensures ∙ ap sha256 c.as_bytes.ensures.value in
     let cleared : HasCleanDisk (state g.S.Store c.add_token-added.new.tables.connection) = subst (λ it. HasCleanDisk (state g.S.Store it)) c.connection_of.ensures clean in
     subst (λ it. Survives old (state g.S.Store it) (λ _. ⊥)) (sym c.connection_of.ensures)
-    (c.add_token-added.ensures.known_crash cleared known knows number (subst (λ (d : List ℕ). known d ≡ Some number) (sym digest_is) is))
+    (c.add_token-added.ensures.known_crash cleared house knows number (subst (λ (d : List ℕ). house.tokens d ≡ Some number) (sym digest_is) is))

@@ -17,11 +17,11 @@ returns-in-Ok g c =
       full = λ is clean is_open db at known.
           let cleared = added.clean clean in
           full_by outcome db _ _ _ _ _ _ _ is opened.rests cleared is_open at known (added.none clean) (λ was_open. opened.opened cleared was_open db at known)
-          (λ tokens knows. added.full is clean tokens knows);
+          (λ house knows. added.full is clean house knows);
       crash = λ clean db at known.
           let cleared = added.clean clean in
           left_by db _ _ _ _ _ _ _ opened.rests opened.crash added.crash cleared clean at known (λ was_open. opened.opened cleared was_open db at known)
-          (λ tokens knows. added.known_crash clean tokens knows);
+          (λ house knows. added.known_crash clean house knows);
     }
 
 pub returns-in-Err : goal.returns-in-Err

@@ -12,10 +12,10 @@ returns-in-Ok g c =
       organizer = answered.organizer ∙ looked.organizer;
       event = answered.event ∙ looked.event;
       was_sure = λ sure. looked.sure (answered.sure sure);
-      once = λ sure tokens knows.
+      once = λ sure house knows.
           let before = answered.sure sure in
-          known (meaning g.T.Tables.sure g.T.Tables.holds g.T.Tables.knows g.T.Tables.may_leave) c.args.self.now c.number.new.self c.answer.new.self c.args.tick c.args.frame.now c.answer.result c.in-Ok.number tokens
-          looked.organizer looked.event (looked.found before tokens knows) (looked.same before) (looked.tokens before) looked.crash (answered.once sure);
+          known (meaning g.T.Tables.sure g.T.Tables.holds g.T.Tables.knows g.T.Tables.may_leave) c.args.self.now c.number.new.self c.answer.new.self c.args.tick c.args.frame.now c.answer.result c.in-Ok.number house
+          looked.organizer looked.event (looked.found before house knows) (looked.same before) (looked.house before) looked.crash (answered.once sure);
     }
 
 pub returns-in-Err : goal.returns-in-Err
@@ -26,8 +26,8 @@ returns-in-Err g c =
       organizer = looked.organizer;
       event = looked.event;
       was_sure = looked.sure;
-      once = λ sure tokens knows.
-          let house = house_of c.args.self.now tokens in
+      once = λ sure told knows.
+          let house = house_of c.args.self.now told in
           let coming = arrival house c.args.tick c.args.frame.now in
-          looked-up tables (words_of house) c.args.self.now c.number.new.self c.number.new.self coming _ (looked.same sure) (looked.tokens sure) looked.crash (unavailable tables (words_of house) c.number.new.self coming);
+          looked-up tables (words_of house) c.args.self.now c.number.new.self c.number.new.self coming _ (looked.same sure) (looked.house sure) looked.crash (unavailable tables (words_of house) c.number.new.self coming);
     }

@@ -4,10 +4,10 @@ use Rattle.bo_once.proofs.shop.Shop.act.Goals as goal
 
 pub returns-clause-stands : goal.returns-clause-stands
 returns-clause-stands g c = λ sure.
-    stands-from g.T.Tables.holds (g.W.Wording.words c.args.self.now.wording) c.args.self.now.tables c.write.new.self.tables c.args.self.now.state c.write.new.self.state c.args.arrival c.write.result
-    (c.write.ensures.answered sure)
+    stands-from g.T.Tables.holds (g.W.Wording.words c.args.self.now.wording) c.args.self.now.tables c.write-answer.new.self.tables c.args.self.now.state c.write-answer.new.self.state c.args.arrival c.write-answer.result
+    (c.write-answer.ensures.answered sure)
 
 pub returns-clause-running : goal.returns-clause-running
 returns-clause-running g c = λ sure r running.
-    runs-on g.T.Tables.holds g.T.Tables.may_leave (g.W.Wording.words c.args.self.now.wording) c.args.arrival c.requires c.args.self.now.tables c.write.new.self.tables c.args.self.now.state c.write.new.self.state r running
-    (c.write.ensures.crash sure) c.write.result (c.write.ensures.answered sure r.shop running.views) (c.write.ensures.settled sure)
+    runs-on g.T.Tables.holds g.T.Tables.may_leave (g.W.Wording.words c.args.self.now.wording) c.args.arrival c.requires c.args.self.now.tables c.write-answer.new.self.tables c.args.self.now.state c.write-answer.new.self.state r running
+    (c.write-answer.ensures.crash sure) c.write-answer.result c.known.ensures (c.write-answer.ensures.answered sure r.shop running.views) (c.write-answer.ensures.settled sure)

@@ -1,9 +1,11 @@
-use Rattle.std.proofs.Common.{◌≡◌, sym, ap, ◌∙◌, subst}
+use Rattle.std.proofs.Common.{◌≡◌, ◌⊎◌, sym, ap, ◌∙◌, subst}
 use Rattle.bo_lists.specs.Change.{applied}
 use Rattle.bo_lists.specs.Lists.{State}
-use Rattle.bo_kept.specs.ShopView.{listed}
+use Rattle.bo_sound.specs.Sound.{IsSound}
+use Rattle.bo_kept.specs.ShopView.{ShopView, IsSame, listed}
+use Rattle.bo_deliveries.specs.Shops.{Views, executed_at}
 use Rattle.bo_once.specs.OpenShop.{OpenShop}
-use Rattle.bo_once.proofs.ShopLemmas.{executed-views, executed-same}
+use Rattle.bo_once.proofs.ShopLemmas.{executed-views, executed-same, executed-leaves}
 use Rattle.bo_once.proofs.shop.Shop.execute.Goals as goal
 
 pub returns-clause-done : goal.returns-clause-done
@@ -21,3 +23,12 @@ returns-clause-settled g c = λ sure left may v views.
     executed-same g.T.Tables.holds (g.W.Wording.words c.args.self.now.wording) c.args.arrival c.args.at c.in-Ok.changes c.in-Ok.response (listed c.to_keep.result) c.args.self.now.state
     c.in-Ok.ensures.done c.to_keep.ensures c.in-Ok-counted.counts c.in-Ok-counted.ensures c.args.self.now.tables left v views
     (λ s ks held counted. c.in_ok-commit.ensures.settled sure left may s ks (subst (λ (t : g.row.T.Denot). g.T.Tables.holds t s ks) (sym tables_is) held) counted)
+
+pub returns-clause-crash : goal.returns-clause-crash
+returns-clause-crash g c = λ left may.
+    let tables_is : c.self.inside.tables ≡ c.args.self.now.tables = ap (λ (o : OpenShop g.row.T.Denot g.row.W.Denot). o.tables) c.self.view_is in
+    subst (λ (t : g.row.T.Denot). g.T.Tables.may_leave t left
+    ⊎ ((v : ShopView) → Views g.T.Tables.holds t c.args.self.now.state v → IsSame left (executed_at (g.W.Wording.words c.args.self.now.wording) c.args.arrival c.args.at v).0 × IsSound left.state))
+    tables_is
+    (executed-leaves g.T.Tables.holds (g.W.Wording.words c.args.self.now.wording) c.args.arrival c.args.at c.in-Ok.changes c.in-Ok.response (listed c.to_keep.result) c.args.self.now.state
+    c.in-Ok.ensures.done c.to_keep.ensures c.in-Ok-counted.counts c.in-Ok-counted.ensures c.self.inside.tables left _ c.in-Ok.ensures.sound (c.commit.ensures.crash left may))

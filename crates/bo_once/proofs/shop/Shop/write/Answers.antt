@@ -1,6 +1,7 @@
 use Rattle.std.proofs.Common.{◌⊎◌, sym, ap, ◌∙◌, subst}
 use Rattle.bo_lists.specs.Lists.{State}
 use Rattle.bo_kept.specs.ShopView.{ShopView, IsSame}
+use Rattle.bo_sound.specs.Sound.{IsSound}
 use Rattle.bo_deliveries.specs.Shops.{Views, executed_at, moment_at}
 use Rattle.bo_once.proofs.ShopLemmas.{settled-same, none-held, crash-same}
 use Rattle.bo_once.proofs.shop.Shop.write.Goals as goal
@@ -21,7 +22,7 @@ returns-in-Ok-clause-crash g c = λ sure left may.
     let before = c.execute.ensures.sure sure in
     crash-same g.T.Tables.holds g.T.Tables.may_leave (g.W.Wording.words c.args.self.now.wording) c.args.arrival c.moment_at-at.result c.args.self.now.tables c.held.new.self.tables c.execute.new.self.tables
     c.args.self.now.state c.held.new.self.state c.requires c.moment_at-at.ensures.at (held.found before) (held.same before) held.crash left
-    (subst (λ (w : _). g.T.Tables.may_leave c.held.new.self.tables left ⊎ ((v : ShopView) → Views g.T.Tables.holds c.held.new.self.tables c.held.new.self.state v → IsSame left (executed_at (g.W.Wording.words w) c.args.arrival c.moment_at-at.result v).0))
+    (subst (λ (w : _). g.T.Tables.may_leave c.held.new.self.tables left ⊎ ((v : ShopView) → Views g.T.Tables.holds c.held.new.self.tables c.held.new.self.state v → IsSame left (executed_at (g.W.Wording.words w) c.args.arrival c.moment_at-at.result v).0 × IsSound left.state))
     held.wording (c.execute.ensures.crash left may))
 
 pub returns-in-Err-execute-clause-crash : goal.returns-in-Err-execute-clause-crash
@@ -30,5 +31,5 @@ returns-in-Err-execute-clause-crash g c = λ sure left may.
     let before = c.execute.ensures.sure sure in
     crash-same g.T.Tables.holds g.T.Tables.may_leave (g.W.Wording.words c.args.self.now.wording) c.args.arrival c.moment_at-at.result c.args.self.now.tables c.held.new.self.tables c.execute.new.self.tables
     c.args.self.now.state c.held.new.self.state c.requires c.moment_at-at.ensures.at (held.found before) (held.same before) held.crash left
-    (subst (λ (w : _). g.T.Tables.may_leave c.held.new.self.tables left ⊎ ((v : ShopView) → Views g.T.Tables.holds c.held.new.self.tables c.held.new.self.state v → IsSame left (executed_at (g.W.Wording.words w) c.args.arrival c.moment_at-at.result v).0))
+    (subst (λ (w : _). g.T.Tables.may_leave c.held.new.self.tables left ⊎ ((v : ShopView) → Views g.T.Tables.holds c.held.new.self.tables c.held.new.self.state v → IsSame left (executed_at (g.W.Wording.words w) c.args.arrival c.moment_at-at.result v).0 × IsSound left.state))
     held.wording (c.execute.ensures.crash left may))
