@@ -1,13 +1,13 @@
 //! A shop's file is opened.
 
-ghost use Rattle.std.specs.Prelude.{◌≡◌, IfOk, IfErr, IsTrue};
+ghost use Rattle.std.specs.Prelude.{◌≡◌, IfOk, IfErr};
 ghost use Rattle.sqlite.specs.Effect.{Database};
 ghost use Rattle.sqlite.specs.Held.{state};
-ghost use Rattle.sqlite.specs.State.{HasCleanDisk, Survives};
+ghost use Rattle.sqlite.specs.State.{HasCleanDisk, Survives, IsUnchanged};
 ghost use Rattle.bo_schema.specs.Tables.{schema};
 ghost use Rattle.bo_sound.specs.Sound.{IsSound};
 ghost use Rattle.bo_opens.specs.declared.error.OpenError.{OpenError};
-ghost use Rattle.bo_opens.specs.Rests.{IsAt, Rests};
+ghost use Rattle.bo_opens.specs.Rests.{IsOpenAt, Rests};
 ghost use Rattle.bo_opens.specs.Causes.{IsReadable};
 ghost use Rattle.bo_opens.specs.Lawful.{IsOfMachine};
 ghost use Rattle.bo_file.specs.Opened.{IsReason, IsOpened};
@@ -31,13 +31,14 @@ pub fn open_file<S: Alter>(
     alloc: Global,
     mut connection: Connection<S>,
 ) -> Result<(SqlTables<S>, Office<Counters>), HandedBack<S, OpenError>>
-    ensures opened { IfOk result (λ it. HasCleanDisk (state S.Store it.0.connection) → IsTrue (state S.Store it.0.connection).is_open → (db : Database) → IsAt db (state S.Store connection) → db.schema ≡ schema → IsOpened db.trees it.0.head it.0.next_row it.1.state (state S.Store it.0.connection)) }
+    ensures opened { IfOk result (λ it. HasCleanDisk (state S.Store it.0.connection) → (db : Database) → IsOpenAt db (state S.Store connection) → db.schema ≡ schema → IsOpened db.trees it.0.head it.0.next_row it.1.state (state S.Store it.0.connection)) }
     ensures names { IfOk result (λ it. (it.1.organizer ≡ it.0.head.organizer) × (it.1.event ≡ it.0.head.event)) }
     ensures version { IfOk result (λ it. it.0.head.version ≡ 1) }
     ensures sound { IfOk result (λ it. IsSound it.1.state) }
-    ensures found { IfOk result (λ it. HasCleanDisk (state S.Store it.0.connection) → IsTrue (state S.Store it.0.connection).is_open → (db : Database) → IsAt db (state S.Store connection) → IsReadable db) }
-    ensures whole { IfOk result (λ it. HasCleanDisk (state S.Store it.0.connection) → IsTrue (state S.Store it.0.connection).is_open → (db : Database) → IsAt db (state S.Store connection) → db.schema ≡ schema → (error : OpenError) → IsReason db error → IsOfMachine error) }
-    ensures cause { IfErr result (λ it. HasCleanDisk (state S.Store it.connection) → IsTrue (state S.Store it.connection).is_open → (db : Database) → IsAt db (state S.Store connection) → IsReason db it.error) }
+    ensures found { IfOk result (λ it. HasCleanDisk (state S.Store it.0.connection) → (db : Database) → IsOpenAt db (state S.Store connection) → IsReadable db) }
+    ensures whole { IfOk result (λ it. HasCleanDisk (state S.Store it.0.connection) → (db : Database) → IsOpenAt db (state S.Store connection) → db.schema ≡ schema → (error : OpenError) → IsReason db error → IsOfMachine error) }
+    ensures cause { IfErr result (λ it. HasCleanDisk (state S.Store it.connection) → (db : Database) → IsOpenAt db (state S.Store connection) → IsReason db it.error) }
+    ensures same { IfOk result (λ it. HasCleanDisk (state S.Store it.0.connection) → IsUnchanged (state S.Store connection) (state S.Store it.0.connection)) }
     ensures rests { IfOk result (λ it. Rests (state S.Store connection) (state S.Store it.0.connection)) }
     ensures rests_none { IfErr result (λ it. Rests (state S.Store connection) (state S.Store it.connection)) }
     ensures crash { IfOk result (λ it. Survives (state S.Store connection) (state S.Store it.0.connection) (λ _. ⊥)) }

@@ -3,13 +3,13 @@
 ghost use Rattle.std.specs.Prelude.{◌≡◌, false, IfOk, IfErr, OnOk, IsTrue};
 ghost use Rattle.sqlite.specs.Effect.{Database};
 ghost use Rattle.sqlite.specs.Held.{state};
-ghost use Rattle.sqlite.specs.State.{HasCleanDisk, Survives};
+ghost use Rattle.sqlite.specs.State.{HasCleanDisk, Survives, IsUnchanged};
 ghost use Rattle.bo_schema.specs.Tables.{schema};
 ghost use Rattle.bo_lists.specs.Lists.{empty};
 ghost use Rattle.bo_sound.specs.Sound.{IsSound};
 ghost use Rattle.bo_columns.specs.Tables.{Holds};
 ghost use Rattle.bo_opens.specs.declared.error.OpenError.{OpenError};
-ghost use Rattle.bo_opens.specs.Rests.{IsAt, Rests};
+ghost use Rattle.bo_opens.specs.Rests.{IsOpenAt, Rests};
 ghost use Rattle.bo_opens.specs.Causes.{IsFitFile, IsReadable, IsCause};
 ghost use Rattle.bo_opens.specs.Lawful.{IsOfMachine};
 ghost use Rattle.bo_opens.specs.Read.{tables_of};
@@ -26,12 +26,13 @@ fn read_outside<S: Alter>(
     alloc: Global,
     connection: &mut Connection<S>,
 ) -> Result<FileTables, OpenError>
-    ensures held { HasCleanDisk (state S.Store connection.new) → IsTrue (state S.Store connection.new).is_open → (db : Database) → IsAt db (state S.Store connection.old) → db.schema ≡ schema → IfOk result (λ file. Holds db.trees (tables_of file)) }
+    ensures held { HasCleanDisk (state S.Store connection.new) → (db : Database) → IsOpenAt db (state S.Store connection.old) → db.schema ≡ schema → IfOk result (λ file. Holds db.trees (tables_of file)) }
     ensures version { IfOk result (λ file. file.shop.version ≡ 1) }
     ensures limits { IfOk result IsFitFile }
-    ensures found { HasCleanDisk (state S.Store connection.new) → IsTrue (state S.Store connection.new).is_open → (db : Database) → IsAt db (state S.Store connection.old) → OnOk result (IsReadable db) }
-    ensures cause { HasCleanDisk (state S.Store connection.new) → IsTrue (state S.Store connection.new).is_open → (db : Database) → IsAt db (state S.Store connection.old) → IfErr result (IsCause db) }
+    ensures found { HasCleanDisk (state S.Store connection.new) → (db : Database) → IsOpenAt db (state S.Store connection.old) → OnOk result (IsReadable db) }
+    ensures cause { HasCleanDisk (state S.Store connection.new) → (db : Database) → IsOpenAt db (state S.Store connection.old) → IfErr result (IsCause db) }
     ensures outside { OnOk result (connection.new.in_transaction ≡ false) }
+    ensures same { HasCleanDisk (state S.Store connection.new) → OnOk result (IsUnchanged (state S.Store connection.old) (state S.Store connection.new)) }
     ensures rests { Rests (state S.Store connection.old) (state S.Store connection.new) }
     ensures crash { Survives (state S.Store connection.old) (state S.Store connection.new) (λ _. ⊥) }
 {
@@ -52,13 +53,14 @@ pub(crate) fn reopen<S: Alter, B: Book + Drop>(
     book: B,
 ) -> Result<Reopened<B>, OpenError>
     requires { B.state book ≡ empty }
-    ensures opened { HasCleanDisk (state S.Store connection.new) → IsTrue (state S.Store connection.new).is_open → (db : Database) → IsAt db (state S.Store connection.old) → db.schema ≡ schema → IfOk result (λ it. IsOpened db.trees it.head it.next_row (B.state it.book) (state S.Store connection.new)) }
+    ensures opened { HasCleanDisk (state S.Store connection.new) → (db : Database) → IsOpenAt db (state S.Store connection.old) → db.schema ≡ schema → IfOk result (λ it. IsOpened db.trees it.head it.next_row (B.state it.book) (state S.Store connection.new)) }
     ensures names { IfOk result (λ it. (it.organizer ≡ it.head.organizer) × (it.event ≡ it.head.event)) }
     ensures version { IfOk result (λ it. it.head.version ≡ 1) }
     ensures sound { IfOk result (λ it. IsSound (B.state it.book)) }
-    ensures found { HasCleanDisk (state S.Store connection.new) → IsTrue (state S.Store connection.new).is_open → (db : Database) → IsAt db (state S.Store connection.old) → OnOk result (IsReadable db) }
-    ensures whole { HasCleanDisk (state S.Store connection.new) → IsTrue (state S.Store connection.new).is_open → (db : Database) → IsAt db (state S.Store connection.old) → db.schema ≡ schema → OnOk result ((error : OpenError) → IsReason db error → IsOfMachine error) }
-    ensures cause { HasCleanDisk (state S.Store connection.new) → IsTrue (state S.Store connection.new).is_open → (db : Database) → IsAt db (state S.Store connection.old) → IfErr result (IsReason db) }
+    ensures found { HasCleanDisk (state S.Store connection.new) → (db : Database) → IsOpenAt db (state S.Store connection.old) → OnOk result (IsReadable db) }
+    ensures whole { HasCleanDisk (state S.Store connection.new) → (db : Database) → IsOpenAt db (state S.Store connection.old) → db.schema ≡ schema → OnOk result ((error : OpenError) → IsReason db error → IsOfMachine error) }
+    ensures cause { HasCleanDisk (state S.Store connection.new) → (db : Database) → IsOpenAt db (state S.Store connection.old) → IfErr result (IsReason db) }
+    ensures same { HasCleanDisk (state S.Store connection.new) → OnOk result (IsUnchanged (state S.Store connection.old) (state S.Store connection.new)) }
     ensures rests { Rests (state S.Store connection.old) (state S.Store connection.new) }
     ensures crash { Survives (state S.Store connection.old) (state S.Store connection.new) (λ _. ⊥) }
 {

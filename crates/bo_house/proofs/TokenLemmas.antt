@@ -21,7 +21,7 @@ use Rattle.bo_opens.specs.declared.error.OpenError.{OpenError}
 use Rattle.bo_opens.specs.declared.error.OpenError.TheVariants as opening
 use Rattle.bo_schema.specs.declared.error.RowError.{RowError}
 use Rattle.bo_schema.specs.declared.error.RowError.TheVariants as rows
-use Rattle.bo_opens.specs.Rests.{IsAt, Rests}
+use Rattle.bo_opens.specs.Rests.{IsAt, IsOpenAt, Rests}
 use Rattle.bo_file.specs.Opened.{IsOpened}
 use Rattle.bo_schema.specs.Tables.{schema}
 use Rattle.bo_schema.specs.Whole.{IsOver, IsStill, MayBeWritten}
@@ -70,6 +70,10 @@ told_full (Err (tokens.Rows error)) is = absurd (false≢true (sym (full_rows er
 
 pub never_full : (error : OpenError) (fault : RunFault) (P : Type 0) → fault ≡ fault_of_opening error → ◌≡◌ {A = Result ℕ RunFault} (Err fault) (Err faults.Full) → P
 never_full error fault P told is = absurd (false≢true (sym (full_opening error) ∙ (ap is_full (sym told) ∙ ap is_full_in is)))
+
+-- what is open after it was only read was open before
+pub open_at : (old mid : Connected) → Rests old mid → HasCleanDisk mid → IsTrue mid.is_open → (db : Database) → IsAt db old → IsOpenAt db old
+open_at old mid rests clean is_open db at = record { is_open = (rests clean is_open).was_open; now = at.now; committed = at.committed }
 
 -- of a file that was opened, and whose tables had no room for the token
 pub full_by : (told : Result ℕ RunFault) (db : Database) (head : ShopRow) (next : ℕ) (office : State) (digest : List ℕ) (old mid new : Connected) → told ≡ Err faults.Full
@@ -173,7 +177,7 @@ left_by db head next office digest old mid new rests first second cleared clean 
 pub no_token : {S : Type 0} (g : Ghosts S) (digest : List ℕ) (old : Connected) (left : Connection S) (outcome : Result ℕ RunFault) → StaysUnopened g old left outcome → AddsTokenIn g digest old left outcome
 no_token g digest old left outcome stays = subst (λ (o : Result ℕ RunFault). AddsTokenIn g digest old left o) (sym stays.told) (record {
   added = tt;
-  cause = λ clean is_open db at. inl (stays.error, refl, stays.cause clean is_open db at);
+  cause = λ clean db at. inl (stays.error, refl, stays.cause clean db at);
   none = λ clean is_open db at known. (stays.rests clean is_open).stays db at;
   full = λ is clean is_open db at known. never_full stays.error _ _ refl is;
   crash = λ clean db at known trees may. elim (stays.crash.crash clean trees may) [ inl was ↦ inl was | inr none ↦ absurd none ];

@@ -25,7 +25,7 @@ use Rattle.bo_opens.specs.declared.error.OpenError.{OpenError}
 use Rattle.bo_file.specs.Opened.{IsReason}
 use Rattle.bo_line.specs.declared.fault.RunFault.{RunFault}
 use Rattle.bo_line.specs.declared.fault.RunFault.TheVariants as faults
-use Rattle.bo_opens.specs.Rests.{IsAt}
+use Rattle.bo_opens.specs.Rests.{IsAt, IsOpenAt}
 use Rattle.bo_house.specs.Faults.{fault_of_opening, fault_of_token}
 
 -- a shop was made for this organizer and this event
@@ -93,7 +93,7 @@ pub record MakesShopIn {S : Type 0} (g : Ghosts S) (organizer event : List ℕ) 
 -- leaves what one before it could have left, or the shop with the token, which is new then.
 pub record AddsTokenIn {S : Type 0} (g : Ghosts S) (digest : List ℕ) (old : Connected) (left : Connection S) (outcome : Result ℕ RunFault) : Type 0 where
   pub added : IfOk outcome (λ number. HasCleanDisk (state g left) → (db : Database) → IsAt db old → db.schema ≡ schema → KnowsToken db.trees digest number (state g left))
-  pub cause : IfErr outcome (λ fault. HasCleanDisk (state g left) → IsTrue (state g left).is_open → (db : Database) → IsAt db old → IsToldFor db fault)
+  pub cause : IfErr outcome (λ fault. HasCleanDisk (state g left) → (db : Database) → IsOpenAt db old → IsToldFor db fault)
   pub none : HasCleanDisk (state g left) → IsTrue (state g left).is_open → (db : Database) → IsAt db old → db.schema ≡ schema → OnErr outcome (IsAt db (state g left))
   pub full : outcome ≡ Err faults.Full → HasCleanDisk (state g left) → IsTrue (state g left).is_open → (db : Database) → IsAt db old → db.schema ≡ schema → IsFullFor db.trees digest
   pub crash : HasCleanDisk (state g left) → (db : Database) → IsAt db old → db.schema ≡ schema → (trees : Trees) → (state g left).may_leave trees → old.may_leave trees ⊎ HasNextToken db.trees digest trees

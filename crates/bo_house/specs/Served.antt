@@ -1,5 +1,5 @@
 -- What becomes of a shop's database that is served.
-use Rattle.std.specs.Prelude.{◌≡◌, ℕ, None, Result, Err, IsTrue}
+use Rattle.std.specs.Prelude.{◌≡◌, ℕ, None, Result, Err}
 use Rattle.sqlite_trees.specs.declared.store.Store.{Ghosts}
 use Rattle.sqlite.specs.Effect.{Database}
 use Rattle.sqlite.specs.Held.{state}
@@ -7,7 +7,7 @@ use Rattle.sqlite.specs.State.{State as Connected, HasCleanDisk, Survives}
 use Rattle.sqlite.specs.declared.connection.Connection.{Connection}
 use Rattle.bo_schema.specs.Tables.{schema}
 use Rattle.bo_sound.specs.Sound.{IsSound}
-use Rattle.bo_opens.specs.Rests.{IsAt, Rests}
+use Rattle.bo_opens.specs.Rests.{IsOpenAt, Rests}
 use Rattle.bo_opens.specs.declared.error.OpenError.{OpenError}
 use Rattle.bo_file.specs.Opened.{IsOpened, IsReason}
 use Rattle.bo_tables.specs.declared.sql.SqlTables.{SqlTables}
@@ -17,10 +17,10 @@ use Rattle.bo_line.specs.declared.fault.RunFault.{RunFault}
 use Rattle.bo_serve.specs.Visits.{AnswersCallers, between, most_of}
 use Rattle.bo_house.specs.Faults.{fault_of_opening}
 
--- The desk is that of the shop in the database: where the disk returned what was written and the connection is open, its tables and its
+-- The desk is that of the shop in the database: where the disk returned what was written and the connection was open, its tables and its
 -- office are what the rows are opened as. The tables are of version 1, the office is sound, and opening changed nothing, in a crash too.
 pub record OpensAs {S : Type 0} (g : Ghosts S) (old : Connected) (desk : DeskView (SqlTables S)) : Type 0 where
-  pub opened : HasCleanDisk (state g desk.tables.connection) → IsTrue (state g desk.tables.connection).is_open → (db : Database) → IsAt db old → db.schema ≡ schema
+  pub opened : HasCleanDisk (state g desk.tables.connection) → (db : Database) → IsOpenAt db old → db.schema ≡ schema
       → IsOpened db.trees desk.tables.head desk.tables.next_row desk.state (state g desk.tables.connection)
   pub organizer : desk.organizer ≡ desk.tables.head.organizer
   pub event : desk.event ≡ desk.tables.head.event
@@ -49,6 +49,6 @@ IsSilent old new = new ≡ old
 pub record StaysUnopened {S A : Type 0} (g : Ghosts S) (old : Connected) (left : Connection S) (outcome : Result A RunFault) : Type 0 where
   pub error : OpenError
   pub told : outcome ≡ Err (fault_of_opening error)
-  pub cause : HasCleanDisk (state g left) → IsTrue (state g left).is_open → (db : Database) → IsAt db old → IsReason db error
+  pub cause : HasCleanDisk (state g left) → (db : Database) → IsOpenAt db old → IsReason db error
   pub rests : Rests old (state g left)
   pub crash : Survives old (state g left) (λ _. ⊥)

@@ -142,8 +142,8 @@ module _ (db : Database) (known : db.schema ≡ schema) where
   clear of whole NotAShop (inl none) = lacks_none of_shop.select_text _ [] of_shop.select_is db.schema known none
   clear of whole NotAShop (inr h) = has_tables db.schema known h.2.1
   clear of whole (Version version) h = one_is_ours h.0 (of h.0 h.1) version h.2
-  clear of whole (Damaged rule.Shop) h = h.2.1 (of h.0 h.1)
-  clear of whole (Damaged rule.Limits) h = whole (h.2.1 known)
+  clear of whole (Damaged rule.Shop) h = h.2.2 (of h.0 h.1)
+  clear of whole (Damaged rule.Limits) h = whole (h.2.2 known)
   clear of whole (Damaged rule.Ids) h = h
   clear of whole (Damaged rule.Names) h = h
   clear of whole (Damaged rule.Positions) h = h
@@ -191,10 +191,10 @@ read_holds db rows file known shows is held =
     (shop, (a.items, (a.variations, (a.quotas, (a.quota_items, (a.quota_variations, (b.vouchers, (b.carts, (b.orders, (b.positions, (b.waiting, (d.checkin_lists, (d.list_items, (d.checkins, (e.counts, (e.tokens, (e.kept, tt)))))))))))))))))
 
 pub readable : (db : Database) (rows : List Row) (o : Option TableRows) (r : Result FileTables OpenError) → ShowsBy of_shop.select_text db rows → IfOk r (λ file. rows ≡ shop_row file.shop ∷ []) → IfOk r (λ file. file.shop.version ≡ 1) → IfOk r (λ file. o ≡ Some file.tables)
-    → IfOk r IsFitFile → IfSome o (λ _. HasTables db.schema) → (db.schema ≡ schema → IfSome o (HoldsRows db.trees)) → OnOk r (IsReadable db)
+    → IfOk r IsFitFile → HasTables db.schema → (db.schema ≡ schema → IfSome o (HoldsRows db.trees)) → OnOk r (IsReadable db)
 readable db rows o (Ok file) shows is first some fit has held = record {
   shop = (rows, shows, (file.shop, fit.shop, fit.ids, first, is));
-  tables = was_some o file.tables (λ _. HasTables db.schema) some has;
+  tables = has;
   values = λ known. undamaged_tables (tables_of file) db.trees (read_holds db rows file known shows is (was_some o file.tables (HoldsRows db.trees) some (held known))) (fit_read file first fit);
 }
 readable db rows o (Err e) shows is first some fit has held = tt

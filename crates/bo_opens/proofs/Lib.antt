@@ -4,3 +4,8 @@ pub mod CauseLemmas
 pub mod FitLemmas
 pub mod LimitLemmas
 pub mod SameLemmas
+pub mod Stays
+pub mod Walked
+pub mod Gathering
+pub mod Refusing
+pub mod Shown

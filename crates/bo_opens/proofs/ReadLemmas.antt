@@ -2,20 +2,13 @@
 use Rattle.std.proofs.Common.{◌≡◌, List, [], ◌∷◌, map, IsTrue, Result, Ok, Err, IfOk, IfErr, OnOk, Option, Some, None, IfSome, subst, sym, ◌∙◌}
 use Rattle.std.specs.List.Sorted.{IsPermutation}
 use Rattle.sqlite_value.specs.Order.{Row}
-use Rattle.sqlite.specs.State.{State, IsRolledBack}
+use Rattle.sqlite.specs.State.{State}
 use Rattle.sqlite.proofs.Callers.{one_permutation}
 use Rattle.bo_columns.specs.declared.rows.ShopRow.{ShopRow}
 use Rattle.bo_columns.specs.Rows.{shop_row}
 pub use Rattle.bo_loads.proofs.Causes.{if_err, on_ok}
 pub use Rattle.bo_loads.proofs.Loads.{if_ok}
 use Rattle.bo_opens.specs.Rests.{StaysOpen}
-
--- one table was read in a transaction, which was rolled back
-pub rolled : (old mid new : State) → IsTrue mid.is_open → mid.committed ≡ old.committed → IsRolledBack mid new → IsTrue new.is_open → IsTrue old.is_open → StaysOpen old new
-rolled old mid new was same back is_open opened = record {
-  was_open = opened;
-  stays = λ db at. record { now = (back.undone is_open).0 ∙ same ∙ at.committed; committed = (back.undone is_open).1 ∙ same ∙ at.committed };
-}
 
 pub then : (a b c : State) → StaysOpen a b → StaysOpen b c → StaysOpen a c
 then a b c h k = record { was_open = h.was_open; stays = λ db at. k.stays db (h.stays db at) }
@@ -27,6 +20,10 @@ if_some None P Q h k = tt
 pub both_ok : {T E : Type 0} (r : Result T E) (P Q R : T → Type 0) → IfOk r P → IfOk r Q → ((x : T) → P x → Q x → R x) → IfOk r R
 both_ok (Ok x) P Q R h i k = k x h i
 both_ok (Err e) P Q R h i k = tt
+
+pub on_always : {T E : Type 0} (r : Result T E) (P : Type 0) → P → OnOk r P
+on_always (Ok x) P p = p
+on_always (Err e) P p = tt
 
 pub was_ok : {T E : Type 0} (r : Result T E) (x : T) (P : T → Type 0) → r ≡ Ok x → IfOk r P → P x
 was_ok r x P is h = subst (λ s. IfOk s P) is h

@@ -157,7 +157,7 @@ abbrev pub IsCause : Database → OpenError → Type 0
 IsCause db Memory = Unit {0}
 IsCause db NotAShop = HasNoMeaning db.schema shop_text ⊎ OfTheShop db (λ rows. HasNoOtherVersion rows × LacksTable db.schema)
 IsCause db (Version version) = OfTheShop db (HasOtherVersion version)
-IsCause db (Damaged rule.Shop) = OfTheShop db (λ rows. HasNoOtherVersion rows × (¬ IsOneShop rows))
-IsCause db (Damaged rule.Limits) = OfTheShop db (λ rows. IsOneShop rows × (db.schema ≡ schema → HasDamage db.trees))
+IsCause db (Damaged rule.Shop) = OfTheShop db (λ rows. HasNoOtherVersion rows × HasTables db.schema × (¬ IsOneShop rows))
+IsCause db (Damaged rule.Limits) = OfTheShop db (λ rows. IsOneShop rows × HasTables db.schema × (db.schema ≡ schema → HasDamage db.trees))
 IsCause db (Damaged _) = ⊥
 IsCause db Store = Unit {0}

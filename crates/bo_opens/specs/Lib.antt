@@ -3,3 +3,4 @@ pub mod Rests
 pub mod Read
 pub mod Causes
 pub mod Lawful
+pub mod Took

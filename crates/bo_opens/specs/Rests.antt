@@ -1,12 +1,20 @@
 -- A connection that is only read.
-use Rattle.std.specs.Prelude.{◌≡◌, IsTrue}
+use Rattle.std.specs.Prelude.{◌≡◌, IsTrue, Result, Ok, Err}
 use Rattle.sqlite.specs.Effect.{Database}
 use Rattle.sqlite.specs.State.{State, HasCleanDisk}
 use Rattle.bo_schema.specs.Tables.{schema}
+use Rattle.bo_schema.specs.declared.error.RowError.{RowError}
+use Rattle.bo_schema.specs.declared.error.RowError.TheVariants.{Memory, Foreign, Damaged, Store}
 use Rattle.bo_columns.specs.Tables.{Tables, Holds}
 
 -- the connection shows this, and so did the last commit leave it
 pub record IsAt (db : Database) (s : State) : Type 0 where
+  pub now : s.now ≡ db
+  pub committed : s.committed ≡ db
+
+-- the same of one that is open
+pub record IsOpenAt (db : Database) (s : State) : Type 0 where
+  pub is_open : IsTrue s.is_open
   pub now : s.now ≡ db
   pub committed : s.committed ≡ db
 
@@ -25,3 +33,14 @@ pub record StaysOpen (old new : State) : Type 0 where
 -- so it is while the connection is open
 abbrev pub Rests : State → State → Type 0
 Rests old new = HasCleanDisk new → IsTrue new.is_open → StaysOpen old new
+
+-- this holds where each row of a table was shown, also where a value of one can't be read
+abbrev pub WhereDamaged : RowError → Type 0 → Type 0
+WhereDamaged Memory holds = Unit {0}
+WhereDamaged Foreign holds = Unit {0}
+WhereDamaged Damaged holds = holds
+WhereDamaged Store holds = Unit {0}
+
+abbrev pub WhereShown : {A : Type 0} → Result A RowError → Type 0 → Type 0
+WhereShown (Ok a) holds = holds
+WhereShown (Err e) holds = WhereDamaged e holds

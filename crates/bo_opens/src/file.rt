@@ -1,16 +1,16 @@
 //! The tables of a file, read in the order in which it is told what is wrong.
 
-ghost use Rattle.std.specs.Prelude.{◌≡◌, false, [], ◌∷◌, IfOk, IfErr, IfSome, OnOk, IsTrue, Ok, Err, Some, None};
+ghost use Rattle.std.specs.Prelude.{◌≡◌, false, [], ◌∷◌, IfOk, IfErr, IfSome, OnOk, Ok, Err, Some, None};
 ghost use Rattle.sqlite.specs.Effect.{Database};
 ghost use Rattle.sqlite.specs.Held.{state};
-ghost use Rattle.sqlite.specs.State.{HasCleanDisk, Survives};
+ghost use Rattle.sqlite.specs.State.{HasCleanDisk, Survives, IsUnchanged};
 ghost use Rattle.bo_schema.specs.declared.error.RowError.TheVariants.{Damaged};
 ghost use Rattle.bo_schema.specs.Tables.{schema};
 ghost use Rattle.bo_columns.specs.Rows.{shop_row};
 ghost use Rattle.bo_columns.specs.Tables.{Holds};
 ghost use Rattle.bo_loads.specs.Damage.{HasNoMeaning, IsFor};
 ghost use Rattle.bo_loads.specs.Texts.{shop_text};
-ghost use Rattle.bo_opens.specs.Rests.{IsAt, Rests};
+ghost use Rattle.bo_opens.specs.Rests.{IsOpenAt, Rests};
 ghost use Rattle.bo_opens.specs.Read.{HoldsRows, tables_of};
 ghost use Rattle.bo_opens.specs.Causes.{LacksTable, HasTables, HasDamage, AreFitTables, IsFitFile, IsReadable, ShowsBy, OfTheShop, HasNoOtherVersion, IsCause};
 
@@ -72,8 +72,9 @@ fn tested(rows: Vec<Row>) -> Result<Vec<Row>, OpenError>
 // The rows of the table `shop`, and that their version is this program's. Refusals: 6, 60, 61, 63.
 fn read_head<S: Alter>(conn: &mut Connection<S>) -> Result<Vec<Row>, OpenError>
     requires { conn.old.in_transaction ≡ false }
-    ensures found { HasCleanDisk (state S.Store conn.new) → IsTrue (state S.Store conn.new).is_open → (db : Database) → IsAt db (state S.Store conn.old) → IfOk result (λ rows. ShowsBy shop_text db rows.items × HasNoOtherVersion rows.items) }
-    ensures cause { HasCleanDisk (state S.Store conn.new) → IsTrue (state S.Store conn.new).is_open → (db : Database) → IsAt db (state S.Store conn.old) → IfErr result (IsCause db) }
+    ensures found { HasCleanDisk (state S.Store conn.new) → (db : Database) → IsOpenAt db (state S.Store conn.old) → IfOk result (λ rows. ShowsBy shop_text db rows.items × HasNoOtherVersion rows.items) }
+    ensures cause { HasCleanDisk (state S.Store conn.new) → (db : Database) → IsOpenAt db (state S.Store conn.old) → IfErr result (IsCause db) }
+    ensures same { HasCleanDisk (state S.Store conn.new) → OnOk result (IsUnchanged (state S.Store conn.old) (state S.Store conn.new)) }
     ensures rests { Rests (state S.Store conn.old) (state S.Store conn.new) }
     ensures mode { conn.new.in_transaction ≡ false }
     ensures crash { Survives (state S.Store conn.old) (state S.Store conn.new) (λ _. ⊥) }
@@ -90,10 +91,11 @@ fn read_all<S: Alter>(
     conn: &mut Connection<S>,
 ) -> Result<(Vec<Row>, Option<TableRows>), OpenError>
     requires { conn.old.in_transaction ≡ false }
-    ensures loaded { HasCleanDisk (state S.Store conn.new) → IsTrue (state S.Store conn.new).is_open → (db : Database) → IsAt db (state S.Store conn.old) → db.schema ≡ schema → IfOk result (λ read. IfSome read.1 (HoldsRows db.trees)) }
+    ensures loaded { HasCleanDisk (state S.Store conn.new) → (db : Database) → IsOpenAt db (state S.Store conn.old) → db.schema ≡ schema → IfOk result (λ read. IfSome read.1 (HoldsRows db.trees)) }
     ensures limits { IfOk result (λ read. IfSome read.1 AreFitTables) }
-    ensures found { HasCleanDisk (state S.Store conn.new) → IsTrue (state S.Store conn.new).is_open → (db : Database) → IsAt db (state S.Store conn.old) → IfOk result (λ read. ShowsBy shop_text db read.0.items × HasNoOtherVersion read.0.items × IfSome read.1 (λ _. HasTables db.schema) × (read.1 ≡ None → db.schema ≡ schema → HasDamage db.trees)) }
-    ensures cause { HasCleanDisk (state S.Store conn.new) → IsTrue (state S.Store conn.new).is_open → (db : Database) → IsAt db (state S.Store conn.old) → IfErr result (IsCause db) }
+    ensures found { HasCleanDisk (state S.Store conn.new) → (db : Database) → IsOpenAt db (state S.Store conn.old) → IfOk result (λ read. ShowsBy shop_text db read.0.items × HasNoOtherVersion read.0.items × HasTables db.schema × (read.1 ≡ None → db.schema ≡ schema → HasDamage db.trees)) }
+    ensures cause { HasCleanDisk (state S.Store conn.new) → (db : Database) → IsOpenAt db (state S.Store conn.old) → IfErr result (IsCause db) }
+    ensures same { HasCleanDisk (state S.Store conn.new) → OnOk result (IsUnchanged (state S.Store conn.old) (state S.Store conn.new)) }
     ensures rests { Rests (state S.Store conn.old) (state S.Store conn.new) }
     ensures mode { conn.new.in_transaction ≡ false }
     ensures crash { Survives (state S.Store conn.old) (state S.Store conn.new) (λ _. ⊥) }
@@ -117,7 +119,7 @@ fn whole_file(
     ensures version { IfOk result (λ file. file.shop.version ≡ 1) }
     ensures tables { IfOk result (λ file. tables ≡ Some file.tables) }
     ensures limits { IfSome tables AreFitTables → IfOk result IsFitFile }
-    ensures cause { (db : Database) → ShowsBy shop_text db rows.now → HasNoOtherVersion rows.now → (tables ≡ None → db.schema ≡ schema → HasDamage db.trees) → IfErr result (IsCause db) }
+    ensures cause { (db : Database) → ShowsBy shop_text db rows.now → HasNoOtherVersion rows.now → HasTables db.schema → (tables ≡ None → db.schema ≡ schema → HasDamage db.trees) → IfErr result (IsCause db) }
 {
     match (read_shop(alloc, rows), tables) {
         (Ok(shop), Some(tables)) => Ok(FileTables { shop, tables }),
@@ -132,11 +134,12 @@ fn whole_file(
 /// a value of another table is; 63. They are told in this order.
 pub fn read_file<S: Alter>(alloc: Global, conn: &mut Connection<S>) -> Result<FileTables, OpenError>
     requires { conn.old.in_transaction ≡ false }
-    ensures held { HasCleanDisk (state S.Store conn.new) → IsTrue (state S.Store conn.new).is_open → (db : Database) → IsAt db (state S.Store conn.old) → db.schema ≡ schema → IfOk result (λ file. Holds db.trees (tables_of file)) }
+    ensures held { HasCleanDisk (state S.Store conn.new) → (db : Database) → IsOpenAt db (state S.Store conn.old) → db.schema ≡ schema → IfOk result (λ file. Holds db.trees (tables_of file)) }
     ensures version { IfOk result (λ file. file.shop.version ≡ 1) }
     ensures limits { IfOk result IsFitFile }
-    ensures found { HasCleanDisk (state S.Store conn.new) → IsTrue (state S.Store conn.new).is_open → (db : Database) → IsAt db (state S.Store conn.old) → OnOk result (IsReadable db) }
-    ensures cause { HasCleanDisk (state S.Store conn.new) → IsTrue (state S.Store conn.new).is_open → (db : Database) → IsAt db (state S.Store conn.old) → IfErr result (IsCause db) }
+    ensures found { HasCleanDisk (state S.Store conn.new) → (db : Database) → IsOpenAt db (state S.Store conn.old) → OnOk result (IsReadable db) }
+    ensures cause { HasCleanDisk (state S.Store conn.new) → (db : Database) → IsOpenAt db (state S.Store conn.old) → IfErr result (IsCause db) }
+    ensures same { HasCleanDisk (state S.Store conn.new) → OnOk result (IsUnchanged (state S.Store conn.old) (state S.Store conn.new)) }
     ensures rests { Rests (state S.Store conn.old) (state S.Store conn.new) }
     ensures mode { conn.new.in_transaction ≡ false }
     ensures crash { Survives (state S.Store conn.old) (state S.Store conn.new) (λ _. ⊥) }

@@ -1,19 +1,18 @@
 //! The shop's own row.
 
-ghost use Rattle.std.specs.Prelude.{◌≡◌, ◌≢◌, ℤ, true, false, [], ◌∷◌, IfOk, IfErr, OnOk, IsTrue};
+ghost use Rattle.std.specs.Prelude.{◌≡◌, ◌≢◌, ℤ, false, [], ◌∷◌, IfOk, IfErr, OnOk};
 ghost use Rattle.sqlite_value.specs.declared.value.Value.TheVariants.{Int};
 ghost use Rattle.sqlite_value.specs.Order.{column};
 ghost use Rattle.sqlite.specs.Effect.{Database};
 ghost use Rattle.sqlite.specs.Held.{state};
-ghost use Rattle.sqlite.specs.State.{HasCleanDisk, Survives, KeepsCommit};
-ghost use Rattle.bo_schema.specs.Tables.{schema};
+ghost use Rattle.sqlite.specs.State.{HasCleanDisk, Survives, IsUnchanged};
 ghost use Rattle.bo_columns.specs.Rows.{shop_row};
 ghost use Rattle.bo_columns.specs.Fit.{IsFitShop};
 ghost use Rattle.bo_columns.specs.Unread.{IsUnread};
 ghost use Rattle.bo_loads.specs.Damage.{HasNoMeaning, IsFor};
 ghost use Rattle.bo_loads.specs.Texts.{shop_text};
-ghost use Rattle.bo_opens.specs.Rests.{IsAt, Rests};
-ghost use Rattle.bo_opens.specs.Causes.{HasNextIds, ShowsBy, HasNoOtherVersion, IsCause};
+ghost use Rattle.bo_opens.specs.Rests.{IsOpenAt, Rests};
+ghost use Rattle.bo_opens.specs.Causes.{HasNextIds, HasTables, ShowsBy, HasNoOtherVersion, IsCause};
 
 use crate::error::OpenError;
 use crate::ids::has_next_ids;
@@ -21,7 +20,7 @@ use bo_columns::ShopRow;
 use bo_loads::Loaded;
 use bo_rules::Rule;
 use bo_schema::RowError;
-use sqlite::{Alter, Connection, Row, Transaction};
+use sqlite::{Alter, Connection, Row};
 use std::alloc::Global;
 
 /// The version of a shop's tables that this program reads and writes.
@@ -30,35 +29,21 @@ pub const VERSION: u64 = 1;
 // The same version, as it is shown.
 const SHOWN_VERSION: i64 = 1;
 
-/// The rows of the table `shop`, as they are shown, whatever their version and their values are. Nothing changes.
+/// The rows of the table `shop`, as they are shown, whatever their version and their values are. The connection stays as it is.
 /// Refusals: 6, 60 where the file has no such table with these columns, 63.
-pub(crate) fn load_shown<S: Alter>(tx: &mut Transaction<'_, S>) -> Result<Vec<Row>, RowError>
-    ensures same { tx.new.conn.ghost_name ≡ tx.old.conn.ghost_name }
-    ensures shown { HasCleanDisk (state S.Store tx.new.conn.now) → IfOk result (λ all. ShowsBy shop_text (state S.Store tx.old.conn.now).now all.items) }
-    ensures refused { HasCleanDisk (state S.Store tx.new.conn.now) → IfErr result (IsFor (HasNoMeaning (state S.Store tx.old.conn.now).now.schema shop_text) ⊥) }
-    ensures still { HasCleanDisk (state S.Store tx.new.conn.now) → (state S.Store tx.old.conn.now).now.schema ≡ schema → OnOk result ((state S.Store tx.new.conn.now).now ≡ (state S.Store tx.old.conn.now).now) }
-    ensures kept { HasCleanDisk (state S.Store tx.new.conn.now) → (state S.Store tx.old.conn.now).in_transaction ≡ true → KeepsCommit (state S.Store tx.old.conn.now) (state S.Store tx.new.conn.now) }
-    ensures crash { Survives (state S.Store tx.old.conn.now) (state S.Store tx.new.conn.now) (λ _. ⊥) }
-{
-    match tx.query_all(ShopRow::statement(), &[]) {
-        Ok(rows) => Ok(rows),
-        Err(error) => Err(RowError::of(error)),
-    }
-}
-
-/// The rows of the table `shop`, as they are shown. The connection stays as it is. Refusals: 6, 60, 63.
 pub(crate) fn shop_rows<S: Alter>(conn: &mut Connection<S>) -> Result<Vec<Row>, RowError>
     requires { conn.old.in_transaction ≡ false }
-    ensures shown { HasCleanDisk (state S.Store conn.new) → IsTrue (state S.Store conn.new).is_open → (db : Database) → IsAt db (state S.Store conn.old) → IfOk result (λ rows. ShowsBy shop_text db rows.items) }
-    ensures refused { HasCleanDisk (state S.Store conn.new) → IsTrue (state S.Store conn.new).is_open → (db : Database) → IsAt db (state S.Store conn.old) → IfErr result (IsFor (HasNoMeaning db.schema shop_text) ⊥) }
+    ensures shown { HasCleanDisk (state S.Store conn.new) → (db : Database) → IsOpenAt db (state S.Store conn.old) → IfOk result (λ rows. ShowsBy shop_text db rows.items) }
+    ensures refused { HasCleanDisk (state S.Store conn.new) → (db : Database) → IsOpenAt db (state S.Store conn.old) → IfErr result (IsFor (HasNoMeaning db.schema shop_text) ⊥) }
+    ensures same { HasCleanDisk (state S.Store conn.new) → OnOk result (IsUnchanged (state S.Store conn.old) (state S.Store conn.new)) }
     ensures rests { Rests (state S.Store conn.old) (state S.Store conn.new) }
     ensures mode { conn.new.in_transaction ≡ false }
     ensures crash { Survives (state S.Store conn.old) (state S.Store conn.new) (λ _. ⊥) }
 {
-    let mut tx = conn.transaction();
-    let read = load_shown(&mut tx);
-    tx.rollback();
-    read
+    match conn.query_all(ShopRow::statement(), &[]) {
+        Ok(rows) => Ok(rows),
+        Err(error) => Err(RowError::of(error)),
+    }
 }
 
 // The column of the version, which is told before any other value is. Refusals: 6, and 62 where it holds no number.
@@ -95,7 +80,7 @@ pub(crate) fn read_shop(alloc: Global, rows: &[Row]) -> Result<ShopRow, OpenErro
     ensures version { IfOk result (λ shop. shop.version ≡ 1) }
     ensures limits { IfOk result IsFitShop }
     ensures ids { IfOk result HasNextIds }
-    ensures cause { (db : Database) → ShowsBy shop_text db rows.now → HasNoOtherVersion rows.now → IfErr result (IsCause db) }
+    ensures cause { (db : Database) → ShowsBy shop_text db rows.now → HasNoOtherVersion rows.now → HasTables db.schema → IfErr result (IsCause db) }
 {
     let [row] = rows else {
         return Err(OpenError::Damaged(Rule::Shop));

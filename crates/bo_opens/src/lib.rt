@@ -1,6 +1,7 @@
 //! A file is read: all rows of its tables.
 #![tactic(auto)]
 
+pub mod each;
 pub mod error;
 pub mod file;
 pub mod head;
@@ -11,6 +12,7 @@ pub mod read;
 pub mod table;
 pub mod whole;
 
+pub use each::{Taker, each_row};
 pub use error::OpenError;
 pub use file::{FileTables, read_file};
 pub use read::read_tables;

@@ -1,12 +1,12 @@
 //! All that the tables of a file hold, as it is read.
 
-ghost use Rattle.std.specs.Prelude.{◌≡◌, false, IfOk, IfErr, OnOk, IsTrue};
+ghost use Rattle.std.specs.Prelude.{◌≡◌, false, IfOk, IfErr};
 ghost use Rattle.sqlite.specs.Effect.{Database};
 ghost use Rattle.sqlite.specs.Held.{state};
-ghost use Rattle.sqlite.specs.State.{HasCleanDisk, Survives};
+ghost use Rattle.sqlite.specs.State.{HasCleanDisk, Survives, IsUnchanged};
 ghost use Rattle.bo_schema.specs.Tables.{schema};
 ghost use Rattle.bo_loads.specs.Damage.{IsFor};
-ghost use Rattle.bo_opens.specs.Rests.{IsAt, Rests};
+ghost use Rattle.bo_opens.specs.Rests.{IsOpenAt, Rests, WhereShown};
 ghost use Rattle.bo_opens.specs.Causes.{IsFitCatalogue, HasCatalogue, LacksCatalogue, IsDamagedCatalogue, AreFitSales, HasSales, LacksSales, AreDamagedSales, AreFitDoors, HasDoors, LacksDoors, AreDamagedDoors, AreFitOthers, HasOthers, LacksOthers, AreDamagedOthers, AreFitTables, HasTables, LacksTable, HasDamage};
 ghost use Rattle.bo_opens.specs.Read.{HoldsCatalogue, HoldsSales, HoldsDoors, HoldsOthers, HoldsRows};
 
@@ -143,10 +143,11 @@ impl Whole for TableRows {
 /// lacking is told though a value of another one can't be read.
 pub fn read_tables<S: Alter>(alloc: Global, conn: &mut Connection<S>) -> Result<TableRows, RowError>
     requires { conn.old.in_transaction ≡ false }
-    ensures loaded { HasCleanDisk (state S.Store conn.new) → IsTrue (state S.Store conn.new).is_open → (db : Database) → IsAt db (state S.Store conn.old) → db.schema ≡ schema → IfOk result (HoldsRows db.trees) }
+    ensures loaded { HasCleanDisk (state S.Store conn.new) → (db : Database) → IsOpenAt db (state S.Store conn.old) → db.schema ≡ schema → IfOk result (HoldsRows db.trees) }
     ensures limits { IfOk result AreFitTables }
-    ensures found { HasCleanDisk (state S.Store conn.new) → IsTrue (state S.Store conn.new).is_open → (db : Database) → IsAt db (state S.Store conn.old) → OnOk result (HasTables db.schema) }
-    ensures refused { HasCleanDisk (state S.Store conn.new) → IsTrue (state S.Store conn.new).is_open → (db : Database) → IsAt db (state S.Store conn.old) → IfErr result (IsFor (LacksTable db.schema) (db.schema ≡ schema → HasDamage db.trees)) }
+    ensures found { HasCleanDisk (state S.Store conn.new) → (db : Database) → IsOpenAt db (state S.Store conn.old) → WhereShown result (HasTables db.schema) }
+    ensures refused { HasCleanDisk (state S.Store conn.new) → (db : Database) → IsOpenAt db (state S.Store conn.old) → IfErr result (IsFor (LacksTable db.schema) (db.schema ≡ schema → HasDamage db.trees)) }
+    ensures same { HasCleanDisk (state S.Store conn.new) → WhereShown result (IsUnchanged (state S.Store conn.old) (state S.Store conn.new)) }
     ensures rests { Rests (state S.Store conn.old) (state S.Store conn.new) }
     ensures mode { conn.new.in_transaction ≡ false }
     ensures crash { Survives (state S.Store conn.old) (state S.Store conn.new) (λ _. ⊥) }

@@ -1,15 +1,15 @@
 //! What is read of a file whole: tables one after another.
 
-ghost use Rattle.std.specs.Prelude.{◌≡◌, ◌⊎◌, false, map, All, IfOk, IfErr, OnOk, IsPermutation, IsTrue};
+ghost use Rattle.std.specs.Prelude.{◌≡◌, ◌⊎◌, false, map, All, IfOk, IfErr, IsPermutation};
 ghost use Rattle.sqlite_trees.specs.Tree.{Trees};
 ghost use Rattle.sqlite_schema.specs.declared.schema.Schema.{Schema};
 ghost use Rattle.sqlite.specs.Effect.{Database};
 ghost use Rattle.sqlite.specs.Held.{state};
-ghost use Rattle.sqlite.specs.State.{HasCleanDisk, Survives};
+ghost use Rattle.sqlite.specs.State.{HasCleanDisk, Survives, IsUnchanged};
 ghost use Rattle.bo_schema.specs.Tables.{schema};
 ghost use Rattle.bo_schema.specs.Parts.{shown};
 ghost use Rattle.bo_loads.specs.Damage.{HasMeaning, HasNoMeaning, IsDamaged, IsFor};
-ghost use Rattle.bo_opens.specs.Rests.{IsAt, Rests};
+ghost use Rattle.bo_opens.specs.Rests.{IsOpenAt, Rests, WhereShown};
 
 use crate::table::rows_in;
 use bo_loads::Loaded;
@@ -38,10 +38,11 @@ pub(crate) trait Whole: Drop {
     /// is lacking is told though a value of another one can't be read.
     fn read<S: Alter>(alloc: Global, conn: &mut Connection<S>) -> Result<Self, RowError>
         requires { conn.old.in_transaction ≡ false }
-        ensures loaded { HasCleanDisk (state S.Store conn.new) → IsTrue (state S.Store conn.new).is_open → (db : Database) → IsAt db (state S.Store conn.old) → db.schema ≡ schema → IfOk result (is_in db.trees) }
+        ensures loaded { HasCleanDisk (state S.Store conn.new) → (db : Database) → IsOpenAt db (state S.Store conn.old) → db.schema ≡ schema → IfOk result (is_in db.trees) }
         ensures limits { IfOk result fits }
-        ensures found { HasCleanDisk (state S.Store conn.new) → IsTrue (state S.Store conn.new).is_open → (db : Database) → IsAt db (state S.Store conn.old) → OnOk result (stands db.schema) }
-        ensures refused { HasCleanDisk (state S.Store conn.new) → IsTrue (state S.Store conn.new).is_open → (db : Database) → IsAt db (state S.Store conn.old) → IfErr result (IsFor (lacks db.schema) (db.schema ≡ schema → is_damaged db.trees)) }
+        ensures found { HasCleanDisk (state S.Store conn.new) → (db : Database) → IsOpenAt db (state S.Store conn.old) → WhereShown result (stands db.schema) }
+        ensures refused { HasCleanDisk (state S.Store conn.new) → (db : Database) → IsOpenAt db (state S.Store conn.old) → IfErr result (IsFor (lacks db.schema) (db.schema ≡ schema → is_damaged db.trees)) }
+        ensures same { HasCleanDisk (state S.Store conn.new) → WhereShown result (IsUnchanged (state S.Store conn.old) (state S.Store conn.new)) }
         ensures rests { Rests (state S.Store conn.old) (state S.Store conn.new) }
         ensures mode { conn.new.in_transaction ≡ false }
         ensures crash { Survives (state S.Store conn.old) (state S.Store conn.new) (λ _. ⊥) };
@@ -70,10 +71,11 @@ fn read_both<S: Alter, A: Whole, B: Whole>(
     conn: &mut Connection<S>,
 ) -> Result<(A, B), RowError>
     requires { conn.old.in_transaction ≡ false }
-    ensures loaded { HasCleanDisk (state S.Store conn.new) → IsTrue (state S.Store conn.new).is_open → (db : Database) → IsAt db (state S.Store conn.old) → db.schema ≡ schema → IfOk result (λ both. A.is_in db.trees both.0 × B.is_in db.trees both.1) }
+    ensures loaded { HasCleanDisk (state S.Store conn.new) → (db : Database) → IsOpenAt db (state S.Store conn.old) → db.schema ≡ schema → IfOk result (λ both. A.is_in db.trees both.0 × B.is_in db.trees both.1) }
     ensures limits { IfOk result (λ both. A.fits both.0 × B.fits both.1) }
-    ensures found { HasCleanDisk (state S.Store conn.new) → IsTrue (state S.Store conn.new).is_open → (db : Database) → IsAt db (state S.Store conn.old) → OnOk result (A.stands db.schema × B.stands db.schema) }
-    ensures refused { HasCleanDisk (state S.Store conn.new) → IsTrue (state S.Store conn.new).is_open → (db : Database) → IsAt db (state S.Store conn.old) → IfErr result (IsFor (A.lacks db.schema ⊎ B.lacks db.schema) (db.schema ≡ schema → A.is_damaged db.trees ⊎ B.is_damaged db.trees)) }
+    ensures found { HasCleanDisk (state S.Store conn.new) → (db : Database) → IsOpenAt db (state S.Store conn.old) → WhereShown result (A.stands db.schema × B.stands db.schema) }
+    ensures refused { HasCleanDisk (state S.Store conn.new) → (db : Database) → IsOpenAt db (state S.Store conn.old) → IfErr result (IsFor (A.lacks db.schema ⊎ B.lacks db.schema) (db.schema ≡ schema → A.is_damaged db.trees ⊎ B.is_damaged db.trees)) }
+    ensures same { HasCleanDisk (state S.Store conn.new) → WhereShown result (IsUnchanged (state S.Store conn.old) (state S.Store conn.new)) }
     ensures rests { Rests (state S.Store conn.old) (state S.Store conn.new) }
     ensures mode { conn.new.in_transaction ≡ false }
     ensures crash { Survives (state S.Store conn.old) (state S.Store conn.new) (λ _. ⊥) }

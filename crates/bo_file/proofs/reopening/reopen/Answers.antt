@@ -6,6 +6,7 @@ use Rattle.bo_opens.specs.Read.{tables_of}
 use Rattle.bo_opens.proofs.FitLemmas.{of_readable}
 use Rattle.bo_opens.proofs.ReadLemmas.{if_ok, if_err, on_ok}
 use Rattle.bo_opens.proofs.SameLemmas.{file_of}
+use Rattle.bo_opens.proofs.Stays.{stays_same}
 use Rattle.bo_typed.specs.Typed.{AreBelowNext, IsTypedShop}
 use Rattle.bo_file.proofs.Least.{reason, unread, clear}
 use Rattle.bo_file.proofs.Refused.{is_opened, both_on, on_three}
@@ -14,37 +15,40 @@ use Rattle.bo_file.proofs.Undamaged.{undamaged}
 use Rattle.bo_file.proofs.reopening.reopen.Goals as goal
 
 pub returns-in-Ok-clause-opened : goal.returns-in-Ok-clause-opened
-returns-in-Ok-clause-opened g c clean opened db at known =
+returns-in-Ok-clause-opened g c clean db at known =
     let old = state g.S.Store c.args.connection.now in
     let new = state g.S.Store c.read_outside.new.connection in
     let t = tables_of c.in-Ok.file in
-    let held = c.in-Ok.ensures.held clean opened db at known in
-    let stays = c.read_outside.ensures.rests clean opened in
+    let held = c.in-Ok.ensures.held clean db at known in
+    let same = c.in-Ok.ensures.same clean in
     both_on c.open_rows.result _ _ _ c.open_rows.ensures.head c.open_rows.ensures.held c.open_rows.ensures.numbered
     (λ it is of numbered.
-    is_opened t it.head it.next_row (g.B.Book.state it.book) old new (λ left is_open may. g.met.S.Store.settled c.read_outside.new.connection.store left is_open may) opened c.in-Ok.ensures.outside stays db at known held (of t (file_of db.trees t c.in-Ok.file held held)).0
+    is_opened t it.head it.next_row (g.B.Book.state it.book) old new (λ left is_open may. g.met.S.Store.settled c.read_outside.new.connection.store left is_open may) same.0.is_open c.in-Ok.ensures.outside (stays_same old new same) db (record { now = at.now; committed = at.committed }) known held (of t (file_of db.trees t c.in-Ok.file held held)).0
     (λ u also. (of u (file_of db.trees u c.in-Ok.file also held)).1) (subst (λ (h : ShopRow). IsTypedShop h t) (sym is) (typed_read c.in-Ok.file c.in-Ok.ensures.version c.in-Ok.ensures.limits numbered)))
 
 pub returns-in-Ok-clause-version : goal.returns-in-Ok-clause-version
 returns-in-Ok-clause-version g c = if_ok c.open_rows.result _ _ c.open_rows.ensures.head (λ it is. subst (λ (h : ShopRow). h.version ≡ 1) (sym is) c.in-Ok.ensures.version)
 
 pub returns-in-Ok-clause-found : goal.returns-in-Ok-clause-found
-returns-in-Ok-clause-found g c clean opened db at = on_ok c.open_rows.result _ _ c.open_rows.ensures.head (λ it is. c.in-Ok.ensures.found clean opened db at)
+returns-in-Ok-clause-found g c clean db at = on_ok c.open_rows.result _ _ c.open_rows.ensures.head (λ it is. c.in-Ok.ensures.found clean db at)
 
 pub returns-in-Ok-clause-whole : goal.returns-in-Ok-clause-whole
-returns-in-Ok-clause-whole g c clean opened db at known =
+returns-in-Ok-clause-whole g c clean db at known =
     let t = tables_of c.in-Ok.file in
-    let held = c.in-Ok.ensures.held clean opened db at known in
+    let held = c.in-Ok.ensures.held clean db at known in
     on_three c.open_rows.result _ _ _ _ _ c.open_rows.ensures.head c.open_rows.ensures.sound c.open_rows.ensures.held c.open_rows.ensures.numbered
     (λ it is sound of numbered.
     let stand = (of t (file_of db.trees t c.in-Ok.file held held)).0 in
     let organizer = subst (λ (h : ShopRow). IsSlug h.organizer) (sym is) c.in-Ok.ensures.limits.shop.organizer in
     let event = subst (λ (h : ShopRow). IsSlug h.event) (sym is) c.in-Ok.ensures.limits.shop.event in
-    clear db known (of_readable db known (c.in-Ok.ensures.found clean opened db at)) (undamaged it.head t (g.B.Book.state it.book) _ stand db.trees held (subst (λ (h : ShopRow). AreBelowNext h t.tokens) (sym is) numbered) organizer event sound))
+    clear db known (of_readable db known (c.in-Ok.ensures.found clean db at)) (undamaged it.head t (g.B.Book.state it.book) _ stand db.trees held (subst (λ (h : ShopRow). AreBelowNext h t.tokens) (sym is) numbered) organizer event sound))
 
 pub returns-in-Ok-clause-cause : goal.returns-in-Ok-clause-cause
-returns-in-Ok-clause-cause g c clean opened db at =
-    if_err c.open_rows.result _ _ c.open_rows.ensures.refused (λ e why. reason db c.in-Ok.file (c.in-Ok.ensures.found clean opened db at) (λ known. c.in-Ok.ensures.held clean opened db at known) e why)
+returns-in-Ok-clause-cause g c clean db at =
+    if_err c.open_rows.result _ _ c.open_rows.ensures.refused (λ e why. reason db c.in-Ok.file (c.in-Ok.ensures.found clean db at) (λ known. c.in-Ok.ensures.held clean db at known) e why)
 
 pub returns-in-Err-clause-cause : goal.returns-in-Err-clause-cause
-returns-in-Err-clause-cause g c clean opened db at = unread db c.in-Err.error (c.in-Err.ensures.cause clean opened db at)
+returns-in-Err-clause-cause g c clean db at = unread db c.in-Err.error (c.in-Err.ensures.cause clean db at)
+
+pub returns-in-Ok-clause-same : goal.returns-in-Ok-clause-same
+returns-in-Ok-clause-same g c clean = on_ok c.open_rows.result _ _ c.open_rows.ensures.head (λ it is. c.in-Ok.ensures.same clean)

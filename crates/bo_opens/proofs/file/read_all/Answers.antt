@@ -2,49 +2,44 @@ use Rattle.std.proofs.Common.{IsTrue, arith}
 use Rattle.sqlite.specs.Held.{state}
 use Rattle.sqlite.specs.State.{HasCleanDisk}
 use Rattle.bo_schema.specs.declared.error.RowError.TheVariants.{Damaged}
-use Rattle.bo_opens.proofs.ReadLemmas.{then, if_some, was_ok, was_on, was_err}
+use Rattle.sqlite.proofs.Callers.{unchanged_then}
+use Rattle.bo_opens.proofs.ReadLemmas.{then, if_some, was_ok, was_err}
+use Rattle.bo_opens.proofs.Shown.{shown_either}
+use Rattle.bo_opens.proofs.Stays.{at_same}
 use Rattle.bo_opens.proofs.file.read_all.Goals as goal
 
 pub returns-in-Ok-readable-clause-loaded : goal.returns-in-Ok-readable-clause-loaded
-returns-in-Ok-readable-clause-loaded g c clean opened db at known =
+returns-in-Ok-readable-clause-loaded g c clean db at known =
     let mid = state g.S.Store c.read_head.new.conn in
     let clean_mid : HasCleanDisk mid = omega (arith, clean, c.read_tables.ensures.crash.clean) in
-    let later = c.read_tables.ensures.rests clean opened in
-    let open_mid : IsTrue mid.is_open = later.was_open in
-    let earlier = c.read_head.ensures.rests clean_mid open_mid in
-    if_some c.in-Ok-readable.tables _ _ c.in-Ok-readable.ensures.read (λ rows is. was_ok c.read_tables.result rows _ is (c.read_tables.ensures.loaded clean opened db (earlier.stays db at) known))
+    let at_mid = at_same (state g.S.Store c.args.conn.now) mid (c.in-Ok.ensures.same clean_mid) db at in
+    if_some c.in-Ok-readable.tables _ _ c.in-Ok-readable.ensures.read (λ rows is. was_ok c.read_tables.result rows _ is (c.read_tables.ensures.loaded clean db at_mid known))
 
 pub returns-in-Ok-readable-clause-limits : goal.returns-in-Ok-readable-clause-limits
 returns-in-Ok-readable-clause-limits g c =
     if_some c.in-Ok-readable.tables _ _ c.in-Ok-readable.ensures.read (λ rows is. was_ok c.read_tables.result rows _ is c.read_tables.ensures.limits)
 
 pub returns-in-Ok-readable-clause-found : goal.returns-in-Ok-readable-clause-found
-returns-in-Ok-readable-clause-found g c clean opened db at =
+returns-in-Ok-readable-clause-found g c clean db at =
     let start = state g.S.Store c.args.conn.now in
     let mid = state g.S.Store c.read_head.new.conn in
     let clean_mid : HasCleanDisk mid = omega (arith, clean, c.read_tables.ensures.crash.clean) in
-    let later = c.read_tables.ensures.rests clean opened in
-    let open_mid : IsTrue mid.is_open = later.was_open in
-    let earlier = c.read_head.ensures.rests clean_mid open_mid in
-    let head = c.in-Ok.ensures.found clean_mid open_mid db at in
-    let at_mid = earlier.stays db at in (
+    let head = c.in-Ok.ensures.found clean_mid db at in
+    let at_mid = at_same start mid (c.in-Ok.ensures.same clean_mid) db at in (
       head.0,
       head.1,
-      if_some c.in-Ok-readable.tables _ _ c.in-Ok-readable.ensures.read (λ rows is. was_on c.read_tables.result rows _ is (c.read_tables.ensures.found clean opened db at_mid)),
-      λ none. was_err c.read_tables.result Damaged _ (c.in-Ok-readable.ensures.unread none) (c.read_tables.ensures.refused clean opened db at_mid),
+      shown_either c.in-Ok-readable.tables c.read_tables.result _ c.in-Ok-readable.ensures.read c.in-Ok-readable.ensures.unread (c.read_tables.ensures.found clean db at_mid),
+      λ none. was_err c.read_tables.result Damaged _ (c.in-Ok-readable.ensures.unread none) (c.read_tables.ensures.refused clean db at_mid),
     )
 
 pub returns-in-Err-readable-clause-cause : goal.returns-in-Err-readable-clause-cause
-returns-in-Err-readable-clause-cause g c clean opened db at =
+returns-in-Err-readable-clause-cause g c clean db at =
     let start = state g.S.Store c.args.conn.now in
     let mid = state g.S.Store c.read_head.new.conn in
     let clean_mid : HasCleanDisk mid = omega (arith, clean, c.read_tables.ensures.crash.clean) in
-    let later = c.read_tables.ensures.rests clean opened in
-    let open_mid : IsTrue mid.is_open = later.was_open in
-    let earlier = c.read_head.ensures.rests clean_mid open_mid in
-    let head = c.in-Ok.ensures.found clean_mid open_mid db at in
-    let at_mid = earlier.stays db at in
-    c.in-Err-readable.ensures.cause db (c.in-Ok.rows.items, head.0, head.1) (c.read_tables.ensures.refused clean opened db at_mid)
+    let head = c.in-Ok.ensures.found clean_mid db at in
+    let at_mid = at_same start mid (c.in-Ok.ensures.same clean_mid) db at in
+    c.in-Err-readable.ensures.cause db (c.in-Ok.rows.items, head.0, head.1) (c.read_tables.ensures.refused clean db at_mid)
 
 pub returns-in-Ok-readable-clause-rests : goal.returns-in-Ok-readable-clause-rests
 returns-in-Ok-readable-clause-rests g c clean opened =
@@ -67,3 +62,12 @@ returns-in-Err-readable-clause-rests g c clean opened =
     let open_mid : IsTrue mid.is_open = later.was_open in
     let earlier = c.read_head.ensures.rests clean_mid open_mid in
     then start mid end earlier later
+
+pub returns-in-Ok-readable-clause-same : goal.returns-in-Ok-readable-clause-same
+returns-in-Ok-readable-clause-same g c clean =
+    let start = state g.S.Store c.args.conn.now in
+    let mid = state g.S.Store c.read_head.new.conn in
+    let end = state g.S.Store c.read_tables.new.conn in
+    let clean_mid : HasCleanDisk mid = omega (arith, clean, c.read_tables.ensures.crash.clean) in
+    unchanged_then start mid end (c.in-Ok.ensures.same clean_mid)
+    (shown_either c.in-Ok-readable.tables c.read_tables.result _ c.in-Ok-readable.ensures.read c.in-Ok-readable.ensures.unread (c.read_tables.ensures.same clean))

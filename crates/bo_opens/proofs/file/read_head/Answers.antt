@@ -2,11 +2,11 @@ use Rattle.bo_opens.proofs.ReadLemmas.{same_when}
 use Rattle.bo_opens.proofs.file.read_head.Goals as goal
 
 pub returns-in-Ok-clause-found : goal.returns-in-Ok-clause-found
-returns-in-Ok-clause-found g c clean opened db at =
-    same_when c.tested.result c.in-Ok.rows _ _ c.tested.ensures.same c.tested.ensures.passed (λ passed. (c.in-Ok.ensures.shown clean opened db at, passed))
+returns-in-Ok-clause-found g c clean db at =
+    same_when c.tested.result c.in-Ok.rows _ _ c.tested.ensures.same c.tested.ensures.passed (λ passed. (c.in-Ok.ensures.shown clean db at, passed))
 
 pub returns-in-Ok-clause-cause : goal.returns-in-Ok-clause-cause
-returns-in-Ok-clause-cause g c clean opened db at = c.tested.ensures.cause db (c.in-Ok.ensures.shown clean opened db at)
+returns-in-Ok-clause-cause g c clean db at = c.tested.ensures.cause db (c.in-Ok.ensures.shown clean db at)
 
 pub returns-in-Err-clause-cause : goal.returns-in-Err-clause-cause
-returns-in-Err-clause-cause g c clean opened db at = c.refusal.ensures db (c.in-Err.ensures.refused clean opened db at)
+returns-in-Err-clause-cause g c clean db at = c.refusal.ensures db (c.in-Err.ensures.refused clean db at)

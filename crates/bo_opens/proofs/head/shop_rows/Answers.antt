@@ -1,26 +1,55 @@
-use Rattle.std.proofs.Common.{◌≡◌, ap, ◌∙◌, sym, subst, arith, rules, IfOk, IfErr}
+use Rattle.std.proofs.Common.{◌≡◌, inl, [], sym, subst}
 use Rattle.sqlite.specs.Effect.{Database}
 use Rattle.sqlite.specs.Held.{state}
-use Rattle.sqlite.specs.State.{HasCleanDisk}
+use Rattle.sqlite.specs.State.{FailsToQuery, Shown}
 use Rattle.bo_loads.specs.Damage.{HasNoMeaning, IsFor}
 use Rattle.bo_loads.specs.Texts.{shop_text}
+use Rattle.bo_loads.proofs.Causes.{failed}
 use Rattle.bo_opens.specs.Causes.{ShowsBy}
+use Rattle.bo_opens.proofs.CauseLemmas.{shown_by}
+use Rattle.bo_opens.proofs.Stays.{commits_none, query_stays, shown_same, stays_same}
 use Rattle.bo_opens.proofs.head.shop_rows.Goals as goal
 
-pub returns-clause-shown : goal.returns-clause-shown
-returns-clause-shown g c clean opened db at =
-    let begun = c.transaction-tx.result.conn.now in
-    let was : (state g.S.Store begun).now ≡ db = ap (λ conn. (state g.S.Store conn).now) c.transaction-tx.ensures.begun ∙ at.now in
-    let same : c.rollback.new.self.0 ≡ c.conn-1.given.0 = search rules in
-    let ended : HasCleanDisk (state g.S.Store c.rollback.new.self.0) = subst (λ conn. HasCleanDisk (state g.S.Store conn)) (sym same) clean in
-    let mid : HasCleanDisk (state g.S.Store c.load_shown-read.new.tx.conn.now) = omega (arith, ended, c.rollback.ensures.survives.clean) in
-    subst (λ (d : Database). IfOk c.load_shown-read.result (λ rows. ShowsBy shop_text d rows.items)) was (c.load_shown-read.ensures.shown mid)
+pub returns-in-Ok-clause-shown : goal.returns-in-Ok-clause-shown
+returns-in-Ok-clause-shown g c clean db at =
+    let old = state g.S.Store c.args.conn.now in
+    let new = state g.S.Store c.query_all.new.self in
+    let shown : Shown shop_text [] old new c.in-Ok.rows.items = rw c.statement.ensures.text at (c.in-Ok.ensures.ok clean) in
+    subst (λ (d : Database). ShowsBy shop_text d c.in-Ok.rows.items) at.now (shown_by shop_text old new c.in-Ok.rows.items (c.statement.ensures.select.reads old.now.schema) shown)
 
-pub returns-clause-refused : goal.returns-clause-refused
-returns-clause-refused g c clean opened db at =
-    let begun = c.transaction-tx.result.conn.now in
-    let was : (state g.S.Store begun).now ≡ db = ap (λ conn. (state g.S.Store conn).now) c.transaction-tx.ensures.begun ∙ at.now in
-    let same : c.rollback.new.self.0 ≡ c.conn-1.given.0 = search rules in
-    let ended : HasCleanDisk (state g.S.Store c.rollback.new.self.0) = subst (λ conn. HasCleanDisk (state g.S.Store conn)) (sym same) clean in
-    let mid : HasCleanDisk (state g.S.Store c.load_shown-read.new.tx.conn.now) = omega (arith, ended, c.rollback.ensures.survives.clean) in
-    subst (λ (d : Database). IfErr c.load_shown-read.result (IsFor (HasNoMeaning d.schema shop_text) ⊥)) was (c.load_shown-read.ensures.refused mid)
+pub returns-in-Err-clause-refused : goal.returns-in-Err-clause-refused
+returns-in-Err-clause-refused g c clean db at =
+    let old = state g.S.Store c.args.conn.now in
+    let fails : FailsToQuery shop_text [] old (state g.S.Store c.query_all.new.self) c.in-Err.error = rw c.statement.ensures.text at (c.in-Err.ensures.err clean) in
+    let told = failed old (state g.S.Store c.query_all.new.self) shop_text [] c.in-Err.error ⊥ (c.statement.ensures.select.reads old.now.schema) (inl fails) in
+    subst (λ (d : Database). IsFor (HasNoMeaning d.schema shop_text) ⊥ c.of.result) at.now (subst (IsFor _ ⊥) (sym c.of.ensures) told)
+
+pub returns-in-Ok-clause-same : goal.returns-in-Ok-clause-same
+returns-in-Ok-clause-same g c clean =
+    let old = state g.S.Store c.args.conn.now in
+    let new = state g.S.Store c.query_all.new.self in
+    let shown : Shown shop_text [] old new c.in-Ok.rows.items = rw c.statement.ensures.text at (c.in-Ok.ensures.ok clean) in
+    shown_same shop_text [] old new c.in-Ok.rows.items (c.statement.ensures.select.reads old.now.schema) shown
+
+pub returns-in-Ok-clause-rests : goal.returns-in-Ok-clause-rests
+returns-in-Ok-clause-rests g c clean opened =
+    let old = state g.S.Store c.args.conn.now in
+    let new = state g.S.Store c.query_all.new.self in
+    let shown : Shown shop_text [] old new c.in-Ok.rows.items = rw c.statement.ensures.text at (c.in-Ok.ensures.ok clean) in
+    stays_same old new (shown_same shop_text [] old new c.in-Ok.rows.items (c.statement.ensures.select.reads old.now.schema) shown)
+
+pub returns-in-Err-clause-rests : goal.returns-in-Err-clause-rests
+returns-in-Err-clause-rests g c clean opened =
+    let old = state g.S.Store c.args.conn.now in
+    let fails : FailsToQuery shop_text [] old (state g.S.Store c.query_all.new.self) c.in-Err.error = rw c.statement.ensures.text at (c.in-Err.ensures.err clean) in
+    query_stays old (state g.S.Store c.query_all.new.self) shop_text [] c.in-Err.error (c.statement.ensures.select.reads old.now.schema) fails opened
+
+pub returns-in-Ok-clause-crash : goal.returns-in-Ok-clause-crash
+returns-in-Ok-clause-crash g c =
+    let old = state g.S.Store c.args.conn.now in
+    commits_none shop_text [] old (state g.S.Store c.query_all.new.self) (c.statement.ensures.select.reads old.now.schema) (rw c.statement.ensures.text at c.query_all.ensures.survives)
+
+pub returns-in-Err-clause-crash : goal.returns-in-Err-clause-crash
+returns-in-Err-clause-crash g c =
+    let old = state g.S.Store c.args.conn.now in
+    commits_none shop_text [] old (state g.S.Store c.query_all.new.self) (c.statement.ensures.select.reads old.now.schema) (rw c.statement.ensures.text at c.query_all.ensures.survives)

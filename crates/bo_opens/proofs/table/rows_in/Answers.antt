@@ -1,39 +1,67 @@
-use Rattle.std.proofs.Common.{◌≡◌, map, ap, ◌∙◌, sym, subst, arith, rules, IfOk, OnOk, IfErr}
+use Rattle.std.proofs.Common.{◌≡◌, ◌≢◌, [], ◌∷◌, ◌++◌, map, sym, ap, subst, ◌∙◌}
+use Rattle.std.specs.List.{All}
 use Rattle.std.specs.List.Sorted.{IsPermutation}
 use Rattle.sqlite.specs.Effect.{Database}
 use Rattle.sqlite.specs.Held.{state}
-use Rattle.sqlite.specs.State.{HasCleanDisk}
+use Rattle.sqlite.specs.State.{Shown, Begins}
 use Rattle.bo_schema.specs.Tables.{schema}
 use Rattle.bo_schema.specs.Parts.{shown}
-use Rattle.bo_loads.specs.Damage.{HasMeaning, HasNoMeaning, IsDamaged, IsFor}
-use Rattle.bo_opens.proofs.CauseLemmas.{joined_err}
+use Rattle.bo_loads.specs.Damage.{HasMeaning, HasNoMeaning, IsDamaged}
+use Rattle.bo_loads.proofs.Loads.{loads}
+use Rattle.bo_loads.proofs.Causes.{means_something, unread_for}
+use Rattle.bo_opens.proofs.Gathering.{gathers}
+use Rattle.bo_opens.proofs.Refusing.{begins_meaning, damaged_in}
+use Rattle.bo_opens.proofs.Shown.{not_damaged, where_damaged}
 use Rattle.bo_opens.proofs.table.rows_in.Goals as goal
 
-pub returns-clause-loaded : goal.returns-clause-loaded
-returns-clause-loaded g c clean opened db at has =
-    let begun = c.transaction-tx.result.conn.now in
-    let was : (state g.S.Store begun).now ≡ db = ap (λ conn. (state g.S.Store conn).now) c.transaction-tx.ensures.begun ∙ at.now in
-    let same : c.rollback.new.self.0 ≡ c.conn-1.given.0 = search rules in
-    let ended : HasCleanDisk (state g.S.Store c.rollback.new.self.0) = subst (λ conn. HasCleanDisk (state g.S.Store conn)) (sym same) clean in
-    let mid : HasCleanDisk (state g.S.Store c.load-read.new.tx.conn.now) = omega (arith, ended, c.rollback.ensures.survives.clean) in
-    let known : (state g.S.Store begun).now.schema ≡ schema = ap (λ (d : Database). d.schema) was ∙ has in
-    subst (λ (d : Database). IfOk c.load-read.result (λ all. IsPermutation (map g.T.Loaded.as_row all.items) (map (shown schema g.T.Loaded.tree) (d.trees g.T.Loaded.tree)))) was (c.load-read.ensures.loaded mid known)
+pub returns-in-Ok-taken-clause-loaded : goal.returns-in-Ok-taken-clause-loaded
+returns-in-Ok-taken-clause-loaded g c clean db at known =
+    let old = state g.S.Store c.args.conn.now in
+    let new = state g.S.Store c.each_row.new.conn in
+    let all = rw c.in-Ok-taken.is at c.in-Ok.ensures.whole in
+    let it = gathers (λ k. k.all.items) g.T.Loaded.as_row g.T.Loaded.fits _ _ all.rows all.took in
+    let none = c.new.ensures.items in
+    let same : map g.T.Loaded.as_row c.each_row.new.taker.all.items ≡ all.rows = ap (map g.T.Loaded.as_row) (it.behind ∙ ap (λ l. l ++ it.more) none) ∙ it.values in
+    let has : old.now.schema ≡ schema = ap (λ (d : Database). d.schema) at.now ∙ known in
+    let told = loads g.T.Loaded.text g.T.Loaded.tree c.statement.ensures.select old new has all.rows (subst (λ t. Shown t [] old new all.rows) c.statement.ensures.text (all.shown clean)) in
+    subst (λ (d : Database). IsPermutation (map g.T.Loaded.as_row c.each_row.new.taker.all.items) (map (shown schema g.T.Loaded.tree) (d.trees g.T.Loaded.tree))) at.now (subst (λ l. IsPermutation l (map (shown schema g.T.Loaded.tree) (old.now.trees g.T.Loaded.tree))) (sym same) told)
 
-pub returns-clause-found : goal.returns-clause-found
-returns-clause-found g c clean opened db at =
-    let begun = c.transaction-tx.result.conn.now in
-    let was : (state g.S.Store begun).now ≡ db = ap (λ conn. (state g.S.Store conn).now) c.transaction-tx.ensures.begun ∙ at.now in
-    let same : c.rollback.new.self.0 ≡ c.conn-1.given.0 = search rules in
-    let ended : HasCleanDisk (state g.S.Store c.rollback.new.self.0) = subst (λ conn. HasCleanDisk (state g.S.Store conn)) (sym same) clean in
-    let mid : HasCleanDisk (state g.S.Store c.load-read.new.tx.conn.now) = omega (arith, ended, c.rollback.ensures.survives.clean) in
-    subst (λ (d : Database). OnOk c.load-read.result (HasMeaning d.schema g.T.Loaded.text)) was (c.load-read.ensures.found mid)
+pub returns-in-Ok-taken-clause-limits : goal.returns-in-Ok-taken-clause-limits
+returns-in-Ok-taken-clause-limits g c =
+    let all = rw c.in-Ok-taken.is at c.in-Ok.ensures.whole in
+    let it = gathers (λ k. k.all.items) g.T.Loaded.as_row g.T.Loaded.fits _ _ all.rows all.took in
+    subst (All g.T.Loaded.fits) (sym (it.behind ∙ ap (λ l. l ++ it.more) c.new.ensures.items)) it.fit
 
-pub returns-clause-refused : goal.returns-clause-refused
-returns-clause-refused g c clean opened db at =
-    let begun = c.transaction-tx.result.conn.now in
-    let was : (state g.S.Store begun).now ≡ db = ap (λ conn. (state g.S.Store conn).now) c.transaction-tx.ensures.begun ∙ at.now in
-    let same : c.rollback.new.self.0 ≡ c.conn-1.given.0 = search rules in
-    let ended : HasCleanDisk (state g.S.Store c.rollback.new.self.0) = subst (λ conn. HasCleanDisk (state g.S.Store conn)) (sym same) clean in
-    let mid : HasCleanDisk (state g.S.Store c.load-read.new.tx.conn.now) = omega (arith, ended, c.rollback.ensures.survives.clean) in
-    subst (λ (d : Database). IfErr c.load-read.result (IsFor (HasNoMeaning d.schema g.T.Loaded.text) (d.schema ≡ schema → IsDamaged g.T.Loaded.as_row g.T.Loaded.fits (map (shown schema g.T.Loaded.tree) (d.trees g.T.Loaded.tree))))) was
-    (joined_err c.load-read.result _ _ _ (c.load-read.ensures.lacking mid) (c.load-read.ensures.refused mid))
+pub returns-in-Ok-taken-clause-found : goal.returns-in-Ok-taken-clause-found
+returns-in-Ok-taken-clause-found g c clean db at =
+    let old = state g.S.Store c.args.conn.now in
+    let new = state g.S.Store c.each_row.new.conn in
+    let all = rw c.in-Ok-taken.is at c.in-Ok.ensures.whole in
+    subst (λ (d : Database). HasMeaning d.schema g.T.Loaded.text) at.now (means_something g.T.Loaded.text [] old new all.rows (subst (λ t. Shown t [] old new all.rows) c.statement.ensures.text (all.shown clean)))
+
+pub returns-in-Err-taken-clause-refused : goal.returns-in-Err-taken-clause-refused
+returns-in-Err-taken-clause-refused g c clean db at =
+    let old = state g.S.Store c.args.conn.now in
+    let some = rw c.in-Err-taken.is at c.in-Ok.ensures.stopped in
+    let text = c.statement.ensures.text in
+    let front = subst (λ t. Begins t [] old (some.rows ++ some.row ∷ [])) text (some.front clean) in
+    let why : ((w : g.row.T.Denot) → g.T.Loaded.fits w → some.row ≢ g.T.Loaded.as_row w) → db.schema ≡ schema → IsDamaged g.T.Loaded.as_row g.T.Loaded.fits (map (shown schema g.T.Loaded.tree) (db.trees g.T.Loaded.tree)) = λ bad known.
+    subst (λ (d : Database). IsDamaged g.T.Loaded.as_row g.T.Loaded.fits (map (shown schema g.T.Loaded.tree) (d.trees g.T.Loaded.tree))) at.now
+    (damaged_in g.T.Loaded.as_row g.T.Loaded.fits g.T.Loaded.text g.T.Loaded.tree c.statement.ensures.select old (ap (λ (d : Database). d.schema) at.now ∙ known) at.is_open some.rows some.row front bad) in
+    unread_for (HasNoMeaning db.schema g.T.Loaded.text) _ _ why _ some.stopped
+
+pub returns-in-Err-taken-clause-same : goal.returns-in-Err-taken-clause-same
+returns-in-Err-taken-clause-same g c clean = where_damaged c.in-Err-taken.refusal _ (c.in-Ok.ensures.same clean)
+
+pub returns-in-Err-clause-same : goal.returns-in-Err-clause-same
+returns-in-Err-clause-same g c clean = not_damaged c.in-Err.error _ _ (c.in-Err.ensures.refused clean)
+
+pub returns-in-Err-taken-clause-found : goal.returns-in-Err-taken-clause-found
+returns-in-Err-taken-clause-found g c clean db at =
+    let old = state g.S.Store c.args.conn.now in
+    let some = rw c.in-Err-taken.is at c.in-Ok.ensures.stopped in
+    let front = subst (λ t. Begins t [] old (some.rows ++ some.row ∷ [])) c.statement.ensures.text (some.front clean) in
+    where_damaged c.in-Err-taken.refusal _ (subst (λ (d : Database). HasMeaning d.schema g.T.Loaded.text) at.now (begins_meaning g.T.Loaded.text old _ front))
+
+pub returns-in-Err-clause-found : goal.returns-in-Err-clause-found
+returns-in-Err-clause-found g c clean db at = not_damaged c.in-Err.error _ _ (c.in-Err.ensures.refused clean)

@@ -1,4 +1,4 @@
-use Rattle.std.proofs.Common.{◌≡◌, ◌⊎◌, IsTrue, IfErr, sym, subst, arith}
+use Rattle.std.proofs.Common.{◌≡◌, ◌⊎◌, ◌∙◌, Err, IfErr, ap, sym, subst, arith}
 use Rattle.sqlite.specs.Held.{state}
 use Rattle.sqlite.specs.State.{HasCleanDisk}
 use Rattle.bo_schema.specs.Tables.{schema}
@@ -6,41 +6,37 @@ use Rattle.bo_schema.specs.declared.error.RowError.TheVariants.{Damaged}
 use Rattle.bo_loads.specs.Damage.{IsFor}
 use Rattle.bo_opens.proofs.CauseLemmas.{of_first, of_second}
 use Rattle.bo_opens.proofs.ReadLemmas.{was_err}
+use Rattle.bo_opens.proofs.Shown.{was_damaged}
+use Rattle.bo_opens.proofs.Stays.{at_same}
 use Rattle.bo_opens.proofs.whole.read_both.Goals as goal
 use Rattle.bo_opens.proofs.whole.read_both.Goals.{in-Ok-read-2, in-Err-read-2}
 
 pub returns-in-Ok-read-clause-loaded : goal.returns-in-Ok-read-clause-loaded
-returns-in-Ok-read-clause-loaded g c clean opened db at known =
+returns-in-Ok-read-clause-loaded g c clean db at known =
     let mid = state g.S.Store c.read.new.conn in
     let clean_mid : HasCleanDisk mid = omega (arith, clean, c.read-in-Ok.ensures.crash.clean) in
-    let later = c.read-in-Ok.ensures.rests clean opened in
-    let open_mid : IsTrue mid.is_open = later.was_open in
-    let earlier = c.read.ensures.rests clean_mid open_mid in
-    (c.in-Ok.ensures.loaded clean_mid open_mid db at known, c.in-Ok-read.ensures.loaded clean opened db (earlier.stays db at) known)
+    let at_mid = at_same (state g.S.Store c.args.conn.now) mid (c.in-Ok.ensures.same clean_mid) db at in
+    (c.in-Ok.ensures.loaded clean_mid db at known, c.in-Ok-read.ensures.loaded clean db at_mid known)
 
 pub returns-in-Err-read-clause-refused : goal.returns-in-Err-read-clause-refused
-returns-in-Err-read-clause-refused g c clean opened db at =
+returns-in-Err-read-clause-refused g c clean db at =
     let mid = state g.S.Store c.read.new.conn in
     let clean_mid : HasCleanDisk mid = omega (arith, clean, c.read-in-Ok.ensures.crash.clean) in
-    let later = c.read-in-Ok.ensures.rests clean opened in
-    let open_mid : IsTrue mid.is_open = later.was_open in
-    let earlier = c.read.ensures.rests clean_mid open_mid in
+    let at_mid = at_same (state g.S.Store c.args.conn.now) mid (c.in-Ok.ensures.same clean_mid) db at in
     of_second (g.A.Whole.lacks db.schema) (g.B.Whole.lacks db.schema) (db.schema ≡ schema) (g.A.Whole.is_damaged db.trees) (g.B.Whole.is_damaged db.trees) c.in-Err-read.error
-    (c.in-Err-read.ensures.refused clean opened db (earlier.stays db at))
+    (c.in-Err-read.ensures.refused clean db at_mid)
 
 pub returns-after-read-3-clause-refused : goal.returns-after-read-3-clause-refused
-returns-after-read-3-clause-refused g c clean opened db at =
+returns-after-read-3-clause-refused g c clean db at =
     let mid = state g.S.Store c.read.new.conn in
     let clean_mid : HasCleanDisk mid = omega (arith, clean, c.read-in-Err-Damaged.ensures.crash.clean) in
-    let later = c.read-in-Err-Damaged.ensures.rests clean opened in
-    let open_mid : IsTrue mid.is_open = later.was_open in
-    let earlier = c.read.ensures.rests clean_mid open_mid in
+    let at_mid = at_same (state g.S.Store c.args.conn.now) mid (was_damaged c.read.result _ (c.in-Err-Damaged.is ∙ ap Err c.in-Err-Damaged.field-0-is) (c.read.ensures.same clean_mid)) db at in
     let F = g.A.Whole.lacks db.schema in
     let G = g.B.Whole.lacks db.schema in
     let D = g.A.Whole.is_damaged db.trees in
     let E = g.B.Whole.is_damaged db.trees in
-    let first : IsFor F (db.schema ≡ schema → D) Damaged = subst (IsFor F (db.schema ≡ schema → D)) c.in-Err-Damaged.field-0-is (c.in-Err-Damaged.ensures.refused clean_mid open_mid db at) in
-    let second = c.read-in-Err-Damaged.ensures.refused clean opened db (earlier.stays db at) in
+    let first : IsFor F (db.schema ≡ schema → D) Damaged = subst (IsFor F (db.schema ≡ schema → D)) c.in-Err-Damaged.field-0-is (c.in-Err-Damaged.ensures.refused clean_mid db at) in
+    let second = c.read-in-Err-Damaged.ensures.refused clean db at_mid in
     elim c.match-read-3.branch [
       | in-Ok-read-2 w ↦ subst (λ r. IfErr r (IsFor (F ⊎ G) (db.schema ≡ schema → D ⊎ E))) (sym w.result-is) (of_first F G (db.schema ≡ schema) D E Damaged first)
       | in-Err-read-2 w ↦ subst (λ r. IfErr r (IsFor (F ⊎ G) (db.schema ≡ schema → D ⊎ E))) (sym w.result-is) (of_second F G (db.schema ≡ schema) D E _ (was_err c.read-in-Err-Damaged.result _ _ w.in-Err-read-2.is second))
