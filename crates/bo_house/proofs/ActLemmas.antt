@@ -1,5 +1,5 @@
 -- What a command of the program's own comes to.
-use Rattle.std.proofs.Common.{◌≡◌, ◌∙◌, ◌⊎◌, inl, inr, ℕ, List, Result, Err, ap, ap₂, refl, subst, true}
+use Rattle.std.proofs.Common.{◌≡◌, ◌∙◌, ◌⊎◌, inl, inr, ℕ, List, Option, Some, None, Result, Err, ap, ap₂, refl, subst, true}
 use Rattle.sqlite_trees.specs.declared.store.Store.{Ghosts}
 use Rattle.sqlite.specs.State.{State as Connected}
 use Rattle.sqlite.specs.declared.connection.Connection.{Connection}
@@ -23,7 +23,7 @@ use Rattle.bo_house.specs.Acting.{Acts, ActsFrom, own_arrival, told_of}
 use Rattle.bo_house.specs.Worked.{IsOpenedAndWorked, work_words}
 use Rattle.bo_commands.specs.declared.requests.Command.TheVariants.{Periodic}
 
-module _ {T : Type 0} (words : Reply → Response) (command : Command) (tables : Meaning T) where
+module _ {T : Type 0} (words : Reply → Response) (command : Command) (tick : Tick) (tables : Meaning T) where
   -- what an arrival comes to that was answered, and the write that a crash may leave of it
   abbrev Answered : Arrival → Answer → T → State → T → State → Type 0
   Answered a answer before s after t = tables.sure after → (v : ShopView) → Views tables.holds before s v → IsAnswered words a v answer (λ w. Views tables.holds after t w)
@@ -38,13 +38,12 @@ module _ {T : Type 0} (words : Reply → Response) (command : Command) (tables :
       → (left : ShopView) → tables.may_leave after left → IsSame left (served words a v).0)
 
   -- the shop of tables and an office answered the arrival that the command is
-  pub was_done : (organizer event : List ℕ) (before shop after given : T) (s of_shop t : State) (tick : Tick) (a : Arrival) (answer : Answer) (outcome : Result (List ℕ) RunFault)
+  pub was_done : (organizer event : List ℕ) (before shop after given : T) (s of_shop t : State) (a : Arrival) (answer : Answer) (outcome : Result (List ℕ) RunFault)
       → shop ≡ before → of_shop ≡ s → a ≡ own_arrival command tick → outcome ≡ told_of answer → given ≡ after
       → (tables.sure after → tables.sure shop) → Answered a answer shop of_shop after t → Leaves a shop of_shop after → Settles a answer shop of_shop after
-      → (last : DeskView T) × Acts words command tables (desk_with before organizer event s) last outcome × (given ≡ last.tables)
-  was_done organizer event before shop after given s of_shop t tick a answer outcome tables_are state_is arrival_is told given_is sure answered crash settled =
-      let does : Acts words command tables (desk_with shop organizer event of_shop) (desk_with after organizer event t) outcome = record {
-        tick = tick;
+      → (last : DeskView T) × Acts words command tick tables (desk_with before organizer event s) last outcome × (given ≡ last.tables)
+  was_done organizer event before shop after given s of_shop t a answer outcome tables_are state_is arrival_is told given_is sure answered crash settled =
+      let does : Acts words command tick tables (desk_with shop organizer event of_shop) (desk_with after organizer event t) outcome = record {
         answer = answer;
         told = told;
         sure = sure;
@@ -53,26 +52,33 @@ module _ {T : Type 0} (words : Reply → Response) (command : Command) (tables :
         settled = subst (λ (x : Arrival). Settles x answer shop of_shop after) arrival_is settled;
       } in (
         desk_with after organizer event t,
-        subst (λ (d : DeskView T). Acts words command tables d (desk_with after organizer event t) outcome) (ap₂ (λ (x : T) (y : State). desk_with x organizer event y) tables_are state_is) does,
+        subst (λ (d : DeskView T). Acts words command tick tables d (desk_with after organizer event t) outcome) (ap₂ (λ (x : T) (y : State). desk_with x organizer event y) tables_are state_is) does,
         given_is,
       )
 
 -- in the words that the shop was given
-pub spoken_as : {V T : Type 0} (say : V → Reply → Response) (a b : V) (command : Command) (tables : Meaning T) (first : DeskView T) (outcome : Result (List ℕ) RunFault) (given : T) → a ≡ b
-    → ((last : DeskView T) × Acts (say a) command tables first last outcome × (given ≡ last.tables)) → (last : DeskView T) × Acts (say b) command tables first last outcome × (given ≡ last.tables)
-spoken_as {V} {T} say a b command tables first outcome given is done = subst (λ (v : V). (last : DeskView T) × Acts (say v) command tables first last outcome × (given ≡ last.tables)) is done
+pub spoken_as : {V T : Type 0} (say : V → Reply → Response) (a b : V) (command : Command) (tick : Tick) (tables : Meaning T) (first : DeskView T) (outcome : Result (List ℕ) RunFault) (given : T) → a ≡ b
+    → ((last : DeskView T) × Acts (say a) command tick tables first last outcome × (given ≡ last.tables)) → (last : DeskView T) × Acts (say b) command tick tables first last outcome × (given ≡ last.tables)
+spoken_as {V} {T} say a b command tick tables first outcome given is done = subst (λ (v : V). (last : DeskView T) × Acts (say v) command tick tables first last outcome × (given ≡ last.tables)) is done
 
 module _ {S : Type 0} (words : Reply → Response) (command : Command) (tables : Meaning (SqlTables S)) where
   -- it was done over tables whose connection is handed back
-  pub acts_there : (first last : DeskView (SqlTables S)) (given : SqlTables S) (left : Connection S) (outcome : Result (List ℕ) RunFault) → Acts words command tables first last outcome
-      → given ≡ last.tables → left ≡ given.connection → ActsFrom words command tables first left outcome
-  acts_there first last given left outcome does given_is is = record { last = last; act = inl does; connection = is ∙ ap (λ t. t.connection) given_is }
+  pub acts_there : (tick : Tick) (first : DeskView (SqlTables S)) (given : SqlTables S) (left : Connection S) (outcome : Result (List ℕ) RunFault)
+      → ((last : DeskView (SqlTables S)) × Acts words command tick tables first last outcome × (given ≡ last.tables)) → left ≡ given.connection
+      → (last : DeskView (SqlTables S)) × Acts words command tick tables first last outcome × (left ≡ last.tables.connection)
+  acts_there tick first given left outcome done is = (done.0, done.1, is ∙ ap (λ t. t.connection) done.2)
 
-  -- there was no clock or no draw
-  pub no_tick : (first : DeskView (SqlTables S)) (left : Connection S) → left ≡ first.tables.connection → ActsFrom words command tables first left (Err (faults.Run failures.Clock))
-  no_tick first left is = record { last = first; act = inr (refl, refl); connection = is }
+module _ {S : Type 0} (reads : Option Tick → Type 0) (words : Reply → Response) (command : Command) (tables : Meaning (SqlTables S)) where
+  -- at a tick that was read
+  pub at_tick : (tick : Tick) (first : DeskView (SqlTables S)) (left : Connection S) (outcome : Result (List ℕ) RunFault) → reads (Some tick)
+      → ((last : DeskView (SqlTables S)) × Acts words command tick tables first last outcome × (left ≡ last.tables.connection)) → ActsFrom reads words command tables first left outcome
+  at_tick tick first left outcome read done = record { last = done.0; act = inl (tick, read, done.1); connection = done.2 }
 
-module _ {S : Type 0} (tables : Meaning (SqlTables S)) where
+  -- none was read
+  pub no_tick : (first : DeskView (SqlTables S)) (left : Connection S) → reads None → left ≡ first.tables.connection → ActsFrom reads words command tables first left (Err (faults.Run failures.Clock))
+  no_tick first left unread is = record { last = first; act = inr (unread, refl, refl); connection = is }
+
+module _ {S : Type 0} (reads : Option Tick → Type 0) (tables : Meaning (SqlTables S)) where
   pub is_worked : (g : Ghosts S) (old : Connected) (desk : DeskView (SqlTables S)) (left : Connection S) (outcome : Result (List ℕ) RunFault) → OpensAs g old desk
-      → ActsFrom work_words Periodic tables desk left outcome → IsOpenedAndWorked g tables old left outcome ⊎ StaysUnopened g old left outcome
+      → ActsFrom reads work_words Periodic tables desk left outcome → IsOpenedAndWorked reads g tables old left outcome ⊎ StaysUnopened g old left outcome
   is_worked g old desk left outcome opens works = inl (record { desk = desk; opens = opens; works = works })

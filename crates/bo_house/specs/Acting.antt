@@ -1,5 +1,5 @@
 -- What becomes of a shop's database when the program asks something of the shop by itself.
-use Rattle.std.specs.Prelude.{◌≡◌, ◌⊎◌, ℕ, List, [], Result, Ok, Err, true, codes}
+use Rattle.std.specs.Prelude.{◌≡◌, ◌⊎◌, ℕ, List, [], Option, Some, None, Result, Ok, Err, true, codes}
 use Rattle.sqlite.specs.declared.connection.Connection.{Connection}
 use Rattle.bo_base.specs.declared.answer.Answer.{Answer}
 use Rattle.bo_base.specs.declared.answer.Answer.TheVariants.{Decided, Unavailable}
@@ -31,10 +31,9 @@ abbrev pub told_of : Answer → Result (List ℕ) RunFault
 told_of (Decided response) = Ok response.body
 told_of Unavailable = Err faults.Store
 
--- The command is an arrival with what the system's clock shows and a draw. It is answered like any other, and what it did is told. A crash
+-- The command is an arrival of this tick. It is answered like any other, and what it did is told. A crash
 -- leaves what one before it could have left, or the whole of it, which is sound; and once what it did is told, only that.
-pub record Acts {T : Type 0} (words : Reply → Response) (command : Command) (tables : Meaning T) (first last : DeskView T) (outcome : Result (List ℕ) RunFault) : Type 0 where
-  pub tick : Tick
+pub record Acts {T : Type 0} (words : Reply → Response) (command : Command) (tick : Tick) (tables : Meaning T) (first last : DeskView T) (outcome : Result (List ℕ) RunFault) : Type 0 where
   pub answer : Answer
   pub told : outcome ≡ told_of answer
   pub sure : tables.sure last.tables → tables.sure first.tables
@@ -45,8 +44,8 @@ pub record Acts {T : Type 0} (words : Reply → Response) (command : Command) (t
   pub settled : tables.sure last.tables → IsDecided answer ((v : ShopView) → Views tables.holds first.tables first.state v → executes (own_arrival command tick) v ≡ true
       → (left : ShopView) → tables.may_leave last.tables left → IsSame left (served words (own_arrival command tick) v).0)
 
--- from this desk the command is carried out, or there is no clock or no draw, and nothing is done
-pub record ActsFrom {S : Type 0} (words : Reply → Response) (command : Command) (tables : Meaning (SqlTables S)) (first : DeskView (SqlTables S)) (left : Connection S) (outcome : Result (List ℕ) RunFault) : Type 0 where
+-- from this desk the command is carried out at the tick that is read of the system, or none can be read, and nothing is done
+pub record ActsFrom {S : Type 0} (reads : Option Tick → Type 0) (words : Reply → Response) (command : Command) (tables : Meaning (SqlTables S)) (first : DeskView (SqlTables S)) (left : Connection S) (outcome : Result (List ℕ) RunFault) : Type 0 where
   pub last : DeskView (SqlTables S)
-  pub act : Acts words command tables first last outcome ⊎ ((outcome ≡ Err (faults.Run failures.Clock)) × (last ≡ first))
+  pub act : ((tick : Tick) × reads (Some tick) × Acts words command tick tables first last outcome) ⊎ (reads None × (outcome ≡ Err (faults.Run failures.Clock)) × (last ≡ first))
   pub connection : left ≡ last.tables.connection

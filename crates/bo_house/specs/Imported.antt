@@ -1,5 +1,5 @@
 -- What becomes of a shop's database when the vouchers of a CSV file are added.
-use Rattle.std.specs.Prelude.{◌≡◌, ◌⊎◌, ℕ, List, None, Result, Ok, Err}
+use Rattle.std.specs.Prelude.{◌≡◌, ◌⊎◌, ℕ, List, Option, None, Result, Ok, Err}
 use Rattle.sqlite_trees.specs.declared.store.Store.{Ghosts}
 use Rattle.sqlite.specs.State.{State as Connected}
 use Rattle.sqlite.specs.declared.connection.Connection.{Connection}
@@ -11,6 +11,7 @@ use Rattle.bo_commands.specs.declared.vouchers.NewVoucher.{NewVoucher}
 use Rattle.bo_csv.specs.VerdictLines.{codes_of, verdict_lines}
 use Rattle.bo_csv.specs.VoucherFile.{IsFile}
 use Rattle.bo_csv.specs.declared.voucher_file.FileFault.{FileFault}
+use Rattle.bo_devices.specs.declared.device.Tick.{Tick}
 use Rattle.bo_tables.specs.declared.sql.SqlTables.{SqlTables}
 use Rattle.bo_desk.specs.Streams.{DeskView, Meaning}
 use Rattle.bo_line.specs.declared.fault.RunFault.{RunFault}
@@ -27,26 +28,26 @@ import_body given _ = untold
 abbrev pub import_words : List (List ℕ) → Reply → Response
 import_words given reply = record { status = 200; allow = None; body = import_body given reply }
 
--- the vouchers that were read are added, in one command
-abbrev pub AddsAll : {S : Type 0} → Meaning (SqlTables S) → List NewVoucher → DeskView (SqlTables S) → Connection S → Result (List ℕ) RunFault → Type 0
-AddsAll tables vouchers desk left outcome = ActsFrom (import_words (codes_of vouchers)) (commands.ImportVouchers vouchers) tables desk left outcome
+-- the vouchers that were read are added, in one command at the tick that is read
+abbrev pub AddsAll : {S : Type 0} → (Option Tick → Type 0) → Meaning (SqlTables S) → List NewVoucher → DeskView (SqlTables S) → Connection S → Result (List ℕ) RunFault → Type 0
+AddsAll reads tables vouchers desk left outcome = ActsFrom reads (import_words (codes_of vouchers)) (commands.ImportVouchers vouchers) tables desk left outcome
 
 -- nothing is added, and that is told
 abbrev pub AddsNothing : {S : Type 0} → RunFault → DeskView (SqlTables S) → Connection S → Result (List ℕ) RunFault → Type 0
 AddsNothing fault desk left outcome = (outcome ≡ Err fault) × (left ≡ desk.tables.connection)
 
 -- what the lines of a file come to: their vouchers, or a fault of the file
-abbrev pub AddsRead : {S : Type 0} → Meaning (SqlTables S) → Result (List NewVoucher) FileFault → DeskView (SqlTables S) → Connection S → Result (List ℕ) RunFault → Type 0
-AddsRead tables (Ok vouchers) desk left outcome = AddsAll tables vouchers desk left outcome
-AddsRead tables (Err fault) desk left outcome = AddsNothing (fault_of_file fault) desk left outcome
+abbrev pub AddsRead : {S : Type 0} → (Option Tick → Type 0) → Meaning (SqlTables S) → Result (List NewVoucher) FileFault → DeskView (SqlTables S) → Connection S → Result (List ℕ) RunFault → Type 0
+AddsRead reads tables (Ok vouchers) desk left outcome = AddsAll reads tables vouchers desk left outcome
+AddsRead reads tables (Err fault) desk left outcome = AddsNothing (fault_of_file fault) desk left outcome
 
 -- what a file's bytes come to: what its lines do, or there is no memory to read them; or the file couldn't be read
-abbrev pub AddsFrom : {S : Type 0} → Meaning (SqlTables S) → Result (List ℕ) RunFault → DeskView (SqlTables S) → Connection S → Result (List ℕ) RunFault → Type 0
-AddsFrom tables (Ok text) desk left outcome = ((read : Result (List NewVoucher) FileFault) × IsFile text read × AddsRead tables read desk left outcome) ⊎ AddsNothing faults.Memory desk left outcome
-AddsFrom tables (Err fault) desk left outcome = AddsNothing fault desk left outcome
+abbrev pub AddsFrom : {S : Type 0} → (Option Tick → Type 0) → Meaning (SqlTables S) → Result (List ℕ) RunFault → DeskView (SqlTables S) → Connection S → Result (List ℕ) RunFault → Type 0
+AddsFrom reads tables (Ok text) desk left outcome = ((read : Result (List NewVoucher) FileFault) × IsFile text read × AddsRead reads tables read desk left outcome) ⊎ AddsNothing faults.Memory desk left outcome
+AddsFrom reads tables (Err fault) desk left outcome = AddsNothing fault desk left outcome
 
 -- the vouchers of a file are added to the shop in the database, at the desk that it is opened as
-pub record IsOpenedAndImported {S : Type 0} (g : Ghosts S) (tables : Meaning (SqlTables S)) (source : Result (List ℕ) RunFault) (old : Connected) (left : Connection S) (outcome : Result (List ℕ) RunFault) : Type 0 where
+pub record IsOpenedAndImported {S : Type 0} (reads : Option Tick → Type 0) (g : Ghosts S) (tables : Meaning (SqlTables S)) (source : Result (List ℕ) RunFault) (old : Connected) (left : Connection S) (outcome : Result (List ℕ) RunFault) : Type 0 where
   pub desk : DeskView (SqlTables S)
   pub opens : OpensAs g old desk
-  pub adds : AddsFrom tables source desk left outcome
+  pub adds : AddsFrom reads tables source desk left outcome

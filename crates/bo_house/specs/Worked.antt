@@ -1,5 +1,5 @@
 -- What becomes of a shop's database when its periodic work is done.
-use Rattle.std.specs.Prelude.{ℕ, List, ◌++◌, None, Result, codes}
+use Rattle.std.specs.Prelude.{ℕ, List, ◌++◌, Option, None, Result, codes}
 use Rattle.std.specs.Fmt.{decimal}
 use Rattle.sqlite_trees.specs.declared.store.Store.{Ghosts}
 use Rattle.sqlite.specs.State.{State as Connected}
@@ -9,6 +9,7 @@ use Rattle.bo_commands.specs.declared.replies.Reply.{Reply}
 use Rattle.bo_commands.specs.declared.replies.Reply.TheVariants as replies
 use Rattle.bo_commands.specs.declared.requests.Command.TheVariants as commands
 use Rattle.bo_commands.specs.declared.waiting.PeriodicCounts.{PeriodicCounts}
+use Rattle.bo_devices.specs.declared.device.Tick.{Tick}
 use Rattle.bo_tables.specs.declared.sql.SqlTables.{SqlTables}
 use Rattle.bo_desk.specs.Streams.{DeskView, Meaning}
 use Rattle.bo_line.specs.declared.fault.RunFault.{RunFault}
@@ -27,8 +28,8 @@ work_body _ = untold
 abbrev pub work_words : Reply → Response
 work_words reply = record { status = 200; allow = None; body = work_body reply }
 
--- the periodic work of the shop in the database is done, at the desk that it is opened as
-pub record IsOpenedAndWorked {S : Type 0} (g : Ghosts S) (tables : Meaning (SqlTables S)) (old : Connected) (left : Connection S) (outcome : Result (List ℕ) RunFault) : Type 0 where
+-- the periodic work of the shop in the database is done, at the desk that it is opened as and the tick that is read
+pub record IsOpenedAndWorked {S : Type 0} (reads : Option Tick → Type 0) (g : Ghosts S) (tables : Meaning (SqlTables S)) (old : Connected) (left : Connection S) (outcome : Result (List ℕ) RunFault) : Type 0 where
   pub desk : DeskView (SqlTables S)
   pub opens : OpensAs g old desk
-  pub works : ActsFrom work_words commands.Periodic tables desk left outcome
+  pub works : ActsFrom reads work_words commands.Periodic tables desk left outcome

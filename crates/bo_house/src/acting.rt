@@ -2,6 +2,7 @@
 
 ghost use Rattle.std.specs.Prelude.{◌≡◌};
 ghost use Rattle.bo_desk.specs.Streams.{DeskView, desk_with, meaning};
+ghost use Rattle.bo_serve.specs.Clock.{IsRead};
 ghost use Rattle.bo_house.specs.Acting.{Acts, ActsFrom, own_arrival, told_of};
 
 use crate::filed::{Filed, connection_of};
@@ -15,12 +16,10 @@ use bo_dues::Dues;
 use bo_kept::{Key, Tables};
 use bo_line::RunFault;
 use bo_once::Shop;
-use bo_serve::read_tick;
+use bo_serve::{System, read_tick};
 use bo_tables::SqlTables;
 use sqlite::Alter;
 use std::alloc::Global;
-use std::random::RandomSource;
-use std::time::Clock;
 
 // The arrival that the command is.
 fn arrival(alloc: Global, tick: Tick, command: Command) -> Arrival
@@ -54,7 +53,7 @@ fn act_over<T: Tables + Drop, B: Dues + Drop, W: Wording + Drop>(
     wording: W,
     command: Command,
 ) -> (T, Result<Body, RunFault>)
-    ensures { (last : DeskView T) × Acts (W.words wording) command (meaning T.sure T.holds T.knows T.may_leave) (desk_with tables office.organizer office.event office.state) last result.1 × (result.0 ≡ last.tables) }
+    ensures { (last : DeskView T) × Acts (W.words wording) command tick (meaning T.sure T.holds T.knows T.may_leave) (desk_with tables office.organizer office.event office.state) last result.1 × (result.0 ≡ last.tables) }
 {
     let mut shop = Shop::over(tables, office, wording);
     let answer = shop.act(alloc, arrival(alloc, tick, command));
@@ -69,8 +68,8 @@ fn act_at<S: Alter + Drop, B: Dues + Drop, W: Wording + Drop>(
     wording: W,
     command: Command,
 ) -> Filed<S, Body>
-    ensures { ActsFrom (W.words wording) command (meaning ⟦<SqlTables<S> as Tables>⟧.sure ⟦<SqlTables<S> as Tables>⟧.holds ⟦<SqlTables<S> as Tables>⟧.knows ⟦<SqlTables<S> as Tables>⟧.may_leave)
-        (desk_with opened.0 opened.1.organizer opened.1.event opened.1.state) result.connection result.outcome }
+    ensures { (last : DeskView (SqlTables S)) × Acts (W.words wording) command tick (meaning ⟦<SqlTables<S> as Tables>⟧.sure ⟦<SqlTables<S> as Tables>⟧.holds ⟦<SqlTables<S> as Tables>⟧.knows ⟦<SqlTables<S> as Tables>⟧.may_leave)
+        (desk_with opened.0 opened.1.organizer opened.1.event opened.1.state) last result.outcome × (result.connection ≡ last.tables.connection) }
 {
     let (tables, office) = opened;
     let (tables, outcome) = act_over(alloc, tick, tables, office, wording, command);
@@ -83,25 +82,20 @@ fn act_at<S: Alter + Drop, B: Dues + Drop, W: Wording + Drop>(
 /// Carries a command out over tables that were opened together with their office, at what the system's clock shows with a draw of the
 /// system, and tells in these words what was done. Faults: 63 where the store refused it or memory ran out within it, and 85 where there
 /// is no clock or no draw.
-pub(crate) fn act_opened<
-    R: Clock + RandomSource,
-    S: Alter + Drop,
-    B: Dues + Drop,
-    W: Wording + Drop,
->(
+pub(crate) fn act_opened<R: System, S: Alter + Drop, B: Dues + Drop, W: Wording + Drop>(
     rt: &R,
     alloc: Global,
     opened: (SqlTables<S>, Office<B>),
     wording: W,
     command: Command,
 ) -> Filed<S, Body>
-    ensures { ActsFrom (W.words wording) command (meaning ⟦<SqlTables<S> as Tables>⟧.sure ⟦<SqlTables<S> as Tables>⟧.holds ⟦<SqlTables<S> as Tables>⟧.knows ⟦<SqlTables<S> as Tables>⟧.may_leave)
+    ensures { ActsFrom (IsRead R.shows R.gives) (W.words wording) command (meaning ⟦<SqlTables<S> as Tables>⟧.sure ⟦<SqlTables<S> as Tables>⟧.holds ⟦<SqlTables<S> as Tables>⟧.knows ⟦<SqlTables<S> as Tables>⟧.may_leave)
         (desk_with opened.0 opened.1.organizer opened.1.event opened.1.state) result.connection result.outcome }
 {
     match read_tick(rt) {
-        Ok(tick) => act_at(alloc, tick, opened, wording, command),
+        Some(tick) => act_at(alloc, tick, opened, wording, command),
         // The command is let go by name, as a whole: part by part is a way of the proof for each of its kinds.
-        Err(_) => {
+        None => {
             drop(command);
             Filed {
                 connection: connection_of(opened),

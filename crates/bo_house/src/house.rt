@@ -18,12 +18,12 @@ use bo_base::{Body, Slug};
 use bo_devices::Drain;
 use bo_kept::Tables;
 use bo_line::{HouseFiles, Place, Report, RunFault};
+use bo_serve::System;
 use bo_tables::SqlTables;
 use sqlite::{Alter, Connection};
 use std::alloc::{AllocError, Global};
 use std::marker::PhantomData;
 use std::net::{Net, TcpListener, TcpStream};
-use std::random::RandomSource;
 use std::time::Clock;
 
 /// The commands on shops' files: over the files of a shelf, on a system with a clock, chance and a network. Each opens its file, does what
@@ -96,7 +96,7 @@ impl<'a, R, S: Alter + Drop, F: Shelf<Connection<S>>> House<'a, R, S, F> {
 }
 
 impl<
-    R: Net<Listener = TcpListener, Stream = TcpStream> + Clock + RandomSource,
+    R: Net<Listener = TcpListener, Stream = TcpStream> + Clock + System,
     S: Alter + Drop,
     F: Shelf<Connection<S>>,
 > HouseFiles for House<'_, R, S, F> {
@@ -105,6 +105,7 @@ impl<
     ghost use Rattle.sha2.specs.Sha256.{sha256};
     ghost use Rattle.bo_desk.specs.Streams.{meaning};
     ghost use Rattle.bo_line.specs.declared.fault.RunFault.{RunFault};
+    ghost use Rattle.bo_serve.specs.Clock.{IsRead};
     ghost use Rattle.bo_house.specs.Filed.{AddsTokenIn, MakesShopIn};
     ghost use Rattle.bo_house.specs.Imported.{IsOpenedAndImported};
     ghost use Rattle.bo_house.specs.Reported.{IsOpenedAndReported};
@@ -123,14 +124,14 @@ impl<
         most (state S.Store connection) left came ⊎ StaysUnopened S.Store (state S.Store connection) left came) file outcome };
 
     ghost worked = { λ file outcome. IsShelved (IsGiven F.stood F.gives true) (IsMissing F.stood F.refuses) (λ connection left came.
-        IsOpenedAndWorked S.Store (meaning ⟦<SqlTables<S> as Tables>⟧.sure ⟦<SqlTables<S> as Tables>⟧.holds ⟦<SqlTables<S> as Tables>⟧.knows ⟦<SqlTables<S> as Tables>⟧.may_leave)
+        IsOpenedAndWorked (IsRead R.shows R.gives) S.Store (meaning ⟦<SqlTables<S> as Tables>⟧.sure ⟦<SqlTables<S> as Tables>⟧.holds ⟦<SqlTables<S> as Tables>⟧.knows ⟦<SqlTables<S> as Tables>⟧.may_leave)
         (state S.Store connection) left came ⊎ StaysUnopened S.Store (state S.Store connection) left came) file outcome };
 
     ghost reported = { λ file report outcome. IsShelved (IsGiven F.stood F.gives true) (IsMissing F.stood F.refuses) (λ connection left came.
         IsOpenedAndReported S.Store report (state S.Store connection) left came ⊎ StaysUnopened S.Store (state S.Store connection) left came) file outcome };
 
     ghost imported = { λ file csv outcome. IsShelved (IsGiven F.stood F.gives true) (IsMissing F.stood F.refuses) (λ connection left came. (source : Result _ RunFault)
-        × F.held csv source × (IsOpenedAndImported S.Store (meaning ⟦<SqlTables<S> as Tables>⟧.sure ⟦<SqlTables<S> as Tables>⟧.holds ⟦<SqlTables<S> as Tables>⟧.knows ⟦<SqlTables<S> as Tables>⟧.may_leave)
+        × F.held csv source × (IsOpenedAndImported (IsRead R.shows R.gives) S.Store (meaning ⟦<SqlTables<S> as Tables>⟧.sure ⟦<SqlTables<S> as Tables>⟧.holds ⟦<SqlTables<S> as Tables>⟧.knows ⟦<SqlTables<S> as Tables>⟧.may_leave)
         source (state S.Store connection) left came ⊎ StaysUnopened S.Store (state S.Store connection) left came)) file outcome };
 
     fn make(

@@ -3,6 +3,7 @@
 ghost use Rattle.std.specs.Prelude.{◌⊎◌, Ok};
 ghost use Rattle.sqlite.specs.Held.{state};
 ghost use Rattle.bo_desk.specs.Streams.{desk_with, meaning};
+ghost use Rattle.bo_serve.specs.Clock.{IsRead};
 ghost use Rattle.bo_house.specs.Imported.{AddsAll, AddsFrom, AddsNothing, IsOpenedAndImported};
 ghost use Rattle.bo_house.specs.Served.{StaysUnopened};
 ghost use Rattle.bo_line.specs.declared.fault.RunFault.TheVariants.{Memory};
@@ -19,20 +20,19 @@ use bo_desk::Office;
 use bo_dues::Dues;
 use bo_kept::Tables;
 use bo_line::RunFault;
+use bo_serve::System;
 use bo_tables::SqlTables;
 use sqlite::{Alter, Connection};
 use std::alloc::Global;
-use std::random::RandomSource;
-use std::time::Clock;
 
 // Adds the vouchers that were read.
-fn add_vouchers<R: Clock + RandomSource, S: Alter + Drop, B: Dues + Drop>(
+fn add_vouchers<R: System, S: Alter + Drop, B: Dues + Drop>(
     rt: &R,
     alloc: Global,
     opened: (SqlTables<S>, Office<B>),
     vouchers: List<NewVoucher>,
 ) -> Filed<S, Body>
-    ensures { AddsAll (meaning ⟦<SqlTables<S> as Tables>⟧.sure ⟦<SqlTables<S> as Tables>⟧.holds ⟦<SqlTables<S> as Tables>⟧.knows ⟦<SqlTables<S> as Tables>⟧.may_leave)
+    ensures { AddsAll (IsRead R.shows R.gives) (meaning ⟦<SqlTables<S> as Tables>⟧.sure ⟦<SqlTables<S> as Tables>⟧.holds ⟦<SqlTables<S> as Tables>⟧.knows ⟦<SqlTables<S> as Tables>⟧.may_leave)
         vouchers (desk_with opened.0 opened.1.organizer opened.1.event opened.1.state) result.connection result.outcome
         ⊎ AddsNothing Memory (desk_with opened.0 opened.1.organizer opened.1.event opened.1.state) result.connection result.outcome }
 {
@@ -52,13 +52,13 @@ fn add_vouchers<R: Clock + RandomSource, S: Alter + Drop, B: Dues + Drop>(
 }
 
 // Adds the vouchers that the lines of a text ask for.
-fn add_read<R: Clock + RandomSource, S: Alter + Drop, B: Dues + Drop>(
+fn add_read<R: System, S: Alter + Drop, B: Dues + Drop>(
     rt: &R,
     alloc: Global,
     opened: (SqlTables<S>, Office<B>),
     text: &[u8],
 ) -> Filed<S, Body>
-    ensures { AddsFrom (meaning ⟦<SqlTables<S> as Tables>⟧.sure ⟦<SqlTables<S> as Tables>⟧.holds ⟦<SqlTables<S> as Tables>⟧.knows ⟦<SqlTables<S> as Tables>⟧.may_leave)
+    ensures { AddsFrom (IsRead R.shows R.gives) (meaning ⟦<SqlTables<S> as Tables>⟧.sure ⟦<SqlTables<S> as Tables>⟧.holds ⟦<SqlTables<S> as Tables>⟧.knows ⟦<SqlTables<S> as Tables>⟧.may_leave)
         (Ok text.now) (desk_with opened.0 opened.1.organizer opened.1.event opened.1.state) result.connection result.outcome }
 {
     match read_vouchers(alloc, text) {
@@ -71,13 +71,13 @@ fn add_read<R: Clock + RandomSource, S: Alter + Drop, B: Dues + Drop>(
 }
 
 // Adds the vouchers of a file to a shop that was opened.
-fn import_opened<R: Clock + RandomSource, S: Alter + Drop, B: Dues + Drop>(
+fn import_opened<R: System, S: Alter + Drop, B: Dues + Drop>(
     rt: &R,
     alloc: Global,
     opened: (SqlTables<S>, Office<B>),
     source: Result<Body, RunFault>,
 ) -> Filed<S, Body>
-    ensures { AddsFrom (meaning ⟦<SqlTables<S> as Tables>⟧.sure ⟦<SqlTables<S> as Tables>⟧.holds ⟦<SqlTables<S> as Tables>⟧.knows ⟦<SqlTables<S> as Tables>⟧.may_leave)
+    ensures { AddsFrom (IsRead R.shows R.gives) (meaning ⟦<SqlTables<S> as Tables>⟧.sure ⟦<SqlTables<S> as Tables>⟧.holds ⟦<SqlTables<S> as Tables>⟧.knows ⟦<SqlTables<S> as Tables>⟧.may_leave)
         source (desk_with opened.0 opened.1.organizer opened.1.event opened.1.state) result.connection result.outcome }
 {
     match source {
@@ -94,13 +94,13 @@ fn import_opened<R: Clock + RandomSource, S: Alter + Drop, B: Dues + Drop>(
 /// `CODE VERDICT`. Faults, in this order: 60, 61 and 62 where the database holds no shop that is whole, each for its cause alone; that of
 /// the file, or 70 to 74 for what it says; 85 where there is no clock or no draw; 63 where the store refused the rows or memory ran out
 /// within it; and 6. Beside a fault nothing has changed.
-pub fn import_shop<R: Clock + RandomSource, S: Alter + Drop>(
+pub fn import_shop<R: System, S: Alter + Drop>(
     rt: &R,
     alloc: Global,
     connection: Connection<S>,
     source: Result<Body, RunFault>,
 ) -> Filed<S, Body>
-    ensures { IsOpenedAndImported S.Store (meaning ⟦<SqlTables<S> as Tables>⟧.sure ⟦<SqlTables<S> as Tables>⟧.holds ⟦<SqlTables<S> as Tables>⟧.knows ⟦<SqlTables<S> as Tables>⟧.may_leave)
+    ensures { IsOpenedAndImported (IsRead R.shows R.gives) S.Store (meaning ⟦<SqlTables<S> as Tables>⟧.sure ⟦<SqlTables<S> as Tables>⟧.holds ⟦<SqlTables<S> as Tables>⟧.knows ⟦<SqlTables<S> as Tables>⟧.may_leave)
         source (state S.Store connection) result.connection result.outcome ⊎ StaysUnopened S.Store (state S.Store connection) result.connection result.outcome }
 {
     match open_shop(alloc, connection) {

@@ -13,17 +13,16 @@ use bo_devices::Drain;
 use bo_dues::Dues;
 use bo_kept::Tables;
 use bo_line::{Place, RunFault};
-use bo_serve::serve_at;
+use bo_serve::{System, serve_at};
 use bo_tables::SqlTables;
 use sqlite::{Alter, Connection};
 use std::alloc::Global;
 use std::net::{Net, TcpListener, TcpStream};
-use std::random::RandomSource;
 use std::time::Clock;
 
 // Serves a desk, and hands back the connection of its tables.
 fn serve_desk<
-    R: Net<Listener = TcpListener, Stream = TcpStream> + Clock + RandomSource,
+    R: Net<Listener = TcpListener, Stream = TcpStream> + Clock + System,
     S: Alter + Drop,
     B: Dues + Drop,
     W: Drain,
@@ -47,7 +46,7 @@ fn serve_desk<
 
 // Serves tables that were opened together with their office.
 fn serve_opened<
-    R: Net<Listener = TcpListener, Stream = TcpStream> + Clock + RandomSource,
+    R: Net<Listener = TcpListener, Stream = TcpStream> + Clock + System,
     S: Alter + Drop,
     B: Dues + Drop,
     W: Drain,
@@ -80,7 +79,7 @@ fn serve_opened<
 /// and 6, and then nothing is said and nothing has changed; 81 where the address can't be listened at or takes no callers any more; 83
 /// where that it listens couldn't be said.
 pub fn serve_shop<
-    R: Net<Listener = TcpListener, Stream = TcpStream> + Clock + RandomSource,
+    R: Net<Listener = TcpListener, Stream = TcpStream> + Clock + System,
     S: Alter + Drop,
     W: Drain,
 >(

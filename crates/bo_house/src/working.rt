@@ -3,6 +3,7 @@
 ghost use Rattle.std.specs.Prelude.{◌⊎◌};
 ghost use Rattle.sqlite.specs.Held.{state};
 ghost use Rattle.bo_desk.specs.Streams.{meaning};
+ghost use Rattle.bo_serve.specs.Clock.{IsRead};
 ghost use Rattle.bo_house.specs.Served.{StaysUnopened};
 ghost use Rattle.bo_house.specs.Worked.{IsOpenedAndWorked};
 
@@ -13,22 +14,21 @@ use crate::words::WorkWords;
 use bo_base::Body;
 use bo_commands::Command;
 use bo_kept::Tables;
+use bo_serve::System;
 use bo_tables::SqlTables;
 use sqlite::{Alter, Connection};
 use std::alloc::Global;
-use std::random::RandomSource;
-use std::time::Clock;
 
 /// `periodic`: opens the shop in a database and does its periodic work, as an arrival without key, at what the system's clock shows with a
 /// draw of the system; tells what was done, `expired E, deleted D, sent S`. Faults: 60, 61 and 62 where the database holds no shop that is
 /// whole, each for its cause alone, 63 where the store refused the work or memory ran out within it, 85 where there is no clock or no
 /// draw, and 6. Beside a fault nothing has changed.
-pub fn work_shop<R: Clock + RandomSource, S: Alter + Drop>(
+pub fn work_shop<R: System, S: Alter + Drop>(
     rt: &R,
     alloc: Global,
     connection: Connection<S>,
 ) -> Filed<S, Body>
-    ensures { IsOpenedAndWorked S.Store (meaning ⟦<SqlTables<S> as Tables>⟧.sure ⟦<SqlTables<S> as Tables>⟧.holds ⟦<SqlTables<S> as Tables>⟧.knows ⟦<SqlTables<S> as Tables>⟧.may_leave)
+    ensures { IsOpenedAndWorked (IsRead R.shows R.gives) S.Store (meaning ⟦<SqlTables<S> as Tables>⟧.sure ⟦<SqlTables<S> as Tables>⟧.holds ⟦<SqlTables<S> as Tables>⟧.knows ⟦<SqlTables<S> as Tables>⟧.may_leave)
         (state S.Store connection) result.connection result.outcome ⊎ StaysUnopened S.Store (state S.Store connection) result.connection result.outcome }
 {
     match open_shop(alloc, connection) {

@@ -1,15 +1,54 @@
 //! The ticks of a shop that is served: the system's clock and its draws.
 
-ghost use Rattle.std.specs.Prelude.{None};
+ghost use Rattle.std.specs.Prelude.{◌≡◌, ⊤, ℕ, ◌+◌, List, [], ◌∷◌, Option, Some, None, Result, IfOk, OnOk, OnErr};
+ghost use Rattle.std.specs.declared.io.Error.{Error};
+ghost use Rattle.std.specs.declared.time.Duration.{Duration};
+ghost use Rattle.bo_devices.specs.Told.{Adds};
+ghost use Rattle.bo_devices.specs.declared.device.Tick.{Tick};
+ghost use Rattle.bo_serve.specs.Clock.{IsDrawn, IsRead, moment_shown};
 
 use bo_base::{Draw, Moment, Steps};
 use bo_devices::{Refused, Tick, Ticks};
 use std::io;
+use std::io::ErrorKind;
 use std::random::RandomSource;
 use std::sync::ledger::Ledger;
-use std::time::Clock;
+use std::time::{Clock, Duration};
 
-/// The system's clock and its draws. No clause says what they show; a clock beyond the last moment shows that one.
+/// A system with a clock and chance. std promises nothing of either; here what a call gave has a name, and whoever is handed a system
+/// can't have it from elsewhere.
+pub trait System {
+    // what its clock may show: the time since 1970, or why it can't be read
+    ghost shows: { Result Duration Error → Type 0 };
+
+    // which bytes its chance may give, or none
+    ghost gives: { Option (List ℕ) → Type 0 };
+
+    /// What its clock shows.
+    fn show_clock(&self) -> io::Result<Duration>
+        ensures { shows result };
+
+    /// Fills all of these bytes by chance.
+    fn fill(&self, bytes: &mut [u8]) -> io::Result<()>
+        ensures filled { OnOk result (gives (Some bytes.new)) }
+        ensures refused { OnErr result (gives None) };
+}
+
+impl<O: Clock + RandomSource> System for O {
+    ghost shows = { λ _. ⊤ };
+
+    ghost gives = { λ _. ⊤ };
+
+    fn show_clock(&self) -> io::Result<Duration> {
+        self.since_1970()
+    }
+
+    fn fill(&self, bytes: &mut [u8]) -> io::Result<()> {
+        self.fill_bytes(bytes)
+    }
+}
+
+/// The system's clock and its draws, as the ticks of a shop.
 #[derive(Drop)]
 pub struct ClockTicks<'a, O, M: Ledger> {
     /// The system.
@@ -18,27 +57,56 @@ pub struct ClockTicks<'a, O, M: Ledger> {
     pub failures: Steps<M>,
 }
 
-/// What the system's clock shows, and a draw of the system. A clock beyond the last moment shows that one. It fails where there is no clock
-/// or no draw.
-pub fn read_tick<O: Clock + RandomSource>(rt: &O) -> io::Result<Tick> {
-    let clock = Moment::new(0).later(rt.since_1970()?.as_secs());
-    let mut bytes = [0; 16];
-    rt.fill_bytes(&mut bytes)?;
-    Ok(Tick {
-        clock,
-        draw: Draw { bytes },
-    })
+// The moment of what the clock shows.
+fn moment_shown(shown: io::Result<Duration>) -> Option<Moment>
+    ensures { result ≡ moment_shown shown }
+{
+    match shown {
+        Ok(since) => Some(Moment::new(0).later(since.as_secs())),
+        Err(error) => match error.kind() {
+            ErrorKind::InvalidData => Some(Moment::new(0)),
+            _ => None,
+        },
+    }
 }
 
-impl<O: Clock + RandomSource, M: Ledger> Ticks for ClockTicks<'_, O, M> {
+// Sixteen bytes by chance.
+fn read_draw<O: System>(rt: &O) -> Option<Draw>
+    ensures { IsDrawn O.gives result }
+{
+    let mut bytes = [0; 16];
+    match rt.fill(&mut bytes) {
+        Ok(()) => Some(Draw { bytes }),
+        Err(_) => None,
+    }
+}
+
+/// What the system's clock shows, and sixteen bytes by its chance. A clock before 1970 is moment 0, one beyond the last moment is that
+/// one. None where the clock can't be read, or chance gives nothing.
+pub fn read_tick<O: System>(rt: &O) -> Option<Tick>
+    ensures { IsRead O.shows O.gives result }
+{
+    let clock = moment_shown(rt.show_clock())?;
+    let draw = read_draw(rt)?;
+    Some(Tick { clock, draw })
+}
+
+impl<O: System, M: Ledger> Ticks for ClockTicks<'_, O, M> {
     ghost told = { λ _. None };
 
     ghost failures = { λ t. t.failures };
 
-    fn tick(&mut self) -> Result<Tick, Refused> {
+    fn tick(&mut self) -> Result<Tick, Refused>
+        ensures told { IfOk result (λ t. Adds {X = Tick} None (t ∷ []) None) }
+        ensures kept { OnErr result (Adds {X = Tick} None [] None) }
+        ensures well { OnOk result (self.new.failures ≡ self.old.failures) }
+        ensures failed { OnErr result (self.new.failures ≡ self.old.failures + 1) }
+        ensures read { IfOk result (λ t. IsRead O.shows O.gives (Some t)) }
+        ensures unread { OnErr result (IsRead O.shows O.gives None) }
+    {
         match read_tick(self.rt) {
-            Ok(tick) => Ok(tick),
-            Err(_) => {
+            Some(tick) => Ok(tick),
+            None => {
                 self.failures.tick();
                 Err(Refused)
             }

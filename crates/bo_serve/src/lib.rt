@@ -8,7 +8,7 @@ pub mod listening;
 pub mod serving;
 pub mod visit;
 
-pub use clock::{ClockTicks, read_tick};
+pub use clock::{ClockTicks, System, read_tick};
 pub use listening::serve_at;
 pub use serving::serve_callers;
 pub use visit::answer;

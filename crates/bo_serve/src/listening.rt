@@ -4,7 +4,7 @@ ghost use Rattle.std.specs.Prelude.{◌≡◌, ◌<◌, None};
 ghost use Rattle.bo_line.specs.Saying.{TellsListening};
 ghost use Rattle.bo_serve.specs.Visits.{AnswersCallers, between, most_of};
 
-use crate::clock::ClockTicks;
+use crate::clock::{ClockTicks, System};
 use crate::serving::serve_callers;
 use bo_base::Steps;
 use bo_connection::Desk;
@@ -13,12 +13,11 @@ use bo_line::{Place, RunFault, said, say};
 use std::alloc::Global;
 use std::marker::Brand;
 use std::net::{Net, TcpListener, TcpStream};
-use std::random::RandomSource;
 use std::sync::ledger::{Blank, Ledger};
 use std::time::Clock;
 
 // Answers the callers of a listener by the system's clock, with a ledger for the failures of its ticks.
-fn serve_listener<M: Ledger, R: Clock + RandomSource, D: Desk>(
+fn serve_listener<M: Ledger, R: Clock + System, D: Desk>(
     rt: &R,
     alloc: Global,
     listener: &TcpListener,
@@ -40,7 +39,7 @@ fn serve_listener<M: Ledger, R: Clock + RandomSource, D: Desk>(
 /// where the address can't be listened at, and then nothing is said; 83 where that couldn't be said, and then nobody is answered; 81 and 6
 /// as `serve_callers`.
 pub fn serve_at<
-    R: Net<Listener = TcpListener, Stream = TcpStream> + Clock + RandomSource,
+    R: Net<Listener = TcpListener, Stream = TcpStream> + Clock + System,
     D: Desk,
     W: Drain,
 >(rt: &R, alloc: Global, place: &Place<'_>, desk: &mut D, writer: &mut W) -> Result<(), RunFault>

@@ -5,5 +5,4 @@ use Rattle.bo_house.proofs.acting.act_at.Goals as goal
 pub returns : goal.returns
 returns g c =
     let office = c.args.opened.1 in
-    let done = c.act_over-tables.ensures in
-    acts_there _ _ _ (desk_with c.args.opened.0 office.organizer office.event office.state) done.0 _ _ _ done.1 done.2 c.into_connection.ensures
+    acts_there _ _ _ c.args.tick (desk_with c.args.opened.0 office.organizer office.event office.state) _ _ _ c.act_over-tables.ensures c.into_connection.ensures
