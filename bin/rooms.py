@@ -21,6 +21,8 @@ PARTS = ("src", "specs", "proofs")
 CHECK = 3_500_000_000
 # What a check of the gate takes of the memory, in bytes, with three others beside it: the programs take 4.6 and 6.3 GB, most others less than 3.
 GATE_CHECK = 4_500_000_000
+# Lines of sources and proofs that one processor proves in a second, as seen at 2.5 GHz.
+PACE = 14
 # Held while the kit's rt is read: several threads may ask for it at once.
 KIT = threading.Lock()
 
@@ -74,6 +76,11 @@ def lines(name, top=TOP):
                 with open(f"{at}/{it}", "rb") as text:
                     found += text.read().count(b"\n")
     return found
+
+
+def minutes(count):
+    """About how many minutes so many lines take to be proved here."""
+    return max(1, round(count / PACE / min(lanes(), 2.5) / 60))
 
 
 def link_or_copy(source, target):
@@ -153,15 +160,20 @@ class Running:
     alive = set()
     stopped = False
 
-    def __init__(self, words, at, seconds=None, program=("rt",)):
+    def __init__(self, words, at, seconds=None, program=("rt",), begun=lambda process: None):
         how = {"stdin": subprocess.DEVNULL, "stdout": subprocess.PIPE, "stderr": subprocess.STDOUT}
         ran = subprocess.Popen([*program, *words], cwd=at, start_new_session=True, text=True, errors="replace", **how)
         Running.alive.add(ran)
         try:
+            begun(ran.pid)
             self.said = ran.communicate(timeout=seconds)[0]
         except subprocess.TimeoutExpired:
             end(ran)
             self.said = ran.communicate()[0]
+        except BaseException:
+            end(ran)
+            ran.wait()
+            raise
         finally:
             Running.alive.discard(ran)
         self.status = ran.returncode
