@@ -15,6 +15,7 @@ ghost use Rattle.bo_house.specs.Served.{OpensAs};
 ghost use Rattle.bo_opens.specs.Lawful.{IsOfMachine};
 ghost use Rattle.bo_opens.specs.declared.error.OpenError.{OpenError};
 ghost use Rattle.bo_serve.specs.Visits.{Between, Visits, between, seen_at};
+ghost use Rattle.bo_tables.specs.declared.sql.SqlTables.{SqlTables};
 
 use bo_file::crashes::{a_crash_damages_nothing, a_shop_runs_on_after_a_crash};
 use bo_kept::Tables;

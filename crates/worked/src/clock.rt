@@ -7,6 +7,7 @@ use std::random::RandomSource;
 use std::time::{Clock, Duration};
 
 /// A system whose clock shows so many seconds since 1970, or can't be read. Its chance gives the bytes 1 to 16, or nothing.
+#[derive(Drop)]
 struct Shown {
     seconds: u64,
     error: Option<ErrorKind>,
