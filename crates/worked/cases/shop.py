@@ -1,4 +1,5 @@
 """A shop in memory: its rows as SQL, what is reported on it, rows of vouchers with what becomes of each, and clocks."""
+from forms import unread
 
 PRICE = 9_999_999_999
 ORDERS = (500, 500, 1)
@@ -44,17 +45,17 @@ ROWS = [
     (row("C1", item=LAST), "refused 10"),
     (row("C2", item=1, variation=LAST), "refused 11"),
     (row("C3", quota=LAST), "refused 13"),
-    (row("D1", item=0), "72.1.8"),
-    (row("D2", item=LAST + 1), "72.1.8"),
-    (row("D3", item=1, variation=0), "72.1.9"),
-    (row("D4", item=1, variation=LAST + 1), "72.1.9"),
-    (row("D5", quota=0), "72.1.10"),
-    (row("D6", quota=LAST + 1), "72.1.10"),
+    (row("D1", item=0), unread(1, 8)),
+    (row("D2", item=LAST + 1), unread(1, 8)),
+    (row("D3", item=1, variation=0), unread(1, 9)),
+    (row("D4", item=1, variation=LAST + 1), unread(1, 9)),
+    (row("D5", quota=0), unread(1, 10)),
+    (row("D6", quota=LAST + 1), unread(1, 10)),
 ]
 
 
 def told(line, said):
-    return f"{line}: fault {said}\n" if said.startswith("72") else f"{line}:\n{line.split(',')[0]} {said}\n"
+    return f"{line}: {said}\n" if said.startswith("fault") else f"{line}:\n{line.split(',')[0]} {said}\n"
 
 
 DRAW = int.from_bytes(bytes(range(1, 17)), "big")

@@ -22,13 +22,14 @@ import waiting  # noqa: F401
 import doors  # noqa: F401
 import keys  # noqa: F401
 import shop
+import files
 
 HERE = Path(__file__).parent.parent
 
 
 def main():
     data = HERE / "data"
-    for old in data.glob("*.case"):
+    for old in data.iterdir():
         old.unlink()
     out = []
     for name, exchanges, ending in cases:
@@ -41,6 +42,9 @@ def main():
     for name, text in shop.files().items():
         (data / name).write_text(text)
     out.append(shop.printed())
+    for name, text in files.data().items():
+        (data / name).write_bytes(text.encode())
+    out.append(files.output())
     devices = b"== devices_that_fail: each in turn, and lines\n" + (HERE / "cases" / "devices.txt").read_bytes()
     (HERE / "stdout").write_bytes("".join(out).encode() + devices)
 

@@ -1,7 +1,8 @@
 //! The worked cases: each stream of requests under `data/` is answered by a box office of its own, once in one piece and once
 //! byte by byte. Printed are its name, how it ends, and what is written. Behind them stand reports on a shop in memory, what becomes of rows of
-//! vouchers there, what is read of clocks, and what comes of command lines, one of them over
-//! devices that fail (`cases/devices.txt`): in the same program, since a second one would have to read all libraries again.
+//! vouchers there, and what is read of clocks; shops whose files are in memory (`cases/files.py`): closed and opened, damaged, imported into and
+//! reported on; and what comes of command lines, one of them over devices that fail (`cases/devices.txt`): all in the same program, since a second
+//! one would have to read all libraries again.
 //!
 //! A case file begins with a line of moments, one for each whole request, with a space between two. What follows are the
 //! bytes of the stream. `data/names` has the names of the cases, one a line. `cases/write.py` writes them, and `stdout`, from the
@@ -11,17 +12,23 @@
 mod case;
 mod clock;
 mod cut;
+mod deeds;
 mod devices;
 mod endless;
 mod failing;
+mod filed;
 mod lines;
 mod listed;
+mod refusing;
+mod reopened;
 mod shop;
+mod stored;
 mod tried;
 
 use crate::case::answered;
 use crate::clock::show_clocks;
 use crate::devices::show_devices;
+use crate::filed::show_runs;
 use crate::shop::show_shop;
 use std::fs;
 
@@ -50,6 +57,7 @@ fn main(rt: HostRuntime) -> anyhow::Result<()> {
     show_shop(&rt)?;
     println!(rt; "== clocks_of_a_system: what is read of each")?;
     show_clocks(&rt)?;
+    show_runs(&rt)?;
     println!(rt; "== devices_that_fail: each in turn, and lines")?;
     show_devices(&rt)
 }

@@ -2,7 +2,7 @@
 
 use bo_base::{Body, Slug};
 use bo_house::{import_shop, make_new_shop, report_shop};
-use bo_line::{Report, RunFault};
+use bo_line::{Advice, Report, RunFault};
 use sqlite::{Alter, Connection};
 use std::fs;
 
@@ -13,7 +13,10 @@ fn show(rt: &HostRuntime, name: &str, outcome: &Result<Body, RunFault>) -> anyho
             println!(rt; "{name}:")?;
             rt.write_all(text.as_slice())?;
         }
-        Err(fault) => println!(rt; "{name}: fault {fault}")?,
+        Err(fault) => {
+            let advice = Advice(*fault);
+            println!(rt; "{name}: fault {fault}: {advice}")?;
+        }
     }
     Ok(())
 }
