@@ -1,8 +1,9 @@
-"""Runs boxoffice where it isn't proved on this machine as its sources stand: compiled without proof, which takes minutes, once.
+"""Runs boxoffice where this machine hasn't proved it as its sources are now: compiles it without proof, which takes minutes, once.
 
-bin/boxoffice starts it with the words that are for the program. What was compiled is kept in out/quick/SUM/boxoffice, under a sum of the
-sources, crates.txt and the kit; the newest two of these stay. One process compiles, others that need the same wait for it. Where it fails,
-or is told to stop, nothing of it stays. Where it fails it says why, and bin/prove builds the program by its proof.
+bin/boxoffice starts it with the words that are for the program. It keeps what it compiles in out/quick/SUM/boxoffice, under a sum of the
+sources, crates.txt and the kit, and removes all but the two that were used last. One process compiles, and others that need the same
+program wait for it. A compile that fails or is interrupted leaves nothing. Where it fails, this says why and has bin/prove build the
+program by its proof.
 """
 import contextlib
 import fcntl
@@ -39,14 +40,14 @@ def about(seconds):
 
 
 def used(process):
-    """The seconds of a processor that a process took so far."""
+    """The seconds of a processor that a process took until now."""
     with open(f"/proc/{process}/stat", encoding="ascii", errors="replace") as it:
         ticks = it.read().rpartition(")")[2].split()[11:13]
     return sum(map(int, ticks)) / os.sysconf("SC_CLK_TCK")
 
 
 def passed(parts, seconds):
-    """How much time has passed on an idle machine when a process took so many seconds of a processor, for parts in turn."""
+    """The seconds in which an idle machine gives a process these seconds of a processor, for parts in turn."""
     found = 0
     for of_part, at_once in parts:
         found += min(seconds, of_part) / at_once
@@ -58,7 +59,7 @@ def whole(parts):
     return passed(parts, sum(it for it, _ in parts))
 
 
-class Progress(unproved.Told):
+class Progress(unproved.Watch):
     """Says each 15 seconds what is done and about how long the rest takes."""
 
     def __init__(self):
@@ -81,7 +82,7 @@ class Progress(unproved.Told):
         self.says.join()
 
     def begins(self, what, process, parts, then):
-        """Something begins, by the process of this number, and after it comes what takes so many seconds."""
+        """The process of this number begins something, behind which other work takes `then` seconds."""
         begun = time.time()
 
         def left():
@@ -105,7 +106,7 @@ class Turn:
         os.makedirs(KEPT, exist_ok=True)
         self.file = open(f"{KEPT}/lock", "a", encoding="ascii")
         if not self.taken():
-            say("another one compiles the program, this one waits for it")
+            say("another one compiles the program, and this one waits for it")
             since = time.time()
             while not self.taken():
                 time.sleep(0.5)
@@ -146,9 +147,9 @@ def compile_it(program, total):
     shutil.rmtree(new, ignore_errors=True)
     os.mkdir(new)
     try:
-        with Progress() as told:
-            told.clock.say(f"it is compiled, once, without proof: {about(told.left())} on an idle machine")
-            unproved.compiled(program, f"{new}/{NAME}", "-O1", told)
+        with Progress() as watch:
+            watch.clock.say(f"it is compiled, once, without proof: {about(watch.left())} on an idle machine")
+            unproved.compiled(program, f"{new}/{NAME}", "-O1", watch)
         with open(f"{new}/proof", "w", encoding="ascii") as it:
             it.write(about(60 * minutes()))
         shutil.rmtree(f"{KEPT}/{total}", ignore_errors=True)
@@ -171,7 +172,7 @@ def compiled():
 
 
 def is_proved():
-    """Whether what rt built by proof was made of what stands now, though a file of it is newer."""
+    """Whether rt built the program by proof of what the files have now, though one of them is newer."""
     if not os.path.exists(PROVED):
         return False
     rt = unproved.rtlib()
@@ -211,7 +212,7 @@ def main(words):
     except Exception as error:
         # whatever it is, there is the long way
         say(f"it can't be compiled without proof: {error if isinstance(error, unproved.Failed) else repr(error)}")
-        say(f"so bin/prove builds it by its proof: {about(60 * minutes())}")
+        say(f"bin/prove builds it by its proof instead: {about(60 * minutes())}")
         os.execv(f"{rooms.TOP}/bin/boxoffice", ["bin/boxoffice", "--proved", *words])
     say(f"compiled here, not proved here; bin/prove {NAME} proves it, once, in {unproved.read(f'{os.path.dirname(program)}/proof').decode()}")
     run(program, words)

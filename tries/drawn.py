@@ -16,7 +16,7 @@ def asked(method, path, body, key=None):
 
 
 def messages(text):
-    """The requests or answers that stand one after another in these bytes."""
+    """The requests or answers that these bytes have, one after another."""
     while text:
         head, _, rest = text.partition(b"\r\n\r\n")
         length = next((int(line.split(b":")[1]) for line in head.split(b"\r\n") if line.lower().startswith(b"content-length:")), 0)
@@ -29,8 +29,8 @@ def moment(seconds):
 
 
 class Drawn:
-    """The commands of a seed, each as the seconds since the one before, its method, path and body. With a step each comes so many seconds
-    after the one before. How many rows there are is only guessed: what isn't there is refused, and that is a command too."""
+    """The commands of a seed, each as the seconds since the one before, its method, path and body. A step gives these seconds for
+    all. How many rows there are is only guessed: what isn't there is refused, and that is a command too."""
 
     def __init__(self, seed, commands, step=None):
         self.draw, self.step = random.Random(seed), step
