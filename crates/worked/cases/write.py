@@ -3,7 +3,7 @@
 
 A case file begins with a line of moments, one for each request, with a space between two. The rest are the bytes of the
 stream. What stdout has of a case is its name, how it ends, and the bytes that are written. Behind the cases stands `devices.txt`, which
-is written by hand: what comes of command lines and of devices that fail; and before it what shop.py has of a shop in memory.
+is written by hand: what comes of command lines and of devices that fail.
 
 Nothing here comes from the program: the answers are written out, or built from a status, a body and the form of a head.
 """
@@ -21,15 +21,13 @@ import edges  # noqa: F401
 import waiting  # noqa: F401
 import doors  # noqa: F401
 import keys  # noqa: F401
-import shop
-import files
 
 HERE = Path(__file__).parent.parent
 
 
 def main():
     data = HERE / "data"
-    for old in data.iterdir():
+    for old in data.glob("*.case"):
         old.unlink()
     out = []
     for name, exchanges, ending in cases:
@@ -39,12 +37,6 @@ def main():
         told = "".join(told for _, _, told in exchanges)
         out.append(f"== {name}: {ending}\n{told}\n")
     (data / "names").write_text("".join(f"{name}\n" for name, _, _ in cases))
-    for name, text in shop.files().items():
-        (data / name).write_text(text)
-    out.append(shop.printed())
-    for name, text in files.data().items():
-        (data / name).write_bytes(text.encode())
-    out.append(files.output())
     devices = b"== devices_that_fail: each in turn, and lines\n" + (HERE / "cases" / "devices.txt").read_bytes()
     (HERE / "stdout").write_bytes("".join(out).encode() + devices)
 

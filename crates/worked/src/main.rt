@@ -1,8 +1,6 @@
 //! The worked cases: each stream of requests under `data/` is answered by a box office of its own, once in one piece and once
-//! byte by byte. Printed are its name, how it ends, and what is written. Behind them stand reports on a shop in memory, what becomes of rows of
-//! vouchers there, and what is read of clocks; shops whose files are in memory (`cases/files.py`): closed and opened, damaged, imported into and
-//! reported on; and what comes of command lines, one of them over devices that fail (`cases/devices.txt`): all in the same program, since a second
-//! one would have to read all libraries again.
+//! byte by byte. Printed are its name, how it ends, and what is written. Behind them stands what comes of command lines, one of them over
+//! devices that fail (`cases/devices.txt`): in the same program, since a second one would have to read all libraries again.
 //!
 //! A case file begins with a line of moments, one for each whole request, with a space between two. What follows are the
 //! bytes of the stream. `data/names` has the names of the cases, one a line. `cases/write.py` writes them, and `stdout`, from the
@@ -10,26 +8,16 @@
 #![tactic(auto)]
 
 mod case;
-mod clock;
 mod cut;
-mod deeds;
 mod devices;
 mod endless;
 mod failing;
-mod filed;
 mod lines;
 mod listed;
-mod refusing;
-mod reopened;
-mod shop;
-mod stored;
 mod tried;
 
 use crate::case::answered;
-use crate::clock::show_clocks;
 use crate::devices::show_devices;
-use crate::filed::show_runs;
-use crate::shop::show_shop;
 use std::fs;
 
 // Answers each case, and prints what is written.
@@ -53,11 +41,6 @@ fn show_cases(rt: &HostRuntime) -> anyhow::Result<()> {
 
 fn main(rt: HostRuntime) -> anyhow::Result<()> {
     show_cases(&rt)?;
-    println!(rt; "== a_shop_in_memory: reports, and rows of vouchers")?;
-    show_shop(&rt)?;
-    println!(rt; "== clocks_of_a_system: what is read of each")?;
-    show_clocks(&rt)?;
-    show_runs(&rt)?;
     println!(rt; "== devices_that_fail: each in turn, and lines")?;
     show_devices(&rt)
 }
