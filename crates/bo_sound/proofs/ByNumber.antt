@@ -1,0 +1,101 @@
+-- Positions by their numbers.
+use Rattle.std.proofs.Common.{◌≡◌, ℕ, ◌+◌, ◌<◌, ◌≤◌, Bool, true, false, eqb, List, [], ◌∷◌, length, suc, refl, ap, ◌∙◌, arith, if◌then◌else◌}
+use Rattle.std.specs.Prelude.{nat_le}
+use Rattle.std.specs.List.{AllByRecursion, insert}
+use Rattle.std.proofs.lemmas.Bool.Decides.{nat_tests}
+use Rattle.bo_lists.specs.declared.rows.OrderPos.{OrderPos}
+use Rattle.bo_sound.specs.Positions.{placed, place_in, by_positionid, CountFrom}
+use Rattle.bo_sound.proofs.Apart.{AreApart}
+
+-- a position is placed behind so many
+pub placed_at : (p : OrderPos) (qs : List OrderPos) → insert qs (place_in p.positionid qs) p ≡ placed p qs
+placed_at p [] = refl
+placed_at p (q ∷ qs) = by_turn (placed_at p qs) (nat_le p.positionid q.positionid)
+  where
+    by_turn : insert qs (place_in p.positionid qs) p ≡ placed p qs → (b : Bool) → insert (q ∷ qs) (if b then 0 else suc (place_in p.positionid qs)) p ≡ (if b then p ∷ q ∷ qs else q ∷ placed p qs)
+    by_turn more true = refl
+    by_turn more false = ap (λ rest. q ∷ rest) more
+
+-- there are as many
+placed_length : (p : OrderPos) (qs : List OrderPos) → length (placed p qs) ≡ suc (length qs)
+placed_length p [] = refl
+placed_length p (q ∷ qs) = by_turn (placed_length p qs) (nat_le p.positionid q.positionid)
+  where
+    by_turn : length (placed p qs) ≡ suc (length qs) → (b : Bool) → length (if b then p ∷ q ∷ qs else q ∷ placed p qs) ≡ suc (suc (length qs))
+    by_turn more true = refl
+    by_turn more false = ap suc more
+
+pub same_length : (ps : List OrderPos) → length (by_positionid ps) ≡ length ps
+same_length [] = refl
+same_length (p ∷ ps) = placed_length p (by_positionid ps) ∙ ap suc (same_length ps)
+
+-- what holds of all of them holds of each
+module _ (P : OrderPos → Type 0) where
+  pub all_placed : (p : OrderPos) (qs : List OrderPos) → AllByRecursion P (placed p qs) → P p × AllByRecursion P qs
+  all_placed p [] h = (h.0, tt)
+  all_placed p (q ∷ qs) h = by_turn (all_placed p qs) (nat_le p.positionid q.positionid) h
+    where
+      by_turn : (AllByRecursion P (placed p qs) → P p × AllByRecursion P qs) → (b : Bool) → AllByRecursion P (if b then p ∷ q ∷ qs else q ∷ placed p qs) → P p × (P q × AllByRecursion P qs)
+      by_turn more true all = (all.0, all.1)
+      by_turn more false all =
+          let rest = more all.1 in
+          (rest.0, (all.0, rest.1))
+
+  pub all_unsorted : (ps : List OrderPos) → AllByRecursion P (by_positionid ps) → AllByRecursion P ps
+  all_unsorted [] h = tt
+  all_unsorted (p ∷ ps) h =
+      let more = all_placed p (by_positionid ps) h in
+      (more.0, all_unsorted ps more.1)
+
+-- two of them have one number
+abbrev pub same_number : OrderPos → OrderPos → Bool
+same_number p q = eqb p.positionid q.positionid
+
+-- of those that count on no two have one number
+later_numbers : (k n : ℕ) (ps : List OrderPos) → k < n → CountFrom n ps → AllByRecursion (λ q. eqb k q.positionid ≡ false) ps
+later_numbers k n [] lt h = tt
+later_numbers k n (p ∷ ps) lt h = (grind (arith, nat_tests, h.0, lt), later_numbers k (n + 1) ps (omega (arith, lt)) h.1)
+
+pub counted_apart : (n : ℕ) (ps : List OrderPos) → CountFrom n ps → AreApart same_number ps
+counted_apart n [] h = tt
+counted_apart n (p ∷ ps) h = (later_numbers p.positionid (n + 1) ps (omega (arith, h.0)) h.1, counted_apart (n + 1) ps h.1)
+
+-- nor is one beyond their count
+pub counted_small : (n : ℕ) (ps : List OrderPos) → CountFrom n ps → AllByRecursion (λ p. p.positionid < n + length ps) ps
+counted_small n ps h = below n (n + length ps) ps (omega arith) h
+  where
+    below : (m top : ℕ) (qs : List OrderPos) → m + length qs ≤ top → CountFrom m qs → AllByRecursion (λ p. p.positionid < top) qs
+    below m top [] le c = tt
+    below m top (q ∷ qs) le c = (omega (arith, c.0, le), below (m + 1) top qs (omega (arith, le)) c.1)
+
+-- those that are apart in one order are in the other
+placed_apart : (p : OrderPos) (qs : List OrderPos) → AreApart same_number (placed p qs) → AllByRecursion (λ q. same_number p q ≡ false) qs × AreApart same_number qs
+placed_apart p [] h = (tt, tt)
+placed_apart p (q ∷ qs) h = by_turn (placed_apart p qs) (nat_le p.positionid q.positionid) h
+  where
+    by_turn : (AreApart same_number (placed p qs) → AllByRecursion (λ r. same_number p r ≡ false) qs × AreApart same_number qs) → (b : Bool) → AreApart same_number (if b then p ∷ q ∷ qs else q ∷ placed p qs)
+        → ((same_number p q ≡ false) × AllByRecursion (λ r. same_number p r ≡ false) qs) × (AllByRecursion (λ r. same_number q r ≡ false) qs × AreApart same_number qs)
+    by_turn more true apart = (apart.0, apart.1)
+    by_turn more false apart =
+        let first = all_placed (λ r. same_number q r ≡ false) p qs apart.0 in
+        let rest = more apart.1 in
+        ((grind (arith, nat_tests, first.0), rest.0), (first.1, rest.1))
+
+pub unsorted_apart : (ps : List OrderPos) → AreApart same_number (by_positionid ps) → AreApart same_number ps
+unsorted_apart [] h = tt
+unsorted_apart (p ∷ ps) h =
+    let more = placed_apart p (by_positionid ps) h in
+    (all_unsorted (λ q. same_number p q ≡ false) ps more.0, unsorted_apart ps more.1)
+
+-- those that count on are by number already
+pub counted_is : (n : ℕ) (ps : List OrderPos) → CountFrom n ps → by_positionid ps ≡ ps
+counted_is n [] h = refl
+counted_is n (p ∷ ps) h = ap (placed p) (counted_is (n + 1) ps h.1) ∙ in_front ps h.1
+  where
+    in_front : (qs : List OrderPos) → CountFrom (n + 1) qs → placed p qs ≡ p ∷ qs
+    in_front [] c = refl
+    in_front (q ∷ qs) c = by_turn (nat_le p.positionid q.positionid) (grind (arith, nat_tests, h.0, c.0))
+      where
+        by_turn : (b : Bool) → b ≡ true → (if b then p ∷ q ∷ qs else q ∷ placed p qs) ≡ p ∷ q ∷ qs
+        by_turn true e = refl
+        by_turn false e = absurd (cc)
