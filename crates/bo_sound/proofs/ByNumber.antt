@@ -1,8 +1,9 @@
 -- Positions by their numbers.
-use Rattle.std.proofs.Common.{◌≡◌, ℕ, ◌+◌, ◌<◌, ◌≤◌, Bool, true, false, eqb, List, [], ◌∷◌, length, suc, refl, ap, ◌∙◌, arith, if◌then◌else◌}
+use Rattle.std.proofs.Common.{◌≡◌, ℕ, ◌+◌, ◌<◌, ◌≤◌, Bool, true, false, eqb, List, [], ◌∷◌, length, map, count_by, cond, suc, refl, ap, ◌∙◌, arith, if◌then◌else◌}
 use Rattle.std.specs.Prelude.{nat_le}
 use Rattle.std.specs.List.{AllByRecursion, insert}
 use Rattle.std.proofs.lemmas.Bool.Decides.{nat_tests}
+use Rattle.std.proofs.lemmas.List.Sums.{sum_by-cons}
 use Rattle.bo_lists.specs.declared.rows.OrderPos.{OrderPos}
 use Rattle.bo_sound.specs.Positions.{placed, place_in, by_positionid, CountFrom}
 use Rattle.bo_sound.proofs.Apart.{AreApart}
@@ -46,6 +47,23 @@ module _ (P : OrderPos → Type 0) where
   all_unsorted (p ∷ ps) h =
       let more = all_placed p (by_positionid ps) h in
       (more.0, all_unsorted ps more.1)
+
+-- what is made of them passes a test as often
+module _ {T : Type 0} (made : OrderPos → T) (test : T → Bool) where
+  abbrev passes : T → ℕ
+  passes x = cond (test x) 1 0
+
+  placed_count : (p : OrderPos) (qs : List OrderPos) → count_by test (map made (placed p qs)) ≡ passes (made p) + count_by test (map made qs)
+  placed_count p [] = sum_by-cons passes (made p) []
+  placed_count p (q ∷ qs) = by_turn (placed_count p qs) (nat_le p.positionid q.positionid)
+    where
+      by_turn : count_by test (map made (placed p qs)) ≡ passes (made p) + count_by test (map made qs) → (b : Bool) → count_by test (map made (if b then p ∷ q ∷ qs else q ∷ placed p qs)) ≡ passes (made p) + count_by test (made q ∷ map made qs)
+      by_turn more true = sum_by-cons passes (made p) (made q ∷ map made qs)
+      by_turn more false = omega (arith, more, sum_by-cons passes (made q) (map made (placed p qs)), sum_by-cons passes (made q) (map made qs))
+
+  pub sorted_count : (ps : List OrderPos) → count_by test (map made (by_positionid ps)) ≡ count_by test (map made ps)
+  sorted_count [] = refl
+  sorted_count (p ∷ ps) = omega (arith, placed_count p (by_positionid ps), sorted_count ps, sum_by-cons passes (made p) (map made ps))
 
 -- two of them have one number
 abbrev pub same_number : OrderPos → OrderPos → Bool
