@@ -5,4 +5,5 @@ pub mod Acting
 pub mod Worked
 pub mod Imported
 pub mod Reported
+pub mod Exported
 pub mod Shelved
