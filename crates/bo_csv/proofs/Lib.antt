@@ -2,3 +2,4 @@ pub mod Utf8
 pub mod Said
 pub mod OneReading
 pub mod Numbered
+pub mod HandingLemmas
