@@ -11,7 +11,7 @@ use Rattle.bo_sorted.specs.Tables.{InOrderFrom}
 use Rattle.bo_lists.specs.declared.rows.Order.{Order}
 use Rattle.bo_lists.specs.declared.rows.OrderPos.{OrderPos}
 use Rattle.bo_lists.specs.Lists.{Lists, State, positions_of}
-use Rattle.bo_sound.specs.Positions.{AllHavePositions, CountFrom}
+use Rattle.bo_sound.specs.Positions.{AllHavePositions, CountFrom, by_positionid}
 use Rattle.bo_sound.specs.Sound.{IsSound}
 use Rattle.bo_csv.specs.ByNumber.{HasLinesBy, Ordered, by_number, ordered_line}
 use Rattle.bo_csv.specs.PositionLines.{all_lines, header, order_lines, position_line, positions_text}
@@ -24,7 +24,7 @@ ordered order (p ∷ ps) more = (record { order = order; position = p }) ∷ ord
 -- those of each order
 abbrev all_ordered : Lists → List Order → List Ordered
 all_ordered lists [] = []
-all_ordered lists (o ∷ os) = ordered o (positions_of o.id lists) (all_ordered lists os)
+all_ordered lists (o ∷ os) = ordered o (by_positionid (positions_of o.id lists)) (all_ordered lists os)
 
 -- ---- their lines
 
@@ -39,7 +39,7 @@ each_line : (lists : Lists) (orders : List Order) → all_lines lists orders ≡
 each_line lists [] = refl
 each_line lists (o ∷ os) =
     ap (λ (text : List ℕ). order_lines lists o ++ text) (each_line lists os)
-    ∙ sym (ordered_lines lists o (positions_of o.id lists) (all_ordered lists os))
+    ∙ sym (ordered_lines lists o (by_positionid (positions_of o.id lists)) (all_ordered lists os))
 
 -- ---- their order
 
@@ -89,13 +89,13 @@ lower m n (r ∷ rs) below from = (omega (arith, below, from.0), lower m n rs be
 all_from : (lists : Lists) (n : ℕ) (orders : List Order) → InOrderFrom (λ o. o.id) n orders → AreFrom n (all_ordered lists orders)
 all_from lists n [] order = tt
 all_from lists n (o ∷ os) order =
-    order_from n o (positions_of o.id lists) (all_ordered lists os) order.0 (lower n (o.id + 1) (all_ordered lists os) (omega (arith, order.0)) (all_from lists (o.id + 1) os order.1))
+    order_from n o (by_positionid (positions_of o.id lists)) (all_ordered lists os) order.0 (lower n (o.id + 1) (all_ordered lists os) (omega (arith, order.0)) (all_from lists (o.id + 1) os order.1))
 
 all_rise : (lists : Lists) (n : ℕ) (orders : List Order) → InOrderFrom (λ o. o.id) n orders → AllHavePositions orders lists.positions → IsStrictlySortedBy by_number (all_ordered lists orders)
 unfolding IsStrictlySortedBy
 all_rise lists n [] order whole = tt
 all_rise lists n (o ∷ os) order whole =
-    order_rises o 1 (positions_of o.id lists) (all_ordered lists os) whole.0.counted (all_from lists (o.id + 1) os order.1) (all_rise lists (o.id + 1) os order.1 whole.1)
+    order_rises o 1 (by_positionid (positions_of o.id lists)) (all_ordered lists os) whole.0.counted (all_from lists (o.id + 1) os order.1) (all_rise lists (o.id + 1) os order.1 whole.1)
 
 pub is_by_number : (state : State) → IsSound state → HasLinesBy by_number state.lists (positions_text state.lists)
 is_by_number state sound = record {

@@ -10,6 +10,7 @@ use Rattle.bo_lists.specs.declared.rows.OrderPos.{OrderPos}
 use Rattle.bo_lists.specs.declared.rows.Voucher.{Voucher}
 use Rattle.bo_lists.specs.Letters.{status_letter}
 use Rattle.bo_lists.specs.Lists.{Lists, positions_of, voucher_at}
+use Rattle.bo_sound.specs.Positions.{by_positionid}
 use Rattle.bo_csv.specs.Lines.{number_or_empty}
 
 -- the names of the columns
@@ -34,9 +35,9 @@ position_fields lists order p =
 abbrev pub position_line : Lists → Order → OrderPos → List ℕ
 position_line lists order p = row_text default_writer (position_fields lists order p)
 
--- an order's positions, by id, in which order they are numbered
+-- the lines of an order's positions, by their numbers there
 abbrev pub order_lines : Lists → Order → List ℕ
-order_lines lists order = concat (map (position_line lists order) (positions_of order.id lists))
+order_lines lists order = concat (map (position_line lists order) (by_positionid (positions_of order.id lists)))
 
 abbrev pub all_lines : Lists → List Order → List ℕ
 all_lines lists orders = concat (map (order_lines lists) orders)

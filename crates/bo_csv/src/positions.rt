@@ -12,6 +12,7 @@ ghost use Rattle.bo_csv.specs.PositionLines.{all_lines, header, order_lines, pos
 use crate::lines::{append_line, push_number, push_number_or_empty};
 use bo_base::{Body, Cents, cents_text};
 use bo_lists::{Order, OrderPos, code_of};
+use bo_sound::numbers::by_positionid;
 use bo_usage::Book;
 use csv::{ByteRecord, Writer, WriterBuilder};
 use std::alloc::{AllocError, Global};
@@ -83,7 +84,7 @@ fn append_order<B: Book>(
     ensures line { OnOk result (IsAtLine writer.new) }
     ensures text { OnOk result (written (λ v. v.items) writer.new ≡ written (λ v. v.items) writer.old ++ order_lines (B.state book.now).lists order.now) }
 {
-    let positions = book.positions_of(alloc, order.id)?;
+    let positions = by_positionid(alloc, book.positions_of(alloc, order.id)?)?;
     append_positions(writer, row, book, alloc, order, positions.as_slice())
 }
 
