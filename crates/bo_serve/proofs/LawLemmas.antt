@@ -4,13 +4,13 @@ use Rattle.bo_connection.specs.declared.failure.Failure.{Failure}
 use Rattle.bo_connection.specs.Run.{Devices, RunLeads}
 use Rattle.bo_sound.specs.Sound.{IsSound}
 use Rattle.bo_kept.specs.ShopView.{ShopView}
-use Rattle.bo_streams.specs.Deliveries.{Delivery, IsRunning, Opening, Running, StandsFor, Views}
+use Rattle.bo_streams.specs.Deliveries.{Delivery, Event, Happens, IsRunning, Opening, Running, StandsFor, Views}
 use Rattle.bo_streams.specs.DeskView.{DeskView, House, IsOf, Meaning, words_of}
 use Rattle.bo_streams.specs.Served.{Serves}
-use Rattle.bo_streams.specs.Streams.{ServesAndKeeps, ServesList, ServesRunning}
+use Rattle.bo_streams.specs.Streams.{ServesAndKeeps, ServesHistory, ServesList, ServesRunning}
 use Rattle.bo_connection.proofs.FollowLemmas.{run_sure}
 use Rattle.bo_streams.proofs.RowLemmas.{nothing-too-much}
-use Rattle.bo_streams.proofs.StreamLemmas.{run-on, told-once}
+use Rattle.bo_streams.proofs.StreamLemmas.{HappensAt, history-on, run-on, told-once}
 use Rattle.bo_serve.specs.Visits.{Between, Visits, seen_at}
 use Rattle.bo_serve.proofs.VisitLemmas.{visits_seen}
 
@@ -42,6 +42,17 @@ module _ {T : Type 0} (tables : Meaning T) (house : House) (n : ℕ) (old new : 
       (λ before after result seen run sure h. let x = run-on tables house seen before after result run sure h.0 h.1 in (x.0, x.1, (x.2, x.3)))
       n old new r visits is_sure (of, running)
       in (x.0, x.1, x.2.0, x.2.1)
+
+  pub history_on : (begun r : Running) (es : List Event) → Happens (words_of house) begun es r → IsRunning (words_of house) tables.holds tables.may_leave old.desk.tables old.desk.state r
+      → (fs : List Event) × (s : Running) × Visits (ServesHistory house) n (seen_at old es) (seen_at new fs) × IsOf tables house new.desk × Happens (words_of house) begun fs s
+      × IsRunning (words_of house) tables.holds tables.may_leave new.desk.tables new.desk.state s
+  history_on begun r es happened running =
+      let x =
+      visits_seen (Serves tables) (ServesHistory house) IsSure
+      (λ (d : DeskView T) (fs : List Event). IsOf tables house d × HappensAt tables house begun d fs) was_sure
+      (λ before after result seen run sure h. let x = history-on tables house begun seen before after result run sure h.0 h.1 in (x.0, x.1, (x.2, x.3)))
+      n old new es visits is_sure (of, (r, happened, running))
+      in (x.0, x.2.1.0, x.1, x.2.0, x.2.1.1, x.2.1.2)
 
   pub too_much : (v : ShopView) → IsSound v.state → Views tables.holds old.desk.tables old.desk.state v
       → (w : ShopView) × Visits (ServesAndKeeps house) n (seen_at old v) (seen_at new w) × IsOf tables house new.desk

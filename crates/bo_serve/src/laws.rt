@@ -3,10 +3,10 @@
 ghost use Rattle.std.specs.Prelude.{ℕ, List};
 ghost use Rattle.bo_sound.specs.Sound.{IsSound};
 ghost use Rattle.bo_kept.specs.ShopView.{ShopView};
-ghost use Rattle.bo_streams.specs.Deliveries.{Delivery, IsRunning, Opening, Running, StandsFor, Views};
+ghost use Rattle.bo_streams.specs.Deliveries.{Delivery, Event, Happens, IsRunning, Opening, Running, StandsFor, Views};
 ghost use Rattle.bo_streams.specs.DeskView.{DeskView, House, IsOf, meaning, words_of};
 ghost use Rattle.bo_streams.specs.Served.{Serves};
-ghost use Rattle.bo_streams.specs.Streams.{ServesAndKeeps, ServesList, ServesRunning};
+ghost use Rattle.bo_streams.specs.Streams.{ServesAndKeeps, ServesHistory, ServesList, ServesRunning};
 ghost use Rattle.bo_serve.specs.Visits.{Between, Visits, seen_at};
 
 use bo_kept::Tables;
@@ -43,4 +43,16 @@ pub fn callers_take_nothing_too_much<T: Tables>()
         → Views T.holds old.desk.tables old.desk.state v
         → (w : ShopView) × Visits (ServesAndKeeps house) n (seen_at old v) (seen_at new w)
         × IsOf tables house new.desk × Views T.holds new.desk.tables new.desk.state w × IsSound w.state }
+{}
+
+/// The same as a history, which may have begun long before, with crashes in it: each message that was acted on is an event behind those
+/// before it, an arrival with what it was told, or without an answer; and the shop is running as these events leave it.
+pub fn callers_go_on_with_a_history<T: Tables>()
+    ensures { (house : House) (begun r : Running) (es : List Event) (n : ℕ) (old new : Between (DeskView T))
+        → let tables = meaning T.sure T.holds T.knows T.may_leave in
+        Visits (Serves tables) n old new → T.sure new.desk.tables → IsOf tables house old.desk → Happens (words_of house) begun es r
+        → IsRunning (words_of house) T.holds T.may_leave old.desk.tables old.desk.state r
+        → (fs : List Event) × (s : Running) × Visits (ServesHistory house) n (seen_at old es) (seen_at new fs)
+        × IsOf tables house new.desk × Happens (words_of house) begun fs s
+        × IsRunning (words_of house) T.holds T.may_leave new.desk.tables new.desk.state s }
 {}

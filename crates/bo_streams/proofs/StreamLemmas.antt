@@ -1,5 +1,5 @@
 -- A desk's runs over a stream, as a shop and as a list of arrivals see them.
-use Rattle.std.proofs.Common.{◌≡◌, ℕ, List, [], ◌∷◌, ◌++◌, Result, Ok, Err, refl, sym, ap, ap₂, ◌∙◌, subst}
+use Rattle.std.proofs.Common.{◌≡◌, ℕ, List, [], ◌∷◌, ◌++◌, Result, Ok, Err, refl, sym, ap, ap₂, ◌∙◌, subst, append-nil}
 use Rattle.bo_base.specs.declared.answer.Answer.{Answer}
 use Rattle.bo_base.specs.declared.answer.Answer.TheVariants.{Decided, Unavailable}
 use Rattle.bo_base.specs.declared.answer.Response.{Response}
@@ -10,7 +10,8 @@ use Rattle.bo_commands.specs.declared.replies.Reply.{Reply}
 use Rattle.bo_kept.specs.ShopView.{ShopView}
 use Rattle.bo_deliveries.specs.declared.arrival.Arrival.{Arrival}
 use Rattle.bo_deliveries.specs.Deliveries.{Opening, Delivery}
-use Rattle.bo_deliveries.specs.Histories.{Running, IsRunning}
+use Rattle.bo_deliveries.specs.Histories.{Event, Answered, Unanswered, Running, Happens, IsRunning, after_answer, after_none}
+use Rattle.bo_deliveries.proofs.Crashes.{happens_on}
 use Rattle.bo_deliveries.specs.Shops.{Views, StandsFor, served}
 use Rattle.bo_connection.specs.declared.failure.Failure.{Failure}
 use Rattle.bo_connection.specs.Run.{Item, Runs, Devices, with_desk, RunLeads}
@@ -18,7 +19,7 @@ use Rattle.bo_connection.proofs.FollowLemmas.{Follows, runs_follow, run_follows}
 use Rattle.bo_streams.specs.Coming.{arrival}
 use Rattle.bo_streams.specs.DeskView.{DeskView, Meaning, House, IsOf, house_of, words_of}
 use Rattle.bo_streams.specs.Served.{IsServed, IsListed, ServesOnce, Serves, after_message}
-use Rattle.bo_streams.specs.Streams.{Decides, ServesList, ServesRunning}
+use Rattle.bo_streams.specs.Streams.{Decides, ServesHistory, ServesList, ServesRunning, events_of}
 
 module _ {T : Type 0} (tables : Meaning T) (house : House) where
   pub is-house : (d : DeskView T) → IsOf tables house d → house_of d house ≡ house
@@ -111,6 +112,34 @@ module _ {T : Type 0} (tables : Meaning T) (house : House) where
         once.running q running,
       ))
       old new result r
+
+  -- ---- as a history that goes on
+
+  -- the shop is running as these events left it that had begun so
+  abbrev pub HappensAt : Running → DeskView T → List Event → Type 0
+  HappensAt begun d es = (r : Running) × Happens (words_of house) begun es r × RunsAt d r
+
+  happens-next : (words : Reply → Response) (coming : Result Arrival Response) (answer : Answer) (begun r : Running) (es : List Event) (Leads : ShopView → Type 0) → Happens words begun es r
+      → IsServed words coming r.shop answer Leads → Happens words begun (es ++ events_of coming answer) (after_message words coming answer r)
+  happens-next words (Ok a) (Decided t) begun r es Leads happened (leads, is) = happens_on words begun es (Answered a t ∷ []) r (after_answer words a r) happened (is, refl)
+  happens-next words (Ok a) Unavailable begun r es Leads happened leads = happens_on words begun es (Unanswered a ∷ []) r (after_none words a r) happened refl
+  happens-next words (Err refusal) answer begun r es Leads happened served = subst (λ (fs : List Event). Happens words begun fs r) (sym (append-nil es)) happened
+
+  pub history-on : (begun : Running) (es : List Event) (old new : Devices (DeskView T)) (result : Result (Unit {0}) Failure)
+      → RunLeads (Serves tables) old new result → tables.sure new.desk.tables → IsOf tables house old.desk → HappensAt begun old.desk es
+      → (fs : List Event) × RunLeads (ServesHistory house) (with_desk old es) (with_desk new fs) result × IsOf tables house new.desk × HappensAt begun new.desk fs
+  history-on begun es old new result =
+      run-seen (HappensAt begun) (ServesHistory house)
+      (λ d t m answer e seen once h. (
+        seen ++ events_of (arrival house t m) answer,
+        refl,
+        (
+          after_message (words_of house) (arrival house t m) answer h.0,
+          happens-next (words_of house) (arrival house t m) answer begun h.0 seen _ h.1 (once.served h.0.shop h.2.views),
+          once.running h.0 h.2,
+        ),
+      ))
+      old new result es
 
 -- ---- two runs over tables of their own
 
