@@ -7,6 +7,7 @@ ghost use Rattle.bo_base.specs.declared.answer.Answer.{Answer};
 ghost use Rattle.bo_base.specs.declared.answer.Response.{Response};
 ghost use Rattle.bo_commands.specs.declared.replies.Reply.{Reply};
 ghost use Rattle.bo_commands.specs.declared.requests.Command.{Command};
+ghost use Rattle.bo_connection.specs.Run.{AtTick};
 ghost use Rattle.bo_devices.specs.declared.device.Tick.{Tick};
 ghost use Rattle.bo_lists.specs.Lists.{State};
 ghost use Rattle.bo_kept.specs.House.{House};
@@ -25,6 +26,7 @@ ghost use Rattle.bo_serve.specs.Visits.{Between, Visits, between, seen_at};
 ghost use Rattle.bo_tables.specs.declared.sql.SqlTables.{SqlTables};
 
 use bo_deliveries::laws::shops_run_in_any_words;
+use bo_devices::Ticks;
 use bo_file::crashes::{a_crash_damages_nothing, a_shop_runs_on_after_a_crash};
 use bo_kept::Tables;
 use bo_serve::laws::{callers_go_on_with_a_history, callers_run_on};
@@ -35,7 +37,7 @@ use sqlite::{Alter, Connection};
 /// same names, the same tokens by their numbers, the same next one. It is running again, as it was or with one write carried out that had
 /// no answer; so what is said of callers goes on from there (`callers_run_on`), however often that happens. Where it isn't opened, that is
 /// for want of memory or because the store fails, and never told as 60, 61 or 62.
-pub fn callers_go_on_after_a_crash<S: Alter>(
+pub fn callers_go_on_after_a_crash<S: Alter, K: Ticks>(
     last: &SqlTables<S>,
     fresh: &Connection<S>,
     again: &SqlTables<S>,
@@ -43,26 +45,26 @@ pub fn callers_go_on_after_a_crash<S: Alter>(
     ensures goes_on { (house : House) (r : Running) (n : ℕ) (first : Between (DeskView (SqlTables S))) (told : Option (List Tick)) (organizer event : List ℕ) (s : State)
         → let tables = meaning ⟦<SqlTables<S> as Tables>⟧.sure ⟦<SqlTables<S> as Tables>⟧.holds ⟦<SqlTables<S> as Tables>⟧.knows ⟦<SqlTables<S> as Tables>⟧.may_leave in
         let end = between told (desk_with last.now organizer event s) in
-        Visits (Serves tables) n first end → IsOf tables house first.desk → IsRunning (words_of house) tables.holds tables.may_leave first.desk.tables first.desk.state r
+        Visits (AtTick K.reads (Serves tables)) n first end → IsOf tables house first.desk → IsRunning (words_of house) tables.holds tables.may_leave first.desk.tables first.desk.state r
         → IsFound (state S.Store last.now.connection) (state S.Store fresh.now) → IsTrue (state S.Store fresh.now).is_open
         → (name happening : List ℕ) (z : State) → OpensAs S.Store (state S.Store fresh.now) (desk_with again.now name happening z)
         → HasCleanDisk (state S.Store again.now.connection)
-        → (q : Running) × (x : ShopView) × Visits (ServesRunning house) n (seen_at first r) (seen_at end q) × MayLeave (words_of house) q x
+        → (q : Running) × (x : ShopView) × Visits (AtTick K.reads (ServesRunning house)) n (seen_at first r) (seen_at end q) × MayLeave (words_of house) q x
         × IsOf tables house (desk_with again.now name happening z) × IsRunning (words_of house) tables.holds tables.may_leave again.now z (opened (words_of house) x) }
     ensures unharmed { (house : House) (r : Running) (n : ℕ) (first : Between (DeskView (SqlTables S))) (told : Option (List Tick)) (organizer event : List ℕ) (s : State)
         → let tables = meaning ⟦<SqlTables<S> as Tables>⟧.sure ⟦<SqlTables<S> as Tables>⟧.holds ⟦<SqlTables<S> as Tables>⟧.knows ⟦<SqlTables<S> as Tables>⟧.may_leave in
-        Visits (Serves tables) n first (between told (desk_with last.now organizer event s)) → IsOf tables house first.desk
+        Visits (AtTick K.reads (Serves tables)) n first (between told (desk_with last.now organizer event s)) → IsOf tables house first.desk
         → IsRunning (words_of house) tables.holds tables.may_leave first.desk.tables first.desk.state r
         → IsFound (state S.Store last.now.connection) (state S.Store fresh.now) → (error : OpenError) → IsReason (state S.Store fresh.now).now error → IsOfMachine error }
 {
-    callers_run_on::<SqlTables<S>>();
+    callers_run_on::<SqlTables<S>, K>();
     a_shop_runs_on_after_a_crash(last, fresh, again);
     a_crash_damages_nothing(last, fresh);
 }
 
 /// A shop was running, and its file is opened again, after a crash or because a command has ended: that is an event of its history, by which
 /// nothing is undecided any more.
-pub fn a_history_goes_on_after_a_crash<S: Alter>(
+pub fn a_history_goes_on_after_a_crash<S: Alter, K: Ticks>(
     last: &SqlTables<S>,
     fresh: &Connection<S>,
     again: &SqlTables<S>,
@@ -72,7 +74,7 @@ pub fn a_history_goes_on_after_a_crash<S: Alter>(
         RunsSo tables house begun es (over last.now before) r → IsOpenedAgain S.Store (state S.Store last.now.connection) (state S.Store fresh.now) (over again.now after)
         → (x : ShopView) × RunsSo tables house begun (es ++ Crashed ∷ []) (over again.now after) (opened x) }
 {
-    callers_go_on_after_a_crash(last, fresh, again);
+    callers_go_on_after_a_crash::<S, K>(last, fresh, again);
 }
 
 /// A command of the program's own, whatever words tell it, is an event of a shop's history where it is carried out, as a caller's write without
@@ -93,7 +95,7 @@ pub fn a_command_goes_on_with_a_history<S: Alter>()
 /// is carried out; then the machine stops, the file is opened again, and callers are served. What happened is one list of events behind those
 /// before it: those of the first callers' messages, a stop, the command, a stop, and those of the other callers' messages; and the shop is running
 /// as they leave it. So there is one list of arrivals for which it stands (`histories_come_to_one_run`).
-pub fn an_evening_is_one_history<S: Alter>(
+pub fn an_evening_is_one_history<S: Alter, K: Ticks>(
     served: &SqlTables<S>,
     closed: &Connection<S>,
     opened_for: &SqlTables<S>,
@@ -105,19 +107,19 @@ pub fn an_evening_is_one_history<S: Alter>(
         (words : Reply → Response) (command : Command) (tick : Tick) (outcome : Result (List ℕ) RunFault)
         → let tables = meaning ⟦<SqlTables<S> as Tables>⟧.sure ⟦<SqlTables<S> as Tables>⟧.holds ⟦<SqlTables<S> as Tables>⟧.knows ⟦<SqlTables<S> as Tables>⟧.may_leave in
         RunsSo tables house begun es first.desk r
-        → Visits (Serves tables) n first (between told (over served.now a))
+        → Visits (AtTick K.reads (Serves tables)) n first (between told (over served.now a))
         → IsOpenedAgain S.Store (state S.Store served.now.connection) (state S.Store closed.now) (over opened_for.now b)
         → Acts words command tick tables (over opened_for.now b) (over acted.now c) outcome
         → IsOpenedAgain S.Store (state S.Store acted.now.connection) (state S.Store fresh.now) (over again.now d)
-        → Visits (Serves tables) m (between None (over again.now d)) end → HasCleanDisk (state S.Store end.desk.tables.connection)
+        → Visits (AtTick K.reads (Serves tables)) m (between None (over again.now d)) end → HasCleanDisk (state S.Store end.desk.tables.connection)
         → (fs : List Event) × (x : ShopView) × (answer : Answer) × (gs : List Event) × (q : Running)
-        × Visits (ServesHistory house) n (seen_at first es) (between told fs)
+        × Visits (AtTick K.reads (ServesHistory house)) n (seen_at first es) (between told fs)
         × (outcome ≡ told_of answer)
-        × Visits (ServesHistory house) m (between None (((fs ++ Crashed ∷ []) ++ event_of (words_of house) (own_arrival command tick) answer x ∷ []) ++ Crashed ∷ [])) (seen_at end gs)
+        × Visits (AtTick K.reads (ServesHistory house)) m (between None (((fs ++ Crashed ∷ []) ++ event_of (words_of house) (own_arrival command tick) answer x ∷ []) ++ Crashed ∷ [])) (seen_at end gs)
         × RunsSo tables house begun gs end.desk q }
 {
-    callers_go_on_with_a_history::<SqlTables<S>>();
-    a_history_goes_on_after_a_crash(served, closed, opened_for);
+    callers_go_on_with_a_history::<SqlTables<S>, K>();
+    a_history_goes_on_after_a_crash::<S, K>(served, closed, opened_for);
     a_command_goes_on_with_a_history::<S>();
-    a_history_goes_on_after_a_crash(acted, fresh, again);
+    a_history_goes_on_after_a_crash::<S, K>(acted, fresh, again);
 }
