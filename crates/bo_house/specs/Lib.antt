@@ -6,3 +6,4 @@ pub mod Worked
 pub mod Imported
 pub mod Reported
 pub mod Shelved
+pub mod Evening

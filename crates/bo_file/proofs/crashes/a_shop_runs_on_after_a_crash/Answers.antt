@@ -4,9 +4,8 @@ use Rattle.bo_tables.proofs.Told.{one_shop}
 use Rattle.bo_tables.specs.Shops.{reordered}
 use Rattle.bo_deliveries.specs.Shops.{stood}
 use Rattle.bo_deliveries.specs.Histories.{Crashed, opened}
-use Rattle.bo_deliveries.proofs.Crashes.{come_from_opening}
+use Rattle.bo_deliveries.proofs.Crashes.{come_from_opening, happens_on}
 use Rattle.bo_deliveries.proofs.Running.{reopened}
-use Rattle.bo_file.proofs.Again.{happens_on}
 use Rattle.bo_file.proofs.Tokens.{known_as}
 use Rattle.bo_file.proofs.crashes.a_shop_runs_on_after_a_crash.Goals as goal
 
