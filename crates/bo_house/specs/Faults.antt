@@ -2,6 +2,8 @@
 use Rattle.std.specs.Prelude.{ℕ, Result, Ok, Err}
 use Rattle.bo_csv.specs.declared.voucher_file.FileFault.{FileFault}
 use Rattle.bo_csv.specs.declared.voucher_file.FileFault.TheVariants as files
+use Rattle.bo_export.specs.declared.sink.SinkFault.{SinkFault}
+use Rattle.bo_export.specs.declared.sink.SinkFault.TheVariants as sinks
 use Rattle.bo_line.specs.declared.fault.RunFault.{RunFault}
 use Rattle.bo_line.specs.declared.fault.RunFault.TheVariants as faults
 use Rattle.bo_tables.specs.declared.error.TokenError.{TokenError}
@@ -34,6 +36,10 @@ fault_of_token (tokens.Rows error) = fault_of_rows error
 abbrev pub told_of_token : Result ℕ TokenError → Result ℕ RunFault
 told_of_token (Ok number) = Ok number
 told_of_token (Err error) = Err (fault_of_token error)
+
+abbrev pub fault_of_sink : SinkFault → RunFault
+fault_of_sink sinks.Memory = faults.Memory
+fault_of_sink sinks.Output = faults.Unwritten
 
 abbrev pub fault_of_file : FileFault → RunFault
 fault_of_file files.Memory = faults.Memory

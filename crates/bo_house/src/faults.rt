@@ -1,9 +1,10 @@
 //! Refusals of a shop's file, and of a voucher file, as the program tells them.
 
 ghost use Rattle.std.specs.Prelude.{◌≡◌};
-ghost use Rattle.bo_house.specs.Faults.{fault_of_file, fault_of_opening, fault_of_rows, fault_of_token};
+ghost use Rattle.bo_house.specs.Faults.{fault_of_file, fault_of_opening, fault_of_rows, fault_of_sink, fault_of_token};
 
 use bo_csv::FileFault;
+use bo_export::SinkFault;
 use bo_line::RunFault;
 use bo_opens::OpenError;
 use bo_rules::Rule;
@@ -42,6 +43,16 @@ pub fn fault_of_token(error: TokenError) -> RunFault
     match error {
         TokenError::Full => RunFault::Full,
         TokenError::Rows(error) => fault_of_rows(error),
+    }
+}
+
+/// Why a line of an export isn't written, as the program tells it.
+pub fn fault_of_sink(fault: SinkFault) -> RunFault
+    ensures { result ≡ fault_of_sink fault }
+{
+    match fault {
+        SinkFault::Memory => RunFault::Memory,
+        SinkFault::Output => RunFault::Unwritten,
     }
 }
 
