@@ -1,11 +1,11 @@
 -- A desk that follows another one message by message follows it through runs.
-use Rattle.std.proofs.Common.{ℕ, List, [], ◌∷◌, ◌++◌, map, Option, Result, Ok, Err, refl, sym, subst}
+use Rattle.std.proofs.Common.{◌≡◌, ℕ, List, [], ◌∷◌, ◌++◌, map, Option, Result, Ok, Err, refl, sym, subst}
 use Rattle.bo_base.specs.declared.answer.Answer.{Answer}
 use Rattle.bo_devices.specs.declared.device.Tick.{Tick}
 use Rattle.bo_http.specs.Messages.{Message, whole}
 use Rattle.bo_connection.specs.declared.failure.Failure.{Failure}
 use Rattle.bo_connection.specs.declared.failure.Failure.TheVariants as failures
-use Rattle.bo_connection.specs.Run.{Item, Runs, Cursor, cursor, Progress, Finished, CutOff, Stopped, BreaksOff, Streams, Devices, with_desk, RunLeads}
+use Rattle.bo_connection.specs.Run.{AtTick, Item, Runs, Cursor, cursor, Progress, Finished, CutOff, Stopped, BreaksOff, Streams, Devices, with_desk, RunLeads}
 
 -- A desk follows another one, as long as it is sure: of each message that it answers the other one gives the same answer, and
 -- as what it was seen before, so it is seen after. Where it is sure after a message, it was so before.
@@ -13,6 +13,14 @@ pub record Follows {D E : Type 0} (Serves : D → Tick → Message → Answer �
   pub was_sure : (old : D) (tick : Tick) (m : Message) (answer : Answer) (new : D) → Serves old tick m answer new → Sure new → Sure old
   pub one : (old : D) (tick : Tick) (m : Message) (answer : Answer) (new : D) (seen : E) → Serves old tick m answer new → Sure new → Seen old seen
       → (left : E) × Other seen tick m answer left × Seen new left
+
+-- so it does at ticks of which the same is known
+pub follows_at : {D E : Type 0} (reads : Option Tick → Type 0) (Serves : D → Tick → Message → Answer → D → Type 0) (Other : E → Tick → Message → Answer → E → Type 0) (Sure : D → Type 0) (Seen : D → E → Type 0)
+    → Follows Serves Other Sure Seen → Follows (AtTick reads Serves) (AtTick reads Other) Sure Seen
+follows_at reads Serves Other Sure Seen follows = record {
+  was_sure = λ old tick m answer new serves. follows.was_sure old tick m answer new serves.1;
+  one = λ old tick m answer new seen serves sure is. let x = follows.one old tick m answer new seen serves.1 sure is in (x.0, (serves.0, x.1), x.2);
+}
 
 -- a place in a run with another desk there
 abbrev pub seen_as : {D E : Type 0} → Cursor D → E → Cursor E
@@ -102,3 +110,14 @@ module _ {D E : Type 0} (Serves : D → Tick → Message → Answer → D → Ty
   run_follows old new result seen run sure is =
       let x = streams_follow new.left (cursor run.bytes old.told old.desk old.taken) (cursor [] new.told new.desk new.taken) result seen run.streams sure is in
       (x.0, record { bytes = run.bytes; given = run.given; pieces = run.pieces; streams = x.1 }, x.2)
+
+-- a run, whatever is known of its ticks
+pub run_whenever : {D : Type 0} (reads : Option Tick → Type 0) (Serves : D → Tick → Message → Answer → D → Type 0) (old new : Devices D) (result : Result (Unit {0}) Failure)
+    → RunLeads (AtTick reads Serves) old new result → RunLeads Serves old new result
+run_whenever {D} reads Serves old new result run =
+    let itself : Follows (AtTick reads Serves) Serves (λ d. Unit {0}) (λ d e. e ≡ d) = record {
+      was_sure = λ before tick m answer after serves sure. tt;
+      one = λ before tick m answer after seen serves sure is. (after, subst (λ (d : D). Serves d tick m answer after) (sym is) serves.1, refl);
+    } in
+    let x = run_follows (AtTick reads Serves) Serves (λ d. Unit {0}) (λ d e. e ≡ d) itself old new result old.desk run tt refl in
+    subst (λ (d : D). RunLeads Serves old (with_desk new d) result) x.2 x.1

@@ -1,5 +1,5 @@
 -- A run of a desk over the messages of a stream.
-use Rattle.std.specs.Prelude.{◌≡◌, ℕ, ◌+◌, ◌-◌, ◌*◌, ◌<◌, ◌≤◌, ◌⊎◌, Bool, List, [], ◌∷◌, ◌++◌, length, map, Option, Result, Ok, Err, true, false}
+use Rattle.std.specs.Prelude.{◌≡◌, ℕ, ◌+◌, ◌-◌, ◌*◌, ◌<◌, ◌≤◌, ◌⊎◌, Bool, List, [], ◌∷◌, ◌++◌, length, map, Option, Some, Result, Ok, Err, true, false}
 use Rattle.std.specs.Io.KnownBytes.{IsAtEnd}
 use Rattle.bo_base.specs.declared.answer.Answer.{Answer}
 use Rattle.bo_devices.specs.declared.device.Tick.{Tick}
@@ -27,6 +27,10 @@ Runs Serves d (t ∷ ts) [] written e = ⊥
 Runs Serves d (t ∷ ts) (Err f ∷ items) written e = ⊥
 Runs {D} Serves d (t ∷ ts) (Ok m ∷ items) written e =
     (mid : D) × (answer : Answer) × (rest : List ℕ) × Serves d t m answer mid × (written ≡ text answer (closes m) ++ rest) × Runs Serves mid ts items rest e
+
+-- a desk serves a message at a tick of which this is known
+abbrev pub AtTick : {D : Type 0} → (Option Tick → Type 0) → (D → Tick → Message → Answer → D → Type 0) → D → Tick → Message → Answer → D → Type 0
+AtTick reads Serves old tick m answer new = reads (Some tick) × Serves old tick m answer new
 
 -- the item is the next one of the bytes
 abbrev pub IsNext : List ℕ → Item → Type 0

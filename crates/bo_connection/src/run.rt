@@ -1,7 +1,7 @@
 //! A connection, from its first byte to its end.
 
 ghost use Rattle.std.specs.Prelude.{◌≡◌, ◌+◌, ◌≤◌, ◌<◌, [], length};
-ghost use Rattle.bo_connection.specs.Run.{RunLeads, CountedAll, TakesIn, CountedIn};
+ghost use Rattle.bo_connection.specs.Run.{AtTick, RunLeads, CountedAll, TakesIn, CountedIn};
 
 use crate::desk::Desk;
 use crate::failure::Failure;
@@ -48,7 +48,7 @@ fn serve_all<R: Source, T: Ticks, D: Desk, W: Drain>(
     requires empty { frames.old.left ≡ [] }
     requires some { 0 < length piece.old }
     requires most { length piece.old ≤ 65536 }
-    ensures leads { RunLeads D.serves
+    ensures leads { RunLeads (AtTick T.reads D.serves)
         (record { left = R.left reader.old; calls = R.calls reader.old; told = T.told ticks.old; desk = desk.old; taken = W.taken writer.old })
         (record { left = R.left reader.new; calls = R.calls reader.new; told = T.told ticks.new; desk = desk.new; taken = W.taken writer.new }) result }
     ensures counted { CountedAll result
@@ -87,7 +87,7 @@ pub fn run_stream<R: Source, T: Ticks, D: Desk, W: Drain>(
     desk: &mut D,
     writer: &mut W,
 ) -> Result<(), Failure>
-    ensures leads { RunLeads D.serves
+    ensures leads { RunLeads (AtTick T.reads D.serves)
         (record { left = R.left reader.old; calls = R.calls reader.old; told = T.told ticks.old; desk = desk.old; taken = W.taken writer.old })
         (record { left = R.left reader.new; calls = R.calls reader.new; told = T.told ticks.new; desk = desk.new; taken = W.taken writer.new }) result }
     ensures counted { CountedAll result
@@ -108,7 +108,7 @@ pub fn serve_desk<R: Source, T: Ticks, D: Desk + Drop, W: Drain>(
     desk: D,
     writer: &mut W,
 ) -> Result<(), Failure>
-    ensures leads { (last : D) × RunLeads D.serves
+    ensures leads { (last : D) × RunLeads (AtTick T.reads D.serves)
         (record { left = R.left reader.old; calls = R.calls reader.old; told = T.told ticks.old; desk = desk; taken = W.taken writer.old })
         (record { left = R.left reader.new; calls = R.calls reader.new; told = T.told ticks.new; desk = last; taken = W.taken writer.new }) result }
     ensures counted { CountedAll result

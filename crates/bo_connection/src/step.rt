@@ -1,6 +1,6 @@
 //! One message of a connection, and all that are whole.
 
-ghost use Rattle.bo_connection.specs.Run.{Steps, ServesReady, Counted, cursor};
+ghost use Rattle.bo_connection.specs.Run.{AtTick, Steps, ServesReady, Counted, cursor};
 
 use crate::desk::Desk;
 use crate::failure::{Failure, Step};
@@ -17,7 +17,7 @@ pub fn step<T: Ticks, D: Desk, W: Drain>(
     desk: &mut D,
     writer: &mut W,
 ) -> Result<Step, Failure>
-    ensures leads { Steps D.serves
+    ensures leads { Steps (AtTick T.reads D.serves)
         (cursor frames.old.left (T.told ticks.old) desk.old (W.taken writer.old))
         (cursor frames.new.left (T.told ticks.new) desk.new (W.taken writer.new)) result }
     ensures counted { Counted result (T.failures ticks.old) (T.failures ticks.new) (W.failures writer.old) (W.failures writer.new) }
@@ -53,7 +53,7 @@ pub fn serve_ready<T: Ticks, D: Desk, W: Drain>(
     desk: &mut D,
     writer: &mut W,
 ) -> Result<bool, Failure>
-    ensures leads { ServesReady D.serves
+    ensures leads { ServesReady (AtTick T.reads D.serves)
         (cursor frames.old.left (T.told ticks.old) desk.old (W.taken writer.old))
         (cursor frames.new.left (T.told ticks.new) desk.new (W.taken writer.new)) result }
     ensures counted { Counted result (T.failures ticks.old) (T.failures ticks.new) (W.failures writer.old) (W.failures writer.new) }

@@ -58,3 +58,10 @@ come words p ds r (Crashed ∷ es) end stands (left, inr (a, among, same), happe
 pub come_from_opening : (words : Reply → Response) (p : Opening) (events : List Event) (end : Running) → Happens words (opened words (stood words p [])) events end
     → (whole : List Delivery) × ComesTo words p [] [] events whole × Stands words p whole end.shop
 come_from_opening words p events end happens = come words p [] (opened words (stood words p [])) events end (record { office = refl; kept = refl }) happens
+
+-- one history behind another
+pub happens_on : (words : Reply → Response) (r : Running) (es fs : List Event) (mid end : Running) → Happens words r es mid → Happens words mid fs end → Happens words r (es ++ fs) end
+happens_on words r [] fs mid end same more = subst (λ m. Happens words m fs end) same more
+happens_on words r (Answered a told ∷ es) fs mid end (is, h) more = (is, happens_on words (after_answer words a r) es fs mid end h more)
+happens_on words r (Unanswered a ∷ es) fs mid end h more = happens_on words (after_none words a r) es fs mid end h more
+happens_on words r (Crashed ∷ es) fs mid end (left, may, h) more = (left, may, happens_on words (opened words left) es fs mid end h more)

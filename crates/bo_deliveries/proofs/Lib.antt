@@ -7,3 +7,4 @@ pub mod Apart
 pub mod OneEach
 pub mod Crashes
 pub mod Running
+pub mod Words

@@ -1,5 +1,6 @@
 -- Histories: arrivals, and crashes, after each of which the shop is opened again.
 use Rattle.std.specs.Prelude.{◌≡◌, ◌⊎◌, ⊤, List, [], ◌∷◌, ◌++◌, if◌then◌else◌}
+use Rattle.std.specs.List.{AllByRecursion}
 use Rattle.bo_base.specs.declared.answer.Answer.{Answer}
 use Rattle.bo_base.specs.declared.answer.Answer.TheVariants.{Decided, Unavailable}
 use Rattle.bo_base.specs.declared.answer.Response.{Response}
@@ -27,6 +28,10 @@ IsAmong a (x ∷ xs) = (x ≡ a) ⊎ IsAmong a xs
 -- a write that isn't answered is undecided from then on
 abbrev pub also_undecided : Arrival → List Arrival → List Arrival
 also_undecided a open_ = if is_write a.request then a ∷ open_ else open_
+
+-- none of these arrivals has a key
+abbrev pub AreKeyless : List Arrival → Type 0
+AreKeyless open_ = AllByRecursion (λ a. a.key ≡ []) open_
 
 -- A running shop, and the writes that had no answer, or 503, since the last crash and since the last write that was executed.
 pub record Running : Type 0 where
@@ -75,6 +80,11 @@ module _ (words : Reply → Response) where
   abbrev pub after_act : Arrival → Answer → Running → Running
   after_act a (Decided answer) r = after_answer a r
   after_act a Unavailable r = after_none a r
+
+  -- the event that an arrival is which was answered so, whatever the words were: it is told in these
+  abbrev pub event_of : Arrival → Answer → ShopView → Event
+  event_of a (Decided answer) shop = Answered a (served words a shop).1
+  event_of a Unavailable shop = Unanswered a
 
   -- what was told is what the shop tells
   abbrev pub TellsIt : Arrival → Answer → ShopView → Type 0

@@ -1,6 +1,6 @@
 //! Laws of every list of arrivals, and of every history with crashes.
 
-ghost use Rattle.std.specs.Prelude.{◌≡◌, ◌++◌, ℕ, List, [], IsPermutation};
+ghost use Rattle.std.specs.Prelude.{◌≡◌, ◌++◌, ℕ, List, [], ◌∷◌, IsPermutation};
 ghost use Rattle.bo_base.specs.declared.answer.Answer.{Answer};
 ghost use Rattle.bo_base.specs.declared.answer.Response.{Response};
 ghost use Rattle.bo_lists.specs.Lists.{State};
@@ -12,7 +12,7 @@ ghost use Rattle.bo_kept.specs.KeptAnswers.{told_by, AreOneForEachKey};
 ghost use Rattle.bo_kept.specs.ShopView.{ShopView};
 ghost use Rattle.bo_deliveries.specs.Shops.{ServesAll, Stands, delivered_all, stood};
 ghost use Rattle.bo_deliveries.specs.Headline.{ToldAgain, ExecutedAnew, AreADayApart};
-ghost use Rattle.bo_deliveries.specs.Histories.{Event, Running, Happens, ComesTo, MayLeave, IsRunning, Reopened, opened};
+ghost use Rattle.bo_deliveries.specs.Histories.{Event, Running, Happens, ComesTo, MayLeave, AreKeyless, IsRunning, Reopened, after_act, event_of, opened};
 
 use bo_kept::Tables;
 
@@ -64,4 +64,19 @@ pub fn reopened_shops_run<T: Tables>()
     ensures { (words : Reply → Response) (before after : T) (state : State) (left : ShopView) (r : Running)
         → IsRunning words T.holds T.may_leave before state r → Reopened T.holds T.may_leave before after left
         → (x : ShopView) × MayLeave words r x × IsRunning words T.holds T.may_leave after left.state (opened words x) }
+{}
+
+/// What is answered without a key is kept nowhere, so a shop is the same in whatever words it is told. A running shop whose undecided
+/// writes have no key, as one has none that was just opened, is running in any other words; a write without key that was carried out in
+/// some words is, in any other, the event that the same write is in these; and a shop that stands for a list of arrivals stands for none
+/// yet, in any words, from the opening with its rows and its answers.
+pub fn shops_run_in_any_words<T: Tables>()
+    ensures runs { (words other : Reply → Response) (tables : T) (state : State) (r : Running) → AreKeyless r.undecided
+        → IsRunning words T.holds T.may_leave tables state r → IsRunning other T.holds T.may_leave tables state r }
+    ensures acts { (words other : Reply → Response) (a : Arrival) (answer : Answer) (tables : T) (state : State) (r : Running)
+        → a.key ≡ [] → AreKeyless r.undecided → IsRunning words T.holds T.may_leave tables state (after_act words a answer r)
+        → IsRunning other T.holds T.may_leave tables state (after_act other a answer r)
+        × Happens other r (event_of other a answer r.shop ∷ []) (after_act other a answer r) }
+    ensures stands { (words other : Reply → Response) (p : Opening) (ds : List Delivery) (shop : ShopView)
+        → Stands words p ds shop → Stands other (record { state = shop.state; kept = shop.kept }) [] shop }
 {}

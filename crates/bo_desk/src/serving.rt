@@ -1,6 +1,7 @@
 //! What becomes of one message, step by step.
 
 ghost use Rattle.std.specs.Prelude.{◌≡◌, ◌++◌, List, [], ◌∷◌, Ok, IfOk};
+ghost use Rattle.bo_base.specs.declared.answer.Answer.TheVariants.{Unavailable};
 ghost use Rattle.bo_streams.specs.Deliveries.{Opening, Delivery, told, Running, IsRunning, after_act, Views, StandsFor, IsAnswered, delivered};
 ghost use Rattle.bo_kept.specs.ShopView.{ShopView};
 ghost use Rattle.bo_streams.specs.Coming.{arrival_with, number_of};
@@ -38,6 +39,7 @@ impl<T: Tables, B: Dues> ShopDesk<T, B> {
     fn carry_out(&mut self, alloc: Global, arrival: Arrival) -> Answer
         ensures organizer { self.new.organizer ≡ self.old.organizer }
         ensures event { self.new.event ≡ self.old.event }
+        ensures office { result ≡ Unavailable → self.new.state ≡ self.old.state }
         ensures sure { T.sure self.new.tables → T.sure self.old.tables }
         ensures house { T.sure self.new.tables → (house : House) → T.knows self.old.tables house → T.knows self.new.tables house }
         ensures served { T.sure self.new.tables → (v : ShopView) → Views T.holds self.old.tables self.old.state v
@@ -64,6 +66,7 @@ impl<T: Tables, B: Dues> ShopDesk<T, B> {
     ) -> Answer
         ensures organizer { self.new.organizer ≡ self.old.organizer }
         ensures event { self.new.event ≡ self.old.event }
+        ensures office { result ≡ Unavailable → self.new.state ≡ self.old.state }
         ensures sure { T.sure self.new.tables → T.sure self.old.tables }
         ensures once { T.sure self.new.tables
             → ServesOnce (meaning T.sure T.holds T.knows T.may_leave) (worded self.old) self.old (arrival_with self.old.organizer self.old.event number tick frame.now) result self.new }

@@ -1,6 +1,6 @@
 //! Readers, writers and clocks that tell what passed through them, and count their failures.
 
-ghost use Rattle.std.specs.Prelude.{◌≡◌, ℕ, ◌+◌, ◌<◌, ◌≤◌, List, [], ◌∷◌, Option, length, take, IfOk, OnOk, OnErr};
+ghost use Rattle.std.specs.Prelude.{◌≡◌, ℕ, ◌+◌, ◌<◌, ◌≤◌, List, [], ◌∷◌, Option, Some, None, length, take, IfOk, OnOk, OnErr};
 ghost use Rattle.std.specs.Io.KnownBytes.{IsAtEnd};
 ghost use Rattle.bo_devices.specs.Told.{Adds, Gives};
 ghost use Rattle.bo_devices.specs.declared.device.Tick.{Tick};
@@ -63,11 +63,16 @@ pub trait Ticks {
     // the ticks that were told
     ghost told: { Self → Option (List Tick) };
 
+    // what is known of a tick that was told, or where there was none
+    ghost reads: { Option Tick → Type 0 };
+
     // how many calls failed
     ghost failures: { Self → ℕ };
 
     /// The next tick.
     fn tick(&mut self) -> Result<Tick, Refused>
+        ensures read { IfOk result (λ t. reads (Some t)) }
+        ensures unread { OnErr result (reads None) }
         ensures told { IfOk result (λ t. Adds (told self.old) (t ∷ []) (told self.new)) }
         ensures kept { OnErr result (Adds (told self.old) [] (told self.new)) }
         ensures well { OnOk result (failures self.new ≡ failures self.old) }

@@ -1,18 +1,21 @@
 -- What a command of the program's own comes to.
-use Rattle.std.proofs.Common.{◌≡◌, ◌∙◌, ◌⊎◌, inl, inr, ℕ, List, Option, Some, None, Result, Err, ap, ap₂, refl, subst, true}
+use Rattle.std.proofs.Common.{◌≡◌, ◌∙◌, ◌⊎◌, inl, inr, ℕ, List, [], ◌∷◌, ◌++◌, Option, Some, None, Result, Err, ap, ap₂, refl, subst, true}
 use Rattle.sqlite_trees.specs.declared.store.Store.{Ghosts}
 use Rattle.sqlite.specs.State.{State as Connected}
 use Rattle.sqlite.specs.declared.connection.Connection.{Connection}
 use Rattle.bo_base.specs.declared.answer.Answer.{Answer}
+use Rattle.bo_base.specs.declared.answer.Answer.TheVariants.{Unavailable}
 use Rattle.bo_connection.specs.declared.failure.Failure.TheVariants as failures
-use Rattle.bo_deliveries.specs.Shops.{IsAnswered, IsDecided, Views, executes, served}
+use Rattle.bo_deliveries.specs.Deliveries.{Delivery, Opening, told as told_in_list}
+use Rattle.bo_deliveries.specs.Histories.{IsRunning, Running, TellsIt, after_act}
+use Rattle.bo_deliveries.specs.Shops.{IsAnswered, IsDecided, StandsFor, Views, delivered, executes, served}
 use Rattle.bo_deliveries.specs.declared.arrival.Arrival.{Arrival}
 use Rattle.bo_devices.specs.declared.device.Tick.{Tick}
 use Rattle.bo_kept.specs.ShopView.{IsSame, ShopView}
 use Rattle.bo_lists.specs.Lists.{State}
 use Rattle.bo_sound.specs.Sound.{IsSound}
 use Rattle.bo_tables.specs.declared.sql.SqlTables.{SqlTables}
-use Rattle.bo_desk.specs.Streams.{DeskView, Meaning, desk_with}
+use Rattle.bo_desk.specs.Streams.{DeskView, House, Meaning, desk_with}
 use Rattle.bo_line.specs.declared.fault.RunFault.{RunFault}
 use Rattle.bo_line.specs.declared.fault.RunFault.TheVariants as faults
 use Rattle.bo_house.specs.Served.{OpensAs, StaysUnopened}
@@ -28,6 +31,14 @@ module _ {T : Type 0} (words : Reply → Response) (command : Command) (tick : T
   abbrev Answered : Arrival → Answer → T → State → T → State → Type 0
   Answered a answer before s after t = tables.sure after → (v : ShopView) → Views tables.holds before s v → IsAnswered words a v answer (λ w. Views tables.holds after t w)
 
+  abbrev Stands : Arrival → Answer → T → State → T → State → Type 0
+  Stands a answer before s after t = tables.sure after → (p : Opening) (ds : List Delivery) → StandsFor words tables.holds before s p ds
+      → StandsFor words tables.holds after t p (ds ++ delivered a answer ∷ []) × (told_in_list words p ds (delivered a answer) ≡ answer)
+
+  abbrev Runs : Arrival → Answer → T → State → T → State → Type 0
+  Runs a answer before s after t = tables.sure after → (r : Running) → IsRunning words tables.holds tables.may_leave before s r
+      → IsRunning words tables.holds tables.may_leave after t (after_act words a answer r) × TellsIt words a answer r.shop
+
   abbrev Leaves : Arrival → T → State → T → Type 0
   Leaves a before s after = tables.sure after → (left : ShopView) → tables.may_leave after left → tables.may_leave before left
       ⊎ ((v : ShopView) → Views tables.holds before s v → IsSame left (served words a v).0 × IsSound left.state)
@@ -40,14 +51,21 @@ module _ {T : Type 0} (words : Reply → Response) (command : Command) (tick : T
   -- the shop of tables and an office answered the arrival that the command is
   pub was_done : (organizer event : List ℕ) (before shop after given : T) (s of_shop t : State) (a : Arrival) (answer : Answer) (outcome : Result (List ℕ) RunFault)
       → shop ≡ before → of_shop ≡ s → a ≡ own_arrival command tick → outcome ≡ told_of answer → given ≡ after
-      → (tables.sure after → tables.sure shop) → Answered a answer shop of_shop after t → Leaves a shop of_shop after → Settles a answer shop of_shop after
+      → (answer ≡ Unavailable → t ≡ of_shop) → (tables.sure after → tables.sure shop) → (tables.sure after → (house : House) → tables.knows shop house → tables.knows after house)
+      → Answered a answer shop of_shop after t → Stands a answer shop of_shop after t → Runs a answer shop of_shop after t → Leaves a shop of_shop after → Settles a answer shop of_shop after
       → (last : DeskView T) × Acts words command tick tables (desk_with before organizer event s) last outcome × (given ≡ last.tables)
-  was_done organizer event before shop after given s of_shop t a answer outcome tables_are state_is arrival_is told given_is sure answered crash settled =
+  was_done organizer event before shop after given s of_shop t a answer outcome tables_are state_is arrival_is told given_is office sure house answered stands runs crash settled =
       let does : Acts words command tick tables (desk_with shop organizer event of_shop) (desk_with after organizer event t) outcome = record {
         answer = answer;
         told = told;
+        organizer = refl;
+        event = refl;
+        office = office;
         sure = sure;
+        house = house;
         answered = subst (λ (x : Arrival). Answered x answer shop of_shop after t) arrival_is answered;
+        stands = subst (λ (x : Arrival). Stands x answer shop of_shop after t) arrival_is stands;
+        running = λ is_sure r running. (subst (λ (x : Arrival). Runs x answer shop of_shop after t) arrival_is runs is_sure r running).0;
         crash = subst (λ (x : Arrival). Leaves x shop of_shop after) arrival_is crash;
         settled = subst (λ (x : Arrival). Settles x answer shop of_shop after) arrival_is settled;
       } in (

@@ -1,28 +1,29 @@
 -- What serving a shop's database comes to.
-use Rattle.std.proofs.Common.{◌≡◌, ◌∙◌, ◌⊎◌, inl, ℕ, List, Result, Err, ap₂, refl, subst, arith}
+use Rattle.std.proofs.Common.{◌≡◌, ◌∙◌, ◌⊎◌, inl, ℕ, List, Option, Result, Err, ap₂, refl, subst, arith}
 use Rattle.sqlite_trees.specs.declared.store.Store.{Ghosts}
 use Rattle.sqlite.specs.State.{State as Connected}
 use Rattle.sqlite.specs.declared.connection.Connection.{Connection}
 use Rattle.bo_lists.specs.Lists.{State}
 use Rattle.bo_tables.specs.declared.sql.SqlTables.{SqlTables}
 use Rattle.bo_desk.specs.Streams.{DeskView, Meaning, desk_with}
+use Rattle.bo_devices.specs.declared.device.Tick.{Tick}
 use Rattle.bo_http.specs.Written.{Page}
 use Rattle.bo_line.specs.declared.fault.RunFault.{RunFault}
 use Rattle.bo_line.specs.declared.fault.RunFault.TheVariants as faults
 use Rattle.bo_house.specs.Served.{IsOpenedAndServed, IsSilent, LeadsFrom, OpensAs, StaysUnopened}
 
-module _ {S : Type 0} (tables : Meaning (SqlTables S)) (most : ℕ) where
+module _ {S : Type 0} (reads : Option Tick → Type 0) (tables : Meaning (SqlTables S)) (most : ℕ) where
   -- the desk of words that were made of an office's names is the office's
   pub leads_by_names : (it : SqlTables S) (desk : DeskView (SqlTables S)) (organizer event said_organizer said_event : List ℕ) (state : State) (left : Connection S) (outcome : Result (Unit {0}) RunFault)
       → desk ≡ desk_with it said_organizer said_event state → said_organizer ≡ organizer → said_event ≡ event
-      → LeadsFrom tables most desk left outcome → LeadsFrom tables most (desk_with it organizer event state) left outcome
+      → LeadsFrom reads tables most desk left outcome → LeadsFrom reads tables most (desk_with it organizer event state) left outcome
   leads_by_names it desk organizer event said_organizer said_event state left outcome is names_organizer names_event =
-      subst (λ (d : DeskView (SqlTables S)). LeadsFrom tables most d left outcome) (is ∙ ap₂ (λ (a b : List ℕ). desk_with it a b state) names_organizer names_event)
+      subst (λ (d : DeskView (SqlTables S)). LeadsFrom reads tables most d left outcome) (is ∙ ap₂ (λ (a b : List ℕ). desk_with it a b state) names_organizer names_event)
 
   -- there was no memory for the words
-  pub nobody_answered : (first : DeskView (SqlTables S)) (left : Connection S) → left ≡ first.tables.connection → LeadsFrom tables most first left (Err faults.Memory)
+  pub nobody_answered : (first : DeskView (SqlTables S)) (left : Connection S) → left ≡ first.tables.connection → LeadsFrom reads tables most first left (Err faults.Memory)
   nobody_answered first left is = record { last = first; serving = (0, omega arith, refl, refl); connection = is }
 
   pub is_served : (g : Ghosts S) (old : Connected) (before after : Page) (desk : DeskView (SqlTables S)) (left : Connection S) (outcome : Result (Unit {0}) RunFault) → OpensAs g old desk
-      → LeadsFrom tables most desk left outcome → IsOpenedAndServed g tables most old left outcome ⊎ (StaysUnopened g old left outcome × IsSilent before after)
+      → LeadsFrom reads tables most desk left outcome → IsOpenedAndServed reads g tables most old left outcome ⊎ (StaysUnopened g old left outcome × IsSilent before after)
   is_served g old before after desk left outcome opens leads = inl (record { desk = desk; opens = opens; leads = leads })

@@ -1,5 +1,5 @@
 -- What becomes of a shop's database when the program asks something of the shop by itself.
-use Rattle.std.specs.Prelude.{◌≡◌, ◌⊎◌, ℕ, List, [], Option, Some, None, Result, Ok, Err, true, codes}
+use Rattle.std.specs.Prelude.{◌≡◌, ◌⊎◌, ◌++◌, ◌∷◌, ℕ, List, [], Option, Some, None, Result, Ok, Err, true, codes}
 use Rattle.sqlite.specs.declared.connection.Connection.{Connection}
 use Rattle.bo_base.specs.declared.answer.Answer.{Answer}
 use Rattle.bo_base.specs.declared.answer.Answer.TheVariants.{Decided, Unavailable}
@@ -7,14 +7,16 @@ use Rattle.bo_base.specs.declared.answer.Response.{Response}
 use Rattle.bo_commands.specs.declared.replies.Reply.{Reply}
 use Rattle.bo_commands.specs.declared.requests.Command.{Command}
 use Rattle.bo_connection.specs.declared.failure.Failure.TheVariants as failures
-use Rattle.bo_deliveries.specs.Shops.{IsAnswered, IsDecided, Views, executes, served}
+use Rattle.bo_deliveries.specs.Deliveries.{Delivery, Opening, told as told_in_list}
+use Rattle.bo_deliveries.specs.Histories.{IsRunning, Running, after_act}
+use Rattle.bo_deliveries.specs.Shops.{IsAnswered, IsDecided, StandsFor, Views, delivered, executes, served}
 use Rattle.bo_deliveries.specs.declared.arrival.Arrival.{Arrival}
 use Rattle.bo_deliveries.specs.declared.arrival.Request.TheVariants as requests
 use Rattle.bo_devices.specs.declared.device.Tick.{Tick}
 use Rattle.bo_kept.specs.ShopView.{IsSame, ShopView}
 use Rattle.bo_sound.specs.Sound.{IsSound}
 use Rattle.bo_tables.specs.declared.sql.SqlTables.{SqlTables}
-use Rattle.bo_desk.specs.Streams.{DeskView, Meaning}
+use Rattle.bo_desk.specs.Streams.{DeskView, House, Meaning}
 use Rattle.bo_line.specs.declared.fault.RunFault.{RunFault}
 use Rattle.bo_line.specs.declared.fault.RunFault.TheVariants as faults
 
@@ -31,14 +33,24 @@ abbrev pub told_of : Answer → Result (List ℕ) RunFault
 told_of (Decided response) = Ok response.body
 told_of Unavailable = Err faults.Store
 
--- The command is an arrival of this tick. It is answered like any other, and what it did is told. A crash
--- leaves what one before it could have left, or the whole of it, which is sound; and once what it did is told, only that.
+-- The command is an arrival of this tick. It is answered like any other, and what it did is told. The desk is one of the same house, and
+-- stands for the list of arrivals with this one behind it; where it was running it is running. Where it was answered 503 its office is as it
+-- was, whatever became of its tables. A crash leaves what one before it could have left, or the whole of it, which is sound; and once what it
+-- did is told, only that.
 pub record Acts {T : Type 0} (words : Reply → Response) (command : Command) (tick : Tick) (tables : Meaning T) (first last : DeskView T) (outcome : Result (List ℕ) RunFault) : Type 0 where
   pub answer : Answer
   pub told : outcome ≡ told_of answer
+  pub organizer : last.organizer ≡ first.organizer
+  pub event : last.event ≡ first.event
+  pub office : answer ≡ Unavailable → last.state ≡ first.state
   pub sure : tables.sure last.tables → tables.sure first.tables
+  pub house : tables.sure last.tables → (house : House) → tables.knows first.tables house → tables.knows last.tables house
   pub answered : tables.sure last.tables → (v : ShopView) → Views tables.holds first.tables first.state v
       → IsAnswered words (own_arrival command tick) v answer (λ w. Views tables.holds last.tables last.state w)
+  pub stands : tables.sure last.tables → (p : Opening) (ds : List Delivery) → StandsFor words tables.holds first.tables first.state p ds
+      → let d = delivered (own_arrival command tick) answer in StandsFor words tables.holds last.tables last.state p (ds ++ d ∷ []) × (told_in_list words p ds d ≡ answer)
+  pub running : tables.sure last.tables → (r : Running) → IsRunning words tables.holds tables.may_leave first.tables first.state r
+      → IsRunning words tables.holds tables.may_leave last.tables last.state (after_act words (own_arrival command tick) answer r)
   pub crash : tables.sure last.tables → (left : ShopView) → tables.may_leave last.tables left → tables.may_leave first.tables left
       ⊎ ((v : ShopView) → Views tables.holds first.tables first.state v → IsSame left (served words (own_arrival command tick) v).0 × IsSound left.state)
   pub settled : tables.sure last.tables → IsDecided answer ((v : ShopView) → Views tables.holds first.tables first.state v → executes (own_arrival command tick) v ≡ true

@@ -7,3 +7,4 @@ pub mod Imported
 pub mod Reported
 pub mod Exported
 pub mod Shelved
+pub mod Evening

@@ -1,5 +1,5 @@
 -- What becomes of a shop's database that is served.
-use Rattle.std.specs.Prelude.{◌≡◌, ℕ, None, Result, Err}
+use Rattle.std.specs.Prelude.{◌≡◌, ℕ, Option, None, Result, Err}
 use Rattle.sqlite_trees.specs.declared.store.Store.{Ghosts}
 use Rattle.sqlite.specs.Effect.{Database}
 use Rattle.sqlite.specs.Held.{state}
@@ -11,7 +11,9 @@ use Rattle.bo_opens.specs.Rests.{IsOpenAt, Rests}
 use Rattle.bo_opens.specs.declared.error.OpenError.{OpenError}
 use Rattle.bo_file.specs.Opened.{IsOpened, IsReason}
 use Rattle.bo_tables.specs.declared.sql.SqlTables.{SqlTables}
+use Rattle.bo_connection.specs.Run.{AtTick}
 use Rattle.bo_desk.specs.Streams.{DeskView, Meaning, Serves}
+use Rattle.bo_devices.specs.declared.device.Tick.{Tick}
 use Rattle.bo_http.specs.Written.{Page}
 use Rattle.bo_line.specs.declared.fault.RunFault.{RunFault}
 use Rattle.bo_serve.specs.Visits.{AnswersCallers, between, most_of}
@@ -30,17 +32,18 @@ pub record OpensAs {S : Type 0} (g : Ghosts S) (old : Connected) (desk : DeskVie
   pub rests : Rests old (state g desk.tables.connection)
   pub crash : Survives old (state g desk.tables.connection) (λ _. ⊥)
 
--- from this desk callers are answered, at most so many, and the connection is that of the desk as the last one left it
-pub record LeadsFrom {S : Type 0} (tables : Meaning (SqlTables S)) (most : ℕ) (first : DeskView (SqlTables S)) (left : Connection S) (outcome : Result (Unit {0}) RunFault) : Type 0 where
+-- from this desk callers are answered, at most so many, each request at a tick that was read of the system; and the connection is that of the
+-- desk as the last one left it
+pub record LeadsFrom {S : Type 0} (reads : Option Tick → Type 0) (tables : Meaning (SqlTables S)) (most : ℕ) (first : DeskView (SqlTables S)) (left : Connection S) (outcome : Result (Unit {0}) RunFault) : Type 0 where
   pub last : DeskView (SqlTables S)
-  pub serving : AnswersCallers (Serves tables) (most_of most) (between None first) (between None last) outcome
+  pub serving : AnswersCallers (AtTick reads (Serves tables)) (most_of most) (between None first) (between None last) outcome
   pub connection : left ≡ last.tables.connection
 
 -- the shop in the database is served, from the desk that it is opened as
-pub record IsOpenedAndServed {S : Type 0} (g : Ghosts S) (tables : Meaning (SqlTables S)) (most : ℕ) (old : Connected) (left : Connection S) (outcome : Result (Unit {0}) RunFault) : Type 0 where
+pub record IsOpenedAndServed {S : Type 0} (reads : Option Tick → Type 0) (g : Ghosts S) (tables : Meaning (SqlTables S)) (most : ℕ) (old : Connected) (left : Connection S) (outcome : Result (Unit {0}) RunFault) : Type 0 where
   pub desk : DeskView (SqlTables S)
   pub opens : OpensAs g old desk
-  pub leads : LeadsFrom tables most desk left outcome
+  pub leads : LeadsFrom reads tables most desk left outcome
 
 -- nothing is said
 abbrev pub IsSilent : Page → Page → Type 0

@@ -122,7 +122,7 @@ impl<
         AddsTokenIn S.Store (sha256 token) (state S.Store connection) left came) file outcome };
 
     ghost served = { λ file addr most outcome. IsShelved (IsGiven F.stood F.gives true) (IsMissing F.stood F.refuses) (λ connection left came.
-        IsOpenedAndServed S.Store (meaning ⟦<SqlTables<S> as Tables>⟧.sure ⟦<SqlTables<S> as Tables>⟧.holds ⟦<SqlTables<S> as Tables>⟧.knows ⟦<SqlTables<S> as Tables>⟧.may_leave)
+        IsOpenedAndServed (IsRead R.shows R.gives) S.Store (meaning ⟦<SqlTables<S> as Tables>⟧.sure ⟦<SqlTables<S> as Tables>⟧.holds ⟦<SqlTables<S> as Tables>⟧.knows ⟦<SqlTables<S> as Tables>⟧.may_leave)
         most (state S.Store connection) left came ⊎ StaysUnopened S.Store (state S.Store connection) left came) file outcome };
 
     ghost worked = { λ file outcome. IsShelved (IsGiven F.stood F.gives true) (IsMissing F.stood F.refuses) (λ connection left came.

@@ -4,6 +4,7 @@ ghost use Rattle.std.specs.Prelude.{◌⊎◌};
 ghost use Rattle.sqlite.specs.Held.{state};
 ghost use Rattle.bo_desk.specs.Streams.{DeskView, desk_with, meaning};
 ghost use Rattle.bo_line.specs.Saying.{TellsListening};
+ghost use Rattle.bo_serve.specs.Clock.{IsRead};
 ghost use Rattle.bo_house.specs.Served.{IsOpenedAndServed, IsSilent, LeadsFrom, StaysUnopened};
 
 use crate::filed::{Filed, connection_of};
@@ -34,7 +35,7 @@ fn serve_desk<
     writer: &mut W,
 ) -> Filed<S, ()>
     ensures said { TellsListening place.now.text.now (record { taken = W.taken writer.old; failures = W.failures writer.old }) (record { taken = W.taken writer.new; failures = W.failures writer.new }) result.outcome }
-    ensures leads { LeadsFrom (meaning ⟦<SqlTables<S> as Tables>⟧.sure ⟦<SqlTables<S> as Tables>⟧.holds ⟦<SqlTables<S> as Tables>⟧.knows ⟦<SqlTables<S> as Tables>⟧.may_leave)
+    ensures leads { LeadsFrom (IsRead R.shows R.gives) (meaning ⟦<SqlTables<S> as Tables>⟧.sure ⟦<SqlTables<S> as Tables>⟧.holds ⟦<SqlTables<S> as Tables>⟧.knows ⟦<SqlTables<S> as Tables>⟧.may_leave)
         place.now.connections desk result.connection result.outcome }
 {
     let outcome = serve_at(rt, alloc, place, &mut desk, writer);
@@ -58,7 +59,7 @@ fn serve_opened<
     writer: &mut W,
 ) -> Filed<S, ()>
     ensures said { TellsListening place.now.text.now (record { taken = W.taken writer.old; failures = W.failures writer.old }) (record { taken = W.taken writer.new; failures = W.failures writer.new }) result.outcome }
-    ensures leads { LeadsFrom (meaning ⟦<SqlTables<S> as Tables>⟧.sure ⟦<SqlTables<S> as Tables>⟧.holds ⟦<SqlTables<S> as Tables>⟧.knows ⟦<SqlTables<S> as Tables>⟧.may_leave)
+    ensures leads { LeadsFrom (IsRead R.shows R.gives) (meaning ⟦<SqlTables<S> as Tables>⟧.sure ⟦<SqlTables<S> as Tables>⟧.holds ⟦<SqlTables<S> as Tables>⟧.knows ⟦<SqlTables<S> as Tables>⟧.may_leave)
         place.now.connections (desk_with opened.0 opened.1.organizer opened.1.event opened.1.state) result.connection result.outcome }
 {
     match HouseWords::new(alloc, opened.1.organizer(), opened.1.event()) {
@@ -90,7 +91,7 @@ pub fn serve_shop<
     writer: &mut W,
 ) -> Filed<S, ()>
     ensures said { TellsListening place.now.text.now (record { taken = W.taken writer.old; failures = W.failures writer.old }) (record { taken = W.taken writer.new; failures = W.failures writer.new }) result.outcome }
-    ensures served { IsOpenedAndServed S.Store (meaning ⟦<SqlTables<S> as Tables>⟧.sure ⟦<SqlTables<S> as Tables>⟧.holds ⟦<SqlTables<S> as Tables>⟧.knows ⟦<SqlTables<S> as Tables>⟧.may_leave)
+    ensures served { IsOpenedAndServed (IsRead R.shows R.gives) S.Store (meaning ⟦<SqlTables<S> as Tables>⟧.sure ⟦<SqlTables<S> as Tables>⟧.holds ⟦<SqlTables<S> as Tables>⟧.knows ⟦<SqlTables<S> as Tables>⟧.may_leave)
         place.now.connections (state S.Store connection) result.connection result.outcome
         ⊎ (StaysUnopened S.Store (state S.Store connection) result.connection result.outcome
         × IsSilent (record { taken = W.taken writer.old; failures = W.failures writer.old }) (record { taken = W.taken writer.new; failures = W.failures writer.new })) }

@@ -1,6 +1,6 @@
 //! The ticks of `feed`, which take no clock and no chance.
 
-ghost use Rattle.std.specs.Prelude.{◌≡◌, ◌<◌, ℕ, Some};
+ghost use Rattle.std.specs.Prelude.{◌≡◌, ◌<◌, ⊤, ℕ, Some};
 ghost use Rattle.bo_line.specs.FeedTicks.{feed_ticks};
 
 use bo_base::draw::Draw;
@@ -45,6 +45,8 @@ pub struct FeedTicks<P: Pace, M: Ledger> {
 
 impl<P: Pace, M: Ledger> Ticks for FeedTicks<P, M> {
     ghost told = { λ t. Some (feed_ticks P.from P.step t.told) };
+
+    ghost reads = { λ _. ⊤ };
 
     ghost failures = { λ t. t.failures };
 

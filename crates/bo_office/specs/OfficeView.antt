@@ -2,9 +2,10 @@
 use Rattle.std.specs.Prelude.{ℕ, List}
 use Rattle.bo_lists.specs.Lists.{State}
 
--- the short names of the organizer and the event, the state, and the weight of the changes that it has room for
-pub record OfficeView : Type 0 where
+-- the short names of the organizer and the event, the book, its state, and the weight of the changes that it has room for
+pub record OfficeView (B : Type 0) : Type 0 where
   pub organizer : List ℕ
   pub event : List ℕ
+  pub book : B
   pub state : State
   pub room : ℕ

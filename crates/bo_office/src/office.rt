@@ -15,8 +15,8 @@ use bo_usage::Book;
 use std::alloc::{AllocError, Global};
 use std::marker::Model;
 
-/// A box office over any book. Contracts see its two names, its state, and the weight of the
-/// changes that it has room for.
+/// A box office over any book. Contracts see its two names, its book with the state, and the weight of
+/// the changes that it has room for.
 #[derive(Drop)]
 pub struct Office<B: Book> {
     organizer: Slug,
@@ -28,11 +28,12 @@ impl<B: Book> Model for Office<B> {
     ghost use Rattle.bo_sound.specs.Sound.{IsSound};
     ghost use Rattle.bo_office.specs.OfficeView.{OfficeView};
 
-    ghost Value = { OfficeView };
+    ghost Value = { OfficeView B };
 
     ghost view = { λ o. record {
       organizer = o.organizer;
       event = o.event;
+      book = o.book;
       state = B.state o.book;
       room = B.room o.book;
     } };
@@ -46,6 +47,7 @@ impl<B: Book> Office<B> {
         requires { IsSound (B.state book) }
         ensures organizer { result.organizer ≡ organizer }
         ensures event { result.event ≡ event }
+        ensures book { result.book ≡ book }
         ensures state { result.state ≡ B.state book }
         ensures room { result.room ≡ B.room book }
     {
@@ -58,6 +60,7 @@ impl<B: Book> Office<B> {
 
     /// The book, which is sound.
     pub fn book(&self) -> &B
+        ensures book { result.now ≡ self.now.book }
         ensures sound { IsSound (B.state result.now) }
         ensures state { B.state result.now ≡ self.now.state }
         ensures room { B.room result.now ≡ self.now.room }

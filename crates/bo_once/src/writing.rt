@@ -1,6 +1,7 @@
 //! Writes, each carried out once.
 
 ghost use Rattle.std.specs.Prelude.{◌≡◌, ◌⊎◌, ◌≤◌, ◌++◌, List, [], ◌∷◌, None, IfOk, OnOk, OnErr, true};
+ghost use Rattle.bo_base.specs.declared.answer.Answer.TheVariants.{Unavailable};
 ghost use Rattle.bo_sound.specs.Sound.{IsSound};
 ghost use Rattle.bo_kept.specs.House.{House};
 ghost use Rattle.bo_kept.specs.KeptAnswers.{told_by};
@@ -27,6 +28,7 @@ impl<T: Tables, B: Dues, W: Wording> Shop<T, B, W> {
         requires write { is_write arrival.request ≡ true }
         requires later { self.old.state.moment ≤ at }
         ensures wording { self.new.wording ≡ self.old.wording }
+        ensures office { OnErr result (self.new.state ≡ self.old.state) }
         ensures sure { T.sure self.new.tables → T.sure self.old.tables }
         ensures house { T.sure self.new.tables → (house : House) → T.knows self.old.tables house → T.knows self.new.tables house }
         ensures done { T.sure self.new.tables → (v : ShopView) → Views T.holds self.old.tables self.old.state v → (told_by arrival.token arrival.key at v.kept ≡ None)
@@ -90,6 +92,7 @@ impl<T: Tables, B: Dues, W: Wording> Shop<T, B, W> {
     fn write(&mut self, alloc: Global, arrival: Arrival) -> Answer
         requires { is_write arrival.request ≡ true }
         ensures wording { self.new.wording ≡ self.old.wording }
+        ensures office { result ≡ Unavailable → self.new.state ≡ self.old.state }
         ensures sure { T.sure self.new.tables → T.sure self.old.tables }
         ensures house { T.sure self.new.tables → (house : House) → T.knows self.old.tables house → T.knows self.new.tables house }
         ensures answered { T.sure self.new.tables → (v : ShopView) → Views T.holds self.old.tables self.old.state v
@@ -119,11 +122,12 @@ impl<T: Tables, B: Dues, W: Wording> Shop<T, B, W> {
 
     /// Does a write: one whose key is still kept for its token is told again what its first one was told, whatever it asks; any
     /// other is carried out at its moment, and its answer is kept with its changes, a refusal too. Where it is answered 503,
-    /// nothing has changed. After a crash the write was carried out whole or not at all, and whole where it was answered; what it leaves
-    /// then is sound.
+    /// nothing has changed: of the office that holds whatever the store did. After a crash the write was carried out whole or not at all,
+    /// and whole where it was answered; what it leaves then is sound.
     pub fn act(&mut self, alloc: Global, arrival: Arrival) -> Answer
         requires { is_write arrival.request ≡ true }
         ensures wording { self.new.wording ≡ self.old.wording }
+        ensures office { result ≡ Unavailable → self.new.state ≡ self.old.state }
         ensures sure { T.sure self.new.tables → T.sure self.old.tables }
         ensures house { T.sure self.new.tables → (house : House) → T.knows self.old.tables house → T.knows self.new.tables house }
         ensures answered { T.sure self.new.tables → (v : ShopView) → Views T.holds self.old.tables self.old.state v

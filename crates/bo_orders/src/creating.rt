@@ -4,6 +4,7 @@ ghost use Rattle.std.specs.Prelude.{◌≡◌, ◌≢◌, ◌≤◌, ◌+◌, tr
 ghost use Rattle.bo_draft.specs.DraftState.{now, back, Extends, IsMarkOf};
 ghost use Rattle.bo_lists.specs.declared.changes.Change.TheVariants.{PutPosition, DropCart};
 ghost use Rattle.bo_lists.specs.Change.{without_carts};
+ghost use Rattle.bo_catalogue.specs.Limits.{last_id};
 ghost use Rattle.bo_lists.specs.Full.{takes_order, takes_positions};
 ghost use Rattle.bo_sound.specs.Sound.{IsSound};
 ghost use Rattle.bo_lists.specs.declared.rows.Own.TheVariants.{Position};
@@ -113,14 +114,15 @@ fn new_row<B: Book>(
 }
 
 // The rows of all that is asked for, or the first refusal. Their ids count on, past the last one too: whether the table
-// takes them comes last. An id of 2^64, which no book reaches, is refused as a want of memory.
+// takes them comes last.
 fn new_rows<B: Book>(
     draft: &Draft<'_, B>,
     alloc: Global,
     draw: Draw,
     asked: &[Asked],
 ) -> Result<Vec<OrderPos>, OrderRefusal>
-    requires { length asked.now ≤ 500 }
+    requires few { length asked.now ≤ 500 }
+    requires next { (now draft.now).next.position ≤ last_id + 1 }
     ensures done { IfOk result (λ rows. rows_for draw (now draft.now) (now draft.now).next.position 1 asked.now ≡ Ok rows.items) }
     ensures refused { IfErr result (λ e. e ≢ OrderRefusal.Memory → rows_for draw (now draft.now) (now draft.now).next.position 1 asked.now ≡ Err e) }
 {
@@ -130,7 +132,7 @@ fn new_rows<B: Book>(
     for entry in asked {
         rows.push(new_row(draft, alloc, draw, id, number, entry)?)
             .map_err(AllocError::from)?;
-        id = id.checked_add(1).ok_or(OrderRefusal::Memory)?;
+        id += 1;
         number += 1;
     }
     Ok(rows)

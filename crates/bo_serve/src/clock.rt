@@ -1,10 +1,8 @@
 //! The ticks of a shop that is served: the system's clock and its draws.
 
-ghost use Rattle.std.specs.Prelude.{◌≡◌, ⊤, ℕ, ◌+◌, List, [], ◌∷◌, Option, Some, None, Result, IfOk, OnOk, OnErr};
+ghost use Rattle.std.specs.Prelude.{◌≡◌, ⊤, ℕ, List, Option, Some, None, Result, OnOk, OnErr};
 ghost use Rattle.std.specs.declared.io.Error.{Error};
 ghost use Rattle.std.specs.declared.time.Duration.{Duration};
-ghost use Rattle.bo_devices.specs.Told.{Adds};
-ghost use Rattle.bo_devices.specs.declared.device.Tick.{Tick};
 ghost use Rattle.bo_serve.specs.Clock.{IsDrawn, IsRead, moment_shown};
 
 use bo_base::{Draw, Moment, Steps};
@@ -94,16 +92,11 @@ pub fn read_tick<O: System>(rt: &O) -> Option<Tick>
 impl<O: System, M: Ledger> Ticks for ClockTicks<'_, O, M> {
     ghost told = { λ _. None };
 
+    ghost reads = { IsRead O.shows O.gives };
+
     ghost failures = { λ t. t.failures };
 
-    fn tick(&mut self) -> Result<Tick, Refused>
-        ensures told { IfOk result (λ t. Adds {X = Tick} None (t ∷ []) None) }
-        ensures kept { OnErr result (Adds {X = Tick} None [] None) }
-        ensures well { OnOk result (self.new.failures ≡ self.old.failures) }
-        ensures failed { OnErr result (self.new.failures ≡ self.old.failures + 1) }
-        ensures read { IfOk result (λ t. IsRead O.shows O.gives (Some t)) }
-        ensures unread { OnErr result (IsRead O.shows O.gives None) }
-    {
+    fn tick(&mut self) -> Result<Tick, Refused> {
         match read_tick(self.rt) {
             Some(tick) => Ok(tick),
             None => {

@@ -1,7 +1,9 @@
 //! A desk at an address.
 
 ghost use Rattle.std.specs.Prelude.{◌≡◌, ◌<◌, None};
+ghost use Rattle.bo_connection.specs.Run.{AtTick};
 ghost use Rattle.bo_line.specs.Saying.{TellsListening};
+ghost use Rattle.bo_serve.specs.Clock.{IsRead};
 ghost use Rattle.bo_serve.specs.Visits.{AnswersCallers, between, most_of};
 
 use crate::clock::{ClockTicks, System};
@@ -26,12 +28,10 @@ fn serve_listener<M: Ledger, R: Clock + System, D: Desk>(
     blank: Blank,
 ) -> Result<(), RunFault>
     requires blank { (blank.name ≡ M.name) × (blank.parts ≡ M.parts) × (0 < M.parts) }
-    ensures { AnswersCallers D.serves (most_of connections) (between None desk.old) (between None desk.new) result }
+    ensures { AnswersCallers (AtTick (IsRead R.shows R.gives) D.serves) (most_of connections) (between None desk.old) (between None desk.new) result }
 {
-    let mut ticks = ClockTicks::<R, M> {
-        rt,
-        failures: Steps::<M>::new(blank),
-    };
+    let failures = Steps::<M>::new(blank);
+    let mut ticks = ClockTicks::<R, M> { rt, failures };
     serve_callers(alloc, rt, listener, connections, &mut ticks, desk)
 }
 
@@ -44,7 +44,7 @@ pub fn serve_at<
     W: Drain,
 >(rt: &R, alloc: Global, place: &Place<'_>, desk: &mut D, writer: &mut W) -> Result<(), RunFault>
     ensures said { TellsListening place.now.text.now (record { taken = W.taken writer.old; failures = W.failures writer.old }) (record { taken = W.taken writer.new; failures = W.failures writer.new }) result }
-    ensures leads { AnswersCallers D.serves (most_of place.now.connections) (between None desk.old) (between None desk.new) result }
+    ensures leads { AnswersCallers (AtTick (IsRead R.shows R.gives) D.serves) (most_of place.now.connections) (between None desk.old) (between None desk.new) result }
 {
     let Ok(listener) = rt.bind(place.addr) else {
         return Err(RunFault::Listen);

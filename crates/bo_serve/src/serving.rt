@@ -2,6 +2,7 @@
 
 ghost use Rattle.std.specs.Prelude.{◌≡◌, IfErr};
 ghost use Rattle.bo_line.specs.declared.fault.RunFault.TheVariants.{Listen};
+ghost use Rattle.bo_connection.specs.Run.{AtTick};
 ghost use Rattle.bo_serve.specs.Visits.{AnswersCallers, Comes, between, most_of};
 
 use crate::visit::answer;
@@ -36,7 +37,7 @@ fn serve_next<C: Clock, T: Ticks, D: Desk>(
     desk: &mut D,
 ) -> Result<(), RunFault>
     ensures ends { IfErr result (λ fault. fault ≡ Listen) }
-    ensures comes { Comes D.serves (between (T.told ticks.old) desk.old) (between (T.told ticks.new) desk.new) }
+    ensures comes { Comes (AtTick T.reads D.serves) (between (T.told ticks.old) desk.old) (between (T.told ticks.new) desk.new) }
 {
     match next_caller(listener) {
         Ok(Some(stream)) => {
@@ -60,7 +61,7 @@ fn most_of(connections: u64) -> u64
 }
 
 /// Answers so many callers, one after another, and for 0 without end. A caller that was gone before it was let in counts, and what becomes
-/// of one connection ends that connection alone. Faults: 6 where there is no memory for the room of a connection, and then nobody is
+/// of one connection ends that connection alone. Each request is answered at a tick that was told for it. Faults: 6 where there is no memory for the room of a connection, and then nobody is
 /// answered; 81 where no more callers can be let in.
 pub fn serve_callers<C: Clock, T: Ticks, D: Desk>(
     alloc: Global,
@@ -70,7 +71,7 @@ pub fn serve_callers<C: Clock, T: Ticks, D: Desk>(
     ticks: &mut T,
     desk: &mut D,
 ) -> Result<(), RunFault>
-    ensures { AnswersCallers D.serves (most_of connections) (between (T.told ticks.old) desk.old) (between (T.told ticks.new) desk.new) result }
+    ensures { AnswersCallers (AtTick T.reads D.serves) (most_of connections) (between (T.told ticks.old) desk.old) (between (T.told ticks.new) desk.new) result }
 {
     let Ok(mut room) = Room::new(alloc) else {
         return Err(RunFault::Memory);

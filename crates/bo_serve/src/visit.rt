@@ -1,6 +1,7 @@
 //! One connection.
 
 ghost use Rattle.std.specs.Prelude.{◌≡◌, ◌<◌};
+ghost use Rattle.bo_connection.specs.Run.{AtTick};
 ghost use Rattle.bo_serve.specs.Visits.{Comes, Visit, between};
 
 use crate::caller::{Caller, set_times};
@@ -38,7 +39,7 @@ fn converse<
     requires read_failures { (reads.1.name ≡ B.name) × (reads.1.parts ≡ B.parts) × (0 < B.parts) }
     requires writes { (writes.0.name ≡ E.name) × (writes.0.parts ≡ E.parts) × (0 < E.parts) }
     requires write_failures { (writes.1.name ≡ F.name) × (writes.1.parts ≡ F.parts) × (0 < F.parts) }
-    ensures { Visit D.serves (between (T.told ticks.old) desk.old) (between (T.told ticks.new) desk.new) }
+    ensures { Visit (AtTick T.reads D.serves) (between (T.told ticks.old) desk.old) (between (T.told ticks.new) desk.new) }
 {
     let mut reader = counted::<X, A, B>(ends.0, reads.0, reads.1);
     let mut writer = counted::<Y, E, F>(ends.1, writes.0, writes.1);
@@ -56,7 +57,7 @@ pub fn answer<C: Clock, T: Ticks, D: Desk>(
     ticks: &mut T,
     desk: &mut D,
 )
-    ensures { Comes D.serves (between (T.told ticks.old) desk.old) (between (T.told ticks.new) desk.new) }
+    ensures { Comes (AtTick T.reads D.serves) (between (T.told ticks.old) desk.old) (between (T.told ticks.new) desk.new) }
 {
     let Ok(since) = begin(clock, stream) else {
         return;

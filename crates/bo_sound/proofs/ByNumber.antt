@@ -1,11 +1,12 @@
 -- Positions by their numbers.
-use Rattle.std.proofs.Common.{◌≡◌, ℕ, ◌+◌, ◌<◌, ◌≤◌, Bool, true, false, eqb, List, [], ◌∷◌, length, map, count_by, cond, suc, refl, ap, ◌∙◌, arith, if◌then◌else◌}
+use Rattle.std.proofs.Common.{◌≡◌, ℕ, ◌+◌, ◌<◌, ◌≤◌, ◌↔◌, Bool, true, false, eqb, List, [], ◌∷◌, length, map, count_by, cond, suc, refl, ap, ◌∙◌, subst, arith, if◌then◌else◌}
 use Rattle.std.specs.Prelude.{nat_le}
 use Rattle.std.specs.List.{AllByRecursion, insert}
 use Rattle.std.proofs.lemmas.Bool.Decides.{nat_tests}
 use Rattle.std.proofs.lemmas.List.Sums.{sum_by-cons}
 use Rattle.bo_lists.specs.declared.rows.OrderPos.{OrderPos}
-use Rattle.bo_sound.specs.Positions.{placed, place_in, by_positionid, CountFrom}
+use Rattle.bo_sound.specs.Positions.{placed, place_in, by_positionid, CountFrom, HaveOtherNumbers, AreEachOnce}
+use Rattle.bo_lists.proofs.EachRow.{all_weaker}
 use Rattle.bo_sound.proofs.Apart.{AreApart}
 
 -- a position is placed behind so many
@@ -117,3 +118,75 @@ counted_is n (p ∷ ps) h = ap (placed p) (counted_is (n + 1) ps h.1) ∙ in_fro
         by_turn : (b : Bool) → b ≡ true → (if b then p ∷ q ∷ qs else q ∷ placed p qs) ≡ p ∷ q ∷ qs
         by_turn true e = refl
         by_turn false e = absurd (cc)
+
+-- what holds of each holds by number
+module _ (P : OrderPos → Type 0) where
+  placed_all : (p : OrderPos) (qs : List OrderPos) → P p → AllByRecursion P qs → AllByRecursion P (placed p qs)
+  placed_all p [] own all = (own, tt)
+  placed_all p (q ∷ qs) own all = by_turn (placed_all p qs own all.1) (nat_le p.positionid q.positionid)
+    where
+      by_turn : AllByRecursion P (placed p qs) → (b : Bool) → AllByRecursion P (if b then p ∷ q ∷ qs else q ∷ placed p qs)
+      by_turn more true = (own, all)
+      by_turn more false = (all.0, more)
+
+  all_sorted : (ps : List OrderPos) → AllByRecursion P ps → AllByRecursion P (by_positionid ps)
+  all_sorted [] h = tt
+  all_sorted (p ∷ ps) h = placed_all p (by_positionid ps) h.0 (all_sorted ps h.1)
+
+-- numbers rise from n on
+abbrev RiseFrom : ℕ → List OrderPos → Type 0
+RiseFrom n [] = Unit {0}
+RiseFrom n (p ∷ ps) = (n ≤ p.positionid) × RiseFrom (p.positionid + 1) ps
+
+-- those of which no two are one rise by number
+placed_rises : (n : ℕ) (p : OrderPos) (qs : List OrderPos) → n ≤ p.positionid → RiseFrom n qs → AllByRecursion (λ q. same_number p q ≡ false) qs → RiseFrom n (placed p qs)
+placed_rises n p [] from rise apart = (from, tt)
+placed_rises n p (q ∷ qs) from rise apart = by_turn (λ low. placed_rises (q.positionid + 1) p qs low rise.1 apart.1) (nat_le p.positionid q.positionid) refl
+  where
+    by_turn : (q.positionid + 1 ≤ p.positionid → RiseFrom (q.positionid + 1) (placed p qs)) → (b : Bool) → nat_le p.positionid q.positionid ≡ b → RiseFrom n (if b then p ∷ q ∷ qs else q ∷ placed p qs)
+    by_turn more true e = (from, (grind (arith, nat_tests, e, apart.0), rise.1))
+    by_turn more false e = (rise.0, more (grind (arith, nat_tests, e)))
+
+sorted_rises : (ps : List OrderPos) → AllByRecursion (λ p. 1 ≤ p.positionid) ps → AreApart same_number ps → RiseFrom 1 (by_positionid ps)
+sorted_rises [] low apart = tt
+sorted_rises (p ∷ ps) low apart = placed_rises 1 p (by_positionid ps) low.0 (sorted_rises ps low.1 apart.1) (all_sorted (λ q. same_number p q ≡ false) ps apart.0)
+
+-- where as many rise as there are numbers, they count on
+rise_fits : (n top : ℕ) (ps : List OrderPos) → n ≤ top → RiseFrom n ps → AllByRecursion (λ p. p.positionid < top) ps → n + length ps ≤ top
+rise_fits n top [] le rise below = omega (arith, le)
+rise_fits n top (p ∷ ps) le rise below = omega (arith, rise.0, rise_fits (p.positionid + 1) top ps (omega (arith, below.0)) rise.1 below.1)
+
+rise_counts : (n top : ℕ) (ps : List OrderPos) → n + length ps ≡ top → RiseFrom n ps → AllByRecursion (λ p. p.positionid < top) ps → CountFrom n ps
+rise_counts n top [] is rise below = tt
+rise_counts n top (p ∷ ps) is rise below =
+    let fits = rise_fits (p.positionid + 1) top ps (omega (arith, below.0)) rise.1 below.1 in
+    let first : p.positionid ≡ n = omega (arith, rise.0, fits, is) in
+    (first, rise_counts (n + 1) top ps (omega (arith, is)) (subst (λ (k : ℕ). RiseFrom (k + 1) ps) first rise.1) below.1)
+
+counted_low : (n : ℕ) (ps : List OrderPos) → CountFrom n ps → AllByRecursion (λ p. n ≤ p.positionid) ps
+counted_low n [] h = tt
+counted_low n (p ∷ ps) h = (omega (arith, h.0), all_weaker (λ q. n + 1 ≤ q.positionid) (λ q. n ≤ q.positionid) (λ q le. omega (arith, le)) ps (counted_low (n + 1) ps h.1))
+
+apart_is : (ps : List OrderPos) → AreApart same_number ps ↔ HaveOtherNumbers ps
+apart_is [] = (λ h. tt, λ h. tt)
+apart_is (p ∷ ps) = (λ h. (h.0, (apart_is ps).0 h.1), λ h. (h.0, (apart_is ps).1 h.1))
+
+-- they count on from 1 by number where their numbers are 1 to their count, each once
+pub each_once : (ps : List OrderPos) → CountFrom 1 (by_positionid ps) ↔ AreEachOnce ps
+each_once ps = (forth, back)
+  where
+    both : (qs : List OrderPos) → AllByRecursion (λ p. 1 ≤ p.positionid) qs → AllByRecursion (λ p. p.positionid < 1 + length (by_positionid ps)) qs → AllByRecursion (λ p. (1 ≤ p.positionid) × (p.positionid ≤ length ps)) qs
+    both [] low small = tt
+    both (q ∷ qs) low small = ((low.0, omega (arith, small.0, same_length ps)), both qs low.1 small.1)
+
+    forth : CountFrom 1 (by_positionid ps) → AreEachOnce ps
+    forth counted = record {
+      within = both ps (all_unsorted (λ p. 1 ≤ p.positionid) ps (counted_low 1 (by_positionid ps) counted)) (all_unsorted (λ p. p.positionid < 1 + length (by_positionid ps)) ps (counted_small 1 (by_positionid ps) counted));
+      apart = (apart_is ps).0 (unsorted_apart ps (counted_apart 1 (by_positionid ps) counted));
+    }
+
+    back : AreEachOnce ps → CountFrom 1 (by_positionid ps)
+    back each =
+        let low = all_weaker (λ p. (1 ≤ p.positionid) × (p.positionid ≤ length ps)) (λ p. 1 ≤ p.positionid) (λ p h. h.0) ps each.within in
+        let small = all_weaker (λ p. (1 ≤ p.positionid) × (p.positionid ≤ length ps)) (λ p. p.positionid < 1 + length ps) (λ p h. omega (arith, h.1)) ps each.within in
+        rise_counts 1 (1 + length ps) (by_positionid ps) (omega (arith, same_length ps)) (sorted_rises ps low ((apart_is ps).1 each.apart)) (all_sorted (λ p. p.positionid < 1 + length ps) ps small)

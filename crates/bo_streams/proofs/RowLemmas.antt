@@ -76,7 +76,7 @@ module _ {T : Type 0} (tables : Meaning T) (house : House) where
     pub views : Views tables.holds d.tables d.state v
     pub sound : IsSound v.state
 
-  keeps-once : (old : DeskView T) (t : Tick) (m : Message) (answer : Answer) (new : DeskView T) (v : ShopView) → ServesOnce tables (words_of house) old (arrival house t m) answer new → IsSoundAt old v
+  pub keeps-once : (old : DeskView T) (t : Tick) (m : Message) (answer : Answer) (new : DeskView T) (v : ShopView) → ServesOnce tables (words_of house) old (arrival house t m) answer new → IsSoundAt old v
       → (w : ShopView) × ServesAndKeeps house v t m answer w × IsSoundAt new w
   keeps-once old t m answer new v once is =
       let x = viewed tables house (words_of house) (arrival house t m) v answer (λ (w : ShopView). Views tables.holds new.tables new.state w) (once.served v is.views) in

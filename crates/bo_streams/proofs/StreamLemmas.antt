@@ -1,5 +1,5 @@
 -- A desk's runs over a stream, as a shop and as a list of arrivals see them.
-use Rattle.std.proofs.Common.{◌≡◌, ℕ, List, [], ◌∷◌, ◌++◌, Result, Ok, Err, refl, sym, ap, ap₂, ◌∙◌, subst}
+use Rattle.std.proofs.Common.{◌≡◌, ℕ, List, [], ◌∷◌, ◌++◌, Option, Result, Ok, Err, refl, sym, ap, ap₂, ◌∙◌, subst, append-nil}
 use Rattle.bo_base.specs.declared.answer.Answer.{Answer}
 use Rattle.bo_base.specs.declared.answer.Answer.TheVariants.{Decided, Unavailable}
 use Rattle.bo_base.specs.declared.answer.Response.{Response}
@@ -10,15 +10,16 @@ use Rattle.bo_commands.specs.declared.replies.Reply.{Reply}
 use Rattle.bo_kept.specs.ShopView.{ShopView}
 use Rattle.bo_deliveries.specs.declared.arrival.Arrival.{Arrival}
 use Rattle.bo_deliveries.specs.Deliveries.{Opening, Delivery}
-use Rattle.bo_deliveries.specs.Histories.{Running, IsRunning}
+use Rattle.bo_deliveries.specs.Histories.{Event, Answered, Unanswered, Running, Happens, IsRunning, after_answer, after_none}
+use Rattle.bo_deliveries.proofs.Crashes.{happens_on}
 use Rattle.bo_deliveries.specs.Shops.{Views, StandsFor, served}
 use Rattle.bo_connection.specs.declared.failure.Failure.{Failure}
-use Rattle.bo_connection.specs.Run.{Item, Runs, Devices, with_desk, RunLeads}
-use Rattle.bo_connection.proofs.FollowLemmas.{Follows, runs_follow, run_follows}
+use Rattle.bo_connection.specs.Run.{AtTick, Item, Runs, Devices, with_desk, RunLeads}
+use Rattle.bo_connection.proofs.FollowLemmas.{Follows, follows_at, runs_follow, run_follows}
 use Rattle.bo_streams.specs.Coming.{arrival}
 use Rattle.bo_streams.specs.DeskView.{DeskView, Meaning, House, IsOf, house_of, words_of}
 use Rattle.bo_streams.specs.Served.{IsServed, IsListed, ServesOnce, Serves, after_message}
-use Rattle.bo_streams.specs.Streams.{Decides, ServesList, ServesRunning}
+use Rattle.bo_streams.specs.Streams.{Decides, ServesHistory, ServesList, ServesRunning, events_of}
 
 module _ {T : Type 0} (tables : Meaning T) (house : House) where
   pub is-house : (d : DeskView T) → IsOf tables house d → house_of d house ≡ house
@@ -60,6 +61,20 @@ module _ {T : Type 0} (tables : Meaning T) (house : House) where
         let x = run_follows (Serves tables) Other (λ (d : DeskView T). tables.sure d.tables) (IsSeen Rel) follows old new result seen run sure (record { of = is; rel = rel }) in
         (x.0, x.1, x.2.of, x.2.rel)
 
+    -- the same at ticks of which something is known
+    pub run-seen-at : (reads : Option Tick → Type 0) (old new : Devices (DeskView T)) (result : Result (Unit {0}) Failure) (seen : E) → RunLeads (AtTick reads (Serves tables)) old new result
+        → tables.sure new.desk.tables → IsOf tables house old.desk → Rel old.desk seen
+        → (left : E) × RunLeads (AtTick reads Other) (with_desk old seen) (with_desk new left) result × IsOf tables house new.desk × Rel new.desk left
+    run-seen-at reads old new result seen run sure is rel =
+        let at = follows_at reads (Serves tables) Other (λ (d : DeskView T). tables.sure d.tables) (IsSeen Rel) follows in
+        let x = run_follows (AtTick reads (Serves tables)) (AtTick reads Other) (λ (d : DeskView T). tables.sure d.tables) (IsSeen Rel) at old new result seen run sure (record { of = is; rel = rel }) in
+        (x.0, x.1, x.2.of, x.2.rel)
+
+  -- a message, as those see it that follow the desk in this way
+  abbrev pub Once : {E : Type 0} → (DeskView T → E → Type 0) → (E → Tick → Message → Answer → E → Type 0) → Type 0
+  Once {E = E} Rel Other = (old : DeskView T) (t : Tick) (m : Message) (answer : Answer) (new : DeskView T) (seen : E) → ServesOnce tables (words_of house) old (arrival house t m) answer new → Rel old seen
+      → (left : E) × Other seen t m answer left × Rel new left
+
   -- ---- as a list of arrivals
 
   abbrev pub StandsAt : Opening → DeskView T → List Delivery → Type 0
@@ -70,13 +85,13 @@ module _ {T : Type 0} (tables : Meaning T) (house : House) where
   listed words (Ok a) p ds answer Leads (leads, is) = (_, (refl, is), leads)
   listed words (Err refusal) p ds answer Leads (leads, is) = (_, (refl, is), leads)
 
+  pub listed-once : (p : Opening) → Once (StandsAt p) (ServesList house p)
+  listed-once p d t m answer e seen once stands = listed (words_of house) (arrival house t m) p seen answer (StandsAt p e) (once.stands p seen stands)
+
   pub told-once : (p : Opening) (ds : List Delivery) (old new : Devices (DeskView T)) (result : Result (Unit {0}) Failure)
       → RunLeads (Serves tables) old new result → tables.sure new.desk.tables → IsOf tables house old.desk → StandsAt p old.desk ds
       → (es : List Delivery) × RunLeads (ServesList house p) (with_desk old ds) (with_desk new es) result × IsOf tables house new.desk × StandsAt p new.desk es
-  told-once p ds old new result =
-      run-seen (StandsAt p) (ServesList house p)
-      (λ d t m answer e seen once stands. listed (words_of house) (arrival house t m) p seen answer (StandsAt p e) (once.stands p seen stands))
-      old new result ds
+  told-once p ds old new result = run-seen (StandsAt p) (ServesList house p) (listed-once p) old new result ds
 
   -- ---- as a shop
 
@@ -100,17 +115,41 @@ module _ {T : Type 0} (tables : Meaning T) (house : House) where
   still-served words (Ok a) r Unavailable Leads leads = refl
   still-served words (Err refusal) r answer Leads (leads, is) = (refl, is)
 
+  pub runs-once : Once RunsAt (ServesRunning house)
+  runs-once d t m answer e q once running = (
+    after_message (words_of house) (arrival house t m) answer q,
+    (still-served (words_of house) (arrival house t m) q answer _ (once.served q.shop running.views), refl),
+    once.running q running,
+  )
+
   pub run-on : (r : Running) (old new : Devices (DeskView T)) (result : Result (Unit {0}) Failure)
       → RunLeads (Serves tables) old new result → tables.sure new.desk.tables → IsOf tables house old.desk → RunsAt old.desk r
       → (s : Running) × RunLeads (ServesRunning house) (with_desk old r) (with_desk new s) result × IsOf tables house new.desk × RunsAt new.desk s
-  run-on r old new result =
-      run-seen RunsAt (ServesRunning house)
-      (λ d t m answer e q once running. (
-        after_message (words_of house) (arrival house t m) answer q,
-        (still-served (words_of house) (arrival house t m) q answer _ (once.served q.shop running.views), refl),
-        once.running q running,
-      ))
-      old new result r
+  run-on r old new result = run-seen RunsAt (ServesRunning house) runs-once old new result r
+
+  -- ---- as a history that goes on
+
+  -- the shop is running as these events left it that had begun so
+  abbrev pub HappensAt : Running → DeskView T → List Event → Type 0
+  HappensAt begun d es = (r : Running) × Happens (words_of house) begun es r × RunsAt d r
+
+  happens-next : (words : Reply → Response) (coming : Result Arrival Response) (answer : Answer) (begun r : Running) (es : List Event) (Leads : ShopView → Type 0) → Happens words begun es r
+      → IsServed words coming r.shop answer Leads → Happens words begun (es ++ events_of coming answer) (after_message words coming answer r)
+  happens-next words (Ok a) (Decided t) begun r es Leads happened (leads, is) = happens_on words begun es (Answered a t ∷ []) r (after_answer words a r) happened (is, refl)
+  happens-next words (Ok a) Unavailable begun r es Leads happened leads = happens_on words begun es (Unanswered a ∷ []) r (after_none words a r) happened refl
+  happens-next words (Err refusal) answer begun r es Leads happened served = subst (λ (fs : List Event). Happens words begun fs r) (sym (append-nil es)) happened
+
+  pub happens-once : (begun : Running) → Once (HappensAt begun) (ServesHistory house)
+  happens-once begun d t m answer e seen once h =
+      let coming = arrival house t m in (
+        seen ++ events_of coming answer,
+        refl,
+        (
+          after_message (words_of house) coming answer h.0,
+          happens-next (words_of house) coming answer begun h.0 seen _ h.1 (once.served h.0.shop h.2.views),
+          once.running h.0 h.2,
+        ),
+      )
 
 -- ---- two runs over tables of their own
 

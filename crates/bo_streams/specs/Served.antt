@@ -55,11 +55,12 @@ pub record ServesOnce {T : Type 0} (tables : Meaning T) (words : Reply → Respo
   pub house : (house : House) → tables.knows old.tables house → tables.knows new.tables house
   pub fit : IsFitComing coming answer
 
--- A desk keeps its names. Where its tables are sure after a message they were so before it, and the message is served once, as
--- the arrival that it is by the house that they know.
+-- A desk keeps its names, and where it answers 503 its office, whatever became of its tables. Where these are sure after a message they
+-- were so before it, and the message is served once, as the arrival that it is by the house that they know.
 pub record Serves {T : Type 0} (tables : Meaning T) (old : DeskView T) (tick : Tick) (m : Message) (answer : Answer) (new : DeskView T) : Type 0 where
   pub organizer : new.organizer ≡ old.organizer
   pub event : new.event ≡ old.event
+  pub office : answer ≡ Unavailable → new.state ≡ old.state
   pub was_sure : tables.sure new.tables → tables.sure old.tables
   pub once : tables.sure new.tables → (known : House) → tables.knows old.tables known
       → let house = house_of old known in ServesOnce tables (words_of house) old (arrival house tick m) answer new

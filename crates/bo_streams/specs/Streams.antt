@@ -1,5 +1,5 @@
 -- Messages one after another, as a shop and as a list of arrivals see them, and what they do to the rows.
-use Rattle.std.specs.Prelude.{◌≡◌, ℕ, Bool, true, false, List, Result, Ok, Err}
+use Rattle.std.specs.Prelude.{◌≡◌, ℕ, Bool, true, false, List, [], ◌∷◌, ◌++◌, Result, Ok, Err}
 use Rattle.bo_base.specs.declared.answer.Answer.{Answer}
 use Rattle.bo_base.specs.declared.answer.Answer.TheVariants.{Decided, Unavailable}
 use Rattle.bo_base.specs.declared.answer.Response.{Response}
@@ -13,7 +13,7 @@ use Rattle.bo_deliveries.specs.declared.arrival.Request.{Request}
 use Rattle.bo_deliveries.specs.declared.arrival.Request.TheVariants.{Write, WriteRefused, Read, ReadRefused}
 use Rattle.bo_deliveries.specs.Deliveries.{Opening, Delivery}
 use Rattle.bo_runs.specs.NothingTooMuch.{TakesNothingTooMuch}
-use Rattle.bo_deliveries.specs.Histories.{Running}
+use Rattle.bo_deliveries.specs.Histories.{Event, Answered, Unanswered, Running}
 use Rattle.bo_deliveries.specs.Shops.{executes}
 use Rattle.bo_kept.specs.ShopView.{ShopView}
 use Rattle.bo_streams.specs.Coming.{arrival}
@@ -45,6 +45,12 @@ abbrev pub KeepsComing : Result Arrival Response → ShopView → ShopView → T
 KeepsComing (Ok a) old new = KeepsRows (executes a old) a old new
 KeepsComing (Err refusal) old new = new ≡ old
 
+-- what a message adds to a history: the arrival that it is, with what it was told, or without an answer where it was 503; or nothing
+abbrev pub events_of : Result Arrival Response → Answer → List Event
+events_of (Ok a) (Decided told) = Answered a told ∷ []
+events_of (Ok a) Unavailable = Unanswered a ∷ []
+events_of (Err refusal) answer = []
+
 module _ (house : House) where
   -- a message, as the shop itself serves it
   abbrev pub ServesShop : ShopView → Tick → Message → Answer → ShopView → Type 0
@@ -58,6 +64,10 @@ module _ (house : House) where
   abbrev pub ServesRunning : Running → Tick → Message → Answer → Running → Type 0
   ServesRunning old tick m answer new =
       IsServed (words_of house) (arrival house tick m) old.shop answer (λ w. new.shop ≡ w) × (new ≡ after_message (words_of house) (arrival house tick m) answer old)
+
+  -- a message, as the history till then has it
+  abbrev pub ServesHistory : List Event → Tick → Message → Answer → List Event → Type 0
+  ServesHistory old tick m answer new = new ≡ old ++ events_of (arrival house tick m) answer
 
   -- what a message does to the rows: at 503 nothing
   abbrev pub Keeps : ShopView → Tick → Message → Answer → ShopView → Type 0

@@ -1,5 +1,5 @@
 use Rattle.std.proofs.Common.{◌++◌, [], ℕ, List, refl, sym, ap, ◌∙◌, subst, arith, length-append}
-use Rattle.bo_connection.specs.Run.{Progress, cursor}
+use Rattle.bo_connection.specs.Run.{AtTick, Progress, cursor}
 use Rattle.bo_devices.proofs.ToldLemmas.{Gives-nil, Gives-append}
 use Rattle.bo_connection.proofs.RunLemmas.{progress_none, progress_more, progress_feed, finished_more, finished_none, finished_all, finished_at, broken_more, broken_at, limit_broken, read_broken, run_leads, run_ends}
 use Rattle.bo_connection.proofs.run.serve_all.Goals as goal
@@ -9,7 +9,7 @@ loop-turn-init g c = record {
   done = (
     [],
     Gives-nil _,
-    progress_none g.D.Desk.serves _ _ (ap (λ (l : List ℕ). cursor l (g.T.Ticks.told c.args.ticks.now) c.args.desk.now (g.W.Drain.taken c.args.writer.now)) c.requires.empty),
+    progress_none (AtTick g.T.Ticks.reads g.D.Desk.serves) _ _ (ap (λ (l : List ℕ). cursor l (g.T.Ticks.told c.args.ticks.now) c.args.desk.now (g.W.Drain.taken c.args.writer.now)) c.requires.empty),
     record { most = omega arith; some = omega arith },
   );
   clock = refl;
@@ -20,7 +20,7 @@ loop-turn-init g c = record {
 
 pub returns-in-Ok-false-clause-leads : goal.returns-in-Ok-false-clause-leads
 returns-in-Ok-false-clause-leads g c =
-    let S = g.D.Desk.serves in
+    let S = AtTick g.T.Ticks.reads g.D.Desk.serves in
     let inv = c.loop-turn.invariant in
     let done = inv.done in
     let e = rw c.in-Ok-false.field-0-test at c.in-Ok-false.ensures in
@@ -28,14 +28,14 @@ returns-in-Ok-false-clause-leads g c =
 
 pub returns-in-Err-clause-leads : goal.returns-in-Err-clause-leads
 returns-in-Err-clause-leads g c =
-    let S = g.D.Desk.serves in
+    let S = AtTick g.T.Ticks.reads g.D.Desk.serves in
     let inv = c.loop-turn.invariant in
     let done = inv.done in
     run_leads S _ _ _ done.0 c.loop-turn.turn done.1 done.3 inv.calls (broken_at S _ _ _ _ _ _ _ (broken_more S _ _ _ _ done.2 c.in-Err.ensures.leads))
 
 pub returns-in-Ok-false-take_in-clause-leads : goal.returns-in-Ok-false-take_in-clause-leads
 returns-in-Ok-false-take_in-clause-leads g c =
-    let S = g.D.Desk.serves in
+    let S = AtTick g.T.Ticks.reads g.D.Desk.serves in
     let inv = c.loop-turn.invariant in
     let done = inv.done in
     let e = rw c.in-Ok-true.field-0-test at c.in-Ok-true.ensures in
@@ -45,7 +45,7 @@ returns-in-Ok-false-take_in-clause-leads g c =
 
 pub returns-in-Err-take_in-clause-leads : goal.returns-in-Err-take_in-clause-leads
 returns-in-Err-take_in-clause-leads g c =
-    let S = g.D.Desk.serves in
+    let S = AtTick g.T.Ticks.reads g.D.Desk.serves in
     let inv = c.loop-turn.invariant in
     let done = inv.done in
     let e = rw c.in-Ok-true.field-0-test at c.in-Ok-true.ensures in
@@ -54,7 +54,7 @@ returns-in-Err-take_in-clause-leads g c =
 
 pub loop-turn-preserved : goal.loop-turn-preserved
 loop-turn-preserved g c =
-    let S = g.D.Desk.serves in
+    let S = AtTick g.T.Ticks.reads g.D.Desk.serves in
     let inv = c.loop-turn.invariant in
     let done = inv.done in
     let e = rw c.in-Ok-true.field-0-test at c.in-Ok-true.ensures in
@@ -79,7 +79,7 @@ loop-turn-preserved g c =
 
 pub returns-in-Ok-true-serve_ready-clause-leads : goal.returns-in-Ok-true-serve_ready-clause-leads
 returns-in-Ok-true-serve_ready-clause-leads g c =
-    let S = g.D.Desk.serves in
+    let S = AtTick g.T.Ticks.reads g.D.Desk.serves in
     let inv = c.loop-turn.invariant in
     let done = inv.done in
     let e = rw c.in-Ok-true-serve_ready.field-0-test at c.in-Ok-true-serve_ready.ensures in
@@ -87,7 +87,7 @@ returns-in-Ok-true-serve_ready-clause-leads g c =
 
 pub returns-in-Ok-false-serve_ready-clause-leads : goal.returns-in-Ok-false-serve_ready-clause-leads
 returns-in-Ok-false-serve_ready-clause-leads g c =
-    let S = g.D.Desk.serves in
+    let S = AtTick g.T.Ticks.reads g.D.Desk.serves in
     let inv = c.loop-turn.invariant in
     let done = inv.done in
     let e = rw c.in-Ok-false-serve_ready.field-0-test at c.in-Ok-false-serve_ready.ensures in
@@ -95,7 +95,7 @@ returns-in-Ok-false-serve_ready-clause-leads g c =
 
 pub returns-in-Err-serve_ready-clause-leads : goal.returns-in-Err-serve_ready-clause-leads
 returns-in-Err-serve_ready-clause-leads g c =
-    let S = g.D.Desk.serves in
+    let S = AtTick g.T.Ticks.reads g.D.Desk.serves in
     let inv = c.loop-turn.invariant in
     let done = inv.done in
     run_leads S _ _ _ done.0 _ done.1 done.3 inv.calls (broken_at S _ _ _ _ _ _ _ (broken_more S _ _ _ _ done.2 c.in-Err-serve_ready.ensures.leads))

@@ -1,12 +1,12 @@
 use Rattle.std.proofs.Common.{◌≡◌, ◌+◌, ℕ, List}
 use Rattle.bo_devices.specs.Told.{Gives}
-use Rattle.bo_connection.specs.Run.{Progress, InPieces, cursor}
+use Rattle.bo_connection.specs.Run.{AtTick, Progress, InPieces, cursor}
 use Rattle.bo_connection.proofs.run.serve_all.Given as goal
 
 abbrev pub invariant-loop-turn : goal.invariant-loop-turn
 invariant-loop-turn g l = record {
   done : (bytes : List ℕ) × Gives (g.R.Source.left l.fn.reader) bytes (g.R.Source.left l.reader)
-      × Progress g.D.Desk.serves
+      × Progress (AtTick g.T.Ticks.reads g.D.Desk.serves)
       (cursor bytes (g.T.Ticks.told l.fn.ticks) l.fn.desk (g.W.Drain.taken l.fn.writer))
       (cursor l.frames.left (g.T.Ticks.told l.ticks) l.desk (g.W.Drain.taken l.writer))
       × InPieces bytes l.turn 0;

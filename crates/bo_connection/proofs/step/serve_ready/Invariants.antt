@@ -1,10 +1,10 @@
 use Rattle.std.proofs.Common.{◌≡◌, length}
-use Rattle.bo_connection.specs.Run.{Progress, cursor}
+use Rattle.bo_connection.specs.Run.{AtTick, Progress, cursor}
 use Rattle.bo_connection.proofs.step.serve_ready.Given as goal
 
 abbrev pub invariant-loop-failure : goal.invariant-loop-failure
 invariant-loop-failure g l = record {
-  done : Progress g.D.Desk.serves
+  done : Progress (AtTick g.T.Ticks.reads g.D.Desk.serves)
       (cursor l.fn.frames.left (g.T.Ticks.told l.fn.ticks) l.fn.desk (g.W.Drain.taken l.fn.writer))
       (cursor l.frames.left (g.T.Ticks.told l.ticks) l.desk (g.W.Drain.taken l.writer));
   clock : g.T.Ticks.failures l.ticks ≡ g.T.Ticks.failures l.fn.ticks;

@@ -1,5 +1,6 @@
 use Rattle.std.proofs.Common.{subst}
 use Rattle.bo_connection.specs.Run.{RunLeads}
+use Rattle.bo_connection.proofs.FollowLemmas.{run_whenever}
 use Rattle.bo_connection.proofs.RunLemmas.{unopened}
 use Rattle.bo_streams.specs.DeskView.{DeskView, desk_with, meaning}
 use Rattle.bo_streams.specs.Served.{Serves}
@@ -18,5 +19,5 @@ returns-clause-leads g c =
           (record { left = g.R.Source.left c.args.reader.now; calls = g.R.Source.calls c.args.reader.now; told = g.K.Ticks.told c.args.ticks.now; desk = first; taken = g.W.Drain.taken c.args.writer.now })
           (record { left = g.R.Source.left c.serve_desk.new.reader; calls = g.R.Source.calls c.serve_desk.new.reader; told = g.K.Ticks.told c.serve_desk.new.ticks; desk = run.0; taken = g.W.Drain.taken c.serve_desk.new.writer })
           c.serve_desk.result)
-          c.in-Ok.ensures run.1,
+          c.in-Ok.ensures (run_whenever g.K.Ticks.reads (Serves (meaning g.T.Tables.sure g.T.Tables.holds g.T.Tables.knows g.T.Tables.may_leave)) _ _ _ run.1),
     )

@@ -11,6 +11,7 @@ returns-in-Ok g c =
     record {
       organizer = answered.organizer ∙ looked.organizer;
       event = answered.event ∙ looked.event;
+      office = λ unavailable. answered.office unavailable ∙ looked.office;
       was_sure = λ sure. looked.sure (answered.sure sure);
       once = λ sure house knows.
           let before = answered.sure sure in
@@ -25,6 +26,7 @@ returns-in-Err g c =
     record {
       organizer = looked.organizer;
       event = looked.event;
+      office = λ unavailable. looked.office;
       was_sure = looked.sure;
       once = λ sure told knows.
           let house = house_of c.args.self.now told in
