@@ -2,4 +2,3 @@ pub mod Utf8
 pub mod Said
 pub mod OneReading
 pub mod Numbered
-pub mod HandingLemmas
