@@ -1,5 +1,5 @@
 -- Lines that are gathered, and handed on to a writer.
-use Rattle.std.specs.Prelude.{◌≡◌, ◌×◌, ℕ, ◌+◌, List, ◌++◌, Result, Ok, Err}
+use Rattle.std.specs.Prelude.{◌≡◌, ℕ, ◌+◌, List, ◌++◌, Result, Ok, Err}
 use Rattle.bo_devices.specs.Told.{Adds}
 use Rattle.bo_http.specs.Written.{AddsPart, Page}
 use Rattle.bo_export.specs.declared.sink.SinkFault.{SinkFault}
