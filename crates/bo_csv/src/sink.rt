@@ -17,15 +17,15 @@ const MOST_GATHERED: usize = 65_536;
 #[derive(Drop)]
 pub struct CsvSink<'a, W> {
     out: &'a mut W,
-    lines: Lines,
+    lines: &'a mut Lines,
 }
 
 impl<'a, W: Drain> CsvSink<'a, W> {
-    /// Over a writer, with the lines that are gathered already.
-    pub fn over(out: &'a mut W, lines: Lines) -> CsvSink<'a, W>
+    /// Over a writer, with lines that are gathered already and go on to be. It holds no memory of its own, so that its end gives the writer back.
+    pub fn over(out: &'a mut W, lines: &'a mut Lines) -> CsvSink<'a, W>
         ensures same { result.out.ghost_name ≡ out.entry.ghost_name }
         ensures out { result.out.now ≡ out.old }
-        ensures lines { result.lines ≡ lines }
+        ensures lines { result.lines.now ≡ lines.old }
     {
         CsvSink { out, lines }
     }
@@ -33,9 +33,9 @@ impl<'a, W: Drain> CsvSink<'a, W> {
     /// Hands on what is gathered. Refusals: 6, and then nothing was handed on; 73, and then a part was.
     pub fn hand_on(&mut self, alloc: Global) -> Result<(), SinkFault>
         ensures same { self.new.out.ghost_name ≡ self.old.out.ghost_name }
-        ensures ready { IsReady self.new.lines }
-        ensures empty { gathered self.new.lines ≡ [] }
-        ensures handed { HandsOn result (gathered self.old.lines) (record { taken = W.taken self.old.out.now; failures = W.failures self.old.out.now }) (record { taken = W.taken self.new.out.now; failures = W.failures self.new.out.now }) }
+        ensures ready { IsReady self.new.lines.now }
+        ensures empty { gathered self.new.lines.now ≡ [] }
+        ensures handed { HandsOn result (gathered self.old.lines.now) (record { taken = W.taken self.old.out.now; failures = W.failures self.old.out.now }) (record { taken = W.taken self.new.out.now; failures = W.failures self.new.out.now }) }
     {
         match self.lines.take(alloc) {
             Ok(text) => match write_all(self.out, text.as_slice()) {
@@ -52,11 +52,11 @@ impl<W: Drain> Sink for CsvSink<'_, W> {
     ghost use Rattle.bo_csv.specs.Handing.{Goes, IsReady, Stops, gathered};
     ghost use Rattle.bo_csv.specs.PositionLines.{row_line};
 
-    ghost takes = { λ old row new. (new.out.ghost_name ≡ old.out.ghost_name) × (IsReady old.lines → IsReady new.lines
-        × Goes (row_line row) (gathered old.lines) (gathered new.lines) (record { taken = W.taken old.out.now; failures = W.failures old.out.now }) (record { taken = W.taken new.out.now; failures = W.failures new.out.now })) };
+    ghost takes = { λ old row new. (new.out.ghost_name ≡ old.out.ghost_name) × (IsReady old.lines.now → IsReady new.lines.now
+        × Goes (row_line row) (gathered old.lines.now) (gathered new.lines.now) (record { taken = W.taken old.out.now; failures = W.failures old.out.now }) (record { taken = W.taken new.out.now; failures = W.failures new.out.now })) };
 
-    ghost refuses = { λ old row fault new. (new.out.ghost_name ≡ old.out.ghost_name) × (IsReady old.lines
-        → Stops fault (gathered old.lines ++ row_line row) (record { taken = W.taken old.out.now; failures = W.failures old.out.now }) (record { taken = W.taken new.out.now; failures = W.failures new.out.now })) };
+    ghost refuses = { λ old row fault new. (new.out.ghost_name ≡ old.out.ghost_name) × (IsReady old.lines.now
+        → Stops fault (gathered old.lines.now ++ row_line row) (record { taken = W.taken old.out.now; failures = W.failures old.out.now }) (record { taken = W.taken new.out.now; failures = W.failures new.out.now })) };
 
     fn row(&mut self, alloc: Global, row: &ExportRow) -> Result<(), SinkFault> {
         match self.lines.add(alloc, row) {

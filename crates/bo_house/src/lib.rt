@@ -20,9 +20,7 @@ pub mod working;
 
 pub use adding::add_shop_token;
 pub use exporting::export_shop;
-pub use faults::{
-    fault_of_file, fault_of_making, fault_of_opening, fault_of_rows, fault_of_sink, fault_of_token,
-};
+pub use faults::{fault_of_file, fault_of_making, fault_of_opening, fault_of_token};
 pub use filed::Filed;
 pub use house::House;
 pub use importing::import_shop;

@@ -4,3 +4,4 @@ pub mod Ordered
 pub mod Partners
 pub mod Exports
 pub mod Streamed
+pub mod WriteLemmas

@@ -1,2 +1,4 @@
 pub mod Cells
 pub mod Handed
+pub mod Faults
+pub mod Written

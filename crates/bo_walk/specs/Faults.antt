@@ -1,0 +1,17 @@
+-- Why an export breaks off, as the program tells it.
+use Rattle.bo_export.specs.declared.sink.SinkFault.TheVariants as sinks
+use Rattle.bo_line.specs.declared.fault.RunFault.{RunFault}
+use Rattle.bo_line.specs.declared.fault.RunFault.TheVariants as faults
+use Rattle.bo_rules.specs.declared.rule.Rule.TheVariants as rules
+use Rattle.bo_schema.specs.declared.error.RowError.TheVariants as rows
+use Rattle.bo_walk.specs.declared.positions.WalkError.{WalkError}
+use Rattle.bo_walk.specs.declared.positions.WalkError.TheVariants.{Sink, Rows}
+
+-- a value that is none is told as the rule of limits
+abbrev pub fault_of_walk : WalkError → RunFault
+fault_of_walk (Sink sinks.Memory) = faults.Memory
+fault_of_walk (Sink sinks.Output) = faults.Unwritten
+fault_of_walk (Rows rows.Memory) = faults.Memory
+fault_of_walk (Rows rows.Foreign) = faults.NotAShop
+fault_of_walk (Rows rows.Damaged) = faults.Damaged rules.Limits
+fault_of_walk (Rows rows.Store) = faults.Store
