@@ -1,24 +1,34 @@
 //! Laws of a shop that is served from its file, and worked on there, over crashes.
 
-ghost use Rattle.std.specs.Prelude.{◌≡◌, ◌++◌, ℕ, List, [], ◌∷◌, None, Option, Result, IsTrue};
+ghost use Rattle.std.specs.Prelude.{◌≡◌, ◌++◌, ℕ, List, [], ◌∷◌, None, Option, Result, IsTrue, codes};
 ghost use Rattle.sqlite.specs.Held.{state};
 ghost use Rattle.sqlite.specs.State.{HasCleanDisk};
 ghost use Rattle.bo_base.specs.declared.answer.Answer.{Answer};
 ghost use Rattle.bo_base.specs.declared.answer.Response.{Response};
+ghost use Rattle.bo_base.specs.declared.draw.Draw.{Draw};
 ghost use Rattle.bo_commands.specs.declared.replies.Reply.{Reply};
+ghost use Rattle.bo_commands.specs.declared.replies.Reply.TheVariants as replies;
 ghost use Rattle.bo_commands.specs.declared.requests.Command.{Command};
+ghost use Rattle.bo_commands.specs.declared.requests.Command.TheVariants.{ImportVouchers, Periodic};
+ghost use Rattle.bo_commands.specs.declared.vouchers.NewVoucher.{NewVoucher};
+ghost use Rattle.bo_commands.specs.declared.vouchers.Verdict.{Verdict};
+ghost use Rattle.bo_commands.specs.declared.waiting.PeriodicCounts.{PeriodicCounts};
 ghost use Rattle.bo_connection.specs.Run.{AtTick};
 ghost use Rattle.bo_devices.specs.declared.device.Tick.{Tick};
 ghost use Rattle.bo_lists.specs.Lists.{State};
 ghost use Rattle.bo_kept.specs.House.{House};
 ghost use Rattle.bo_kept.specs.ShopView.{ShopView};
+ghost use Rattle.bo_csv.specs.VerdictLines.{verdict_lines};
+ghost use Rattle.bo_deliveries.specs.Deliveries.{step};
 ghost use Rattle.bo_deliveries.specs.Histories.{AreKeyless, Crashed, Event, IsRunning, MayLeave, Running, after_act, event_of, opened};
 ghost use Rattle.bo_desk.specs.Streams.{DeskView, IsOf, Serves, ServesHistory, ServesRunning, desk_with, meaning, words_of};
 ghost use Rattle.bo_file.specs.Found.{IsFound};
 ghost use Rattle.bo_file.specs.Opened.{IsReason};
 ghost use Rattle.bo_house.specs.Acting.{Acts, own_arrival, told_of};
 ghost use Rattle.bo_house.specs.Evening.{IsOpenedAgain, RunsSo, over};
+ghost use Rattle.bo_house.specs.Imported.{import_words};
 ghost use Rattle.bo_house.specs.Served.{OpensAs};
+ghost use Rattle.bo_house.specs.Worked.{work_text, work_words};
 ghost use Rattle.bo_line.specs.declared.fault.RunFault.{RunFault};
 ghost use Rattle.bo_opens.specs.Lawful.{IsOfMachine};
 ghost use Rattle.bo_opens.specs.declared.error.OpenError.{OpenError};
@@ -123,3 +133,15 @@ pub fn an_evening_is_one_history<S: Alter, K: Ticks>(
     a_command_goes_on_with_a_history::<S>();
     a_history_goes_on_after_a_crash::<S, K>(acted, fresh, again);
 }
+
+/// The program's own commands tell what they did, whatever the office, the moment and the draw: periodic work its counts, an import a line
+/// for each row. No run has any other reply; what would be told of one is `{}`.
+pub fn own_commands_tell_what_they_did()
+    ensures work { (at : ℕ) (draw : Draw) (state : State)
+        → (counts : PeriodicCounts) × ((work_words (step Periodic at draw state).1).body ≡ work_text counts) }
+    ensures imports { (given : List (List ℕ)) (vouchers : List NewVoucher) (at : ℕ) (draw : Draw) (state : State)
+        → (verdicts : List Verdict) × ((import_words given (step (ImportVouchers vouchers) at draw state).1).body ≡ verdict_lines given verdicts) }
+    ensures other_work { (reply : Reply) → ((counts : PeriodicCounts) → reply ≡ replies.Periodic counts → ⊥) → (work_words reply).body ≡ codes "{}" }
+    ensures other_imports { (given : List (List ℕ)) (reply : Reply)
+        → ((verdicts : List Verdict) → reply ≡ replies.Imported verdicts → ⊥) → (import_words given reply).body ≡ codes "{}" }
+{}
