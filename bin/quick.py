@@ -23,8 +23,8 @@ NAME = "boxoffice"
 KEPT = f"{rooms.TOP}/out/quick"
 PROVED = f"{rooms.folder(NAME)}/out/{NAME}"
 # What it was seen to take, at 2.7 GHz: seconds of a processor, and how many processors are used at once.
-READING = [(210, 1)]
-COMPILING = [(80, 1), (100, rooms.processors())]
+READING = [(150, 1)]
+COMPILING = [(80, 1), (85, rooms.processors())]
 STOPS = (signal.SIGINT, signal.SIGTERM, signal.SIGHUP)
 # Seconds between two lines on how far it is.
 EACH = 15
@@ -149,7 +149,7 @@ def compile_it(program, total):
     try:
         with Progress() as watch:
             watch.clock.say(f"it is compiled, once, without proof: {about(watch.left())} on an idle machine")
-            unproved.compiled(program, f"{new}/{NAME}", "-O1", watch)
+            unproved.compiled(program, f"{new}/{NAME}", "FIRST", watch)
         with open(f"{new}/proof", "w", encoding="ascii") as it:
             it.write(about(60 * minutes()))
         shutil.rmtree(f"{KEPT}/{total}", ignore_errors=True)
@@ -186,7 +186,7 @@ def minutes():
     return rooms.minutes(sum(rooms.lines(it) for it in names if not os.path.isdir(f"{rooms.folder(it)}/out/rlib")))
 
 
-def run(program, words):
+def run(program, *words):
     # Python ignores these, and what it starts would too.
     for it in (signal.SIGPIPE, signal.SIGXFSZ):
         signal.signal(it, signal.SIG_DFL)
@@ -207,15 +207,15 @@ def main(words):
     try:
         if is_proved():
             touch(PROVED)
-            run(PROVED, words)
+            run(PROVED, *words)
         program = compiled()
     except Exception as error:
         # whatever it is, there is the long way
         say(f"it can't be compiled without proof: {error if isinstance(error, unproved.Failed) else repr(error)}")
         say(f"bin/prove builds it by its proof instead: {about(60 * minutes())}")
-        os.execv(f"{rooms.TOP}/bin/boxoffice", ["bin/boxoffice", "--proved", *words])
+        run(f"{rooms.TOP}/bin/boxoffice", "--proved", *words)
     say(f"compiled here, not proved here; bin/prove {NAME} proves it, once, in {unproved.read(f'{os.path.dirname(program)}/proof').decode()}")
-    run(program, words)
+    run(program, *words)
 
 
 if __name__ == "__main__":

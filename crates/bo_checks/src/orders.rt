@@ -1,37 +1,30 @@
 //! The tests of orders and their positions.
 
-ghost use Rattle.std.specs.Prelude.{◌≡◌, ◌↔◌, ◌≤◌, ◌+◌, IsTrue, IfOk, length};
+ghost use Rattle.std.specs.Prelude.{◌↔◌, IsTrue, IfOk};
 ghost use Rattle.bo_lists.specs.Ordered.{AllOrdered};
-ghost use Rattle.bo_sound.specs.Positions.{CountFrom, AreWhole, AllHavePositions, AreOfOrders, of_order};
+ghost use Rattle.bo_sound.specs.Positions.{AreWhole, AllHavePositions, AreOfOrders, of_order};
 
 use bo_alike::all_have_own_secrets;
+use bo_base::List;
 use bo_lists::{Order, OrderPos};
+use bo_sound::numbers::{are_counted, by_positionid};
 use bo_usage::Book;
 use std::alloc::{AllocError, Global};
 
 // The most positions of an order.
 const MOST_POSITIONS: usize = 500;
 
-// Whether the positions' numbers in their order count on from 1.
-fn are_counted(rows: &[OrderPos]) -> bool
-    requires { length rows.now ≤ 500 }
-    ensures { IsTrue result ↔ CountFrom 1 rows.now }
+// Whether these are 1 to 500 positions, numbered from 1 to their count. More of them aren't sorted.
+fn are_whole(alloc: Global, rows: List<OrderPos>) -> Result<bool, AllocError>
+    ensures { IfOk result (λ whole. IsTrue whole ↔ AreWhole rows) }
 {
-    let mut number: u32 = 1;
-    for row in rows {
-        if row.positionid != number {
-            return false;
-        }
-        number += 1;
+    let count = rows.as_slice().len();
+    if count == 0 || MOST_POSITIONS < count {
+        return Ok(false);
     }
-    true
-}
-
-// Whether they are 1 to 500, numbered from 1 to their count.
-fn are_whole(rows: &[OrderPos]) -> bool
-    ensures { IsTrue result ↔ AreWhole rows.now }
-{
-    !rows.is_empty() && rows.len() <= MOST_POSITIONS && are_counted(rows)
+    let rows = by_positionid(alloc, rows)?;
+    let counted = are_counted(rows.as_slice());
+    Ok(counted)
 }
 
 // Whether an order has such positions.
@@ -39,11 +32,10 @@ fn has_positions<B: Book>(alloc: Global, book: &B, order: &Order) -> Result<bool
     ensures { IfOk result (λ kept. IsTrue kept ↔ AreWhole (of_order order.now.id (B.state book.now).lists.positions)) }
 {
     let rows = book.positions_of(alloc, order.id)?;
-    let kept = are_whole(rows.as_slice());
-    Ok(kept)
+    are_whole(alloc, rows)
 }
 
-/// Whether each order has 1 to 500 positions, numbered from 1 to their count in order of id.
+/// Whether each order has 1 to 500 positions, numbered from 1 to their count, in whatever order of their ids.
 pub fn keeps_positions<B: Book>(alloc: Global, book: &B) -> Result<bool, AllocError>
     ensures { IfOk result (λ kept. IsTrue kept ↔ AllHavePositions (B.state book.now).lists.orders (B.state book.now).lists.positions) }
 {

@@ -1,5 +1,6 @@
 -- What one statement makes of the tables.
 use Rattle.std.specs.Prelude.{◌≡◌, ℕ, true, not, ◌==◌, ◌∷◌, filter}
+use Rattle.sqlite.specs.Effect.{IsDatabase}
 use Rattle.sqlite.specs.State.{State}
 use Rattle.bo_columns.specs.declared.rows.ShopRow.{ShopRow}
 use Rattle.bo_catalogue.specs.declared.rows.Item.{Item}
@@ -27,11 +28,12 @@ pub record IsInside (s : State) : Type 0 where
   pub known : s.now.schema ≡ schema
   pub inside : s.in_transaction ≡ true
 
--- the transaction goes on; and whatever the tables held, if it is fit for this change, they hold what the change makes of it
+-- the transaction goes on, over trees that list the schema, if they did; and whatever the tables held, if it is fit for this change, they hold what the change makes of it
 pub record ChangesFit (Fits : Tables → Type 0) (change : Tables → Tables) (old new : State) : Type 0 where
   pub known : new.now.schema ≡ schema
   pub inside : new.in_transaction ≡ true
   pub committed : new.committed ≡ old.committed
+  pub listed : IsDatabase old.now → IsDatabase new.now
   pub holds : (t : Tables) → Fits t → Holds old.now.trees t → Holds new.now.trees (change t)
 
 -- the same with nothing asked of the tables
@@ -39,6 +41,7 @@ pub record Changes (change : Tables → Tables) (old new : State) : Type 0 where
   pub known : new.now.schema ≡ schema
   pub inside : new.in_transaction ≡ true
   pub committed : new.committed ≡ old.committed
+  pub listed : IsDatabase old.now → IsDatabase new.now
   pub holds : (t : Tables) → Holds old.now.trees t → Holds new.now.trees (change t)
 
 -- ---- a row more, and no row of an id

@@ -1,5 +1,6 @@
 pub mod Lines
 pub mod PositionLines
+pub mod Handing
 pub mod ByNumber
 pub mod Columns
 pub mod VoucherFile

@@ -17,5 +17,5 @@ pub fn a_file_reads_in_one_way()
 /// The export is by number: in a sound box office its lines rise by the number of their order, and those of one order by
 /// their own number there.
 pub fn the_export_is_by_number()
-    ensures { (state : State) → IsSound state → HasLinesBy by_number state.lists (positions_text state.lists) }
+    ensures { (state : State) → IsSound state → HasLinesBy by_number (positions_text state.lists) }
 {}

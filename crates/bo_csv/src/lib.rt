@@ -5,9 +5,11 @@ mod columns;
 pub mod laws;
 mod lines;
 mod positions;
+mod sink;
 mod verdicts;
 mod voucher_file;
 
-pub use positions::positions_text;
+pub use positions::{Lines, export_positions};
+pub use sink::CsvSink;
 pub use verdicts::{codes_of, verdict_lines};
 pub use voucher_file::{FileFault, read_vouchers};

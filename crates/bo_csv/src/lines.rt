@@ -12,9 +12,8 @@ use std::alloc::AllocError;
 
 /// Appends a line of these fields, with commas between them, and quotes where a field needs them.
 pub(crate) fn append_line(writer: &mut Writer<Vec<u8>>, row: &ByteRecord) -> Result<(), AllocError>
-    requires { IsAtLine writer.old }
-    ensures line { OnOk result (IsAtLine writer.new) }
-    ensures text { OnOk result (written (λ v. v.items) writer.new ≡ written (λ v. v.items) writer.old ++ row_text default_writer (fields_of row.now)) }
+    ensures line { OnOk result (IsAtLine writer.old → IsAtLine writer.new) }
+    ensures text { OnOk result (IsAtLine writer.old → written (λ v. v.items) writer.new ≡ written (λ v. v.items) writer.old ++ row_text default_writer (fields_of row.now)) }
 {
     match writer.write_byte_record(row) {
         Ok(()) => Ok(()),

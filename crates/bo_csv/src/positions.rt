@@ -1,4 +1,4 @@
-//! All order positions, as a CSV file.
+//! The lines of an export, as a CSV file.
 
 ghost use Rattle.std.specs.Prelude.{◌≡◌, ◌++◌, [], IfOk, OnOk, map};
 ghost use Rattle.std.specs.List.{concat};
@@ -6,36 +6,93 @@ ghost use Rattle.csv.specs.Records.{fields_of, partial_of};
 ghost use Rattle.csv.specs.Writing.{default_writer, row_text};
 ghost use Rattle.bo_base.specs.Codes.{order_code};
 ghost use Rattle.bo_base.specs.Money.{cents_text};
+ghost use Rattle.bo_csv.specs.Handing.{IsReady, gathered};
 ghost use Rattle.bo_csv.specs.Lines.{Gains, IsAtLine, written};
-ghost use Rattle.bo_csv.specs.PositionLines.{all_lines, header, order_lines, position_fields, position_line, positions_text, voucher_code};
+ghost use Rattle.bo_csv.specs.PositionLines.{code_or_empty, header_line, row_fields, row_line, rows_text};
 
 use crate::lines::{append_line, push_number, push_number_or_empty};
 use bo_base::{Body, Cents, cents_text};
-use bo_lists::{Order, OrderPos, code_of};
-use bo_usage::Book;
+use bo_export::ExportRow;
+use bo_lists::code_of;
 use csv::{ByteRecord, Writer, WriterBuilder};
 use std::alloc::{AllocError, Global};
+use std::mem;
 
-/// All order positions, as a CSV file: a line for each, by the number of its order and its own there, below a line of the columns' names.
-/// A line has the order's code, the position's number there, the letter of the order's status, the numbers of item and variation, the price
-/// with two decimals, the code of the voucher, and the secret of the ticket; what isn't there is empty.
-pub fn positions_text<B: Book>(book: &B, alloc: Global) -> Result<Body, AllocError>
-    ensures { IfOk result (λ text. text ≡ positions_text (B.state book.now).lists) }
-{
-    let mut writer = WriterBuilder::new().from_writer(Vec::new(alloc));
-    append_header(&mut writer, alloc)?;
-    append_orders(&mut writer, book, alloc, book.orders())?;
-    match writer.into_inner() {
-        Ok(text) => Ok(Body::new(text)),
-        Err(_) => Err(AllocError),
+/// Lines of an export that are gathered.
+#[derive(Drop)]
+pub struct Lines {
+    text: Writer<Vec<u8>>,
+    fields: ByteRecord,
+}
+
+impl Lines {
+    /// The line of the columns' names.
+    pub fn new(alloc: Global) -> Result<Lines, AllocError>
+        ensures ready { IfOk result IsReady }
+        ensures names { IfOk result (λ lines. gathered lines ≡ header_line) }
+    {
+        let mut text = WriterBuilder::new().from_writer(Vec::new(alloc));
+        append_header(&mut text, alloc)?;
+        Ok(Lines {
+            text,
+            fields: ByteRecord::new(alloc),
+        })
     }
+
+    /// Adds the line of a row: the order's code, the position's number there, the letter of the order's status, the numbers of item and
+    /// variation, the price with two decimals, the code of the voucher, and the secret of the ticket; what isn't there is empty.
+    pub(crate) fn add(&mut self, alloc: Global, row: &ExportRow) -> Result<(), AllocError>
+        ensures ready { OnOk result (IsReady self.old → IsReady self.new) }
+        ensures text { OnOk result (IsReady self.old → gathered self.new ≡ gathered self.old ++ row_line row.now) }
+    {
+        self.fields.clear();
+        push_row(&mut self.fields, alloc, row)?;
+        append_line(&mut self.text, &self.fields)
+    }
+
+    /// The bytes that are gathered, but for the last ones, at most 8,192.
+    pub(crate) fn len(&self) -> usize {
+        self.text.get_ref().len()
+    }
+
+    /// Takes the text out, and leaves none.
+    pub(crate) fn take(&mut self, alloc: Global) -> Result<Vec<u8>, AllocError>
+        ensures ready { IsReady self.new }
+        ensures empty { gathered self.new ≡ [] }
+        ensures text { IfOk result (λ text. text.items ≡ gathered self.old) }
+    {
+        let fresh = WriterBuilder::new().from_writer(Vec::new(alloc));
+        match mem::replace(&mut self.text, fresh).into_inner() {
+            Ok(text) => Ok(text),
+            Err(_) => Err(AllocError),
+        }
+    }
+}
+
+/// Rows of an export as a CSV file: a line of the columns' names, and below it the line of each.
+pub fn export_positions(alloc: Global, rows: &[ExportRow]) -> Result<Body, AllocError>
+    ensures { IfOk result (λ text. text ≡ rows_text rows.now) }
+{
+    let mut lines = Lines::new(alloc)?;
+    add_rows(&mut lines, alloc, rows)?;
+    Ok(Body::new(lines.take(alloc)?))
+}
+
+// Adds the line of each of these rows.
+fn add_rows(lines: &mut Lines, alloc: Global, rows: &[ExportRow]) -> Result<(), AllocError>
+    requires { IsReady lines.old }
+    ensures { OnOk result (gathered lines.new ≡ gathered lines.old ++ concat (map row_line rows.now)) }
+{
+    for row in rows {
+        lines.add(alloc, row)?;
+    }
+    Ok(())
 }
 
 // Appends the names of the columns.
 fn append_header(writer: &mut Writer<Vec<u8>>, alloc: Global) -> Result<(), AllocError>
-    requires { IsAtLine writer.old }
-    ensures line { OnOk result (IsAtLine writer.new) }
-    ensures text { OnOk result (written (λ v. v.items) writer.new ≡ written (λ v. v.items) writer.old ++ row_text default_writer header) }
+    ensures line { OnOk result (IsAtLine writer.old → IsAtLine writer.new) }
+    ensures text { OnOk result (IsAtLine writer.old → written (λ v. v.items) writer.new ≡ written (λ v. v.items) writer.old ++ header_line) }
 {
     let names = ByteRecord::from_fields(
         alloc,
@@ -53,110 +110,46 @@ fn append_header(writer: &mut Writer<Vec<u8>>, alloc: Global) -> Result<(), Allo
     append_line(writer, &names)
 }
 
-// Appends the lines of each order.
-fn append_orders<B: Book>(
-    writer: &mut Writer<Vec<u8>>,
-    book: &B,
-    alloc: Global,
-    orders: &[Order],
-) -> Result<(), AllocError>
-    requires { IsAtLine writer.old }
-    ensures line { OnOk result (IsAtLine writer.new) }
-    ensures text { OnOk result (written (λ v. v.items) writer.new ≡ written (λ v. v.items) writer.old ++ all_lines (B.state book.now).lists orders.now) }
+// Adds the fields of a row.
+fn push_row(fields: &mut ByteRecord, alloc: Global, row: &ExportRow) -> Result<(), AllocError>
+    requires fields { fields_of fields.old ≡ [] }
+    requires whole { partial_of fields.old ≡ [] }
+    ensures { OnOk result (fields_of fields.new ≡ row_fields row.now) }
 {
-    let mut row = ByteRecord::new(alloc);
-    for order in orders {
-        append_order(writer, &mut row, book, alloc, order)?;
-    }
-    Ok(())
-}
-
-// Appends the lines of an order.
-fn append_order<B: Book>(
-    writer: &mut Writer<Vec<u8>>,
-    row: &mut ByteRecord,
-    book: &B,
-    alloc: Global,
-    order: &Order,
-) -> Result<(), AllocError>
-    requires { IsAtLine writer.old }
-    ensures line { OnOk result (IsAtLine writer.new) }
-    ensures text { OnOk result (written (λ v. v.items) writer.new ≡ written (λ v. v.items) writer.old ++ order_lines (B.state book.now).lists order.now) }
-{
-    let positions = book.positions_of(alloc, order.id)?;
-    append_positions(writer, row, book, alloc, order, positions.as_slice())
-}
-
-// Appends the line of each of these positions of an order.
-fn append_positions<B: Book>(
-    writer: &mut Writer<Vec<u8>>,
-    row: &mut ByteRecord,
-    book: &B,
-    alloc: Global,
-    order: &Order,
-    positions: &[OrderPos],
-) -> Result<(), AllocError>
-    requires { IsAtLine writer.old }
-    ensures line { OnOk result (IsAtLine writer.new) }
-    ensures text { OnOk result (written (λ v. v.items) writer.new ≡ written (λ v. v.items) writer.old ++ concat (map (position_line (B.state book.now).lists order.now) positions.now)) }
-{
-    for position in positions {
-        row.clear();
-        push_position(row, book, alloc, order, position)?;
-        append_line(writer, row)?;
-    }
-    Ok(())
-}
-
-// Adds the fields of a position of an order.
-fn push_position<B: Book>(
-    row: &mut ByteRecord,
-    book: &B,
-    alloc: Global,
-    order: &Order,
-    position: &OrderPos,
-) -> Result<(), AllocError>
-    requires fields { fields_of row.old ≡ [] }
-    requires whole { partial_of row.old ≡ [] }
-    ensures { OnOk result (fields_of row.new ≡ position_fields (B.state book.now).lists order.now position.now) }
-{
-    push_code(row, alloc, order.id)?;
-    push_number(row, u64::from(position.positionid))?;
-    row.push_field(order.status.letter().as_bytes())?;
-    push_number(row, position.product.item)?;
-    push_number_or_empty(row, position.product.variation)?;
-    push_price(row, alloc, position.price)?;
-    row.push_field(voucher_code(book, position.voucher).as_bytes())?;
-    row.push_field(position.secret.as_str().as_bytes())
+    push_code(fields, alloc, row.order)?;
+    push_number(fields, u64::from(row.positionid))?;
+    fields.push_field(row.status.letter().as_bytes())?;
+    push_number(fields, row.item)?;
+    push_number_or_empty(fields, row.variation)?;
+    push_price(fields, alloc, row.price)?;
+    fields.push_field(voucher_code(row).as_bytes())?;
+    fields.push_field(row.secret.as_str().as_bytes())
 }
 
 // Adds the code of the order of this number.
-fn push_code(row: &mut ByteRecord, alloc: Global, order: u64) -> Result<(), AllocError>
-    requires { partial_of row.old ≡ [] }
-    ensures { OnOk result (Gains (order_code order) row.old row.new) }
+fn push_code(fields: &mut ByteRecord, alloc: Global, order: u64) -> Result<(), AllocError>
+    requires { partial_of fields.old ≡ [] }
+    ensures { OnOk result (Gains (order_code order) fields.old fields.new) }
 {
     let code = code_of(alloc, order)?;
-    row.push_field(code.as_str().as_bytes())
+    fields.push_field(code.as_str().as_bytes())
 }
 
 // Adds a price.
-fn push_price(row: &mut ByteRecord, alloc: Global, price: Cents) -> Result<(), AllocError>
-    requires { partial_of row.old ≡ [] }
-    ensures { OnOk result (Gains (cents_text price) row.old row.new) }
+fn push_price(fields: &mut ByteRecord, alloc: Global, price: Cents) -> Result<(), AllocError>
+    requires { partial_of fields.old ≡ [] }
+    ensures { OnOk result (Gains (cents_text price) fields.old fields.new) }
 {
     let price = cents_text(alloc, price)?;
-    row.push_field(price.as_bytes())
+    fields.push_field(price.as_bytes())
 }
 
-// The code of the voucher of this id; an empty text where there is none.
-fn voucher_code<B: Book>(book: &B, voucher: Option<u64>) -> &str
-    ensures { result.now ≡ voucher_code voucher (B.state book.now).lists }
+// The code of a row's voucher; an empty text where there is none.
+fn voucher_code(row: &ExportRow) -> &str
+    ensures { result.now ≡ code_or_empty row.now.voucher }
 {
-    let Some(id) = voucher else {
-        return "";
-    };
-    match book.voucher(id) {
+    match &row.voucher {
         None => "",
-        Some(voucher) => voucher.code.as_str(),
+        Some(code) => code.as_str(),
     }
 }

@@ -2,7 +2,7 @@
 
 ghost use Rattle.std.specs.Prelude.{◌≡◌, ◌&&◌, option_map};
 ghost use Rattle.bo_base.specs.Slugs.{is_slug};
-ghost use Rattle.bo_line.specs.Saying.{AddsToken, ImportsFile, MakesShop, ReportsFile, ServesFile, Tells, WorksFile};
+ghost use Rattle.bo_line.specs.Saying.{AddsToken, ExportsFile, ImportsFile, MakesShop, ReportsFile, ServesFile, Tells, WorksFile};
 
 use bo_base::{Body, is_slug};
 use bo_devices::Drain;
@@ -109,7 +109,7 @@ fn tell<W: Drain>(writer: &mut W, came: Result<Body, RunFault>) -> Result<(), Ru
     }
 }
 
-/// `report`, `export` and `migrate`: tells a report on the shop in a file, as a text of lines.
+/// `report` and `migrate`: tells a report on the shop in a file, as a text of lines.
 pub fn report_shop<F: HouseFiles, W: Drain>(
     alloc: Global,
     files: &F,
@@ -120,6 +120,18 @@ pub fn report_shop<F: HouseFiles, W: Drain>(
     ensures { ReportsFile F.reported file.now report (record { taken = W.taken writer.old; failures = W.failures writer.old }) (record { taken = W.taken writer.new; failures = W.failures writer.new }) result }
 {
     tell(writer, files.report(alloc, file, report))
+}
+
+/// `export`: writes the order positions of the shop in a file as CSV, while they are read.
+pub fn export_shop<F: HouseFiles, W: Drain>(
+    alloc: Global,
+    files: &F,
+    file: &str,
+    writer: &mut W,
+) -> Result<(), RunFault>
+    ensures { ExportsFile F.exported file.now (record { taken = W.taken writer.old; failures = W.failures writer.old }) (record { taken = W.taken writer.new; failures = W.failures writer.new }) result }
+{
+    files.export(alloc, file, writer)
 }
 
 /// `import-vouchers`: adds the vouchers of a CSV file to the shop in a file, and tells of each row what became of it, as a text of lines.

@@ -10,7 +10,7 @@ pub mod line;
 pub mod opening;
 
 pub use feeding::{feed, feed_texts};
-pub use filing::{add_token, make_shop, report_shop, serve_shop, work_shop};
+pub use filing::{add_token, export_shop, make_shop, report_shop, serve_shop, work_shop};
 pub use house::serve_house;
 pub use line::run;
 pub use opening::{open_memory, open_store};

@@ -5,7 +5,9 @@ ghost use Rattle.bo_feed.specs.Line.{Ran, ReportsWhere};
 ghost use Rattle.bo_line.specs.Values.{report_of};
 
 use crate::feeding::feed_texts;
-use crate::filing::{add_token, import_vouchers, make_shop, report_shop, serve_shop, work_shop};
+use crate::filing::{
+    add_token, export_shop, import_vouchers, make_shop, report_shop, serve_shop, work_shop,
+};
 use bo_devices::{Drain, Source};
 use bo_line::{
     Console, HouseFiles, Line, LineEnd, Report, ReportFault, RunFault, answer_line, plain_words,
@@ -43,7 +45,7 @@ pub fn run<O: Console, F: HouseFiles, R: Source, W: Drain>(
     reader: &mut R,
     writer: &mut W,
 ) -> LineEnd
-    ensures { Ran F.made F.added F.served F.worked F.reported F.imported (map string_bytes words.now)
+    ensures { Ran F.made F.added F.served F.worked F.reported F.exported F.imported (map string_bytes words.now)
         (record { left = R.left reader.old; taken = W.taken writer.old; calls = R.calls reader.old; input = R.failures reader.old; output = W.failures writer.old })
         (record { left = R.left reader.new; taken = W.taken writer.new; calls = R.calls reader.new; input = R.failures reader.new; output = W.failures writer.new }) result }
 {
@@ -76,10 +78,7 @@ pub fn run<O: Console, F: HouseFiles, R: Source, W: Drain>(
         Ok(Line::Report(line)) => {
             report_file(rt, alloc, files, line.file, line.report, line.list, writer)
         }
-        Ok(Line::Export(line)) => tell_run(
-            rt,
-            report_shop(alloc, files, line.file, Report::Positions, writer),
-        ),
+        Ok(Line::Export(line)) => tell_run(rt, export_shop(alloc, files, line.file, writer)),
         Ok(Line::Import(line)) => tell_run(
             rt,
             import_vouchers(alloc, files, line.file, line.csv, writer),

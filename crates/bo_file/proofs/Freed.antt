@@ -56,6 +56,22 @@ below_along number n m xs ys le same h =
     let a = alike (map number ys) (map number xs) (IsPermutation-map number ys xs (IsPermutation-sym xs ys same)) in
     below_later n m (map number xs) (omega (arith, le)) (record { apart = a.apart h.apart; below = a.below n h.below })
 
+-- numbers that are below one in some order are so in any
+below_back : {R : Type 0} (number : R → ℕ) (m : ℕ) (xs ys : List R) → IsPermutation xs ys → AreBelow m (map number xs) → AreBelow m (map number ys)
+below_back number m xs ys same h = let a = alike (map number xs) (map number ys) (IsPermutation-map number xs ys same) in record { apart = a.apart h.apart; below = a.below m h.below }
+
+-- none below the greatest of four numbers is free, each of which is the least in one table
+pub least : (t : Tables) (rows : TableRows) (n a b c d : ℕ) → ((number : ℕ) → a ≤ number → b ≤ number → c ≤ number → d ≤ number → n ≤ number) → AreTableRows t rows
+    → ((number : ℕ) → AreBelow number (map (λ r. r.rowid) rows.catalogue.quota_items.items) → a ≤ number) → ((number : ℕ) → AreBelow number (map (λ r. r.rowid) rows.catalogue.quota_variations.items) → b ≤ number)
+    → ((number : ℕ) → AreBelow number (map (λ r. r.rowid) rows.doors.list_items.items) → c ≤ number) → ((number : ℕ) → AreBelow number (map (λ r. r.rowid) rows.others.kept.items) → d ≤ number)
+    → (number : ℕ) → IsFree number t → n ≤ number
+least t rows n a b c d all of ha hb hc hd number h =
+    all number
+    (ha number (below_back (λ (r : QuotaItem). r.rowid) number t.quota_items rows.catalogue.quota_items.items of.catalogue.quota_items h.quota_items))
+    (hb number (below_back (λ (r : QuotaVariation). r.rowid) number t.quota_variations rows.catalogue.quota_variations.items of.catalogue.quota_variations h.quota_variations))
+    (hc number (below_back (λ (r : ListItem). r.rowid) number t.list_items rows.doors.list_items.items of.doors.list_items h.list_items))
+    (hd number (below_back (λ (r : KeptRow). r.rowid) number t.kept rows.others.kept.items of.others.kept h.kept))
+
 pub free : (t : Tables) (rows : TableRows) (n a b c d : ℕ) → a ≤ n → b ≤ n → c ≤ n → d ≤ n → AreTableRows t rows → AreBelow a (map (λ r. r.rowid) rows.catalogue.quota_items.items) → AreBelow b (map (λ r. r.rowid) rows.catalogue.quota_variations.items)
     → AreBelow c (map (λ r. r.rowid) rows.doors.list_items.items) → AreBelow d (map (λ r. r.rowid) rows.others.kept.items) → IsFree n t
 free t rows n a b c d la lb lc ld of ha hb hc hd = record {

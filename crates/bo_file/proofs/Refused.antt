@@ -1,9 +1,9 @@
 -- What was read of a file, and what its tables hold of an office.
-use Rattle.std.proofs.Common.{◌≡◌, ℕ, false, map, IsTrue, Result, Ok, Err, IfOk, OnOk, refl, sym, ap, subst, ◌∙◌}
+use Rattle.std.proofs.Common.{◌≡◌, ◌≤◌, ℕ, false, map, IsTrue, Result, Ok, Err, IfOk, OnOk, refl, sym, ap, subst, ◌∙◌}
 use Rattle.std.specs.List.Sorted.{IsPermutation}
 use Rattle.std.proofs.lemmas.List.Sorted.{IsPermutation-map, IsPermutation-refl}
 use Rattle.sqlite_trees.specs.Tree.{Trees}
-use Rattle.sqlite.specs.Effect.{Database}
+use Rattle.sqlite.specs.Effect.{Database, IsDatabase}
 use Rattle.sqlite.specs.State.{State as Connected}
 use Rattle.bo_schema.specs.Tables.{schema}
 use Rattle.bo_lists.specs.Lists.{State}
@@ -21,6 +21,7 @@ use Rattle.bo_opens.specs.Read.{AreTableRows, IsFileOf}
 use Rattle.bo_opens.specs.Rests.{IsAt, StaysOpen}
 use Rattle.bo_arrange.specs.Arranged.{arranged, rows_in, told_by, count_in, item_link, variation_link, list_link, IsInOrder}
 use Rattle.bo_typed.specs.Typed.{IsTypedShop}
+use Rattle.bo_tables.proofs.ShopLemmas.{declared}
 use Rattle.bo_tables.proofs.Told.{shop_again}
 use Rattle.bo_file.specs.Opened.{IsOpened}
 
@@ -63,8 +64,8 @@ stand_as t read file s is state of order whole counted =
 
 -- of an open connection a crash leaves the last commit
 pub is_opened : (t : Tables) (head : ShopRow) (next : ℕ) (s : State) (old new : Connected) → ((db : Trees) → IsTrue new.is_open → new.may_leave db → db ≡ new.committed.trees) → IsTrue new.is_open → new.in_transaction ≡ false → StaysOpen old new
-    → (db : Database) → IsAt db old → db.schema ≡ schema → Holds db.trees t → Stand head t s (map (λ r. r.kept) t.kept) → ((u : Tables) → Holds db.trees u → IsFree next u) → IsTypedShop head t → IsOpened db.trees head next s new
-is_opened t head next s old new law opened outside stays db was has holds stand free typed =
+    → (db : Database) → IsAt db old → db.schema ≡ schema → IsDatabase db → Holds db.trees t → Stand head t s (map (λ r. r.kept) t.kept) → ((u : Tables) → Holds db.trees u → IsFree next u) → ((number : ℕ) → IsFree number t → next ≤ number) → IsTypedShop head t → IsOpened db.trees head next s new
+is_opened t head next s old new law opened outside stays db was has listed holds stand free least typed =
     let at = stays.stays db was in
     let known : new.now.schema ≡ schema = ap (λ (d : Database). d.schema) at.now ∙ has in
     let held : Holds new.now.trees t = subst (λ (d : Database). Holds d.trees t) (sym at.now) holds in
@@ -74,6 +75,7 @@ is_opened t head next s old new law opened outside stays db was has holds stand 
       held = holds;
       stand = stand;
       typed = typed;
+      least = least;
       holds = λ is_open. record { known = known; outside = outside; settled = settled; tables = t; held = held; stand = stand; typed = typed; free = free t holds };
       knows = λ u also.
           let row = shop_again db.trees t u holds also head stand.shop_is in
@@ -82,7 +84,7 @@ is_opened t head next s old new law opened outside stays db was has holds stand 
             now = λ is_open. record { known = known; tells = record { tables = u; held = here; shop_is = row; told = refl }; free = free u also };
             left = λ trees may.
                 let same : trees ≡ new.now.trees = law trees opened may ∙ sym (ap (λ (d : Database). d.trees) settled) in
-                (head, record { tables = u; held = subst (λ d. Holds d u) (sym same) here; shop_is = row; told = refl });
+                (declared db trees listed has (same ∙ ap (λ (d : Database). d.trees) at.now), (head, record { tables = u; held = subst (λ d. Holds d u) (sym same) here; shop_is = row; told = refl }));
           };
       leaves = λ left l.
           let same : l.trees ≡ new.now.trees = law l.trees opened l.may ∙ sym (ap (λ (d : Database). d.trees) settled) in

@@ -1,5 +1,5 @@
 -- A shop's file that was opened, and what is wrong with one that isn't.
-use Rattle.std.specs.Prelude.{◌≡◌, ◌⊎◌, ℕ, ◌<◌, List, map}
+use Rattle.std.specs.Prelude.{◌≡◌, ◌⊎◌, ℕ, ◌<◌, ◌≤◌, List, map}
 use Rattle.sqlite_trees.specs.Tree.{Trees}
 use Rattle.sqlite.specs.Effect.{Database}
 use Rattle.sqlite.specs.State.{State as Connected}
@@ -9,6 +9,7 @@ use Rattle.bo_columns.specs.declared.rows.ShopRow.{ShopRow}
 use Rattle.bo_columns.specs.declared.rows.Token.{Token}
 use Rattle.bo_columns.specs.Tables.{Tables, Holds}
 use Rattle.bo_kept.specs.ShopView.{ShopView, IsSame}
+use Rattle.bo_stand.specs.Free.{IsFree}
 use Rattle.bo_stand.specs.Rows.{OfficeRows}
 use Rattle.bo_stand.specs.Stands.{AreRowsOf, Stand}
 use Rattle.bo_typed.specs.Typed.{AreBelowNext, IsTypedShop}
@@ -86,12 +87,13 @@ IsReason db Store = Unit {0}
 
 -- The trees hold tables, whose shop's row is this one; they hold the office with all answers that stand in them. All values are what their
 -- types promise, the numbers of tokens are below the next one, and the house is known that the shop's row and the tokens tell, in whatever
--- order they are listed. And a crash leaves nothing else.
+-- order they are listed. Rows are numbered on from the least number that is free. And a crash leaves nothing else.
 pub record IsOpened (db : Trees) (head : ShopRow) (next : ℕ) (state : State) (new : Connected) : Type 0 where
   pub tables : Tables
   pub held : Holds db tables
   pub stand : Stand head tables state (map (λ r. r.kept) tables.kept)
   pub holds : HoldsWhileOpen head next new state (map (λ r. r.kept) tables.kept)
   pub typed : IsTypedShop head tables
+  pub least : (number : ℕ) → IsFree number tables → next ≤ number
   pub knows : (same : Tables) → Holds db same → IsOfHouse head next new (house_of_rows head same.tokens)
   pub leaves : (left : ShopView) → Leaves new left → IsSame left (record { state = state; kept = map (λ r. r.kept) tables.kept })

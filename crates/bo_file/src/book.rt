@@ -1,6 +1,6 @@
 //! A book of the rows of a file.
 
-ghost use Rattle.std.specs.Prelude.{◌≡◌, map, IfOk, IfErr, OnOk};
+ghost use Rattle.std.specs.Prelude.{◌≡◌, ◌≤◌, ℕ, map, IfOk, IfErr, OnOk};
 ghost use Rattle.bo_lists.specs.Lists.{empty};
 ghost use Rattle.bo_sound.specs.Sound.{IsSound};
 ghost use Rattle.bo_columns.specs.Tables.{Tables};
@@ -79,7 +79,7 @@ pub(crate) fn open_rows<B: Book + Drop>(
     ensures names { IfOk result (λ it. (it.organizer ≡ it.head.organizer) × (it.event ≡ it.head.event)) }
     ensures sound { IfOk result (λ it. IsSound (B.state it.book)) }
     ensures numbered { OnOk result (AreBelowNext file.shop file.tables.others.tokens.items) }
-    ensures held { IfOk result (λ it. (t : Tables) → IsFileOf t file → Stand it.head t (B.state it.book) (map (λ r. r.kept) t.kept) × IsFree it.next_row t) }
+    ensures held { IfOk result (λ it. (t : Tables) → IsFileOf t file → Stand it.head t (B.state it.book) (map (λ r. r.kept) t.kept) × IsFree it.next_row t × ((number : ℕ) → IsFree number t → it.next_row ≤ number)) }
     ensures refused { IfErr result (IsWhy file) }
 {
     let FileTables { shop, tables } = file;

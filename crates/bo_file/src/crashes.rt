@@ -25,6 +25,7 @@ ghost use Rattle.bo_tables.specs.Tokens.{house_with, raised, next_one};
 ghost use Rattle.bo_file.specs.Found.{IsFound};
 
 use bo_kept::Tables;
+use bo_schema::schema_known;
 use bo_tables::SqlTables;
 use sqlite::{Alter, Connection};
 
@@ -38,7 +39,8 @@ pub fn a_made_shop_runs<S: Alter>(blank: &Connection<S>, made: &SqlTables<S>)
 }
 
 /// What is opened of a file after a crash is one of the shops that the crash may have left, with its answers, and nothing else: the
-/// premise of the law of histories. It is of the same house: its names, the number of each token, and the one that the next token gets.
+/// premise of the law of histories. Its tables are declared as ours, where the tables before knew a house; and it is of the same house: its
+/// names, the number of each token, and the one that the next token gets.
 /// So a shop that was running is running again, as it was or with one undecided write carried out; and whatever happened to it before, it
 /// stands for the list of arrivals that its history comes to, with this crash in it.
 pub fn a_shop_runs_on_after_a_crash<S: Alter>(
@@ -48,6 +50,7 @@ pub fn a_shop_runs_on_after_a_crash<S: Alter>(
 )
     ensures reopened { IsFound (state S.Store before.now.connection) (state S.Store fresh.now) → (z : State) (o : IsOpened (state S.Store fresh.now).now.trees after.now.head after.now.next_row z (state S.Store after.now.connection))
         → Reopened ⟦<SqlTables<S> as Tables>⟧.holds ⟦<SqlTables<S> as Tables>⟧.may_leave before.now after.now (record { state = z; kept = map (λ r. r.kept) o.tables.kept }) }
+    ensures known { (house : House) → ⟦<SqlTables<S> as Tables>⟧.knows before.now house → IsFound (state S.Store before.now.connection) (state S.Store fresh.now) → (state S.Store fresh.now).now.schema ≡ schema }
     ensures house { (house : House) → ⟦<SqlTables<S> as Tables>⟧.knows before.now house → IsFound (state S.Store before.now.connection) (state S.Store fresh.now)
         → (z : State) → IsOpened (state S.Store fresh.now).now.trees after.now.head after.now.next_row z (state S.Store after.now.connection)
         → ⟦<SqlTables<S> as Tables>⟧.knows after.now house × (after.now.head.organizer ≡ house.organizer) × (after.now.head.event ≡ house.event) }
@@ -62,7 +65,7 @@ pub fn a_shop_runs_on_after_a_crash<S: Alter>(
         × ((whole : List Delivery) × ComesTo words p [] [] (events ++ Crashed ∷ []) whole × Stands words p whole x) }
 {
     let _ = before;
-    let _ = fresh;
+    schema_known(fresh);
     let _ = after;
 }
 
@@ -77,31 +80,33 @@ pub fn a_crash_while_opening_loses_nothing<S: Alter>(
     again: &Connection<S>,
     after: &SqlTables<S>,
 )
-    ensures found { IsFound (state S.Store before.now.connection) (state S.Store fresh.now) → IsTrue (state S.Store fresh.now).is_open → Survives (state S.Store fresh.now) (state S.Store tried.now) (λ _. ⊥)
+    ensures found { IsFound (state S.Store before.now.connection) (state S.Store fresh.now) → Survives (state S.Store fresh.now) (state S.Store tried.now) (λ _. ⊥)
         → IsFound (state S.Store tried.now) (state S.Store again.now) → IsFound (state S.Store before.now.connection) (state S.Store again.now) × ((state S.Store again.now).now ≡ (state S.Store fresh.now).now) }
     ensures house { (house : House) → ⟦<SqlTables<S> as Tables>⟧.knows before.now house
-        → IsFound (state S.Store before.now.connection) (state S.Store fresh.now) → IsTrue (state S.Store fresh.now).is_open → Survives (state S.Store fresh.now) (state S.Store tried.now) (λ _. ⊥)
+        → IsFound (state S.Store before.now.connection) (state S.Store fresh.now) → Survives (state S.Store fresh.now) (state S.Store tried.now) (λ _. ⊥)
         → IsFound (state S.Store tried.now) (state S.Store again.now) → (z : State) → IsOpened (state S.Store again.now).now.trees after.now.head after.now.next_row z (state S.Store after.now.connection)
         → ⟦<SqlTables<S> as Tables>⟧.knows after.now house }
     ensures runs { (words : Reply → Response) (s : State) (r : Running) → IsRunning words ⟦<SqlTables<S> as Tables>⟧.holds ⟦<SqlTables<S> as Tables>⟧.may_leave before.now s r
-        → IsFound (state S.Store before.now.connection) (state S.Store fresh.now) → IsTrue (state S.Store fresh.now).is_open → Survives (state S.Store fresh.now) (state S.Store tried.now) (λ _. ⊥)
+        → IsFound (state S.Store before.now.connection) (state S.Store fresh.now) → Survives (state S.Store fresh.now) (state S.Store tried.now) (λ _. ⊥)
         → IsFound (state S.Store tried.now) (state S.Store again.now) → (z : State) → IsOpened (state S.Store again.now).now.trees after.now.head after.now.next_row z (state S.Store after.now.connection)
         → (x : ShopView) × MayLeave words r x × IsRunning words ⟦<SqlTables<S> as Tables>⟧.holds ⟦<SqlTables<S> as Tables>⟧.may_leave after.now z (opened words x) }
 {
-    let _ = fresh;
+    schema_known(fresh);
     let _ = tried;
+    schema_known(again);
     a_shop_runs_on_after_a_crash(before, again, after);
 }
 
-/// After a crash of a running shop its file holds a shop, and so is opened, or refused for want of memory or because the store
-/// fails, and never with 60, 61 or 62.
+/// After a crash of a running shop, whose tables knew a house, its file holds a shop, and so is opened, or refused for want of memory or
+/// because the store fails, and never with 60, 61 or 62.
 pub fn a_crash_damages_nothing<S: Alter>(before: &SqlTables<S>, fresh: &Connection<S>)
-    ensures { (words : Reply → Response) (s : State) (r : Running) → IsRunning words ⟦<SqlTables<S> as Tables>⟧.holds ⟦<SqlTables<S> as Tables>⟧.may_leave before.now s r
+    ensures { (house : House) → ⟦<SqlTables<S> as Tables>⟧.knows before.now house
+        → (words : Reply → Response) (s : State) (r : Running) → IsRunning words ⟦<SqlTables<S> as Tables>⟧.holds ⟦<SqlTables<S> as Tables>⟧.may_leave before.now s r
         → IsFound (state S.Store before.now.connection) (state S.Store fresh.now)
         → (error : OpenError) → IsReason (state S.Store fresh.now).now error → IsOfMachine error }
 {
     let _ = before;
-    let _ = fresh;
+    schema_known(fresh);
 }
 
 /// A token that is added changes nothing of a running shop: what `add_token` promises of the office and the answers, and of what a crash in

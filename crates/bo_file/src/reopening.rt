@@ -17,6 +17,7 @@ ghost use Rattle.bo_file.specs.Opened.{IsReason, IsOpened};
 
 use crate::book::{Reopened, open_rows};
 use bo_opens::{FileTables, OpenError, read_file};
+use bo_schema::schema_known;
 use bo_usage::Book;
 use sqlite::{Alter, Connection};
 use std::alloc::Global;
@@ -64,6 +65,7 @@ pub(crate) fn reopen<S: Alter, B: Book + Drop>(
     ensures rests { Rests (state S.Store connection.old) (state S.Store connection.new) }
     ensures crash { Survives (state S.Store connection.old) (state S.Store connection.new) (λ _. ⊥) }
 {
+    schema_known(connection);
     match read_outside(alloc, connection) {
         Ok(file) => open_rows(alloc, book, file),
         Err(error) => Err(error),

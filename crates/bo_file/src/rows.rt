@@ -1,6 +1,6 @@
 //! The rows of a file, as those of a box office.
 
-ghost use Rattle.std.specs.Prelude.{◌≡◌, ◌⊎◌, ◌↔◌, List, IfOk, IfErr, IfSome, IfNone, OnOk, IsTrue};
+ghost use Rattle.std.specs.Prelude.{◌≡◌, ◌⊎◌, ◌↔◌, ◌≤◌, ℕ, List, IfOk, IfErr, IfSome, IfNone, OnOk, IsTrue};
 ghost use Rattle.bo_columns.specs.declared.rows.ShopRow.{ShopRow as Head};
 ghost use Rattle.bo_columns.specs.declared.rows.Token.{Token as TokenRow};
 ghost use Rattle.bo_columns.specs.Tables.{Tables};
@@ -25,9 +25,10 @@ use bo_opens::numbers::next_number;
 use bo_rules::{FileRows, Rule};
 use std::alloc::Global;
 
-/// The number from which rows without an id of their own are numbered on. None where those that stand weren't shown in order.
+/// The number from which rows without an id of their own are numbered on, the least that is free. None where those that stand weren't shown in order.
 pub(crate) fn free_number(tables: &TableRows) -> Option<u64>
     ensures next { IfSome result (λ next. (t : Tables) → AreTableRows t tables.now → IsFree next t) }
+    ensures least { IfSome result (λ next. (t : Tables) → AreTableRows t tables.now → (number : ℕ) → IsFree number t → next ≤ number) }
     ensures none { IfNone result (¬ RowsRise tables.now) }
 {
     let items = next_number(tables.catalogue.quota_items.as_slice())?;

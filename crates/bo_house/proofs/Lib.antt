@@ -2,3 +2,4 @@ mod ServeLemmas
 mod TokenLemmas
 mod ActLemmas
 mod ImportLemmas
+mod ExportLemmas

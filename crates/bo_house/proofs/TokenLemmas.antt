@@ -17,18 +17,14 @@ use Rattle.bo_tables.specs.Begun.{HasToken, token_added}
 use Rattle.bo_tables.specs.Tokens.{HasNoRoom, IsNumbered, head_after, house_with, next_one, raised}
 use Rattle.bo_tables.specs.declared.error.TokenError.{TokenError}
 use Rattle.bo_tables.specs.declared.error.TokenError.TheVariants as tokens
-use Rattle.bo_opens.specs.declared.error.OpenError.{OpenError}
-use Rattle.bo_opens.specs.declared.error.OpenError.TheVariants as opening
-use Rattle.bo_schema.specs.declared.error.RowError.{RowError}
-use Rattle.bo_schema.specs.declared.error.RowError.TheVariants as rows
 use Rattle.bo_opens.specs.Rests.{IsAt, IsOpenAt, Rests}
 use Rattle.bo_file.specs.Opened.{IsOpened}
 use Rattle.bo_schema.specs.Tables.{schema}
 use Rattle.bo_schema.specs.Whole.{IsOver, IsStill, MayBeWritten}
 use Rattle.bo_tables.specs.Held.{number_of}
 use Rattle.bo_tables.specs.Shops.{HoldsWhileOpen, IsOfHouse, KnowsWhileOpen, LeavesHouse, house_of_rows}
-use Rattle.bo_house.specs.Faults.{fault_of_opening, fault_of_rows, told_of_token}
-use Rattle.bo_house.specs.Filed.{AddsTokenIn, GetsToken, HasNextToken, IsFullFor, KnowsToken}
+use Rattle.bo_house.specs.Faults.{fault_of_token, told_of_token}
+use Rattle.bo_house.specs.Filed.{AddsTokenIn, GetsToken, HasNextToken, IsFullFor, IsOfStore, IsToldFor, KnowsToken}
 use Rattle.bo_house.specs.Served.{StaysUnopened}
 
 -- what holds of a number that was given holds of one that is told
@@ -50,40 +46,37 @@ abbrev is_full_in : Result ℕ RunFault → Bool
 is_full_in (Ok number) = false
 is_full_in (Err fault) = is_full fault
 
-full_rows : (error : RowError) → is_full (fault_of_rows error) ≡ false
-full_rows rows.Memory = refl
-full_rows rows.Foreign = refl
-full_rows rows.Damaged = refl
-full_rows rows.Store = refl
-
-full_opening : (error : OpenError) → is_full (fault_of_opening error) ≡ false
-full_opening opening.Memory = refl
-full_opening opening.NotAShop = refl
-full_opening (opening.Version version) = refl
-full_opening (opening.Damaged rule) = refl
-full_opening opening.Store = refl
-
 pub told_full : (added : Result ℕ TokenError) → told_of_token added ≡ Err faults.Full → added ≡ Err tokens.Full
 told_full (Ok number) is = absurd (false≢true (ap is_full_in is))
 told_full (Err tokens.Full) is = refl
-told_full (Err (tokens.Rows error)) is = absurd (false≢true (sym (full_rows error) ∙ ap is_full_in is))
+told_full (Err tokens.Memory) is = absurd (false≢true (ap is_full_in is))
+told_full (Err tokens.Store) is = absurd (false≢true (ap is_full_in is))
 
-pub never_full : (error : OpenError) (fault : RunFault) (P : Type 0) → fault ≡ fault_of_opening error → ◌≡◌ {A = Result ℕ RunFault} (Err fault) (Err faults.Full) → P
-never_full error fault P told is = absurd (false≢true (sym (full_opening error) ∙ (ap is_full (sym told) ∙ ap is_full_in is)))
+-- a token is refused for want of room, or of the store alone
+for_token : (error : TokenError) → (fault_of_token error ≡ faults.Full) ⊎ IsOfStore (fault_of_token error)
+for_token tokens.Full = inl refl
+for_token tokens.Memory = inr (inl refl)
+for_token tokens.Store = inr (inr refl)
+
+pub told_for : (added : Result ℕ TokenError) (told : Result ℕ RunFault) → told ≡ told_of_token added → IfErr told (λ fault. (fault ≡ faults.Full) ⊎ IsOfStore fault)
+told_for (Ok number) told is = subst (λ r. IfErr r (λ fault. (fault ≡ faults.Full) ⊎ IsOfStore fault)) (sym is) tt
+told_for (Err error) told is = subst (λ r. IfErr r (λ fault. (fault ≡ faults.Full) ⊎ IsOfStore fault)) (sym is) (for_token error)
+
+-- so the fault has its cause, where that of want of room is known
+pub cause_of : (outcome : Result ℕ RunFault) (clean : Type 0) (db : Database → Type 0) (digest : List ℕ) → IfErr outcome (λ fault. (fault ≡ faults.Full) ⊎ IsOfStore fault)
+    → (outcome ≡ Err faults.Full → clean → (it : Database) → db it → it.schema ≡ schema → IsFullFor it.trees digest) → IfErr outcome (λ fault. clean → (it : Database) → db it → IsToldFor it digest fault)
+cause_of (Ok number) clean db digest h full = tt
+cause_of (Err fault) clean db digest (inl is) full = λ cleared it at. inr (inl (is, full (ap (λ (f : RunFault). Err f) is) cleared it at))
+cause_of (Err fault) clean db digest (inr of) full = λ cleared it at. inr (inr of)
 
 -- what is open after it was only read was open before
 pub open_at : (old mid : Connected) → Rests old mid → HasCleanDisk mid → IsTrue mid.is_open → (db : Database) → IsAt db old → IsOpenAt db old
 open_at old mid rests clean is_open db at = record { is_open = (rests clean is_open).was_open; now = at.now; committed = at.committed }
 
 -- of a file that was opened, and whose tables had no room for the token
-pub full_by : (told : Result ℕ RunFault) (db : Database) (head : ShopRow) (next : ℕ) (office : State) (digest : List ℕ) (old mid new : Connected) → told ≡ Err faults.Full
-    → Rests old mid → HasCleanDisk mid → IsTrue new.is_open → IsAt db old → db.schema ≡ schema → (IsOver schema mid → OnErr told (IsStill mid new))
-    → (IsTrue mid.is_open → IsOpened db.trees head next office mid)
-    → ((house : House) → KnowsWhileOpen head next mid house → HasNoRoom (house.tokens digest) head.next_token) → IsFullFor db.trees digest
-full_by (Ok number) db head next office digest old mid new is rests clean is_open at known still opens full = absurd (false≢true (ap is_full_in is))
-full_by (Err fault) db head next office digest old mid new is rests clean is_open at known still opens full =
-    let over : IsOver schema mid = λ was_open. ap (λ (d : Database). d.schema) ((rests clean was_open).stays db at).now ∙ known in
-    let o = opens ((still over).same is_open).was_open in
+pub full_by : (db : Trees) (head : ShopRow) (next : ℕ) (office : State) (digest : List ℕ) (mid : Connected) → IsOpened db head next office mid
+    → ((house : House) → KnowsWhileOpen head next mid house → HasNoRoom (house.tokens digest) head.next_token) → IsFullFor db digest
+full_by db head next office digest mid o full =
     record { tables = o.tables; held = o.held; head = head; office = office; stand = o.stand; full = full (house_of_rows head o.tables.tokens) (o.knows o.tables o.held).now }
 
 -- a file that was opened, and whose tables took no token, shows what it showed
@@ -179,6 +172,5 @@ no_token g digest old left outcome stays = subst (λ (o : Result ℕ RunFault). 
   added = tt;
   cause = λ clean db at. inl (stays.error, refl, stays.cause clean db at);
   none = λ clean is_open db at known. (stays.rests clean is_open).stays db at;
-  full = λ is clean is_open db at known. never_full stays.error _ _ refl is;
   crash = λ clean db at known trees may. elim (stays.crash.crash clean trees may) [ inl was ↦ inl was | inr none ↦ absurd none ];
 })

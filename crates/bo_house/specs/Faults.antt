@@ -2,8 +2,12 @@
 use Rattle.std.specs.Prelude.{ℕ, Result, Ok, Err}
 use Rattle.bo_csv.specs.declared.voucher_file.FileFault.{FileFault}
 use Rattle.bo_csv.specs.declared.voucher_file.FileFault.TheVariants as files
+use Rattle.bo_export.specs.declared.sink.SinkFault.{SinkFault}
+use Rattle.bo_export.specs.declared.sink.SinkFault.TheVariants as sinks
 use Rattle.bo_line.specs.declared.fault.RunFault.{RunFault}
 use Rattle.bo_line.specs.declared.fault.RunFault.TheVariants as faults
+use Rattle.bo_tables.specs.declared.error.CreateError.{CreateError}
+use Rattle.bo_tables.specs.declared.error.CreateError.TheVariants as making
 use Rattle.bo_tables.specs.declared.error.TokenError.{TokenError}
 use Rattle.bo_tables.specs.declared.error.TokenError.TheVariants as tokens
 use Rattle.bo_opens.specs.declared.error.OpenError.{OpenError}
@@ -12,12 +16,10 @@ use Rattle.bo_rules.specs.declared.rule.Rule.TheVariants as rules
 use Rattle.bo_schema.specs.declared.error.RowError.{RowError}
 use Rattle.bo_schema.specs.declared.error.RowError.TheVariants as rows
 
--- a value that is none is told as the rule of limits
-abbrev pub fault_of_rows : RowError → RunFault
-fault_of_rows rows.Memory = faults.Memory
-fault_of_rows rows.Foreign = faults.NotAShop
-fault_of_rows rows.Damaged = faults.Damaged rules.Limits
-fault_of_rows rows.Store = faults.Store
+abbrev pub fault_of_making : CreateError → RunFault
+fault_of_making making.NotBlank = faults.NotAShop
+fault_of_making making.Memory = faults.Memory
+fault_of_making making.Store = faults.Store
 
 abbrev pub fault_of_opening : OpenError → RunFault
 fault_of_opening opening.Memory = faults.Memory
@@ -28,12 +30,24 @@ fault_of_opening opening.Store = faults.Store
 
 abbrev pub fault_of_token : TokenError → RunFault
 fault_of_token tokens.Full = faults.Full
-fault_of_token (tokens.Rows error) = fault_of_rows error
+fault_of_token tokens.Memory = faults.Memory
+fault_of_token tokens.Store = faults.Store
 
 -- what is told of a token: its number, or the fault
 abbrev pub told_of_token : Result ℕ TokenError → Result ℕ RunFault
 told_of_token (Ok number) = Ok number
 told_of_token (Err error) = Err (fault_of_token error)
+
+-- why rows aren't read; a value that is none is told as the rule of limits
+abbrev pub fault_of_rows : RowError → RunFault
+fault_of_rows rows.Memory = faults.Memory
+fault_of_rows rows.Foreign = faults.NotAShop
+fault_of_rows rows.Damaged = faults.Damaged rules.Limits
+fault_of_rows rows.Store = faults.Store
+
+abbrev pub fault_of_sink : SinkFault → RunFault
+fault_of_sink sinks.Memory = faults.Memory
+fault_of_sink sinks.Output = faults.Unwritten
 
 abbrev pub fault_of_file : FileFault → RunFault
 fault_of_file files.Memory = faults.Memory

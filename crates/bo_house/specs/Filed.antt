@@ -20,13 +20,12 @@ use Rattle.bo_tables.specs.Held.{number_of}
 use Rattle.bo_tables.specs.Shops.{HoldsWhileOpen, IsOfHouse, KnowsWhileOpen, house_of_rows}
 use Rattle.bo_tables.specs.Made.{IsMade, first_shop}
 use Rattle.bo_tables.specs.Tokens.{HasNoRoom, IsNumbered, head_after, house_with, next_one, raised}
-use Rattle.bo_tables.specs.declared.error.TokenError.{TokenError}
 use Rattle.bo_opens.specs.declared.error.OpenError.{OpenError}
 use Rattle.bo_file.specs.Opened.{IsReason}
 use Rattle.bo_line.specs.declared.fault.RunFault.{RunFault}
 use Rattle.bo_line.specs.declared.fault.RunFault.TheVariants as faults
 use Rattle.bo_opens.specs.Rests.{IsAt, IsOpenAt}
-use Rattle.bo_house.specs.Faults.{fault_of_opening, fault_of_token}
+use Rattle.bo_house.specs.Faults.{fault_of_opening}
 
 -- a shop was made for this organizer and this event
 abbrev pub HoldsNewShop : List ℕ → List ℕ → Connected → Connected → Type 0
@@ -77,23 +76,34 @@ pub record HasNextToken (db : Trees) (digest : List ℕ) (after : Trees) : Type 
   pub is_new : number_of tables.tokens digest ≡ None
   pub holds : Holds after (token_added (raised head) (next_one head digest) tables)
 
--- a fault is told for the reason that the file isn't opened, or that it takes no token
-abbrev pub IsToldFor : Database → RunFault → Type 0
-IsToldFor db fault = ((error : OpenError) × (fault ≡ fault_of_opening error) × IsReason db error) ⊎ ((error : TokenError) × (fault ≡ fault_of_token error))
+-- for want of memory, or because the store refused a call or failed
+abbrev pub IsOfStore : RunFault → Type 0
+IsOfStore fault = (fault ≡ faults.Memory) ⊎ (fault ≡ faults.Store)
 
--- A shop was made in the database, or nothing has changed and it is told why not, 60 where there was a table; and a crash leaves all of it or
--- nothing.
+-- 60 is told of a database that has something, and any other fault of the store alone
+abbrev pub IsNotMadeFor : Database → RunFault → Type 0
+IsNotMadeFor db fault = ((fault ≡ faults.NotAShop) × (¬ (db.schema ≡ blank_schema))) ⊎ IsOfStore fault
+
+-- A fault is told for the reason that the file isn't opened; or of a shop that takes no token, 16 because it has no room for one, and any
+-- other fault of the store alone.
+abbrev pub IsToldFor : Database → List ℕ → RunFault → Type 0
+IsToldFor db digest fault =
+    ((error : OpenError) × (fault ≡ fault_of_opening error) × IsReason db error)
+    ⊎ (((fault ≡ faults.Full) × (db.schema ≡ schema → IsFullFor db.trees digest)) ⊎ IsOfStore fault)
+
+-- A shop was made in the database, or nothing has changed and it is told why not, 60 where there was a table, and only there; and a crash
+-- leaves all of it or nothing.
 pub record MakesShopIn {S : Type 0} (g : Ghosts S) (organizer event : List ℕ) (old : Connected) (left : Connection S) (outcome : Result (Unit {0}) RunFault) : Type 0 where
   pub made : HasCleanDisk (state g left) → OnOk outcome (HoldsNewShop organizer event old (state g left))
   pub none : HasCleanDisk (state g left) → OnErr outcome (IsStill old (state g left))
   pub blank : ¬ (old.now.schema ≡ blank_schema) → outcome ≡ Err faults.NotAShop
+  pub cause : IfErr outcome (IsNotMadeFor old.now)
   pub crash : Survives old (state g left) (MayBeWritten blank_schema (λ (_ : Unit {0}) db after. IsBegun (first_shop organizer event) after) old)
 
--- The shop in the database got this token, or nothing has changed and it is told why not, 16 only where it has no room for one; and a crash
--- leaves what one before it could have left, or the shop with the token, which is new then.
+-- The shop in the database got this token, or nothing has changed and it is told why not; and a crash leaves what one before it could have
+-- left, or the shop with the token, which is new then.
 pub record AddsTokenIn {S : Type 0} (g : Ghosts S) (digest : List ℕ) (old : Connected) (left : Connection S) (outcome : Result ℕ RunFault) : Type 0 where
   pub added : IfOk outcome (λ number. HasCleanDisk (state g left) → (db : Database) → IsAt db old → db.schema ≡ schema → KnowsToken db.trees digest number (state g left))
-  pub cause : IfErr outcome (λ fault. HasCleanDisk (state g left) → (db : Database) → IsOpenAt db old → IsToldFor db fault)
+  pub cause : IfErr outcome (λ fault. HasCleanDisk (state g left) → (db : Database) → IsOpenAt db old → IsToldFor db digest fault)
   pub none : HasCleanDisk (state g left) → IsTrue (state g left).is_open → (db : Database) → IsAt db old → db.schema ≡ schema → OnErr outcome (IsAt db (state g left))
-  pub full : outcome ≡ Err faults.Full → HasCleanDisk (state g left) → IsTrue (state g left).is_open → (db : Database) → IsAt db old → db.schema ≡ schema → IsFullFor db.trees digest
   pub crash : HasCleanDisk (state g left) → (db : Database) → IsAt db old → db.schema ≡ schema → (trees : Trees) → (state g left).may_leave trees → old.may_leave trees ⊎ HasNextToken db.trees digest trees

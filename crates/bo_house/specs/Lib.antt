@@ -5,5 +5,6 @@ pub mod Acting
 pub mod Worked
 pub mod Imported
 pub mod Reported
+pub mod Exported
 pub mod Shelved
 pub mod Evening

@@ -11,7 +11,6 @@ use Rattle.bo_line.specs.declared.fault.RunFault.{RunFault}
 use Rattle.bo_line.specs.declared.fault.RunFault.TheVariants as faults
 use Rattle.bo_line.specs.declared.values.Report.{Report}
 use Rattle.bo_line.specs.declared.values.Report.TheVariants as reports
-use Rattle.bo_csv.specs.PositionLines.{positions_text}
 use Rattle.bo_reports.specs.DoorText.{door_text_of}
 use Rattle.bo_reports.specs.SalesText.{sales_text}
 use Rattle.bo_house.specs.Served.{OpensAs}
@@ -29,7 +28,6 @@ version_text version = codes "version " ++ (decimal version ++ 10 ∷ [])
 abbrev pub report_on : Report → ℕ → Lists → Result (List ℕ) RunFault
 report_on reports.Sales version lists = Ok (sales_text lists)
 report_on (reports.Door list) version lists = told_if (door_text_of list lists)
-report_on reports.Positions version lists = Ok (positions_text lists)
 report_on reports.Version version lists = Ok (version_text version)
 
 -- that is told, or there is no memory for it

@@ -3,7 +3,7 @@ use Rattle.std.specs.Prelude.{◌≡◌, ℕ, Option, None, Result, Err}
 use Rattle.sqlite_trees.specs.declared.store.Store.{Ghosts}
 use Rattle.sqlite.specs.Effect.{Database}
 use Rattle.sqlite.specs.Held.{state}
-use Rattle.sqlite.specs.State.{State as Connected, HasCleanDisk, Survives}
+use Rattle.sqlite.specs.State.{State as Connected, HasCleanDisk, IsUnchanged, Survives}
 use Rattle.sqlite.specs.declared.connection.Connection.{Connection}
 use Rattle.bo_schema.specs.Tables.{schema}
 use Rattle.bo_sound.specs.Sound.{IsSound}
@@ -28,6 +28,7 @@ pub record OpensAs {S : Type 0} (g : Ghosts S) (old : Connected) (desk : DeskVie
   pub event : desk.event ≡ desk.tables.head.event
   pub version : desk.tables.head.version ≡ 1
   pub sound : IsSound desk.state
+  pub same : HasCleanDisk (state g desk.tables.connection) → IsUnchanged old (state g desk.tables.connection)
   pub rests : Rests old (state g desk.tables.connection)
   pub crash : Survives old (state g desk.tables.connection) (λ _. ⊥)
 

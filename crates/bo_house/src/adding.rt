@@ -1,6 +1,6 @@
 //! A token is added to the shop in a database.
 
-ghost use Rattle.std.specs.Prelude.{◌≡◌, ℕ, Some, Err, IfOk, IfErr, OnErr};
+ghost use Rattle.std.specs.Prelude.{◌≡◌, ◌⊎◌, ℕ, Some, Err, IfOk, IfErr, OnErr, IsTrue};
 ghost use Rattle.sha2.specs.Sha256.{sha256};
 ghost use Rattle.sqlite.specs.Held.{state};
 ghost use Rattle.sqlite.specs.State.{HasCleanDisk, Survives};
@@ -11,9 +11,8 @@ ghost use Rattle.bo_line.specs.declared.fault.RunFault.TheVariants.{Full};
 ghost use Rattle.bo_tables.specs.Begun.{HasToken};
 ghost use Rattle.bo_tables.specs.Shops.{KnowsWhileOpen};
 ghost use Rattle.bo_tables.specs.Tokens.{HasNoRoom, next_one, raised};
-ghost use Rattle.bo_tables.specs.declared.error.TokenError.{TokenError};
-ghost use Rattle.bo_house.specs.Faults.{fault_of_token, told_of_token};
-ghost use Rattle.bo_house.specs.Filed.{AddsTokenIn, GetsToken};
+ghost use Rattle.bo_house.specs.Faults.{told_of_token};
+ghost use Rattle.bo_house.specs.Filed.{AddsTokenIn, GetsToken, IsOfStore};
 
 use crate::faults::fault_of_token;
 use crate::filed::{Filed, connection_of};
@@ -38,9 +37,10 @@ fn told(added: Result<u64, TokenError>) -> Result<u64, RunFault>
 fn add_over<S: Alter + Drop, O: Drop>(opened: (SqlTables<S>, O), token: &str) -> Filed<S, u64>
     ensures gets { IfOk result.outcome (λ number. HasCleanDisk (state S.Store result.connection)
         → GetsToken opened.0.head opened.0.next_row (sha256 token.now) number (state S.Store opened.0.connection) (state S.Store result.connection)) }
-    ensures cause { IfErr result.outcome (λ fault. (error : TokenError) × (fault ≡ fault_of_token error)) }
+    ensures cause { IfErr result.outcome (λ fault. (fault ≡ Full) ⊎ IsOfStore fault) }
     ensures full { result.outcome ≡ Err Full → HasCleanDisk (state S.Store result.connection) → (house : House) → KnowsWhileOpen opened.0.head opened.0.next_row (state S.Store opened.0.connection) house
         → HasNoRoom (house.tokens (sha256 token.now)) opened.0.head.next_token }
+    ensures full_open { result.outcome ≡ Err Full → HasCleanDisk (state S.Store result.connection) → IsTrue (state S.Store opened.0.connection).is_open }
     ensures clean { HasCleanDisk (state S.Store result.connection) → HasCleanDisk (state S.Store opened.0.connection) }
     ensures none { HasCleanDisk (state S.Store result.connection) → IsOver schema (state S.Store opened.0.connection) → OnErr result.outcome (IsStill (state S.Store opened.0.connection) (state S.Store result.connection)) }
     ensures crash { Survives (state S.Store opened.0.connection) (state S.Store result.connection)

@@ -7,6 +7,7 @@ ghost use Rattle.bo_house.specs.Filed.{MakesShopIn};
 ghost use Rattle.bo_house.specs.Shelved.{IsGiven, IsMissing, IsShelved, IsTaken};
 
 use crate::adding::add_shop_token;
+use crate::exporting::export_shop;
 use crate::filed::Filed;
 use crate::importing::import_shop;
 use crate::making::make_new_shop;
@@ -100,12 +101,13 @@ impl<
     S: Alter + Drop,
     F: Shelf<Connection<S>>,
 > HouseFiles for House<'_, R, S, F> {
-    ghost use Rattle.std.specs.Prelude.{◌⊎◌, true, false, Result};
+    ghost use Rattle.std.specs.Prelude.{◌≡◌, ◌⊎◌, true, false, [], Result};
     ghost use Rattle.sqlite.specs.Held.{state};
     ghost use Rattle.sha2.specs.Sha256.{sha256};
     ghost use Rattle.bo_desk.specs.Streams.{meaning};
     ghost use Rattle.bo_line.specs.declared.fault.RunFault.{RunFault};
     ghost use Rattle.bo_serve.specs.Clock.{IsRead};
+    ghost use Rattle.bo_house.specs.Exported.{IsExported};
     ghost use Rattle.bo_house.specs.Filed.{AddsTokenIn, MakesShopIn};
     ghost use Rattle.bo_house.specs.Imported.{IsOpenedAndImported};
     ghost use Rattle.bo_house.specs.Reported.{IsOpenedAndReported};
@@ -129,6 +131,9 @@ impl<
 
     ghost reported = { λ file report outcome. IsShelved (IsGiven F.stood F.gives true) (IsMissing F.stood F.refuses) (λ connection left came.
         IsOpenedAndReported S.Store report (state S.Store connection) left came ⊎ StaysUnopened S.Store (state S.Store connection) left came) file outcome };
+
+    ghost exported = { λ file text outcome. IsShelved (IsGiven F.stood F.gives true) (λ file fault. IsMissing F.stood F.refuses file fault × (text ≡ [])) (λ connection left came.
+        IsExported S.Store text (state S.Store connection) left came) file outcome };
 
     ghost imported = { λ file csv outcome. IsShelved (IsGiven F.stood F.gives true) (IsMissing F.stood F.refuses) (λ connection left came. (source : Result _ RunFault)
         × F.held csv source × (IsOpenedAndImported (IsRead R.shows R.gives) S.Store (meaning ⟦<SqlTables<S> as Tables>⟧.sure ⟦<SqlTables<S> as Tables>⟧.holds ⟦<SqlTables<S> as Tables>⟧.knows ⟦<SqlTables<S> as Tables>⟧.may_leave)
@@ -174,6 +179,11 @@ impl<
     fn report(&self, alloc: Global, file: &str, report: Report) -> Result<Body, RunFault> {
         let connection = self.found(file)?;
         self.ended(report_shop(alloc, connection, report))
+    }
+
+    fn export<W: Drain>(&self, alloc: Global, file: &str, writer: &mut W) -> Result<(), RunFault> {
+        let connection = self.found(file)?;
+        self.ended(export_shop(alloc, connection, writer))
     }
 
     fn import(&self, alloc: Global, file: &str, csv: &str) -> Result<Body, RunFault> {

@@ -1,6 +1,6 @@
 //! Laws of a shop that is served from its file, and worked on there, over crashes.
 
-ghost use Rattle.std.specs.Prelude.{◌≡◌, ◌++◌, ℕ, List, [], ◌∷◌, None, Option, Result, IsTrue, codes};
+ghost use Rattle.std.specs.Prelude.{◌≡◌, ◌++◌, ℕ, List, [], ◌∷◌, None, Option, Result, codes};
 ghost use Rattle.sqlite.specs.Held.{state};
 ghost use Rattle.sqlite.specs.State.{HasCleanDisk};
 ghost use Rattle.bo_base.specs.declared.answer.Answer.{Answer};
@@ -56,7 +56,7 @@ pub fn callers_go_on_after_a_crash<S: Alter, K: Ticks>(
         → let tables = meaning ⟦<SqlTables<S> as Tables>⟧.sure ⟦<SqlTables<S> as Tables>⟧.holds ⟦<SqlTables<S> as Tables>⟧.knows ⟦<SqlTables<S> as Tables>⟧.may_leave in
         let end = between told (desk_with last.now organizer event s) in
         Visits (AtTick K.reads (Serves tables)) n first end → IsOf tables house first.desk → IsRunning (words_of house) tables.holds tables.may_leave first.desk.tables first.desk.state r
-        → IsFound (state S.Store last.now.connection) (state S.Store fresh.now) → IsTrue (state S.Store fresh.now).is_open
+        → IsFound (state S.Store last.now.connection) (state S.Store fresh.now)
         → (name happening : List ℕ) (z : State) → OpensAs S.Store (state S.Store fresh.now) (desk_with again.now name happening z)
         → HasCleanDisk (state S.Store again.now.connection)
         → (q : Running) × (x : ShopView) × Visits (AtTick K.reads (ServesRunning house)) n (seen_at first r) (seen_at end q) × MayLeave (words_of house) q x

@@ -1,9 +1,10 @@
 //! What becomes of a shop's database when a command makes a shop in it, adds a token, serves it, does its
-//! periodic work, adds the vouchers of a file, or asks for a report on it.
+//! periodic work, adds the vouchers of a file, exports its order positions, or asks for a report on it.
 #![tactic(auto)]
 
 mod acting;
 pub mod adding;
+pub mod exporting;
 pub mod faults;
 pub mod filed;
 pub mod house;
@@ -18,7 +19,10 @@ pub mod words;
 pub mod working;
 
 pub use adding::add_shop_token;
-pub use faults::{fault_of_file, fault_of_opening, fault_of_rows, fault_of_token};
+pub use exporting::export_shop;
+pub use faults::{
+    fault_of_file, fault_of_making, fault_of_opening, fault_of_rows, fault_of_sink, fault_of_token,
+};
 pub use filed::Filed;
 pub use house::House;
 pub use importing::import_shop;

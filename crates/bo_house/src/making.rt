@@ -3,7 +3,7 @@
 ghost use Rattle.sqlite.specs.Held.{state};
 ghost use Rattle.bo_house.specs.Filed.{MakesShopIn};
 
-use crate::faults::fault_of_rows;
+use crate::faults::fault_of_making;
 use crate::filed::Filed;
 use bo_base::Slug;
 use bo_tables::{HandedBack, create};
@@ -11,7 +11,7 @@ use sqlite::{Alter, Connection};
 use std::alloc::Global;
 
 /// `init`: makes a shop in a database that has no table, for this organizer and this event: no rows, no answers, no tokens. All of it is
-/// made or nothing, in a crash too. Faults: 60 where the database has a table, 6, and 63.
+/// made or nothing, in a crash too. Faults: 60 where the database has a table, and only there, 6, and 63.
 pub fn make_new_shop<S: Alter + Drop>(
     alloc: Global,
     connection: Connection<S>,
@@ -27,7 +27,7 @@ pub fn make_new_shop<S: Alter + Drop>(
         },
         Err(HandedBack { connection, error }) => Filed {
             connection,
-            outcome: Err(fault_of_rows(error)),
+            outcome: Err(fault_of_making(error)),
         },
     }
 }

@@ -10,7 +10,6 @@ use crate::filed::{Filed, connection_of};
 use crate::opening::open_shop;
 use crate::words::append_count;
 use bo_base::Body;
-use bo_csv::positions_text;
 use bo_desk::Office;
 use bo_dues::Dues;
 use bo_line::{Report, RunFault};
@@ -36,16 +35,6 @@ fn sales_of<B: Book>(alloc: Global, office: &Office<B>) -> Result<Body, RunFault
     ensures { (version : ℕ) → IsReport Report.Sales version office.now.state.lists result }
 {
     match sales_text(office.book(), alloc) {
-        Ok(text) => Ok(text),
-        Err(_) => Err(RunFault::Memory),
-    }
-}
-
-// All order positions of an office.
-fn positions_of<B: Book>(alloc: Global, office: &Office<B>) -> Result<Body, RunFault>
-    ensures { (version : ℕ) → IsReport Report.Positions version office.now.state.lists result }
-{
-    match positions_text(office.book(), alloc) {
         Ok(text) => Ok(text),
         Err(_) => Err(RunFault::Memory),
     }
@@ -83,7 +72,6 @@ fn report_opened<S: Alter + Drop, B: Dues + Drop>(
     let outcome = match report {
         Report::Sales => sales_of(alloc, &opened.1),
         Report::Door(list) => door_of(alloc, &opened.1, list),
-        Report::Positions => positions_of(alloc, &opened.1),
         Report::Version => version_of(alloc, opened.0.head.version),
     };
     Filed {
@@ -92,8 +80,8 @@ fn report_opened<S: Alter + Drop, B: Dues + Drop>(
     }
 }
 
-/// `report`, `export` and `migrate`: opens the shop in a database, and tells what was sold, item by item, or who came in by a check-in list,
-/// or all order positions as CSV, or that its tables are of version 1, as a text. Faults: 60, 61 and 62 where the database holds no shop that
+/// `report` and `migrate`: opens the shop in a database, and tells what was sold, item by item, or who came in by a check-in list, or that its
+/// tables are of version 1, as a text. Faults: 60, 61 and 62 where the database holds no shop that
 /// is whole, each for its cause alone, 50 where it has no list of that number, 63 and 6. Nothing has changed in the database, whose tables
 /// have been of no other version so far.
 pub fn report_shop<S: Alter + Drop>(

@@ -16,6 +16,7 @@ fault_number faults.Store = 63
 fault_number faults.Header = 70
 fault_number (faults.Line line) = 71
 fault_number (faults.Column line column) = 72
+fault_number faults.Unwritten = 73
 fault_number faults.TooManyLines = 74
 fault_number faults.File = 80
 fault_number faults.Listen = 81

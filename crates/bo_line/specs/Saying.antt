@@ -1,9 +1,10 @@
 -- What the commands on a shop's file say.
-use Rattle.std.specs.Prelude.{◌≡◌, ◌⊎◌, ℕ, Bool, true, false, ◌&&◌, List, [], ◌∷◌, ◌++◌, Option, Some, None, Result, Ok, Err, OnErr, codes}
+use Rattle.std.specs.Prelude.{◌≡◌, ◌⊎◌, ℕ, ◌+◌, Bool, true, false, ◌&&◌, List, [], ◌∷◌, ◌++◌, Option, Some, None, Result, Ok, Err, OnErr, codes}
 use Rattle.std.specs.Fmt.{decimal}
 use Rattle.std.specs.declared.net.socket_addr.SocketAddr.{SocketAddr}
 use Rattle.bo_base.specs.Slugs.{is_slug}
 use Rattle.bo_connection.specs.declared.failure.Failure.TheVariants as failures
+use Rattle.bo_devices.specs.Told.{Adds}
 use Rattle.bo_devices.specs.declared.device.Refused.{Refused}
 use Rattle.bo_http.specs.Written.{Page, Writes}
 use Rattle.bo_line.specs.declared.fault.RunFault.{RunFault}
@@ -88,6 +89,23 @@ Reporting = List ℕ → Report → Result (List ℕ) RunFault → Type 0
 -- `report`: the report is told as it is
 abbrev pub ReportsFile : Reporting → List ℕ → Report → Page → Page → Result (Unit {0}) RunFault → Type 0
 ReportsFile reported file report old new result = (came : Result (List ℕ) RunFault) × reported file report came × Tells (λ text. text) came old new result
+
+-- what an export of the shop in a file may come to, by the file's name: what is written, and how it ends
+abbrev pub Exporting : Type 1
+Exporting = List ℕ → List ℕ → Result (Unit {0}) RunFault → Type 0
+
+-- how many calls of the writer failed: one where the export is cut off, and else none
+abbrev pub CountsCut : RunFault → ℕ → ℕ → Type 0
+CountsCut faults.Unwritten before after = after ≡ before + 1
+CountsCut _ before after = after ≡ before
+
+abbrev pub CountsEnd : Result (Unit {0}) RunFault → ℕ → ℕ → Type 0
+CountsEnd (Ok u) before after = after ≡ before
+CountsEnd (Err fault) before after = CountsCut fault before after
+
+-- `export`: the order positions are written while they are read, up to the end or a fault
+abbrev pub ExportsFile : Exporting → List ℕ → Page → Page → Result (Unit {0}) RunFault → Type 0
+ExportsFile exported file old new result = (text : List ℕ) × exported file text result × Adds old.taken text new.taken × CountsEnd result old.failures new.failures
 
 -- what adding the vouchers of a CSV file may come to, by the names of the shop's file and that one: a text of what became of each row,
 -- whose lines have ends

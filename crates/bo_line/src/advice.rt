@@ -45,6 +45,9 @@ fn advice_on(fault: RunFault) -> &'static str {
             "The first line of the CSV file has to name the twelve columns, in their order. Nothing was imported."
         }
         RunFault::Line(_) | RunFault::Column(_, _) => "Nothing was imported.",
+        RunFault::Unwritten => {
+            "The export was cut off: what it is written to takes no more. Is the disk full? Run it again."
+        }
         RunFault::TooManyLines => {
             "The CSV file has more than 100,000 lines. Split it. Nothing was imported."
         }

@@ -31,6 +31,8 @@ pub enum RunFault {
     Line(u64),
     /// Of this line of a voucher file this column, from 1, can't be read, or is out of its range.
     Column(u64, u64),
+    /// What an export is written to refuses.
+    Unwritten,
     /// A voucher file has more lines than 100,000.
     TooManyLines,
     /// The file can't be opened, or can't be made.
@@ -45,7 +47,7 @@ pub enum RunFault {
 
 impl RunFault {
     /// Its number: 6 for want of memory, 16 where there are too many tokens, 50 for an unknown list, 60 to 63 for what a file holds, 70 to 74
-    /// for what a voucher file says, 80 for a file that can't be opened, 81 for an address, 84 for an argument, and that of the failure.
+    /// for what a voucher file says and an export that can't be written, 80 for a file that can't be opened, 81 for an address, 84 for an argument, and that of the failure.
     pub fn number(self) -> u8
         ensures { result ≡ fault_number self }
     {
@@ -60,6 +62,7 @@ impl RunFault {
             RunFault::Header => 70,
             RunFault::Line(_) => 71,
             RunFault::Column(_, _) => 72,
+            RunFault::Unwritten => 73,
             RunFault::TooManyLines => 74,
             RunFault::File => 80,
             RunFault::Listen => 81,

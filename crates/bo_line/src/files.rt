@@ -3,7 +3,7 @@
 ghost use Rattle.std.specs.Prelude.{ℕ, List, Result};
 ghost use Rattle.std.specs.declared.net.socket_addr.SocketAddr.{SocketAddr};
 ghost use Rattle.bo_base.specs.Slugs.{IsSlug};
-ghost use Rattle.bo_line.specs.Saying.{TellsListening};
+ghost use Rattle.bo_line.specs.Saying.{ExportsFile, TellsListening};
 ghost use Rattle.bo_line.specs.Values.{IsToken};
 ghost use Rattle.bo_line.specs.declared.fault.RunFault.{RunFault};
 ghost use Rattle.bo_line.specs.declared.values.Report.{Report};
@@ -27,7 +27,7 @@ pub struct Place<'a> {
 }
 
 /// What the commands on a shop's file ask for, each by the file's name. What a file holds no clause can say: what becomes of it is the
-/// implementor's to say (`made`, `added`, `served`, `worked`, `reported`, `imported`), and what becomes of its tables `bo_house` and `bo_serve` say.
+/// implementor's to say (`made`, `added`, `served`, `worked`, `reported`, `exported`, `imported`), and what becomes of its tables `bo_house` and `bo_serve` say.
 pub trait HouseFiles {
     // what it may come to that a shop is made in the file of this name, for this organizer and this event
     ghost made: { List ℕ → List ℕ → List ℕ → Result (Unit {0}) RunFault → Type 0 };
@@ -43,6 +43,9 @@ pub trait HouseFiles {
 
     // what it may come to that this report is asked for on the shop in the file of this name, with its text
     ghost reported: { List ℕ → Report → Result (List ℕ) RunFault → Type 0 };
+
+    // what it may come to that the order positions of the shop in the file of this name are exported: what is written, and how that ends
+    ghost exported: { List ℕ → List ℕ → Result (Unit {0}) RunFault → Type 0 };
 
     // what it may come to that the shop in the file of this name gets the vouchers of the CSV file of this name, with a text of what
     // became of each row
@@ -83,6 +86,12 @@ pub trait HouseFiles {
     /// that is whole, 50 where the shop has no check-in list of that number, and 6.
     fn report(&self, alloc: Global, file: &str, report: Report) -> Result<Body, RunFault>
         ensures { reported file.now report result };
+
+    /// Writes the order positions of the shop in a file as CSV while it reads them, and leaves the file as it is. Faults: 80 where the file
+    /// can't be opened, 60 to 63 where it isn't a shop's that is whole or the store fails, 73 where the writer fails, and 6; then a beginning
+    /// was written, perhaps nothing.
+    fn export<W: Drain>(&self, alloc: Global, file: &str, writer: &mut W) -> Result<(), RunFault>
+        ensures { ExportsFile exported file.now (record { taken = W.taken writer.old; failures = W.failures writer.old }) (record { taken = W.taken writer.new; failures = W.failures writer.new }) result };
 
     /// Adds the vouchers of a CSV file to the shop in a file, and tells of each row what became of it: its code, and `added`, `same`, `other`
     /// or `refused N`. Faults, in this order: those of the shop's file, 80 where it can't be opened and 60 to 63 where it isn't a shop's that

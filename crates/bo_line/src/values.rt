@@ -61,8 +61,6 @@ pub enum Report {
     Sales,
     /// Who came in by the check-in list of this number.
     Door(u64),
-    /// All order positions, as CSV: what `export` prints.
-    Positions,
     /// Of which version its tables are: what `migrate` prints.
     Version,
 }

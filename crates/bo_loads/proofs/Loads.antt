@@ -10,7 +10,7 @@ use Rattle.sqlite_schema.specs.declared.command.Command.TheVariants.{Select}
 use Rattle.sqlite_schema.specs.declared.command.Returning.{Returning}
 use Rattle.sqlite_resolve.specs.declared.compiled.Compiled.{Compiled}
 use Rattle.sqlite_resolve.specs.declared.error.CompileError.{CompileError}
-use Rattle.sqlite.specs.Effect.{Database, Reads}
+use Rattle.sqlite.specs.Effect.{Database, IsDatabase, Reads}
 use Rattle.sqlite.specs.declared.error.Error.{Error}
 use Rattle.sqlite.specs.Listing.{understood}
 use Rattle.sqlite.specs.State.{State, Shown, ShowsRows, KeepsCommit, IsNotRun, FailsToQuery, FailsToShow, IsTooLate}
@@ -102,6 +102,7 @@ still_inside sql params old new plain at rows h =
       known = ap (λ (d : Database). d.schema) same.now_is ∙ at.known;
       inside = same.mode ∙ at.inside;
       committed = same.committed_is;
+      listed = λ d. subst IsDatabase (sym same.now_is) d;
       holds = λ t held. subst (λ (d : Database). Holds d.trees t) (sym same.now_is) held;
     }
 

@@ -10,6 +10,7 @@ use Rattle.bo_lists.specs.declared.rows.Waiting.{Waiting}
 use Rattle.bo_lists.specs.declared.rows.CheckinList.{CheckinList}
 use Rattle.bo_lists.specs.Lists.{Lists, positions_of}
 use Rattle.bo_lists.specs.Usage.{redeemed}
+use Rattle.bo_sound.specs.Positions.{by_positionid}
 pub use Rattle.bo_door.specs.Status.{ticket_of}
 use Rattle.bo_commands.specs.declared.replies.Shown.{Shown}
 use Rattle.bo_commands.specs.declared.replies.Shown.TheVariants as rows
@@ -28,9 +29,9 @@ show_voucher lists voucher = rows.Voucher voucher (redeemed voucher.id lists)
 abbrev pub show_cart : CartPos → Shown
 show_cart cart = rows.Cart cart
 
--- an order with its positions
+-- an order with its positions, by their numbers
 abbrev pub show_order : Lists → Order → Shown
-show_order lists order = rows.Order (record { order = order; positions = positions_of order.id lists })
+show_order lists order = rows.Order (record { order = order; positions = by_positionid (positions_of order.id lists) })
 
 abbrev pub show_waiting : Waiting → Shown
 show_waiting entry = rows.Waiting entry

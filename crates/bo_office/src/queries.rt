@@ -12,6 +12,7 @@ use bo_commands::{
 };
 use bo_lists::{Order, OrderRows, Voucher};
 use bo_service::show_voucher;
+use bo_sound::numbers::by_positionid;
 use bo_usage::{Book, availability};
 use std::alloc::{AllocError, Global};
 
@@ -34,13 +35,13 @@ impl<B: Book> Office<B> {
         Ok(show_voucher(self.book(), voucher.copy(alloc)?))
     }
 
-    // An order with its positions.
+    // An order with its positions, by their numbers.
     pub(crate) fn shown_order(&self, alloc: Global, order: &Order) -> Result<Shown, AllocError>
         ensures { IfOk result (λ shown. shown ≡ show_order self.now.state.lists order.now) }
     {
         Ok(Shown::Order(OrderRows {
             order: order.copy(alloc)?,
-            positions: self.book().positions_of(alloc, order.id)?,
+            positions: by_positionid(alloc, self.book().positions_of(alloc, order.id)?)?,
         }))
     }
 

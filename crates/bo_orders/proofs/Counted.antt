@@ -16,6 +16,7 @@ use Rattle.bo_lists.proofs.EachRow.{all_weaker, all-with_row, found_below}
 use Rattle.bo_sound.specs.Ids.{AreNumbered}
 use Rattle.bo_sound.specs.Positions.{most_positions, CountFrom, AreWhole, AllHavePositions, AreOrdered}
 use Rattle.bo_sound.specs.Secrets.{has_own_secret}
+use Rattle.bo_sound.proofs.ByNumber.{counted_is}
 use Rattle.bo_sound.proofs.Positions.{last_put, whole_created}
 use Rattle.bo_sound.proofs.Secrets.{made_ends}
 use Rattle.bo_commands.specs.declared.orders.NewOrder.{NewOrder}
@@ -107,7 +108,7 @@ created_whole new draw before made row rows ids put done orders positions ordere
     let are = are_rows draw before before.next.position 1 new.positions rows asked in
     let keeps = carts_keep_positions ids before.lists in
     let behind = stand_behind rows before.next.position (record before { lists = record (after_all (map DropCart ids) before.lists) { orders = with_row (λ r. r.id) row (after_all (map DropCart ids) before.lists).orders } }) put counted (subst (λ (ps : List OrderPos). AllByRecursion (λ p. p.id < before.next.position) ps) (sym keeps) positions.below) puts in
-    let whole : AreWhole rows = record { some = omega (arith, are.all, few.some); few = omega (arith, are.all, few.few); counted = are.counted } in
+    let whole : AreWhole rows = record { some = omega (arith, are.all, few.some); few = omega (arith, are.all, few.few); counted = subst (CountFrom 1) (sym (counted_is 1 rows are.counted)) are.counted } in
     subst₂ (λ (os : List Order) (ps : List OrderPos). AllHavePositions os ps)
     (sym (behind.orders ∙ ap (λ (os : List Order). with_row (λ r. r.id) row os) (carts_keep_orders ids before.lists)))
     (sym (behind.positions ∙ ap (λ (ps : List OrderPos). ps ++ rows) keeps))

@@ -8,7 +8,7 @@ use Rattle.bo_lists.specs.declared.rows.Order.{Order}
 use Rattle.bo_lists.specs.declared.rows.OrderRows.{OrderRows}
 use Rattle.bo_lists.specs.declared.rows.Own.TheVariants.{Position}
 use Rattle.bo_lists.specs.declared.changes.Change.TheVariants.{PutOrder}
-use Rattle.bo_lists.specs.Lists.{State, order_at}
+use Rattle.bo_lists.specs.Lists.{State, order_at, positions_of}
 use Rattle.bo_lists.specs.Change.{after_change, changed}
 use Rattle.std.specs.List.{AllByRecursion}
 use Rattle.bo_lists.specs.Over.{first_over, ignores}
@@ -17,6 +17,7 @@ use Rattle.bo_sound.specs.Limits.{IsLimitedOrder}
 use Rattle.bo_sound.specs.Sound.{IsSound}
 use Rattle.bo_lists.specs.Takes.{used, TakesNoMore}
 use Rattle.bo_lists.specs.Conditions.{is_in_force}
+use Rattle.bo_sound.proofs.ByNumber.{all_unsorted}
 use Rattle.bo_sound.proofs.OrderLowers.{moved_order_lowers}
 use Rattle.bo_sound.proofs.SoundOrders.{sound_changed_order}
 use Rattle.bo_commands.specs.FitRequests.{IsFitMove}
@@ -28,7 +29,7 @@ use Rattle.bo_commands.specs.declared.vouchers.VoucherRefusal.TheVariants.{SoldO
 use Rattle.bo_orders.specs.Moves.{turned, moved_row, have_uses_again, order_rows, moved_to, over_again, revival, order_moved}
 use Rattle.bo_orders.proofs.Limited.{moved_limited}
 use Rattle.bo_orders.proofs.MoveLemmas.{found_id, kept_force}
-use Rattle.bo_orders.proofs.Revivals.{revival_takes_no_more}
+use Rattle.bo_orders.proofs.Revivals.{over_sorted, revival_takes_no_more}
 
 some_order : (a b : Order) → (let found : Option Order = Some a in found ≡ Some b) → a ≡ b
 some_order a b h = cc
@@ -158,7 +159,8 @@ module _ (number : ℕ) (change : Move) (before after : State) (rows : OrderRows
       let m = moved_is h in
       let weighed = m.not_over (comes_back m (its_old m old stood ∙ ended) force) in
       let later = ap (λ (s : State). first_over before.lists s.lists before.moment (map (λ p. Position p.id) rows.positions)) (sym m.is_after) in
-      later ∙ ap (λ ps. first_over before.lists (after_change (PutOrder rows.order) before.lists) before.moment (map (λ p. Position p.id) ps)) (sym (ap (λ (r : OrderRows). r.positions) m.is_rows)) ∙ weighed
+      later ∙ ap (λ ps. first_over before.lists (after_change (PutOrder rows.order) before.lists) before.moment (map (λ p. Position p.id) ps)) (sym (ap (λ (r : OrderRows). r.positions) m.is_rows))
+      ∙ over_sorted before.lists (after_change (PutOrder rows.order) before.lists) before.moment (positions_of rows.order.id before.lists) ∙ weighed
 
   -- and where the vouchers of its positions heed quotas, what is used is within the size or no more than before
   pub revived_takes_no_more : (old : Order) → IsSound before → order_at number before.lists ≡ Some old → is_in_force old.status ≡ false → is_in_force rows.order.status ≡ true → AllByRecursion (λ p. ignores after.lists p.voucher ≡ false) rows.positions → Gives (order_moved number change before) → TakesNoMore before after
@@ -167,7 +169,8 @@ module _ (number : ℕ) (change : Move) (before after : State) (rows : OrderRows
       let weighed = m.not_over (comes_back m (its_old m old stood ∙ ended) force) in
       let in_before = subst (λ (s : State). AllByRecursion (λ p. ignores s.lists p.voucher ≡ false) rows.positions) (sym m.is_after) heed in
       let own = subst (λ ps. AllByRecursion (λ p. ignores before.lists p.voucher ≡ false) ps) (sym (ap (λ (r : OrderRows). r.positions) m.is_rows)) in_before in
-      subst (λ (s : State). TakesNoMore before s) m.is_after (revival_takes_no_more before rows.order sound.ids.positions.in_order own weighed)
+      let heeds = all_unsorted (λ p. ignores before.lists p.voucher ≡ false) (positions_of rows.order.id before.lists) own in
+      subst (λ (s : State). TakesNoMore before s) m.is_after (revival_takes_no_more before rows.order sound.ids.positions.in_order heeds weighed)
 
   -- any other move raises no usage of a quota that stands
   pub moved_lowers : (old : Order) (quota : Quota) → IsSound before → quota_at quota.id before.lists.catalogue ≡ Some quota → order_at number before.lists ≡ Some old → (is_in_force old.status ≡ true) ⊎ (is_in_force rows.order.status ≡ false) → Gives (order_moved number change before) → used after quota ≤ used before quota

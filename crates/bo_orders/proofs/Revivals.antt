@@ -1,5 +1,5 @@
 -- An order that comes back takes too much of no quota, where the vouchers of its positions heed quotas.
-use Rattle.std.proofs.Common.{◌≡◌, ℕ, ◌-◌, Bool, true, false, ◌&&◌, eqb, cond, List, [], ◌∷◌, map, filter, Option, Some, None, refl, ap, ◌∙◌, subst, count_by, arith}
+use Rattle.std.proofs.Common.{◌≡◌, ℕ, ◌-◌, Bool, true, false, ◌&&◌, eqb, cond, List, [], ◌∷◌, map, filter, find, option_map, Option, Some, None, refl, ap, ◌∙◌, subst, count_by, arith}
 use Rattle.std.specs.List.{AllByRecursion}
 use Rattle.std.proofs.lemmas.List.Sums.{sum_by-cons}
 use Rattle.bo_sorted.specs.Tables.{AreInOrder}
@@ -18,6 +18,8 @@ use Rattle.bo_lists.specs.Usage.{usage_of, position_counts}
 use Rattle.bo_lists.proofs.Found.{each_found}
 use Rattle.bo_lists.proofs.Takes.{none_passes, within}
 use Rattle.bo_lists.proofs.Time.{one}
+use Rattle.bo_sound.specs.Positions.{by_positionid}
+use Rattle.bo_sound.proofs.ByNumber.{sorted_count}
 use Rattle.bo_orders.proofs.Takes.{and_false}
 
 -- positions that stand, and whose vouchers heed quotas, are weighed in each
@@ -38,6 +40,14 @@ module _ (lists : Lists) (at : ℕ) (quota : Quota) where
   pub weighs_positions : (ps : List OrderPos) → AllByRecursion (λ p. position_at p.id lists ≡ Some p) ps → AllByRecursion (λ p. ignores lists p.voucher ≡ false) ps → weighed lists at quota (map (λ p. Position p.id) ps) ≡ total (usage_of lists at quota)
   unfolding weighed
   weighs_positions ps stand heed = less_none (total (usage_of lists at quota)) (count_by (is_free lists at quota) (map (λ p. Position p.id) ps)) (none_free ps stand heed)
+
+-- positions weigh as much by their numbers, so the same quota is over
+weighed_sorted : (lists : Lists) (at : ℕ) (quota : Quota) (ps : List OrderPos) → weighed lists at quota (map (λ p. Position p.id) (by_positionid ps)) ≡ weighed lists at quota (map (λ p. Position p.id) ps)
+unfolding weighed
+weighed_sorted lists at quota ps = ap (λ (n : ℕ). total (usage_of lists at quota) - n) (sorted_count (λ (p : OrderPos). Position p.id) (is_free lists at quota) ps)
+
+pub over_sorted : (before after : Lists) (at : ℕ) (ps : List OrderPos) → first_over before after at (map (λ p. Position p.id) (by_positionid ps)) ≡ first_over before after at (map (λ p. Position p.id) ps)
+over_sorted before after at ps = λ i. option_map (λ (quota : Quota). quota.id) (find (λ (quota : Quota). is_over_size quota.size (total (usage_of before at quota)) (weighed_sorted after at quota ps i)) after.catalogue.quotas)
 
 all_filtered : (P : OrderPos → Type 0) (test : OrderPos → Bool) (ps : List OrderPos) → AllByRecursion P ps → AllByRecursion P (filter test ps)
 all_filtered P test [] h = tt

@@ -12,6 +12,7 @@ use Rattle.bo_lists.specs.Lists.{State, order_at, positions_of}
 use Rattle.bo_lists.specs.Change.{after_change, changed}
 use Rattle.bo_lists.specs.Headroom.{have_room}
 use Rattle.bo_lists.specs.Over.{first_over}
+use Rattle.bo_sound.specs.Positions.{by_positionid}
 use Rattle.bo_commands.specs.declared.vouchers.VoucherRefusal.TheVariants.{NoHeadroom, SoldOut}
 use Rattle.bo_commands.specs.declared.orders.Move.{Move}
 use Rattle.bo_commands.specs.declared.orders.Move.TheVariants.{MarkPaid, MarkPending, MarkExpired, MarkCanceled, Extend}
@@ -57,7 +58,7 @@ abbrev pub have_uses_again : Order → State → Bool
 have_uses_again row state = have_room state.moment (after_change (PutOrder row) state.lists) (positions_of row.id state.lists)
 
 abbrev pub order_rows : Order → State → OrderRows
-order_rows row state = record { order = row; positions = positions_of row.id state.lists }
+order_rows row state = record { order = row; positions = by_positionid (positions_of row.id state.lists) }
 
 abbrev pub moved_to : Order → State → State × OrderRows
 moved_to row state = (changed (PutOrder row) state, order_rows row state)

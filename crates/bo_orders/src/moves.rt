@@ -17,6 +17,7 @@ use bo_base::Moment;
 use bo_commands::{Move, OrderRefusal, VoucherRefusal};
 use bo_draft::Draft;
 use bo_lists::{Order, OrderPos, OrderRows, Own, Status};
+use bo_sound::numbers::by_positionid;
 use bo_usage::{Book, LookUps};
 use std::alloc::{AllocError, Global};
 
@@ -175,7 +176,7 @@ fn put<B: Book>(
     ensures extends { Extends draft.old draft.new }
     ensures same { OnErr result (draft.new ≡ draft.old) }
 {
-    let positions = draft.book().positions_of(alloc, row.id)?;
+    let positions = by_positionid(alloc, draft.book().positions_of(alloc, row.id)?)?;
     let order = row.copy(alloc)?;
     draft.put_order(alloc, row)?;
     Ok(OrderRows { order, positions })
@@ -204,6 +205,7 @@ fn revive<B: Book>(
         return Err(OrderRefusal::Voucher(VoucherRefusal::NoHeadroom));
     }
     let own = own_rows(alloc, positions.as_slice())?;
+    let positions = by_positionid(alloc, positions)?;
     let order = row.copy(alloc)?;
     let mark = draft.mark();
     draft.put_order(alloc, row)?;

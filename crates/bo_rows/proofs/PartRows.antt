@@ -54,6 +54,7 @@ module _ (at : ℕ) (table : Table) (is : IsPlainTable schema at table) (sql : L
         known = did.2.2.known;
         inside = did.2.2.shows.mode;
         committed = did.2.2.shows.committed_is;
+        listed = λ _. did.2.2.listed;
         holds = λ t held.
             let it = updates_one schema at table is sql plain old new inside.known inside.inside limit (numbers t held) project command (pos id) more source shape h in
             let one = found_one row id_of keyed id show (λ r. refl) tree (field t) (held_at t held) it.0 it.1 in

@@ -199,6 +199,7 @@ module _ (at : ℕ) (table : Table) (is : IsPlainTable schema at table) (sql : L
         known = did.2.known;
         inside = did.2.shows.mode;
         committed = did.2.shows.committed_is;
+        listed = λ _. did.2.listed;
         holds = λ t apart held.
             let part = left_rows number row numbered show (λ r. refl) (passes tests params) gone passes_as tree (next table.tree) (field t) (held_at t held) apart did.0 found left in
             subst (HoldParts schema next) (sym (same t))

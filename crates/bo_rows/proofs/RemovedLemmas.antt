@@ -85,6 +85,7 @@ forgets_nothing old at inside early = record {
   known = inside.known;
   inside = inside.inside;
   committed = refl;
+  listed = λ d. d;
   holds = λ t apart held. subst (λ (l : List KeptRow). Holds old.now.trees (record t { kept = l })) (sym (all_stay (λ (r : KeptRow). lasts at r.kept.at) (λ r. soon r.kept.at) t.kept)) held;
 }
   where

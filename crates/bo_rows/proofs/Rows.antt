@@ -37,6 +37,7 @@ module _ (at : ℕ) (table : Table) (is : IsPlainTable schema at table) (sql : L
         known = it.known;
         inside = it.shows.mode;
         committed = it.shows.committed_is;
+        listed = λ _. it.listed;
         holds = λ t held. subst (HoldParts schema next) (sym (same t))
             (after_write schema table.tree turn db next (turned t held) (parts t) (others_from table.tree db next schema.tables (parts t) refl it.applied.tables) held);
       }
@@ -100,7 +101,7 @@ module _ (at : ℕ) (table : Table) (is : IsPlainTable schema at table) (sql : L
 
 -- a change after another
 pub then_changes : (first second : Tables → Tables) (old mid new : State) → Changes first old mid → Changes second mid new → Changes (λ t. second (first t)) old new
-then_changes first second old mid new a b = record { known = b.known; inside = b.inside; committed = b.committed ∙ a.committed; holds = λ t held. b.holds (first t) (a.holds t held) }
+then_changes first second old mid new a b = record { known = b.known; inside = b.inside; committed = b.committed ∙ a.committed; listed = λ d. b.listed (a.listed d); holds = λ t held. b.holds (first t) (a.holds t held) }
 
 pub inside_after : (change : Tables → Tables) (old new : State) → Changes change old new → IsInside new
 inside_after change old new h = record { known = h.known; inside = h.inside }

@@ -157,5 +157,6 @@ adds_new old mid new w none a b = record {
   known = b.known;
   inside = b.inside;
   committed = b.committed ∙ a.committed;
+  listed = λ d. b.listed (a.listed d);
   holds = λ t held. subst (λ n. Holds new.now.trees (record t { vouchers = record { voucher = w; redeemed = n } ∷ without_id w.id t.vouchers })) (sym (none t held)) (b.holds (without_voucher w.id t) (a.holds t held));
 }

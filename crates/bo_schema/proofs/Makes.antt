@@ -36,6 +36,7 @@ makes_table first next sql table is makes counted tables tree old new at count h
       known = it.0;
       inside = it.3;
       empty = subst (AreEmpty new.now.trees) (sym tables) (one_more new.now.trees first.tables table it.2 (subst (λ n. new.now.trees n ≡ []) tree it.1));
+      listed = it.5;
     }
 
 pub before : (old new : State) → Survives old new (λ _. ⊥) → HasCleanDisk new → HasCleanDisk old
@@ -252,7 +253,7 @@ kept_by_moment_plain = (refl, refl)
 indexes_kept : Makes (schema_of 17 9) kept_by_moment_text (schema_of 17 10)
 indexes_kept old new at count h =
     let it = indexes (schema_of 17 9) (schema_of 17 10) kept_by_moment_text 16 kept_table (record kept_by_moment { tree = 0 }) kept_by_moment_command kept_by_moment_text_is refl kept_by_moment_defined kept_by_moment_plain kept_by_moment_next old new at.known at.inside at.empty count h in
-    record { known = it.0; empty = it.1; inside = it.2 }
+    record { known = it.0; empty = it.1; inside = it.2; listed = it.3 }
 
 -- ---- all of them, one after another
 

@@ -11,4 +11,4 @@ pub use error::RowError;
 pub use lookup::{Lookup, look_up};
 pub use make::make_tables;
 pub use statement::run;
-pub use writing::{Writing, write_whole};
+pub use writing::{Writing, schema_known, write_whole};

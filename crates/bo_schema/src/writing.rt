@@ -2,9 +2,9 @@
 
 ghost use Rattle.std.specs.Prelude.{◌≡◌, true, false, IsTrue, IfOk, OnOk, OnErr};
 ghost use Rattle.sqlite_schema.specs.declared.schema.Schema.{Schema};
-ghost use Rattle.sqlite.specs.Effect.{Database};
+ghost use Rattle.sqlite.specs.Effect.{Database, IsDatabase};
 ghost use Rattle.sqlite.specs.Held.{state};
-ghost use Rattle.sqlite.specs.State.{HasCleanDisk, Survives, KeepsCommit, IsUnchanged};
+ghost use Rattle.sqlite.specs.State.{HasCleanDisk, Survives, IsLive, KeepsCommit, IsUnchanged};
 ghost use Rattle.bo_schema.specs.Whole.{IsOver, IsStill, IsWritten, MayBeWritten};
 
 use crate::RowError;
@@ -18,13 +18,20 @@ pub trait Writing<T> {
     // what it makes of a database over that schema
     ghost turns: { Self → T → Database → Database → Type 0 };
 
-    /// Writes it, inside a transaction.
+    /// Writes it, inside a transaction. The trees list the schema, as they did.
     fn write<S: Alter>(&self, tx: &mut Transaction<'_, S>) -> Result<T, RowError>
         ensures same { tx.new.conn.ghost_name ≡ tx.old.conn.ghost_name }
-        ensures written { HasCleanDisk (state S.Store tx.new.conn.now) → (state S.Store tx.old.conn.now).in_transaction ≡ true → (state S.Store tx.old.conn.now).now.schema ≡ over
-            → IfOk result (λ answer. ((state S.Store tx.new.conn.now).in_transaction ≡ true) × turns self.now answer (state S.Store tx.old.conn.now).now (state S.Store tx.new.conn.now).now) }
+        ensures written { HasCleanDisk (state S.Store tx.new.conn.now) → (state S.Store tx.old.conn.now).in_transaction ≡ true → (state S.Store tx.old.conn.now).now.schema ≡ over → IsDatabase (state S.Store tx.old.conn.now).now
+            → IfOk result (λ answer. ((state S.Store tx.new.conn.now).in_transaction ≡ true) × turns self.now answer (state S.Store tx.old.conn.now).now (state S.Store tx.new.conn.now).now × IsDatabase (state S.Store tx.new.conn.now).now) }
         ensures kept { HasCleanDisk (state S.Store tx.new.conn.now) → KeepsCommit (state S.Store tx.old.conn.now) (state S.Store tx.new.conn.now) }
         ensures crash { Survives (state S.Store tx.old.conn.now) (state S.Store tx.new.conn.now) (λ _. ⊥) };
+}
+
+/// What a connection promises: while it is open its trees list the schema that it sees. It does nothing.
+pub fn schema_known<S: Alter>(connection: &Connection<S>)
+    ensures { IsLive (state S.Store connection.now) }
+{
+    let _ = connection.schema();
 }
 
 // Whether the connection is open, which its other calls don't tell.
@@ -46,8 +53,8 @@ fn write_open<S: Alter, T: Drop, W: Writing<T>>(
     what: &W,
 ) -> Result<T, RowError>
     ensures same { tx.new.conn.ghost_name ≡ tx.old.conn.ghost_name }
-    ensures written { HasCleanDisk (state S.Store tx.new.conn.now) → (state S.Store tx.old.conn.now).in_transaction ≡ true → (state S.Store tx.old.conn.now).now.schema ≡ W.over
-        → IfOk result (λ answer. ((state S.Store tx.new.conn.now).in_transaction ≡ true) × W.turns what.now answer (state S.Store tx.old.conn.now).now (state S.Store tx.new.conn.now).now) }
+    ensures written { HasCleanDisk (state S.Store tx.new.conn.now) → (state S.Store tx.old.conn.now).in_transaction ≡ true → (state S.Store tx.old.conn.now).now.schema ≡ W.over → IsDatabase (state S.Store tx.old.conn.now).now
+        → IfOk result (λ answer. ((state S.Store tx.new.conn.now).in_transaction ≡ true) × W.turns what.now answer (state S.Store tx.old.conn.now).now (state S.Store tx.new.conn.now).now × IsDatabase (state S.Store tx.new.conn.now).now) }
     ensures open { HasCleanDisk (state S.Store tx.new.conn.now) → OnOk result (IsTrue (state S.Store tx.old.conn.now).is_open) }
     ensures kept { HasCleanDisk (state S.Store tx.new.conn.now) → KeepsCommit (state S.Store tx.old.conn.now) (state S.Store tx.new.conn.now) }
     ensures crash { Survives (state S.Store tx.old.conn.now) (state S.Store tx.new.conn.now) (λ _. ⊥) }
@@ -69,6 +76,7 @@ pub fn write_whole<S: Alter, T: Drop, W: Writing<T>>(
     if !connection.is_autocommit() {
         return Err(RowError::Store);
     }
+    schema_known(connection);
     let mut tx = connection.transaction();
     let answer = write_open(&mut tx, what)?;
     match tx.commit() {

@@ -12,6 +12,7 @@ pub mod OwnCodes
 pub mod MadeCodes
 pub mod Given
 pub mod Apart
+pub mod ByNumber
 pub mod Secrets
 pub mod Positions
 pub mod Varied

@@ -13,9 +13,10 @@ use Rattle.bo_lists.specs.declared.rows.Order.{Order}
 use Rattle.bo_lists.specs.declared.rows.OrderPos.{OrderPos}
 use Rattle.bo_lists.proofs.EachRow.{all_weaker, all-row_at, key-row_at, found_below}
 use Rattle.bo_sound.specs.Changes.{same_place}
-use Rattle.bo_sound.specs.Positions.{CountFrom, AreWhole, of_order, AllHavePositions, AreOfOrders, AreOrdered}
+use Rattle.bo_sound.specs.Positions.{by_positionid, AreWhole, of_order, AllHavePositions, AreOfOrders, AreOrdered}
 use Rattle.bo_sound.specs.Secrets.{secret_ending, has_own_secret, HaveUnlikeSecrets}
 use Rattle.bo_sound.proofs.Apart.{AreApart}
+use Rattle.bo_sound.proofs.ByNumber.{same_number, same_length, all_unsorted, counted_apart, counted_small, unsorted_apart}
 use Rattle.bo_sound.proofs.Endings.{before_end, ends_own, ends_is, last_number}
 
 -- the secret that is made of an order and a number ends in them
@@ -44,57 +45,51 @@ module _ (orders : List Order) where
   abbrev Stands : ℕ → Type 0
   Stands order = is_some (row_at (λ (o : Order). o.id) order orders) ≡ true
 
-  -- an order's positions among the rows count on from some number, to 500 at most
+  -- no two of an order's positions among the rows have one number, and none is above 500
   record Counts (order : ℕ) (rows : List OrderPos) : Type 0 where
-    from : ℕ
-    counted : CountFrom from (of_order order rows)
-    few : from + length (of_order order rows) ≤ 501
+    apart : AreApart same_number (of_order order rows)
+    small : AllByRecursion (λ p. p.positionid ≤ 500) (of_order order rows)
 
   abbrev AllCount : List OrderPos → Type 0
   AllCount rows = (order : ℕ) → Stands order → Counts order rows
 
   all_count_rest : (p : OrderPos) (ps : List OrderPos) → AllCount (p ∷ ps) → AllCount ps
-  all_count_rest p ps h order stands = by_order (eqb order p.order) c.from c.counted c.few
+  all_count_rest p ps h order stands = by_order (eqb order p.order) c.apart c.small
     where
       c : Counts order (p ∷ ps)
       c = h order stands
 
-      by_order : (b : Bool) (from : ℕ) → CountFrom from (cond b (p ∷ of_order order ps) (of_order order ps)) → from + length (cond b (p ∷ of_order order ps) (of_order order ps)) ≤ 501 → Counts order ps
-      by_order true from counted few = record { from = from + 1; counted = counted.1; few = omega (arith, few) }
-      by_order false from counted few = record { from = from; counted = counted; few = few }
+      by_order : (b : Bool) → AreApart same_number (cond b (p ∷ of_order order ps) (of_order order ps)) → AllByRecursion (λ q. q.positionid ≤ 500) (cond b (p ∷ of_order order ps) (of_order order ps)) → Counts order ps
+      by_order true apart small = record { apart = apart.1; small = small.1 }
+      by_order false apart small = record { apart = apart; small = small }
 
-  -- the first position's number is below those of the others of its order
+  -- no other position of its order has the first one's number
   record First (p : OrderPos) (ps : List OrderPos) : Type 0 where
     small : p.positionid ≤ 500
-    before : CountFrom (p.positionid + 1) (of_order p.order ps)
+    others : AllByRecursion (λ q. same_number p q ≡ false) (of_order p.order ps)
 
   first : (p : OrderPos) (ps : List OrderPos) → Counts p.order (p ∷ ps) → First p ps
-  first p ps c = by_order (eqb p.order p.order) (grind (arith, nat_tests)) c.from c.counted c.few
+  first p ps c = by_order (eqb p.order p.order) (grind (arith, nat_tests)) c.apart c.small
     where
-      by_order : (b : Bool) → b ≡ true → (from : ℕ) → CountFrom from (cond b (p ∷ of_order p.order ps) (of_order p.order ps)) → from + length (cond b (p ∷ of_order p.order ps) (of_order p.order ps)) ≤ 501 → First p ps
-      by_order true e from counted few = record {
-        small = omega (arith, counted.0, few);
-        before = subst (λ (n : ℕ). CountFrom (n + 1) (of_order p.order ps)) (sym counted.0) counted.1;
-      }
-      by_order false e from counted few = absurd (cc)
+      by_order : (b : Bool) → b ≡ true → AreApart same_number (cond b (p ∷ of_order p.order ps) (of_order p.order ps)) → AllByRecursion (λ q. q.positionid ≤ 500) (cond b (p ∷ of_order p.order ps) (of_order p.order ps)) → First p ps
+      by_order true e apart small = record { small = small.0; others = apart.0 }
+      by_order false e apart small = absurd (cc)
 
   all_small : (ps : List OrderPos) → AllByRecursion (λ p. Stands p.order) ps → AllCount ps → AllByRecursion (λ p. p.positionid ≤ 500) ps
   all_small [] stand h = tt
   all_small (p ∷ ps) stand h = ((first p ps (h p.order stand.0)).small, all_small ps stand.1 (all_count_rest p ps h))
 
-  later : (order n : ℕ) (ps : List OrderPos) → CountFrom n (of_order order ps) → AllByRecursion (λ q. q.order ≡ order → n ≤ q.positionid) ps
-  later order n [] h = tt
-  later order n (q ∷ qs) h = by_order (eqb_tells order q.order) h (later order n qs) (later order (n + 1) qs)
+  -- that goes for all positions, of whichever order
+  other : (p : OrderPos) (order : ℕ) (ps : List OrderPos) → AllByRecursion (λ q. same_number p q ≡ false) (of_order order ps) → AllByRecursion (λ q. q.order ≡ order → p.positionid ≢ q.positionid) ps
+  other p order [] h = tt
+  other p order (q ∷ qs) h = by_order (eqb_tells order q.order) h (other p order qs)
     where
-      by_order : ((eqb order q.order ≡ true) × (order ≡ q.order)) ⊎ ((eqb order q.order ≡ false) × (order ≢ q.order)) → CountFrom n (cond (eqb order q.order) (q ∷ of_order order qs) (of_order order qs))
-          → (CountFrom n (of_order order qs) → AllByRecursion (λ r. r.order ≡ order → n ≤ r.positionid) qs) → (CountFrom (n + 1) (of_order order qs) → AllByRecursion (λ r. r.order ≡ order → n + 1 ≤ r.positionid) qs)
-          → AllByRecursion (λ r. r.order ≡ order → n ≤ r.positionid) (q ∷ qs)
-      by_order (inl same) counted here more =
-          let both : (q.positionid ≡ n) × CountFrom (n + 1) (of_order order qs) = rw same.0 at counted in (
-            λ e. omega (arith, both.0),
-            all_weaker (λ r. r.order ≡ order → n + 1 ≤ r.positionid) (λ r. r.order ≡ order → n ≤ r.positionid) (λ r f e. omega (arith, f e)) qs (more both.1),
-          )
-      by_order (inr other) counted here more = (λ e. absurd (other.1 (sym e)), here (rw other.0 at counted))
+      by_order : ((eqb order q.order ≡ true) × (order ≡ q.order)) ⊎ ((eqb order q.order ≡ false) × (order ≢ q.order)) → AllByRecursion (λ r. same_number p r ≡ false) (cond (eqb order q.order) (q ∷ of_order order qs) (of_order order qs))
+          → (AllByRecursion (λ r. same_number p r ≡ false) (of_order order qs) → AllByRecursion (λ r. r.order ≡ order → p.positionid ≢ r.positionid) qs) → AllByRecursion (λ r. r.order ≡ order → p.positionid ≢ r.positionid) (q ∷ qs)
+      by_order (inl same) all more =
+          let both : (same_number p q ≡ false) × AllByRecursion (λ r. same_number p r ≡ false) (of_order order qs) = rw same.0 at all in
+          (λ e is. absurd (grind (arith, nat_tests, both.0, is)), more both.1)
+      by_order (inr unlike) all more = (λ e. absurd (unlike.1 (sym e)), more (rw unlike.0 at all))
 
   -- what is known of a position
   record Known (p : OrderPos) : Type 0 where
@@ -102,14 +97,14 @@ module _ (orders : List Order) where
     low : p.order < 2 ^ 64
     small : p.positionid ≤ 500
 
-  differ : (p q : OrderPos) → Known p → Known q → (q.order ≡ p.order → p.positionid + 1 ≤ q.positionid) → (b : Bool) → same_text p.secret q.secret ≡ b → b ≡ false
+  differ : (p q : OrderPos) → Known p → Known q → (q.order ≡ p.order → p.positionid ≢ q.positionid) → (b : Bool) → same_text p.secret q.secret ≡ b → b ≡ false
   differ p q kp kq above true is =
       let same : p.secret ≡ q.secret = (bytes_decides p.secret q.secret).0 is in
       let place = one_place q.secret p.order q.order p.positionid q.positionid kp.low kq.low (omega (arith, kp.small)) (omega (arith, kq.small)) (subst (λ (text : List ℕ). ends_with nat_eq text (secret_ending p.order p.positionid) ≡ true) same kp.own) kq.own in
-      absurd (omega (arith, place.1, above (sym place.0)))
+      absurd (above (sym place.0) place.1)
   differ p q kp kq above false is = refl
 
-  differ_all : (p : OrderPos) → Known p → (qs : List OrderPos) → AllByRecursion Known qs → AllByRecursion (λ q. q.order ≡ p.order → p.positionid + 1 ≤ q.positionid) qs → AllByRecursion (λ q. same_text p.secret q.secret ≡ false) qs
+  differ_all : (p : OrderPos) → Known p → (qs : List OrderPos) → AllByRecursion Known qs → AllByRecursion (λ q. q.order ≡ p.order → p.positionid ≢ q.positionid) qs → AllByRecursion (λ q. same_text p.secret q.secret ≡ false) qs
   differ_all p kp [] known above = tt
   differ_all p kp (q ∷ qs) known above = (differ p q kp known.0 above.0 (same_text p.secret q.secret) refl, differ_all p kp qs known.1 above.1)
 
@@ -117,7 +112,7 @@ module _ (orders : List Order) where
   all_differ [] known stand h = tt
   all_differ (p ∷ ps) known stand h =
       let f = first p ps (h p.order stand.0) in
-      (differ_all p known.0 ps known.1 (later p.order (p.positionid + 1) ps f.before), all_differ ps known.1 stand.1 (all_count_rest p ps h))
+      (differ_all p known.0 ps known.1 (other p p.order ps f.others), all_differ ps known.1 stand.1 (all_count_rest p ps h))
 
   -- an order that stands has its positions
   count_at : (positions : List OrderPos) → AllHavePositions orders positions → AllCount positions
@@ -127,7 +122,11 @@ module _ (orders : List Order) where
       by_found None e s = absurd (cc)
       by_found (Some o) e s =
           let w = subst (λ (n : ℕ). AreWhole (of_order n positions)) (key-row_at (λ (o : Order). o.id) order orders o e) (all-row_at (λ (o : Order). o.id) (λ (o : Order). AreWhole (of_order o.id positions)) order orders o e whole) in
-          record { from = 1; counted = w.counted; few = omega (arith, w.few) }
+          let few = all_unsorted (λ p. p.positionid < 1 + length (by_positionid (of_order order positions))) (of_order order positions) (counted_small 1 (by_positionid (of_order order positions)) w.counted) in
+          record {
+            apart = unsorted_apart (of_order order positions) (counted_apart 1 (by_positionid (of_order order positions)) w.counted);
+            small = all_weaker (λ p. p.positionid < 1 + length (by_positionid (of_order order positions))) (λ p. p.positionid ≤ 500) (λ p lt. omega (arith, lt, same_length (of_order order positions), w.few)) (of_order order positions) few;
+          }
 
   low_at : (next order : ℕ) → next ≤ 2 ^ 64 → AllByRecursion (λ o. o.id < next) orders → Stands order → order < 2 ^ 64
   low_at next order limit below stands = by_found (row_at (λ (o : Order). o.id) order orders) refl stands
@@ -150,19 +149,19 @@ module _ (orders : List Order) where
       all_differ positions (known_all next limit below positions h.each (all_small positions h.each.stand counts)) h.each.stand counts
 
   -- nor have two positions one number in one order
-  other_place : (p q : OrderPos) → (q.order ≡ p.order → p.positionid + 1 ≤ q.positionid) → same_place p q ≡ false
+  other_place : (p q : OrderPos) → (q.order ≡ p.order → p.positionid ≢ q.positionid) → same_place p q ≡ false
   other_place p q above = by_order (eqb_tells p.order q.order) (eqb_tells p.positionid q.positionid)
     where
       by_order : ((eqb p.order q.order ≡ true) × (p.order ≡ q.order)) ⊎ ((eqb p.order q.order ≡ false) × (p.order ≢ q.order)) → ((eqb p.positionid q.positionid ≡ true) × (p.positionid ≡ q.positionid)) ⊎ ((eqb p.positionid q.positionid ≡ false) × (p.positionid ≢ q.positionid)) → (eqb p.order q.order && eqb p.positionid q.positionid) ≡ false
       by_order (inr other) number = rw other.0 refl
       by_order (inl same) (inr other) = rw (same.0, other.0) refl
-      by_order (inl same) (inl number) = absurd (omega (arith, above (sym same.1), number.1))
+      by_order (inl same) (inl number) = absurd (above (sym same.1) number.1)
 
   all_places : (ps : List OrderPos) → AllByRecursion (λ p. Stands p.order) ps → AllCount ps → AreApart same_place ps
   all_places [] stand h = tt
   all_places (p ∷ ps) stand h =
       let f = first p ps (h p.order stand.0) in
-      (all_weaker (λ q. q.order ≡ p.order → p.positionid + 1 ≤ q.positionid) (λ q. same_place p q ≡ false) (λ q above. other_place p q above) ps (later p.order (p.positionid + 1) ps f.before), all_places ps stand.1 (all_count_rest p ps h))
+      (all_weaker (λ q. q.order ≡ p.order → p.positionid ≢ q.positionid) (λ q. same_place p q ≡ false) (λ q above. other_place p q above) ps (other p p.order ps f.others), all_places ps stand.1 (all_count_rest p ps h))
 
   pub places_apart : (positions : List OrderPos) → AreOrdered orders positions → AreApart same_place positions
   places_apart positions h = all_places positions h.each.stand (count_at positions h.whole)

@@ -1,8 +1,10 @@
 //! Laws of the definitions alone.
 
-ghost use Rattle.std.specs.Prelude.{ℕ, ◌≤◌};
+ghost use Rattle.std.specs.Prelude.{ℕ, ◌≤◌, ◌↔◌, List};
 ghost use Rattle.bo_catalogue.specs.declared.rows.Quota.{Quota};
+ghost use Rattle.bo_lists.specs.declared.rows.OrderPos.{OrderPos};
 ghost use Rattle.bo_lists.specs.Lists.{State};
+ghost use Rattle.bo_sound.specs.Positions.{CountFrom, AreEachOnce, by_positionid};
 ghost use Rattle.bo_sound.specs.Secrets.{HaveUnlikeSecrets};
 ghost use Rattle.bo_sound.specs.Sound.{IsSound};
 ghost use Rattle.bo_lists.specs.Total.{total};
@@ -17,4 +19,9 @@ pub fn time_lowers()
 /// In a sound box office no two order positions have one secret.
 pub fn secrets_are_unlike()
     ensures { (state : State) → IsSound state → HaveUnlikeSecrets state.lists.positions }
+{}
+
+/// By number positions count on from 1 exactly where their numbers are 1 to their count, each once.
+pub fn numbers_are_each_once()
+    ensures { (positions : List OrderPos) → CountFrom 1 (by_positionid positions) ↔ AreEachOnce positions }
 {}

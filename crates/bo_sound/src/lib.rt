@@ -4,4 +4,5 @@
 pub mod laws;
 pub mod made_codes;
 pub mod next_ids;
+pub mod numbers;
 pub mod reserved;

@@ -22,7 +22,7 @@ use Rattle.bo_tables.proofs.Begins.{token_stands, token_free}
 use Rattle.bo_typed.proofs.Typed.{token_typed}
 use Rattle.bo_tables.specs.Held.{number_of}
 use Rattle.bo_tables.specs.Shops.{HoldsWhileOpen, Tells, Knows, KnowsWhileOpen, LeavesHouse, HoldNoOther, Leaves, house_of_rows}
-use Rattle.bo_tables.proofs.ShopLemmas.{still_holds, still_knows, house_still, leaves_still}
+use Rattle.bo_tables.proofs.ShopLemmas.{declared, still_holds, still_knows, house_still, leaves_still}
 use Rattle.bo_tables.specs.Tokens.{most_tokens, also_known, house_with, IsNumbered, HasNoRoom, raised, next_one, head_after, tables_after}
 
 -- ---- nothing changed
@@ -119,7 +119,7 @@ module _ (head : ShopRow) (digest : List ℕ) (next : ℕ) (old new : Connected)
   pub added_leaves : ((db : Trees) → IsTrue new.is_open → new.may_leave db → db ≡ new.committed.trees) → IsWritten adds old new → (house : House) → KnowsWhileOpen head next old house → LeavesHouse new (with_next house)
   added_leaves law w house knows trees may =
       let same : trees ≡ new.now.trees = law trees w.is_open may ∙ sym (ap (λ (d : Database). d.trees) w.settled) in
-      (raised head, subst (λ (db : Trees). Tells db (raised head) (with_next house)) (sym same) (added_knows w house knows w.is_open).tells)
+      (declared new.now trees w.listed w.turned.known same, (raised head, subst (λ (db : Trees). Tells db (raised head) (with_next house)) (sym same) (added_knows w house knows w.is_open).tells))
 
   left_so : head.next_token ≤ most_tokens → IsDigest digest → (db : Trees) → MayBeWritten schema (λ (_ : Unit {0}). adds) old db → (left : ShopView) → HoldNoOther db left → (s : State) (ks : List Kept) → HoldsWhileOpen head next old s ks → IsSame left (record { state = s; kept = ks })
   left_so room is db may left only s ks holds =

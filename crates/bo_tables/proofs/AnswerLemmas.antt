@@ -35,7 +35,7 @@ pub answer_kept : (at number : ℕ) (o : Option (Bor Kept)) (old mid new : State
     → ChangesFit (IsFree number) (λ t. without_past at (with_listed number (listed o) (without_past at t))) old new
 answer_kept at number o old mid new a b =
     fits_as (IsFree number) (λ t. with_listed number (filter (λ k. lasts at k.at) (listed o)) (without_past at t)) _ old new (kept_or_past at number o)
-    (record { known = b.known; inside = b.inside; committed = b.committed ∙ a.committed; holds = λ t free held. b.holds (without_past at t) (a.holds t (apart (λ r. r.rowid) t.kept free.kept.apart) held) })
+    (record { known = b.known; inside = b.inside; committed = b.committed ∙ a.committed; listed = λ d. b.listed (a.listed d); holds = λ t free held. b.holds (without_past at t) (a.holds t (apart (λ r. r.rowid) t.kept free.kept.apart) held) })
 
 -- an answer that lasts is kept
 pub kept_one : {T E : Type 0} (r : Result T E) (at number : ℕ) (o : Option (Bor Kept)) (k : Bor Kept) (old new : State) → o ≡ Some k → lasts at k.now.at ≡ true → OnOk r (Changes (with_listed number (k.now ∷ [])) old new)

@@ -3,6 +3,7 @@ use Rattle.std.proofs.Common.{◌≡◌, ℕ, List, [], map, true, refl, sym, ap
 use Rattle.std.specs.List.Sorted.{IsPermutation}
 use Rattle.std.proofs.lemmas.List.Sorted.{IsPermutation-refl}
 use Rattle.sqlite_trees.specs.Tree.{Trees}
+use Rattle.sqlite.specs.Effect.{IsDatabase}
 use Rattle.sqlite.specs.State.{State as Connected, HasCleanDisk, Survives}
 use Rattle.bo_schema.specs.Tables.{schema}
 use Rattle.bo_schema.specs.Parts.{shown}
@@ -31,8 +32,8 @@ holds_none s h =
 pub inside_empty : (s : Connected) → IsEmptyOver schema s → IsInside s
 inside_empty s h = record { known = h.known; inside = h.inside }
 
-pub blank_inside : (s : Connected) → s.in_transaction ≡ true → s.now.schema ≡ blank_schema → IsEmptyOver blank_schema s
-blank_inside s inside known = record { known = known; inside = inside; empty = tt }
+pub blank_inside : (s : Connected) → s.in_transaction ≡ true → s.now.schema ≡ blank_schema → IsDatabase s.now → IsEmptyOver blank_schema s
+blank_inside s inside known listed = record { known = known; inside = inside; empty = tt; listed = listed }
 
 pub inside_known : (s : Connected) → s.in_transaction ≡ true → s.now.schema ≡ schema → IsInside s
 inside_known s inside known = record { known = known; inside = inside }
@@ -41,15 +42,15 @@ pub before : (old new : Connected) → Survives old new (λ _. ⊥) → HasClean
 before old new s clean = omega (arith, s.clean)
 
 -- the first row is put into empty tables
-pub begun : {T E : Type 0} (r : Result T E) (shop : ShopRow) (mid new : Connected) → IsEmptyOver schema mid → OnOk r (Changes (with_shop shop) mid new) → IfOk r (λ _. (new.in_transaction ≡ true) × IsBegun shop new.now)
-begun (Ok x) shop mid new h changes = (changes.inside, record { known = changes.known; held = changes.holds no_rows (holds_none mid h) })
+pub begun : {T E : Type 0} (r : Result T E) (shop : ShopRow) (mid new : Connected) → IsEmptyOver schema mid → OnOk r (Changes (with_shop shop) mid new) → IfOk r (λ _. (new.in_transaction ≡ true) × IsBegun shop new.now × IsDatabase new.now)
+begun (Ok x) shop mid new h changes = (changes.inside, record { known = changes.known; held = changes.holds no_rows (holds_none mid h) }, changes.listed h.listed)
 begun (Err e) shop mid new h changes = tt
 
 -- the shop's row is put, and then a token
-pub has_token : {T E : Type 0} (r : Result T E) (shop : ShopRow) (token : Token) (old mid new : Connected) → Changes (λ t. with_shop shop (without_shop 1 t)) old mid → OnOk r (Changes (with_token token) mid new)
-    → IfOk r (λ _. (new.in_transaction ≡ true) × HasToken shop token old.now new.now)
-has_token (Ok x) shop token old mid new a b = (b.inside, record { known = b.known; holds = λ t held. b.holds (with_shop shop (without_shop 1 t)) (a.holds t held) })
-has_token (Err e) shop token old mid new a b = tt
+pub has_token : {T E : Type 0} (r : Result T E) (shop : ShopRow) (token : Token) (old mid new : Connected) → IsDatabase old.now → Changes (λ t. with_shop shop (without_shop 1 t)) old mid → OnOk r (Changes (with_token token) mid new)
+    → IfOk r (λ _. (new.in_transaction ≡ true) × HasToken shop token old.now new.now × IsDatabase new.now)
+has_token (Ok x) shop token old mid new listed a b = (b.inside, record { known = b.known; holds = λ t held. b.holds (with_shop shop (without_shop 1 t)) (a.holds t held) }, b.listed (a.listed listed))
+has_token (Err e) shop token old mid new listed a b = tt
 
 -- ---- laws
 

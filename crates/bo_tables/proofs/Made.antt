@@ -13,6 +13,7 @@ use Rattle.bo_typed.specs.Typed.{IsTypedShop}
 use Rattle.bo_typed.proofs.Typed.{first_typed}
 use Rattle.bo_tables.specs.Made.{first_shop, nothing_yet, IsMade}
 use Rattle.bo_tables.specs.Shops.{Tells, house_of_rows}
+use Rattle.bo_tables.proofs.ShopLemmas.{declared}
 
 module _ (organizer event : List ℕ) (old new : Connected) where
   abbrev first : ShopRow
@@ -31,6 +32,7 @@ module _ (organizer event : List ℕ) (old new : Connected) where
     was_open = w.was_open;
     is_open = w.is_open;
     head_is = refl;
+    next_is = refl;
     known = w.turned.known;
     held = w.turned.held;
     holds = λ is_open. record {
@@ -47,7 +49,7 @@ module _ (organizer event : List ℕ) (old new : Connected) where
       now = λ is_open. record { known = w.turned.known; tells = told new.now.trees w.turned.held; free = begins_free first 1 };
       left = λ trees may.
           let db : trees ≡ new.now.trees = law trees w.is_open may ∙ sym (ap (λ (d : Database). d.trees) w.settled) in
-          (first, told trees (subst (λ d. Holds d (first_tables first)) (sym db) w.turned.held));
+          (declared new.now trees w.listed w.turned.known db, (first, told trees (subst (λ d. Holds d (first_tables first)) (sym db) w.turned.held)));
     };
     leaves = λ left l.
         let db : l.trees ≡ new.now.trees = law l.trees w.is_open l.may ∙ sym (ap (λ (d : Database). d.trees) w.settled) in

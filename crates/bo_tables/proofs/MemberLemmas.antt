@@ -67,6 +67,7 @@ module _ {A : Type 0} (row_of : ℕ → ℕ → ℕ → A) (number owner member 
     known = a.known;
     inside = a.inside;
     committed = a.committed;
+    listed = a.listed;
     holds = λ t fits held. subst (λ b. Holds s1.now.trees (so id from ids t b)) (are t held) (subst (Holds s1.now.trees) (sym (are_same t)) (a.holds t held));
   }
 
@@ -76,6 +77,7 @@ module _ {A : Type 0} (row_of : ℕ → ℕ → ℕ → A) (number owner member 
     known = c.known;
     inside = c.inside;
     committed = c.committed ∙ b.committed ∙ a.committed;
+    listed = λ d. c.listed (b.listed (a.listed d));
     holds = λ t fits held.
         let left = of_others owner id (rows t) in
         let h2 : Holds s2.now.trees (put left t) = b.holds t fits (a.holds t held) in
@@ -104,6 +106,7 @@ quota_put w from mid s0 s1 s2 s3 is a b c = record {
   known = c.known;
   inside = c.inside;
   committed = c.committed ∙ b.committed ∙ a.committed;
+  listed = λ d. c.listed (b.listed (a.listed d));
   holds = λ t free held.
       let t1 = with_quota w (without_quota w.id t) in
       let t2 = put_items w.id from w.items t1 in
@@ -118,6 +121,7 @@ list_put w from s0 s1 s2 s3 a b c = record {
   known = c.known;
   inside = c.inside;
   committed = c.committed ∙ b.committed ∙ a.committed;
+  listed = λ d. c.listed (b.listed (a.listed d));
   holds = λ t free held.
       let t1 = with_list w (without_list w.id t) in
       let t2 = without_limits w.id t1 in

@@ -71,5 +71,6 @@ redeemed_set Fits c old new h = record {
   known = h.known;
   inside = h.inside;
   committed = h.committed;
+  listed = h.listed;
   holds = λ t fits held. vouchers_along new.now.trees (rows.set_redeemed c t) (map (set_one c) t.vouchers) (set_somewhere c t.vouchers) (h.holds t held);
 }

@@ -3,7 +3,8 @@ use Rattle.std.proofs.Common.{◌≡◌, ◌⊎◌, ℕ, ◌+◌, true, false, L
 use Rattle.std.specs.Borrow.{Bor}
 use Rattle.std.specs.List.{AllByRecursion}
 use Rattle.sqlite_trees.specs.Tree.{Trees}
-use Rattle.sqlite.specs.Effect.{Database}
+use Rattle.sqlite_schema.specs.declared.schema.Schema.{Schema}
+use Rattle.sqlite.specs.Effect.{Database, IsDatabase}
 use Rattle.sqlite.specs.State.{State as Connected, HasCleanDisk, Survives}
 use Rattle.bo_schema.specs.Tables.{schema}
 use Rattle.bo_lists.specs.Change.{Changed, applied}
@@ -26,7 +27,11 @@ use Rattle.bo_typed.proofs.Typed.{committed_typed}
 use Rattle.bo_schema.specs.Whole.{IsStill, IsWritten, MayBeWritten}
 use Rattle.bo_tables.specs.Held.{KnowsTokens, number_of}
 use Rattle.bo_tables.specs.Committed.{Turns}
-use Rattle.bo_tables.specs.Shops.{Keeps, HoldsWhileOpen, Tells, Knows, KnowsWhileOpen, LeavesHouse, IsOfHouse, HoldNoOther, Leaves, house_of_rows}
+use Rattle.bo_tables.specs.Shops.{Keeps, HoldsWhileOpen, Tells, Knows, KnowsWhileOpen, AreDeclared, LeavesHouse, IsOfHouse, HoldNoOther, Leaves, house_of_rows}
+
+-- the trees of a database over our schema list it
+pub declared : (db : Database) (trees : Trees) → IsDatabase db → db.schema ≡ schema → trees ≡ db.trees → AreDeclared trees
+declared db trees listed known same = subst (λ (t : Trees). AreDeclared t) (sym same) (subst (λ (s : Schema). IsDatabase (record { schema = s; trees = db.trees })) known listed)
 
 -- ---- nothing changed
 
@@ -136,8 +141,10 @@ module _ (head shop : ShopRow) (changes : Changed) (counts : CountRows) (from : 
     | inr made ↦
         let it = of.now made.was_open in
         let t = it.tells.tables in
-        let turned = made.turned it.known in
-        (shop, tells_on trees house t it.free it.tells.told (subst (λ d. Holds d (change t)) (sym made.is) (turned.1.holds t it.free it.tells.held)))
+        let turned = made.turned it.known in (
+          declared made.after trees (made.listed it.known) turned.1.known made.is,
+          (shop, tells_on trees house t it.free it.tells.told (subst (λ d. Holds d (change t)) (sym made.is) (turned.1.holds t it.free it.tells.held))),
+        )
   ]
 
   pub written_house : (free : ℕ) → HasCleanDisk new → IsWritten (turns free) old new → Survives old new (MayBeWritten schema turns old) → (house : House) → IsOfHouse head from old house → IsOfHouse shop free new house

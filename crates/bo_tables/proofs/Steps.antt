@@ -1,6 +1,7 @@
 -- Changes of the tables one after another, in lines and in loops.
 use Rattle.std.proofs.Common.{◌≡◌, ℕ, ◌+◌, ◌<◌, ◌≤◌, List, [], ◌∷◌, drop, length, get_or, suc, add-one, drop-cons, true, refl, sym, ap, subst, ◌∙◌, Ok, Err, Result, OnOk, IfOk}
 use Rattle.std.proofs.Math.ListN.{drop_of_length-le}
+use Rattle.sqlite.specs.Effect.{IsDatabase}
 use Rattle.sqlite.specs.State.{State}
 use Rattle.bo_schema.specs.Tables.{schema}
 use Rattle.bo_columns.specs.Tables.{Tables, Holds}
@@ -12,13 +13,14 @@ use Rattle.bo_tables.specs.Steps.{made_each, next_each}
 -- ---- lines
 
 pub fits_all : (Fits : Tables → Type 0) (change : Tables → Tables) (old new : State) → Changes change old new → ChangesFit Fits change old new
-fits_all Fits change old new h = record { known = h.known; inside = h.inside; committed = h.committed; holds = λ t fits held. h.holds t held }
+fits_all Fits change old new h = record { known = h.known; inside = h.inside; committed = h.committed; listed = h.listed; holds = λ t fits held. h.holds t held }
 
 pub then_fits : (Fits Mid : Tables → Type 0) (first second : Tables → Tables) (old mid new : State) → ((t : Tables) → Fits t → Mid (first t)) → ChangesFit Fits first old mid → ChangesFit Mid second mid new → ChangesFit Fits (λ t. second (first t)) old new
 then_fits Fits Mid first second old mid new fit a b = record {
   known = b.known;
   inside = b.inside;
   committed = b.committed ∙ a.committed;
+  listed = λ d. b.listed (a.listed d);
   holds = λ t fits held. b.holds (first t) (fit t fits) (a.holds t fits held);
 }
 
@@ -27,6 +29,7 @@ fits_as Fits change same old new is h = record {
   known = h.known;
   inside = h.inside;
   committed = h.committed;
+  listed = h.listed;
   holds = λ t fits held. subst (Holds new.now.trees) (is t) (h.holds t fits held);
 }
 
@@ -38,7 +41,7 @@ abbrev pub any_tables : ℕ → Tables → Type 0
 any_tables n t = Unit {0}
 
 pub changes_any : (n : ℕ) (change : Tables → Tables) (old new : State) → ChangesFit (any_tables n) change old new → Changes change old new
-changes_any n change old new h = record { known = h.known; inside = h.inside; committed = h.committed; holds = λ t held. h.holds t tt held }
+changes_any n change old new h = record { known = h.known; inside = h.inside; committed = h.committed; listed = h.listed; holds = λ t held. h.holds t tt held }
 
 -- ---- loops
 
@@ -47,10 +50,11 @@ pub record Reaches (Fits Here : Tables → Type 0) (left all : Tables → Tables
   pub known : new.now.schema ≡ schema
   pub inside : new.in_transaction ≡ true
   pub committed : new.committed ≡ old.committed
+  pub listed : IsDatabase old.now → IsDatabase new.now
   pub holds : (t : Tables) → Fits t → Holds old.now.trees t → (u : Tables) × Here u × Holds new.now.trees u × (left u ≡ all t)
 
 pub starts : (Fits : Tables → Type 0) (all : Tables → Tables) (old : State) → IsInside old → Reaches Fits Fits all all old old
-starts Fits all old at = record { known = at.known; inside = at.inside; committed = refl; holds = λ t fits held. (t, fits, held, refl) }
+starts Fits all old at = record { known = at.known; inside = at.inside; committed = refl; listed = λ d. d; holds = λ t fits held. (t, fits, held, refl) }
 
 pub inside_reached : (Fits Here : Tables → Type 0) (left all : Tables → Tables) (old new : State) → Reaches Fits Here left all old new → IsInside new
 inside_reached Fits Here left all old new r = record { known = r.known; inside = r.inside }
@@ -61,6 +65,7 @@ goes_on Fits Here There left step rest all old mid new fit is r h = record {
   known = h.known;
   inside = h.inside;
   committed = h.committed ∙ r.committed;
+  listed = λ d. h.listed (r.listed d);
   holds = λ t fits held.
       let at = r.holds t fits held in
       (step at.0, fit at.0 at.1, h.holds at.0 at.1 at.2, sym (is at.0) ∙ at.3);
@@ -71,6 +76,7 @@ ends Fits Here left all old new none r = record {
   known = r.known;
   inside = r.inside;
   committed = r.committed;
+  listed = r.listed;
   holds = λ t fits held. let at = r.holds t fits held in subst (Holds new.now.trees) (sym (none at.0) ∙ at.3) at.2;
 }
 

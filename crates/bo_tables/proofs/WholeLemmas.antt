@@ -34,6 +34,7 @@ all_written shop changes counts from number at ks s0 s2 s3 s4 s5 is a b c d = re
   known = d.known;
   inside = d.inside;
   committed = d.committed ∙ c.committed ∙ b.committed ∙ a.committed;
+  listed = λ its. d.listed (c.listed (b.listed (a.listed its)));
   holds = λ t free held.
       let t1 = put_shop shop t in
       let t2 = made changes from t1 in

@@ -18,11 +18,12 @@ abbrev pub nothing_yet : ShopView
 nothing_yet = record { state = empty; kept = [] }
 
 -- The connection was open and is. The tables are a shop's, with its first row alone; they hold an office without rows and no answer,
--- and know its house with no token; a crash leaves them so.
+-- and know its house with no token; rows are numbered on from 1; a crash leaves them so.
 pub record IsMade (first : ShopRow) (old : Connected) (head : ShopRow) (next : ℕ) (new : Connected) : Type 0 where
   pub was_open : IsTrue old.is_open
   pub is_open : IsTrue new.is_open
   pub head_is : head ≡ first
+  pub next_is : next ≡ 1
   pub known : new.now.schema ≡ schema
   pub held : Holds new.now.trees (first_tables first)
   pub holds : HoldsWhileOpen head next new empty []

@@ -2,7 +2,7 @@
 use Rattle.std.specs.Prelude.{◌≡◌, ℕ, false, List, [], ◌∷◌, IsTrue, IsPermutation, map}
 use Rattle.std.proofs.lemmas.List.Sorted.{IsPermutation-trans}
 use Rattle.sqlite_trees.specs.Tree.{Trees}
-use Rattle.sqlite.specs.Effect.{Database}
+use Rattle.sqlite.specs.Effect.{Database, IsDatabase}
 use Rattle.sqlite.specs.State.{State as Connected, HasCleanDisk}
 use Rattle.bo_schema.specs.Tables.{schema}
 use Rattle.bo_lists.specs.Lists.{State}
@@ -54,9 +54,13 @@ pub record Knows (head : ShopRow) (next : ℕ) (db : Database) (house : House) :
 abbrev pub KnowsWhileOpen : ShopRow → ℕ → Connected → House → Type 0
 KnowsWhileOpen head next c house = IsTrue c.is_open → Knows head next c.now house
 
--- whatever a crash leaves tells this house
+-- the trees list our schema, so that whoever opens them sees tables that are declared as ours
+abbrev pub AreDeclared : Trees → Type 0
+AreDeclared trees = IsDatabase (record { schema = schema; trees = trees })
+
+-- whatever a crash leaves is declared as ours and tells this house
 abbrev pub LeavesHouse : Connected → House → Type 0
-LeavesHouse c house = (trees : Trees) → c.may_leave trees → (head : ShopRow) × Tells trees head house
+LeavesHouse c house = (trees : Trees) → c.may_leave trees → AreDeclared trees × ((head : ShopRow) × Tells trees head house)
 
 -- the connection knows this house while it is open, and so does what a crash leaves
 pub record IsOfHouse (head : ShopRow) (next : ℕ) (c : Connected) (house : House) : Type 0 where

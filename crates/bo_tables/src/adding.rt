@@ -51,20 +51,21 @@ fn add_next<S: Alter>(tables: &mut SqlTables<S>, digest: &[u8; 32]) -> Result<u6
         Ok(()) => Ok(id),
         Err(error) => {
             tables.head.next_token = id;
-            Err(TokenError::Rows(error))
+            Err(TokenError::of(error))
         }
     }
 }
 
 /// Adds a token by its SHA-256 digest, and answers its number: a digest that stands keeps its number, and nothing changes, in a crash
 /// neither; any other gets the next one, from 1 on. The office and the kept answers stay as they are. All of it is done or nothing, in a
-/// crash too. Refusals: 16 where the digest is new and the shop has 1,000,000 tokens, 6, 60, 62, and 63 where a transaction is open,
-/// the connection is shut or the store fails.
+/// crash too. Refusals: 16 where the digest is new and the shop has 1,000,000 tokens, 6, and 63 where a transaction is open, the
+/// connection is shut, the store fails, or what it shows of the tokens can't be read.
 pub fn add_token<S: Alter>(tables: &mut SqlTables<S>, digest: &[u8; 32]) -> Result<u64, TokenError>
     ensures number { HasCleanDisk (state S.Store tables.new.connection) → (house : House) → KnowsWhileOpen tables.old.head tables.old.next_row (state S.Store tables.old.connection) house
         → IfOk result (IsNumbered (house.tokens digest.now) tables.old.head.next_token) }
     ensures full { HasCleanDisk (state S.Store tables.new.connection) → (house : House) → KnowsWhileOpen tables.old.head tables.old.next_row (state S.Store tables.old.connection) house
         → result ≡ Err Full → HasNoRoom (house.tokens digest.now) tables.old.head.next_token }
+    ensures full_open { HasCleanDisk (state S.Store tables.new.connection) → result ≡ Err Full → IsTrue (state S.Store tables.old.connection).is_open }
     ensures head { HasCleanDisk (state S.Store tables.new.connection) → (house : House) → KnowsWhileOpen tables.old.head tables.old.next_row (state S.Store tables.old.connection) house
         → OnOk result (tables.new.head ≡ head_after (house.tokens digest.now) tables.old.head) }
     ensures head_none { OnErr result (tables.new.head ≡ tables.old.head) }
@@ -90,6 +91,6 @@ pub fn add_token<S: Alter>(tables: &mut SqlTables<S>, digest: &[u8; 32]) -> Resu
     match find_number(tables.alloc, &mut tables.connection, digest) {
         Ok(Some(number)) => Ok(number),
         Ok(None) => add_next(tables, digest),
-        Err(error) => Err(TokenError::Rows(error)),
+        Err(error) => Err(TokenError::of(error)),
     }
 }

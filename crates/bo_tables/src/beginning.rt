@@ -3,12 +3,13 @@
 ghost use Rattle.std.specs.Prelude.{◌≡◌, true, IsTrue, OnOk, OnErr, Err};
 ghost use Rattle.sqlite.specs.Held.{state};
 ghost use Rattle.sqlite.specs.State.{HasCleanDisk, Survives};
-ghost use Rattle.bo_schema.specs.declared.error.RowError.TheVariants.{Foreign};
 ghost use Rattle.bo_lists.specs.Lists.{first_ids};
 ghost use Rattle.bo_schema.specs.Blank.{blank_schema};
 ghost use Rattle.bo_schema.specs.Whole.{IsStill, IsWritten, MayBeWritten};
 ghost use Rattle.bo_tables.specs.Begun.{IsBegun};
+ghost use Rattle.bo_tables.specs.declared.error.CreateError.TheVariants.{NotBlank};
 
+use crate::error::CreateError;
 use bo_base::{Moment, Slug};
 use bo_columns::ShopRow;
 use bo_lists::NextIds;
@@ -57,18 +58,22 @@ pub(crate) fn is_blank(schema: &Schema) -> bool
 }
 
 /// Makes the tables of a shop in a database that has none, and puts the shop's row, all of it or nothing. Refusals: 60 where the
-/// database has a table already, 6, and 63 where a transaction is open, the connection is shut or the store fails.
+/// database has a table already, and only there, 6, and 63 where a transaction is open, the connection is shut or the store fails.
 pub(crate) fn begin<S: Alter>(
     connection: &mut Connection<S>,
     shop: &ShopRow,
-) -> Result<(), RowError>
+) -> Result<(), CreateError>
     ensures all { HasCleanDisk (state S.Store connection.new) → OnOk result (IsWritten (λ db after. IsBegun shop.now after) (state S.Store connection.old) (state S.Store connection.new)) }
     ensures none { HasCleanDisk (state S.Store connection.new) → OnErr result (IsStill (state S.Store connection.old) (state S.Store connection.new)) }
-    ensures blank { ¬ ((state S.Store connection.old).now.schema ≡ blank_schema) → result ≡ Err Foreign }
+    ensures blank { ¬ ((state S.Store connection.old).now.schema ≡ blank_schema) → result ≡ Err NotBlank }
+    ensures taken { result ≡ Err NotBlank → ¬ ((state S.Store connection.old).now.schema ≡ blank_schema) }
     ensures crash { Survives (state S.Store connection.old) (state S.Store connection.new) (MayBeWritten blank_schema (λ (_ : Unit {0}) db after. IsBegun shop.now after) (state S.Store connection.old)) }
 {
     if !is_blank(connection.schema()) {
-        return Err(RowError::Foreign);
+        return Err(CreateError::NotBlank);
     }
-    write_whole(connection, &NewShop { shop })
+    match write_whole(connection, &NewShop { shop }) {
+        Ok(()) => Ok(()),
+        Err(error) => Err(CreateError::of(error)),
+    }
 }

@@ -15,5 +15,5 @@ mod writes;
 
 pub use adding::add_token;
 pub use creating::create;
-pub use error::{HandedBack, TokenError};
+pub use error::{CreateError, HandedBack, TokenError};
 pub use sql::SqlTables;

@@ -37,8 +37,9 @@ def main():
         told = "".join(told for _, _, told in exchanges)
         out.append(f"== {name}: {ending}\n{told}\n")
     (data / "names").write_text("".join(f"{name}\n" for name, _, _ in cases))
+    exports = b"== positions_are_exported: none, three orders of two, and to a writer that fails\n" + (HERE / "cases" / "exports.txt").read_bytes()
     devices = b"== devices_that_fail: each in turn, and lines\n" + (HERE / "cases" / "devices.txt").read_bytes()
-    (HERE / "stdout").write_bytes("".join(out).encode() + devices)
+    (HERE / "stdout").write_bytes("".join(out).encode() + exports + devices)
 
 
 main()

@@ -1,6 +1,6 @@
 //! The worked cases: each stream of requests under `data/` is answered by a box office of its own, once in one piece and once
 //! byte by byte. Printed are its name, how it ends, and what is written. Behind them stands what comes of command lines, one of them over
-//! devices that fail (`cases/devices.txt`): in the same program, since a second one would have to read all libraries again.
+//! devices that fail (`cases/devices.txt`), and order positions that are exported (`cases/exports.txt`): in the same program, since a second one would have to read all libraries again.
 //!
 //! A case file begins with a line of moments, one for each whole request, with a space between two. What follows are the
 //! bytes of the stream. `data/names` has the names of the cases, one a line. `cases/write.py` writes them, and `stdout`, from the
@@ -11,6 +11,7 @@ mod case;
 mod cut;
 mod devices;
 mod endless;
+mod exports;
 mod failing;
 mod lines;
 mod listed;
@@ -18,6 +19,7 @@ mod tried;
 
 use crate::case::answered;
 use crate::devices::show_devices;
+use crate::exports::show_exports;
 use std::fs;
 
 // Answers each case, and prints what is written.
@@ -41,6 +43,9 @@ fn show_cases(rt: &HostRuntime) -> anyhow::Result<()> {
 
 fn main(rt: HostRuntime) -> anyhow::Result<()> {
     show_cases(&rt)?;
+    println!(rt; "== positions_are_exported: none, three orders of two, and to a writer that fails")?;
+    show_exports(&rt)?;
+    println!(rt)?;
     println!(rt; "== devices_that_fail: each in turn, and lines")?;
     show_devices(&rt)
 }

@@ -6,6 +6,7 @@ use crate::failing::FailingWriter;
 use bo_base::Body;
 use bo_devices::Drain;
 use bo_feed::run;
+use bo_http::write_all;
 use bo_line::{HouseFiles, LineEnd, Place, Report, RunFault, counted, said, say};
 use std::alloc::{AllocError, Global};
 use std::io::Read;
@@ -35,6 +36,8 @@ impl HouseFiles for OneFile {
     ghost worked = { λ _ _. ⊤ };
 
     ghost reported = { λ _ _ _. ⊤ };
+
+    ghost exported = { λ _ _ _. ⊤ };
 
     ghost imported = { λ _ _ _. ⊤ };
 
@@ -94,12 +97,22 @@ impl HouseFiles for OneFile {
             Report::Sales => " total       0       0       0       0           0.00\n",
             Report::Door(1) => " total         0         0         0\n",
             Report::Door(_) => return Err(RunFault::NoList),
-            Report::Positions => "order,positionid,status,item,variation,price,voucher,secret\n",
             Report::Version => "version 1\n",
         };
         let mut text = Vec::new(alloc);
         text.extend_from_slice(line.as_bytes())?;
         Ok(Body::new(text))
+    }
+
+    fn export<W: Drain>(&self, _alloc: Global, file: &str, writer: &mut W) -> Result<(), RunFault> {
+        if file != "hall.db" {
+            return Err(RunFault::File);
+        }
+        let line = "order,positionid,status,item,variation,price,voucher,secret\n";
+        match write_all(writer, line.as_bytes()) {
+            Ok(()) => Ok(()),
+            Err(_) => Err(RunFault::Unwritten),
+        }
     }
 
     // Of each other CSV file the first line's fourth column can't be read.

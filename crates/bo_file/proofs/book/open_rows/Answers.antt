@@ -20,6 +20,7 @@ pub returns-in-Ok-book_of-clause-held : goal.returns-in-Ok-book_of-clause-held
 returns-in-Ok-book_of-clause-held g c = λ t of. (
   stand_as t c.args.file (file_of c.in-Ok.rows) _ c.in-Ok.ensures.told c.in-Ok-book_of.ensures.state of c.in-Ok.ensures.order c.in-Ok.ensures.whole (c.in-Ok-book_of.ensures.kept Counters),
   c.in-Some.ensures.next t of.tables,
+  c.in-Some.ensures.least t of.tables,
 )
 
 pub returns-in-Err-book_of-clause-refused : goal.returns-in-Err-book_of-clause-refused

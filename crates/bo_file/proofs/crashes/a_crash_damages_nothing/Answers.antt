@@ -7,6 +7,7 @@ use Rattle.bo_opens.proofs.FitLemmas.{of_machine}
 use Rattle.bo_opens.proofs.LimitLemmas.{sound_fits}
 use Rattle.bo_file.proofs.Least.{clear}
 use Rattle.bo_file.proofs.Undamaged.{undamaged}
+use Rattle.bo_file.proofs.Again.{found_known}
 use Rattle.bo_file.proofs.Damage.{leaves_some}
 use Rattle.bo_file.proofs.crashes.a_crash_damages_nothing.Goals as goal
 
@@ -19,8 +20,9 @@ settled (Damaged rule) h = h (λ x. x)
 settled Store h = tt
 
 pub returns : goal.returns
-returns g c = λ words s r running found error why.
+returns g c = λ house of words s r running found error why.
     let db = (state g.S.Store c.args.fresh.now).now in
+    let known = found_known _ (state g.S.Store c.args.fresh.now) house of.left c.schema_known.ensures found in
     settled error (λ no. leaves_some words r (λ left. running.leaves left (record {
       clean = found.clean;
       trees = db.trees;
@@ -28,5 +30,5 @@ returns g c = λ words s r running found error why.
       only = λ head tables it held stand is.
           let good = running.leaves_sound it (record { clean = found.clean; trees = db.trees; may = found.may; only = λ other rows more holds stands _. one_shop db.trees tables rows held holds head other it.state more.state it.kept more.kept stand stands }) in
           let limits = sound_fits head tables it.state it.kept is.first is.organizer is.event is.token stand good is.rows in
-          absurd (no (clear db found.known (of_machine db found.known tables held limits) (undamaged head tables it.state it.kept stand db.trees held is.numbered is.organizer is.event good) error why));
+          absurd (no (clear db known (of_machine db known tables held limits) (undamaged head tables it.state it.kept stand db.trees held is.numbered is.organizer is.event good) error why));
     })))

@@ -6,6 +6,7 @@ use Rattle.bo_deliveries.specs.Shops.{stood}
 use Rattle.bo_deliveries.specs.Histories.{Crashed, opened}
 use Rattle.bo_deliveries.proofs.Crashes.{come_from_opening, happens_on}
 use Rattle.bo_deliveries.proofs.Running.{reopened}
+use Rattle.bo_file.proofs.Again.{found_known}
 use Rattle.bo_file.proofs.Tokens.{known_as}
 use Rattle.bo_file.proofs.crashes.a_shop_runs_on_after_a_crash.Goals as goal
 
@@ -19,10 +20,13 @@ returns-clause-reopened g c = λ found z o.
       only = o.leaves;
     }
 
+pub returns-clause-known : goal.returns-clause-known
+returns-clause-known g c = λ house of found. found_known _ (state g.S.Store c.args.fresh.now) house of.left c.schema_known.ensures found
+
 pub returns-clause-house : goal.returns-clause-house
 returns-clause-house g c = λ house of found z o.
     let left = of.left (state g.S.Store c.args.fresh.now).now.trees found.may in
-    known_as (state g.S.Store c.args.fresh.now).now.trees left.0 c.args.after.now.head c.args.after.now.next_row z (state g.S.Store c.args.after.now.connection) house left.1 o
+    known_as (state g.S.Store c.args.fresh.now).now.trees left.1.0 c.args.after.now.head c.args.after.now.next_row z (state g.S.Store c.args.after.now.connection) house left.1.1 o
 
 pub returns-clause-runs : goal.returns-clause-runs
 returns-clause-runs g c = λ words s r running found z o.

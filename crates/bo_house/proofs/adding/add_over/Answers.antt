@@ -7,7 +7,7 @@ use Rattle.bo_tables.specs.Tokens.{HasNoRoom, next_one, raised}
 use Rattle.bo_house.specs.Filed.{GetsToken}
 use Rattle.bo_schema.specs.Tables.{schema}
 use Rattle.bo_schema.specs.Whole.{IsOver, IsStill, MayBeWritten}
-use Rattle.bo_house.proofs.TokenLemmas.{got, told_full, told_none, told_number}
+use Rattle.bo_house.proofs.TokenLemmas.{got, told_for, told_full, told_none, told_number}
 use Rattle.bo_house.proofs.adding.add_over.Goals as goal
 
 pub returns-clause-gets : goal.returns-clause-gets
@@ -37,6 +37,14 @@ returns-clause-full g c = λ is clean house knows.
     let cleared : HasCleanDisk (state g.S.Store c.add_token-added.new.tables.connection) = subst (λ it. HasCleanDisk (state g.S.Store it)) c.connection_of.ensures clean in
     subst (λ (d : List ℕ). HasNoRoom (house.tokens d) c.args.opened.0.head.next_token) digest_is
     (c.add_token-added.ensures.full cleared house knows (told_full c.add_token-added.result (sym c.told.ensures ∙ is)))
+
+pub returns-clause-cause : goal.returns-clause-cause
+returns-clause-cause g c = told_for c.add_token-added.result c.told.result c.told.ensures
+
+pub returns-clause-full_open : goal.returns-clause-full_open
+returns-clause-full_open g c = λ is clean.
+    let cleared : HasCleanDisk (state g.S.Store c.add_token-added.new.tables.connection) = subst (λ it. HasCleanDisk (state g.S.Store it)) c.connection_of.ensures clean in
+    c.add_token-added.ensures.full_open cleared (told_full c.add_token-added.result (sym c.told.ensures ∙ is))
 
 pub returns-clause-crash : goal.returns-clause-crash
 returns-clause-crash g c =

@@ -1,9 +1,18 @@
-use Rattle.std.proofs.Common.{◌∙◌, Ok, Err, ap, sym, subst}
+use Rattle.std.proofs.Common.{◌≡◌, ◌∙◌, ◌⊎◌, Ok, Err, ap, sym, subst, inl, inr, refl}
 use Rattle.sqlite.specs.Held.{state}
 use Rattle.bo_line.specs.declared.fault.RunFault.{RunFault}
-use Rattle.bo_house.specs.Faults.{fault_of_rows}
-use Rattle.bo_house.specs.Filed.{MakesShopIn}
+use Rattle.sqlite.specs.Effect.{Database}
+use Rattle.bo_schema.specs.Blank.{blank_schema}
+use Rattle.bo_tables.specs.declared.error.CreateError.{CreateError}
+use Rattle.bo_tables.specs.declared.error.CreateError.TheVariants as making
+use Rattle.bo_house.specs.Faults.{fault_of_making}
+use Rattle.bo_house.specs.Filed.{IsNotMadeFor, MakesShopIn}
 use Rattle.bo_house.proofs.making.make_new_shop.Goals as goal
+
+not_made : (db : Database) (error : CreateError) → (error ≡ making.NotBlank → ¬ (db.schema ≡ blank_schema)) → IsNotMadeFor db (fault_of_making error)
+not_made db making.NotBlank taken = inl (refl, taken refl)
+not_made db making.Memory taken = inr (inl refl)
+not_made db making.Store taken = inr (inr refl)
 
 pub returns-in-Ok : goal.returns-in-Ok
 returns-in-Ok g c =
@@ -13,6 +22,7 @@ returns-in-Ok g c =
       made = λ clean. (tables.head, tables.next_row, made.made clean);
       none = λ clean. tt;
       blank = λ other. absurd (made.blank other);
+      cause = tt;
       crash = made.crash;
     })
 
@@ -22,6 +32,7 @@ returns-in-Err g c =
     record {
       made = λ clean. tt;
       none = refused.none;
-      blank = λ other. ap (λ (fault : RunFault). Err fault) (c.fault_of_rows.ensures ∙ ap fault_of_rows (refused.blank other));
+      blank = λ other. ap (λ (fault : RunFault). Err fault) (c.fault_of_making.ensures ∙ ap fault_of_making (refused.blank other));
+      cause = subst (IsNotMadeFor (state g.S.Store c.args.connection).now) (sym c.fault_of_making.ensures) (not_made _ _ refused.taken);
       crash = refused.crash_none;
     }

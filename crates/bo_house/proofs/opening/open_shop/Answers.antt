@@ -4,7 +4,7 @@ use Rattle.bo_house.proofs.opening.open_shop.Goals as goal
 pub returns-in-Ok-clause-opens : goal.returns-in-Ok-clause-opens
 returns-in-Ok-clause-opens g c =
     let e = c.in-Ok.ensures in
-    record { opened = e.opened; organizer = e.names.0; event = e.names.1; version = e.version; sound = e.sound; rests = e.rests; crash = e.crash }
+    record { opened = e.opened; organizer = e.names.0; event = e.names.1; version = e.version; sound = e.sound; same = e.same; rests = e.rests; crash = e.crash }
 
 pub returns-in-Err-clause-stays : goal.returns-in-Err-clause-stays
 returns-in-Err-clause-stays g c =

@@ -4,7 +4,7 @@ use Rattle.bo_line.specs.declared.fault.RunFault.{RunFault}
 use Rattle.bo_line.specs.declared.values.Report.{Report}
 use Rattle.bo_house.specs.Reported.{IsReport}
 use Rattle.bo_house.proofs.reporting.report_opened.Goals as goal
-use Rattle.bo_house.proofs.reporting.report_opened.Goals.{in-Sales, in-Door, in-Positions, in-Version}
+use Rattle.bo_house.proofs.reporting.report_opened.Goals.{in-Sales, in-Door, in-Version}
 
 -- what is told of one report is told of the report that it is
 told_as : (report one : Report) (version : ℕ) (lists : Lists) (outcome came : Result (List ℕ) RunFault) → report ≡ one → outcome ≡ came → IsReport one version lists came → IsReport report version lists outcome
@@ -18,6 +18,5 @@ returns-clause-told g c =
     elim c.match-report.branch [
       | in-Sales w ↦ told_as c.args.report _ version lists c.match-report.outcome _ w.in-Sales.is w.outcome-is (w.sales_of-outcome.ensures version)
       | in-Door w ↦ told_as c.args.report _ version lists c.match-report.outcome _ w.in-Door.is w.outcome-is (w.door_of-outcome.ensures version)
-      | in-Positions w ↦ told_as c.args.report _ version lists c.match-report.outcome _ w.in-Positions.is w.outcome-is (w.positions_of-outcome.ensures version)
       | in-Version w ↦ told_as c.args.report _ version lists c.match-report.outcome _ w.in-Version.is w.outcome-is (w.version_of-outcome.ensures lists)
     ]

@@ -16,6 +16,9 @@ returns-clause-next g c =
     rise_below c.loop-row.from (map g.T.Numbered.number_of c.args.rows.now)
     (c.loop-row.invariant.0 c.loop-row.from (subst (λ l. RiseTo c.loop-row.from c.loop-row.from (map g.T.Numbered.number_of l)) (sym none) (omega arith)))
 
+pub returns-clause-least : goal.returns-clause-least
+returns-clause-least g c = λ number h. (c.loop-row.invariant.2 number h.below).0
+
 pub returns-then-number-from-clause-none : goal.returns-then-number-from-clause-none
 returns-then-number-from-clause-none g c (m, low, rise) =
     let rows = c.args.rows.now in

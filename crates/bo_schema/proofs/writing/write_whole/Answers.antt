@@ -17,7 +17,8 @@ returns-in-Ok-clause-all g c clean over =
     let late : HasCleanDisk (state g.S.Store end) = rw same clean in
     let early : HasCleanDisk (state g.S.Store mid) = omega (arith, c.commit.ensures.survives.clean) in
     let was = opened early in
-    subst (λ h. IsWritten turns (state g.S.Store old) (state g.S.Store h)) same (committed g.S.Store turns old mid end (written early refl (over was)).1 was (c.in-Ok.ensures.ok late).1)
+    let its = written early refl (over was) (c.schema_known.ensures was).0 in
+    subst (λ h. IsWritten turns (state g.S.Store old) (state g.S.Store h)) same (committed g.S.Store turns old mid end (its.1, its.2) was (c.in-Ok.ensures.ok late).1)
 
 pub returns-in-Ok-clause-crash : goal.returns-in-Ok-clause-crash
 returns-in-Ok-clause-crash g c =
@@ -29,7 +30,7 @@ returns-in-Ok-clause-crash g c =
     let written = rw c.transaction-tx.ensures.begun at c.in_ok-answer.ensures.written in
     let opened = rw c.transaction-tx.ensures.begun at c.in_ok-answer.ensures.open in
     let first = rw c.transaction-tx.ensures.begun at c.in_ok-answer.ensures.crash in
-    let whole = crashes g.S.Store g.W.Writing.over turns c.in_ok-answer.answer old mid end (λ clean. written (omega (arith, c.commit.ensures.survives.clean)) refl) (λ clean. opened (omega (arith, c.commit.ensures.survives.clean))) first c.commit.ensures.survives in
+    let whole = crashes g.S.Store g.W.Writing.over turns c.in_ok-answer.answer old mid end (λ clean. written (omega (arith, c.commit.ensures.survives.clean)) refl) (λ clean. opened (omega (arith, c.commit.ensures.survives.clean))) c.schema_known.ensures first c.commit.ensures.survives in
     subst (λ h. Survives (state g.S.Store old) (state g.S.Store h) (MayBeWritten g.W.Writing.over turns (state g.S.Store old))) same whole
 
 pub returns-in-Err-clause-crash : goal.returns-in-Err-clause-crash
@@ -42,7 +43,7 @@ returns-in-Err-clause-crash g c =
     let written = rw c.transaction-tx.ensures.begun at c.in_ok-answer.ensures.written in
     let opened = rw c.transaction-tx.ensures.begun at c.in_ok-answer.ensures.open in
     let first = rw c.transaction-tx.ensures.begun at c.in_ok-answer.ensures.crash in
-    let whole = crashes g.S.Store g.W.Writing.over turns c.in_ok-answer.answer old mid end (λ clean. written (omega (arith, c.commit.ensures.survives.clean)) refl) (λ clean. opened (omega (arith, c.commit.ensures.survives.clean))) first c.commit.ensures.survives in
+    let whole = crashes g.S.Store g.W.Writing.over turns c.in_ok-answer.answer old mid end (λ clean. written (omega (arith, c.commit.ensures.survives.clean)) refl) (λ clean. opened (omega (arith, c.commit.ensures.survives.clean))) c.schema_known.ensures first c.commit.ensures.survives in
     subst (λ h. Survives (state g.S.Store old) (state g.S.Store h) (MayBeWritten g.W.Writing.over turns (state g.S.Store old))) same whole
 
 pub returns-in-Err-clause-none : goal.returns-in-Err-clause-none
@@ -56,6 +57,6 @@ returns-in-Err-clause-none g c clean over =
     let kept = rw c.transaction-tx.ensures.begun at c.in_ok-answer.ensures.kept in
     let late : HasCleanDisk (state g.S.Store end) = rw same clean in
     let early : HasCleanDisk (state g.S.Store mid) = omega (arith, c.commit.ensures.survives.clean) in
-    let inside = (written early refl (over (opened early))).0 in
+    let inside = (written early refl (over (opened early)) (c.schema_known.ensures (opened early)).0).0 in
     let settled = c.is_autocommit.ensures.settled (search rules) in
     subst (λ h. IsStill (state g.S.Store old) (state g.S.Store h)) same (undone g.S.Store old mid end c.in-Err.error (kept early) settled inside c.commit.ensures.ended (c.in-Err.ensures.err late))

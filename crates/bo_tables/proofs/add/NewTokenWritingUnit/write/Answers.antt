@@ -4,7 +4,7 @@ use Rattle.bo_tables.proofs.Begins.{before, inside_known, inside_after, has_toke
 use Rattle.bo_tables.proofs.add.NewTokenWritingUnit.write.Goals as goal
 
 pub returns-clause-written : goal.returns-clause-written
-returns-clause-written g c clean inside known =
+returns-clause-written g c clean inside known listed =
     let s0 = state g.S.Store c.args.tx.now.conn.now in
     let s1 = state g.S.Store c.put.new.tx.conn.now in
     let s2 = state g.S.Store c.insert.new.tx.conn.now in
@@ -12,4 +12,4 @@ returns-clause-written g c clean inside known =
     let token = c.args.self.now.token.now in
     let early : HasCleanDisk s1 = before s1 s2 c.insert.ensures.crash clean in
     let a = c.in_ok-put.ensures.written early (inside_known s0 inside known) in
-    has_token c.insert.result shop token s0 s1 s2 a (c.insert.ensures.written clean (inside_after _ s0 s1 a))
+    has_token c.insert.result shop token s0 s1 s2 listed a (c.insert.ensures.written clean (inside_after _ s0 s1 a))

@@ -1,0 +1,6 @@
+pub mod Asked
+pub mod Joined
+pub mod Ordered
+pub mod Partners
+pub mod Exports
+pub mod Streamed

@@ -1,0 +1,6 @@
+//! The order positions of a file, handed to a sink one at a time.
+#![tactic(auto)]
+
+pub mod positions;
+
+pub use positions::{WalkError, stream_positions};

@@ -1,0 +1,90 @@
+//! The order positions of a file, handed to a sink one after another.
+
+ghost use Rattle.std.specs.Prelude.{◌≡◌, false, IfOk, IfErr, OnOk};
+ghost use Rattle.sqlite.specs.Held.{state};
+ghost use Rattle.sqlite.specs.State.{Survives};
+ghost use Rattle.bo_export.specs.Exported.{exported};
+ghost use Rattle.bo_opens.specs.Rests.{Rests};
+ghost use Rattle.bo_walk.specs.Cells.{cells};
+ghost use Rattle.bo_walk.specs.Handed.{OfOffice, IsFrontOf, HandsAll, HandsSome, StopsAt};
+
+use bo_columns::Column;
+use bo_export::{ExportRow, Sink, SinkFault};
+use bo_opens::{Taker, each_row};
+use bo_schema::RowError;
+use sqlite::{Alter, Connection, Row};
+use std::alloc::Global;
+
+/// Why not all order positions were handed on.
+#[derive(Clone, Copy, PartialEq, Eq, Drop)]
+pub enum WalkError {
+    /// The sink's refusal.
+    Sink(SinkFault),
+    /// 6, 60, 62 or 63: a row wasn't read.
+    Rows(RowError),
+}
+
+// A line, from the row that shows it.
+fn line_of(alloc: Global, row: &Row) -> Result<ExportRow, RowError>
+    ensures { IfOk result (λ e. row.now ≡ cells e) }
+{
+    if row.column_count() != 8 {
+        return Err(RowError::Damaged);
+    }
+    Ok(ExportRow {
+        order: Column::read(alloc, row, 0)?,
+        positionid: Column::read(alloc, row, 1)?,
+        status: Column::read(alloc, row, 2)?,
+        item: Column::read(alloc, row, 3)?,
+        variation: Column::read(alloc, row, 4)?,
+        price: Column::read(alloc, row, 5)?,
+        voucher: Column::read(alloc, row, 6)?,
+        secret: Column::read(alloc, row, 7)?,
+    })
+}
+
+// A sink takes each row as a line.
+impl<K: Sink> Taker<WalkError> for K {
+    ghost use Rattle.bo_export.specs.declared.row.ExportRow.{ExportRow};
+
+    ghost takes = { λ old row new. (e : ExportRow) × (row ≡ cells e) × K.Sink.takes old e new };
+
+    ghost stops = { λ old row fault new. StopsAt K.Sink.refuses old row fault new };
+
+    fn take(&mut self, alloc: Global, row: &Row) -> Result<(), WalkError> {
+        match line_of(alloc, row) {
+            Ok(line) => match self.row(alloc, &line) {
+                Ok(()) => Ok(()),
+                Err(fault) => Err(WalkError::Sink(fault)),
+            },
+            Err(error) => Err(WalkError::Rows(error)),
+        }
+    }
+}
+
+/// Hands the order positions of the box office that a file holds to a sink, order by order, each one's by their numbers there, one at a
+/// time, of which the store holds some. The connection stays as it is. Where the sink refuses one, that refusal is answered as it came, and
+/// those before it were taken; else 6, 60, 62, and 63 where the store fails.
+pub fn stream_positions<S: Alter, K: Sink>(
+    alloc: Global,
+    conn: &mut Connection<S>,
+    sink: &mut K,
+) -> Result<(), WalkError>
+    requires { conn.old.in_transaction ≡ false }
+    ensures all { OnOk result (HandsAll K.Sink.takes K.Sink.refuses (λ rows. OfOffice (state S.Store conn.old) (state S.Store conn.new) (λ lists. rows ≡ exported lists)) sink.old sink.new) }
+    ensures some { IfErr result (HandsSome K.Sink.takes K.Sink.refuses (λ rows. OfOffice (state S.Store conn.old) (state S.Store conn.new) (λ lists. IsFrontOf rows (exported lists))) sink.old sink.new) }
+    ensures rests { Rests (state S.Store conn.old) (state S.Store conn.new) }
+    ensures mode { conn.new.in_transaction ≡ false }
+    ensures crash { Survives (state S.Store conn.old) (state S.Store conn.new) (λ _. ⊥) }
+{
+    let sql =
+        "SELECT p.order_id, p.positionid, o.status, p.item_id, p.variation_id, p.price, v.code, p.secret FROM order_positions AS p JOIN orders AS o ON o.id = p.order_id LEFT JOIN vouchers AS v ON v.id = p.voucher_id ORDER BY p.order_id, p.positionid";
+    let taken = match each_row(alloc, conn, sql, sink) {
+        Ok(taken) => taken,
+        Err(error) => return Err(WalkError::Rows(error)),
+    };
+    match taken {
+        Ok(()) => Ok(()),
+        Err(fault) => Err(fault),
+    }
+}

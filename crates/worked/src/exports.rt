@@ -1,0 +1,143 @@
+//! Order positions that are exported one at a time, from a shop in SQLite's memory, to writers of which some take too little.
+
+ghost use Rattle.std.specs.Prelude.{◌≡◌, ◌<◌, []};
+
+use bo_csv::{CsvSink, Lines};
+use bo_export::SinkFault;
+use bo_feed::open_memory;
+use bo_line::counted;
+use bo_walk::{WalkError, stream_positions};
+use sqlite::{Connection, MemStore};
+use std::alloc::Global;
+use std::io;
+use std::io::Write;
+use std::marker::Brand;
+use std::sync::ledger::{Blank, Ledger};
+
+/// Three orders of two positions, whose numbers there fall while their ids rise, one of them with a voucher.
+static ROWS: &str = "INSERT INTO items VALUES (1, 'Stalls', 2300, 1, 0);
+INSERT INTO vouchers VALUES (1, 'A,1', 9, NULL, 0, 0, 'none', NULL, NULL, NULL, NULL, '', '', 1);
+INSERT INTO orders VALUES (1, NULL, 'p', 0, 0), (2, NULL, 'n', 0, 0), (3, NULL, 'c', 0, 0);
+INSERT INTO order_positions VALUES (1, 3, 2, 1, NULL, 2300, NULL, 's1'), (2, 3, 1, 1, NULL, 2300, NULL, 's2'), (3, 1, 2, 1, NULL, 2300, 1, 's3'),
+(4, 1, 1, 1, NULL, 2300, NULL, 's4'), (5, 2, 2, 1, NULL, 50, NULL, 's5'), (6, 2, 1, 1, NULL, 0, NULL, 's6')";
+
+/// Takes so many bytes in all, and then no more.
+#[derive(Drop)]
+struct ShortWriter {
+    taken: Vec<u8>,
+    left: usize,
+}
+
+impl ShortWriter {
+    // Nothing taken yet, where so many bytes are taken.
+    fn new(alloc: Global, left: usize) -> ShortWriter
+        ensures taken { result.taken.items ≡ [] }
+        ensures left { result.left ≡ left }
+    {
+        ShortWriter {
+            taken: Vec::new(alloc),
+            left,
+        }
+    }
+
+    // What was taken.
+    fn into_taken(self) -> Vec<u8>
+        ensures { result ≡ self.taken }
+    {
+        let ShortWriter { taken, left: _ } = self;
+        taken
+    }
+}
+
+impl Write for ShortWriter {
+    fn write(&mut self, buf: &[u8]) -> io::Result<usize> {
+        let n = buf.len().min(self.left);
+        self.taken.extend_from_slice(&buf[..n])?;
+        self.left -= n;
+        Ok(n)
+    }
+
+    fn flush(&mut self) -> io::Result<()> {
+        Ok(())
+    }
+}
+
+/// What an export came to: 0 or the number of its fault, and what was taken.
+struct Came {
+    fault: u8,
+    taken: Vec<u8>,
+}
+
+// The number of what a sink refuses.
+fn number(fault: SinkFault) -> u8 {
+    match fault {
+        SinkFault::Memory => 6,
+        SinkFault::Output => 73,
+    }
+}
+
+// Exports to a writer that takes so many bytes, with a ledger for each count of the device.
+fn exported<A: Ledger, B: Ledger>(
+    alloc: Global,
+    connection: &mut Connection<MemStore>,
+    most: usize,
+    calls: Blank,
+    failures: Blank,
+) -> anyhow::Result<Came>
+    requires calls { (calls.name ≡ A.name) × (calls.parts ≡ A.parts) × (0 < A.parts) }
+    requires failures { (failures.name ≡ B.name) × (failures.parts ≡ B.parts) × (0 < B.parts) }
+{
+    let mut writer = counted::<ShortWriter, A, B>(ShortWriter::new(alloc, most), calls, failures);
+    let lines = Lines::new(alloc)?;
+    if !connection.is_autocommit() {
+        return Ok(Came {
+            fault: 63,
+            taken: Vec::new(alloc),
+        });
+    }
+    let mut sink = CsvSink::over(&mut writer, lines);
+    let fault = match stream_positions(alloc, connection, &mut sink) {
+        Ok(()) => match sink.hand_on(alloc) {
+            Ok(()) => 0,
+            Err(fault) => number(fault),
+        },
+        Err(WalkError::Sink(fault)) => number(fault),
+        Err(WalkError::Rows(_)) => 63,
+    };
+    drop(sink);
+    Ok(Came {
+        fault,
+        taken: writer.inner.into_taken(),
+    })
+}
+
+// The same.
+fn export(
+    alloc: Global,
+    connection: &mut Connection<MemStore>,
+    most: usize,
+) -> anyhow::Result<Came> {
+    exported::<Brand, Brand>(alloc, connection, most, Blank::new(1), Blank::new(1))
+}
+
+/// Exports no order, then three, then three to a writer that takes 100 bytes, and then again.
+pub(crate) fn show_exports(rt: &HostRuntime) -> anyhow::Result<()> {
+    let alloc = rt.alloc();
+    let (tables, _) = open_memory(alloc)?;
+    let mut connection = tables.into_connection();
+    let none = export(alloc, &mut connection, usize::MAX)?;
+    rt.write_all(none.taken.as_slice())?;
+    connection.execute_batch(ROWS)?;
+    let all = export(alloc, &mut connection, usize::MAX)?;
+    rt.write_all(all.taken.as_slice())?;
+    let cut = export(alloc, &mut connection, 100)?;
+    let again = export(alloc, &mut connection, usize::MAX)?;
+    println!(rt; "ended with {}, {}, {} and {}", none.fault, all.fault, cut.fault, again.fault)?;
+    println!(rt;
+        "a writer of 100 bytes has {}, a beginning: {}; then all: {}",
+        cut.taken.len(),
+        all.taken.starts_with(cut.taken.as_slice()),
+        again.taken.as_slice() == all.taken.as_slice()
+    )?;
+    Ok(())
+}
