@@ -87,20 +87,20 @@ front_lines es all tail h = (map line_in tail, ap (λ l. l ++ map line_in tail) 
 
 -- ---- rows that were taken as lines
 
-module _ {K : Type 0} (takes : K → ExportRow → K → Type 0) where
-  abbrev pub ByLine : K → Row → K → Type 0
-  ByLine old row new = (e : ExportRow) × (row ≡ cells e) × takes old e new
+module _ {W K : Type 0} (sink : W → K) (takes : K → ExportRow → K → Type 0) where
+  abbrev pub ByLine : W → Row → W → Type 0
+  ByLine old row new = (e : ExportRow) × (row ≡ cells e) × takes (sink old) e (sink new)
 
-  pub record Lined (old : K) (rows : List Row) (new : K) : Type 0 where
+  pub record Lined (old : W) (rows : List Row) (new : W) : Type 0 where
     pub lines : List ExportRow
     pub are : rows ≡ map cells lines
-    pub took : Took takes old lines new
+    pub took : Took takes (sink old) lines (sink new)
 
-  lined : (old new : K) (rows : List Row) → Took ByLine old rows new → Lined old rows new
-  lined old new [] t = record { lines = []; are = refl; took = t }
+  lined : (old new : W) (rows : List Row) → Took ByLine old rows new → Lined old rows new
+  lined old new [] t = record { lines = []; are = refl; took = ap sink t }
   lined old new (row ∷ rows) (mid, step, more) =
       let rest = lined mid new rows more in
-      record { lines = step.0 ∷ rest.lines; are = ap (λ r. r ∷ rows) step.1 ∙ ap (λ l. cells step.0 ∷ l) rest.are; took = (mid, step.2, rest.took) }
+      record { lines = step.0 ∷ rest.lines; are = ap (λ r. r ∷ rows) step.1 ∙ ap (λ l. cells step.0 ∷ l) rest.are; took = (sink mid, step.2, rest.took) }
 
 -- ---- what they are
 
@@ -133,19 +133,19 @@ of_trees d s t same held = subst (λ (x : Database). Holds x.trees t) (sym same)
 of_schema : (d : Database) (s : Connected) → s.now ≡ d → d.schema ≡ schema → s.now.schema ≡ schema
 of_schema d s same known = ap (λ (x : Database). x.schema) same ∙ known
 
-module _ {K : Type 0} (takes : K → ExportRow → K → Type 0) (refuses : K → ExportRow → SinkFault → K → Type 0) (old new : Connected) (before after : K) where
-  pub handed : TakesAll (ByLine takes) joined_text old new before after → HandsAll takes refuses (λ rows. OfOffice old new (λ lists. rows ≡ exported lists)) before after
+module _ {W K : Type 0} (sink : W → K) (takes : K → ExportRow → K → Type 0) (refuses : K → ExportRow → SinkFault → K → Type 0) (old new : Connected) (before after : W) where
+  pub handed : TakesAll (ByLine sink takes) joined_text old new before after → HandsAll takes refuses (λ rows. OfOffice old new (λ lists. rows ≡ exported lists)) (sink before) (sink after)
   handed h =
-      let l = lined takes before after h.rows h.took in
+      let l = lined sink takes before after h.rows h.took in
       record {
         rows = l.lines;
         took = l.took;
         are = λ clean db at known t held shop s ks st so. same_lines l.lines (exported s.lists) (sym l.are ∙ all_are old new (of_schema db old at.now known) t (of_trees db old t at.now held) shop s ks st so new h.rows (h.shown clean));
       }
 
-  pub broken : BreaksOff (ByLine takes) joined_text old new before after → HandsAll takes refuses (λ rows. OfOffice old new (λ lists. IsFrontOf rows (exported lists))) before after
+  pub broken : BreaksOff (ByLine sink takes) joined_text old new before after → HandsAll takes refuses (λ rows. OfOffice old new (λ lists. IsFrontOf rows (exported lists))) (sink before) (sink after)
   broken h =
-      let l = lined takes before after h.rows h.took in
+      let l = lined sink takes before after h.rows h.took in
       record {
         rows = l.lines;
         took = l.took;
@@ -158,32 +158,32 @@ module _ {K : Type 0} (takes : K → ExportRow → K → Type 0) (refuses : K �
       either (e ∷ es) all rows are k (inl none) = absurd (let no : [] ≡ cells e ∷ map cells es = sym none ∙ are in cc)
       either (e ∷ es) all rows are k (inr begun) = k begun
 
-  pub refused : (fault : SinkFault) → TakesSome (ByLine takes) (λ k row n. StopsAt refuses k row (Sink fault) n) joined_text old new before after
-      → HandsUpTo takes refuses (λ rows. OfOffice old new (λ lists. IsFrontOf rows (exported lists))) before after fault
+  pub refused : (fault : SinkFault) → TakesSome (ByLine sink takes) (λ k row n. StopsAt refuses (sink k) row (Sink fault) (sink n)) joined_text old new before after
+      → HandsUpTo takes refuses (λ rows. OfOffice old new (λ lists. IsFrontOf rows (exported lists))) (sink before) (sink after) fault
   refused fault h =
-      let l = lined takes before h.mid h.rows h.took in
+      let l = lined sink takes before h.mid h.rows h.took in
       let one = h.stopped in
       record {
         rows = l.lines;
         row = one.0;
-        mid = h.mid;
+        mid = sink h.mid;
         took = l.took;
         refused = one.2;
         are = λ clean db at known t held shop s ks st so. front_is old new (of_schema db old at.now known) t (of_trees db old t at.now held) shop s ks st so at.is_open (l.lines ++ one.0 ∷ []) (h.rows ++ h.row ∷ [])
             (ap (λ x. x ++ h.row ∷ []) l.are ∙ ap (λ r. map cells l.lines ++ r ∷ []) one.1 ∙ sym (map-append cells l.lines (one.0 ∷ []))) (h.front clean);
       }
 
-  pub unread : (e : RowError) → TakesSome (ByLine takes) (λ k row n. StopsAt refuses k row (Rows e) n) joined_text old new before after
-      → HandsAll takes refuses (λ rows. OfOffice old new (λ lists. IsFrontOf rows (exported lists))) before after
+  pub unread : (e : RowError) → TakesSome (ByLine sink takes) (λ k row n. StopsAt refuses (sink k) row (Rows e) (sink n)) joined_text old new before after
+      → HandsAll takes refuses (λ rows. OfOffice old new (λ lists. IsFrontOf rows (exported lists))) (sink before) (sink after)
   unread e h =
-      let l = lined takes before h.mid h.rows h.took in
+      let l = lined sink takes before h.mid h.rows h.took in
       record {
         rows = l.lines;
-        took = subst (λ k. Took takes before l.lines k) (sym h.stopped) l.took;
+        took = subst (λ k. Took takes (sink before) l.lines k) (sym h.stopped) l.took;
         are = λ clean db at known t held shop s ks st so. front_before old new (of_schema db old at.now known) t (of_trees db old t at.now held) shop s ks st so at.is_open l.lines h.rows h.row l.are (h.front clean);
       }
 
-  pub some_of : (why : WalkError) → TakesSome (ByLine takes) (λ k row n. StopsAt refuses k row why n) joined_text old new before after
-      → HandsSome takes refuses (λ rows. OfOffice old new (λ lists. IsFrontOf rows (exported lists))) before after why
+  pub some_of : (why : WalkError) → TakesSome (ByLine sink takes) (λ k row n. StopsAt refuses (sink k) row why (sink n)) joined_text old new before after
+      → HandsSome takes refuses (λ rows. OfOffice old new (λ lists. IsFrontOf rows (exported lists))) (sink before) (sink after) why
   some_of (Sink fault) h = refused fault h
   some_of (Rows e) h = unread e h

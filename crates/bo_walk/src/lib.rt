@@ -3,4 +3,4 @@
 
 pub mod positions;
 
-pub use positions::{WalkError, stream_positions};
+pub use positions::{Walk, WalkError, stream_positions};

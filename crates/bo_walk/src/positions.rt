@@ -43,17 +43,24 @@ fn line_of(alloc: Global, row: &Row) -> Result<ExportRow, RowError>
     })
 }
 
-// A sink takes each row as a line.
-impl<K: Sink> Taker<WalkError> for K {
+/// A walk over order positions, of which each is handed to a sink.
+#[derive(Drop)]
+pub struct Walk<K> {
+    /// What takes them.
+    pub sink: K,
+}
+
+// Each row is handed on as a line.
+impl<K: Sink> Taker<WalkError> for Walk<K> {
     ghost use Rattle.bo_export.specs.declared.row.ExportRow.{ExportRow};
 
-    ghost takes = { λ old row new. (e : ExportRow) × (row ≡ cells e) × K.Sink.takes old e new };
+    ghost takes = { λ old row new. (e : ExportRow) × (row ≡ cells e) × K.Sink.takes old.sink e new.sink };
 
-    ghost stops = { λ old row fault new. StopsAt K.Sink.refuses old row fault new };
+    ghost stops = { λ old row fault new. StopsAt K.Sink.refuses old.sink row fault new.sink };
 
     fn take(&mut self, alloc: Global, row: &Row) -> Result<(), WalkError> {
         match line_of(alloc, row) {
-            Ok(line) => match self.row(alloc, &line) {
+            Ok(line) => match self.sink.row(alloc, &line) {
                 Ok(()) => Ok(()),
                 Err(fault) => Err(WalkError::Sink(fault)),
             },
@@ -68,18 +75,18 @@ impl<K: Sink> Taker<WalkError> for K {
 pub fn stream_positions<S: Alter, K: Sink>(
     alloc: Global,
     conn: &mut Connection<S>,
-    sink: &mut K,
+    walk: &mut Walk<K>,
 ) -> Result<(), WalkError>
     requires { conn.old.in_transaction ≡ false }
-    ensures all { OnOk result (HandsAll K.Sink.takes K.Sink.refuses (λ rows. OfOffice (state S.Store conn.old) (state S.Store conn.new) (λ lists. rows ≡ exported lists)) sink.old sink.new) }
-    ensures some { IfErr result (HandsSome K.Sink.takes K.Sink.refuses (λ rows. OfOffice (state S.Store conn.old) (state S.Store conn.new) (λ lists. IsFrontOf rows (exported lists))) sink.old sink.new) }
+    ensures all { OnOk result (HandsAll K.Sink.takes K.Sink.refuses (λ rows. OfOffice (state S.Store conn.old) (state S.Store conn.new) (λ lists. rows ≡ exported lists)) walk.old.sink walk.new.sink) }
+    ensures some { IfErr result (HandsSome K.Sink.takes K.Sink.refuses (λ rows. OfOffice (state S.Store conn.old) (state S.Store conn.new) (λ lists. IsFrontOf rows (exported lists))) walk.old.sink walk.new.sink) }
     ensures rests { Rests (state S.Store conn.old) (state S.Store conn.new) }
     ensures mode { conn.new.in_transaction ≡ false }
     ensures crash { Survives (state S.Store conn.old) (state S.Store conn.new) (λ _. ⊥) }
 {
     let sql =
         "SELECT p.order_id, p.positionid, o.status, p.item_id, p.variation_id, p.price, v.code, p.secret FROM order_positions AS p JOIN orders AS o ON o.id = p.order_id LEFT JOIN vouchers AS v ON v.id = p.voucher_id ORDER BY p.order_id, p.positionid";
-    let taken = match each_row(alloc, conn, sql, sink) {
+    let taken = match each_row(alloc, conn, sql, walk) {
         Ok(taken) => taken,
         Err(error) => return Err(WalkError::Rows(error)),
     };

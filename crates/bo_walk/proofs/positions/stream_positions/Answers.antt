@@ -9,12 +9,12 @@ each_row-requires-clause-reads g c = query_reads joined_text only_asks
 
 pub returns-in-Ok-taken-clause-all : goal.returns-in-Ok-taken-clause-all
 returns-in-Ok-taken-clause-all g c =
-    handed g.K.Sink.takes g.K.Sink.refuses (state g.S.Store c.args.conn.now) (state g.S.Store c.each_row.new.conn) c.args.sink.now c.each_row.new.taker (rw c.in-Ok-taken.is at c.in-Ok.ensures.whole)
+    handed (λ w. w.sink) g.K.Sink.takes g.K.Sink.refuses (state g.S.Store c.args.conn.now) (state g.S.Store c.each_row.new.conn) c.args.walk.now c.each_row.new.taker (rw c.in-Ok-taken.is at c.in-Ok.ensures.whole)
 
 pub returns-in-Err-clause-some : goal.returns-in-Err-clause-some
 returns-in-Err-clause-some g c =
-    broken g.K.Sink.takes g.K.Sink.refuses (state g.S.Store c.args.conn.now) (state g.S.Store c.each_row.new.conn) c.args.sink.now c.each_row.new.taker c.in-Err.ensures.broken
+    broken (λ w. w.sink) g.K.Sink.takes g.K.Sink.refuses (state g.S.Store c.args.conn.now) (state g.S.Store c.each_row.new.conn) c.args.walk.now c.each_row.new.taker c.in-Err.ensures.broken
 
 pub returns-in-Err-taken-clause-some : goal.returns-in-Err-taken-clause-some
 returns-in-Err-taken-clause-some g c =
-    some_of g.K.Sink.takes g.K.Sink.refuses (state g.S.Store c.args.conn.now) (state g.S.Store c.each_row.new.conn) c.args.sink.now c.each_row.new.taker c.in-Err-taken.fault (rw c.in-Err-taken.is at c.in-Ok.ensures.stopped)
+    some_of (λ w. w.sink) g.K.Sink.takes g.K.Sink.refuses (state g.S.Store c.args.conn.now) (state g.S.Store c.each_row.new.conn) c.args.walk.now c.each_row.new.taker c.in-Err-taken.fault (rw c.in-Err-taken.is at c.in-Ok.ensures.stopped)
