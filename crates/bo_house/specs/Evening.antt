@@ -1,5 +1,5 @@
 -- One command after another on the file of a shop, as one history.
-use Rattle.std.specs.Prelude.{◌≡◌, List, IsTrue}
+use Rattle.std.specs.Prelude.{List}
 use Rattle.sqlite_trees.specs.declared.store.Store.{Ghosts}
 use Rattle.sqlite.specs.Held.{state}
 use Rattle.sqlite.specs.State.{State as Connected, HasCleanDisk}
@@ -19,10 +19,9 @@ pub record RunsSo {T : Type 0} (tables : Meaning T) (house : House) (begun : Run
   pub happened : Happens (words_of house) begun events r
   pub running : IsRunning (words_of house) tables.holds tables.may_leave desk.tables desk.state r
 
--- What was left so is found again, after a crash or because a command has ended, by a new connection that is open; and it is opened as this
--- desk, over a disk that returned what was written.
+-- What was left so is found again by a new connection, after a crash or because a command has ended; and it is opened as this desk, over a
+-- disk that returned what was written.
 pub record IsOpenedAgain {S : Type 0} (g : Ghosts S) (left fresh : Connected) (desk : DeskView (SqlTables S)) : Type 0 where
   pub found : IsFound left fresh
-  pub is_open : IsTrue fresh.is_open
   pub opens : OpensAs g fresh desk
   pub clean : HasCleanDisk (state g desk.tables.connection)

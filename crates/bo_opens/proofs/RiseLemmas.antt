@@ -13,6 +13,11 @@ below : (n m : ℕ) (xs : List ℕ) → RiseTo n m xs → AllByRecursion (λ x. 
 below n m [] h = tt
 below n m (x ∷ xs) h = let more = ends_above (x + 1) m xs h.1 in (omega (arith, more), below (x + 1) m xs h.1)
 
+-- and above all of them there is room for as many
+pub rise_under : (n m k : ℕ) (xs : List ℕ) → n ≤ k → RiseTo n m xs → AllByRecursion (λ x. x < k) xs → RiseTo n k xs
+rise_under n m k [] le h all = le
+rise_under n m k (x ∷ xs) le h all = let low = all.0 in (h.0, rise_under (x + 1) m k xs (omega (arith, low)) h.1 all.1)
+
 none_below : (x n m : ℕ) (xs : List ℕ) → x < n → RiseTo n m xs → list_any (λ y. x == y) xs ≡ false
 none_below x n m [] low h = refl
 none_below x n m (y ∷ ys) low h = grind (arith, nat_tests, h.0, none_below x (y + 1) m ys (omega (arith, h.0)) h.1)

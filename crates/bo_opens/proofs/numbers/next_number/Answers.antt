@@ -1,6 +1,6 @@
 use Rattle.std.proofs.Common.{◌≡◌, ℕ, zero, suc, ◌+◌, ◌≤◌, List, [], ◌∷◌, length, map, drop, drop-cons, refl, sym, ap, subst, ◌∙◌, arith}
 use Rattle.bo_opens.specs.Numbers.{RiseTo}
-use Rattle.bo_opens.proofs.RiseLemmas.{ends_above, rise_below}
+use Rattle.bo_opens.proofs.RiseLemmas.{ends_above, rise_below, rise_under}
 use Rattle.bo_opens.proofs.numbers.next_number.Goals as goal
 use Rattle.bo_opens.proofs.numbers.next_number.Goals.{then-number-from-via-then-number-from, then-number-from-via-else-number-from+then-number}
 
@@ -17,7 +17,11 @@ returns-clause-next g c =
     (c.loop-row.invariant.0 c.loop-row.from (subst (λ l. RiseTo c.loop-row.from c.loop-row.from (map g.T.Numbered.number_of l)) (sym none) (omega arith)))
 
 pub returns-clause-least : goal.returns-clause-least
-returns-clause-least g c = λ number h. (c.loop-row.invariant.2 number h.below).0
+returns-clause-least g c = λ number h.
+    let none = dropped c.loop-row.row-index c.args.rows.now (omega arith) in
+    let rise = c.loop-row.invariant.0 c.loop-row.from (subst (λ l. RiseTo c.loop-row.from c.loop-row.from (map g.T.Numbered.number_of l)) (sym none) (omega arith)) in
+    subst (λ l. RiseTo c.loop-row.from number (map g.T.Numbered.number_of l)) none
+    (c.loop-row.invariant.1 number (rise_under 0 c.loop-row.from number (map g.T.Numbered.number_of c.args.rows.now) (omega arith) rise h.below))
 
 pub returns-then-number-from-clause-none : goal.returns-then-number-from-clause-none
 returns-then-number-from-clause-none g c (m, low, rise) =

@@ -1,5 +1,4 @@
-use Rattle.std.proofs.Common.{ℕ, ◌<◌, ◌≤◌, drop, map}
-use Rattle.std.specs.List.{AllByRecursion}
+use Rattle.std.proofs.Common.{ℕ, drop, map}
 use Rattle.bo_opens.specs.Numbers.{RiseTo}
 use Rattle.bo_opens.proofs.numbers.next_number.Given as goal
 
@@ -7,4 +6,3 @@ abbrev pub invariant-loop-row : goal.invariant-loop-row
 invariant-loop-row g l =
     ((m : ℕ) → RiseTo l.from m (map g.T.Numbered.number_of (drop l.row-index l.rows)) → RiseTo 0 m (map g.T.Numbered.number_of l.rows))
     × ((m : ℕ) → RiseTo 0 m (map g.T.Numbered.number_of l.rows) → RiseTo l.from m (map g.T.Numbered.number_of (drop l.row-index l.rows)))
-    × ((m : ℕ) → AllByRecursion (λ n. n < m) (map g.T.Numbered.number_of l.rows) → (l.from ≤ m) × AllByRecursion (λ n. n < m) (map g.T.Numbered.number_of (drop l.row-index l.rows)))
