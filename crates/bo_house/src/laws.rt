@@ -21,7 +21,7 @@ ghost use Rattle.bo_kept.specs.ShopView.{ShopView};
 ghost use Rattle.bo_csv.specs.VerdictLines.{verdict_lines};
 ghost use Rattle.bo_deliveries.specs.Deliveries.{step};
 ghost use Rattle.bo_deliveries.specs.Histories.{AreKeyless, Crashed, Event, IsRunning, MayLeave, Running, after_act, event_of, opened};
-ghost use Rattle.bo_desk.specs.Streams.{DeskView, IsOf, Serves, ServesHistory, ServesRunning, desk_with, meaning, words_of};
+ghost use Rattle.bo_desk.specs.Streams.{DeskView, IsOf, Serves, ServesRunning, desk_with, meaning, words_of};
 ghost use Rattle.bo_file.specs.Found.{IsFound};
 ghost use Rattle.bo_file.specs.Opened.{IsReason};
 ghost use Rattle.bo_house.specs.Acting.{Acts, own_arrival, told_of};
@@ -33,6 +33,7 @@ ghost use Rattle.bo_line.specs.declared.fault.RunFault.{RunFault};
 ghost use Rattle.bo_opens.specs.Lawful.{IsOfMachine};
 ghost use Rattle.bo_opens.specs.declared.error.OpenError.{OpenError};
 ghost use Rattle.bo_serve.specs.Visits.{Between, Visits, between, seen_at};
+ghost use Rattle.bo_streams.specs.Streams.{ServesHistory};
 ghost use Rattle.bo_tables.specs.declared.sql.SqlTables.{SqlTables};
 
 use bo_deliveries::laws::shops_run_in_any_words;

@@ -17,12 +17,12 @@ imports-tell : (given : List (List ℕ)) (verdicts : List Verdict) (reply : Repl
 imports-tell given verdicts reply is = (verdicts, ap (λ (r : Reply). (import_words given r).body) is)
 
 other-work : (reply : Reply) → ((counts : PeriodicCounts) → reply ≡ replies.Periodic counts → ⊥) → (work_words reply).body ≡ codes "{}"
-other-work (replies.Periodic counts) no = absurd (no counts refl)
-other-work reply no = refl
+other-work (replies.Periodic counts) isnt = absurd (isnt counts refl)
+other-work reply isnt = refl
 
 other-imports : (given : List (List ℕ)) (reply : Reply) → ((verdicts : List Verdict) → reply ≡ replies.Imported verdicts → ⊥) → (import_words given reply).body ≡ codes "{}"
-other-imports given (replies.Imported verdicts) no = absurd (no verdicts refl)
-other-imports given reply no = refl
+other-imports given (replies.Imported verdicts) isnt = absurd (isnt verdicts refl)
+other-imports given reply isnt = refl
 
 pub returns-clause-work : goal.returns-clause-work
 returns-clause-work c = λ at draw state. work-tells _ (step Periodic at draw state).1 refl
