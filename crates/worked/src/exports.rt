@@ -2,11 +2,9 @@
 
 ghost use Rattle.std.specs.Prelude.{◌≡◌, ◌<◌, []};
 
-use bo_csv::{CsvSink, Lines};
-use bo_export::SinkFault;
 use bo_feed::open_memory;
 use bo_line::counted;
-use bo_walk::{WalkError, stream_positions};
+use bo_walk::write_positions;
 use sqlite::{Connection, MemStore};
 use std::alloc::Global;
 use std::io;
@@ -68,14 +66,6 @@ struct Came {
     taken: Vec<u8>,
 }
 
-// The number of what a sink refuses.
-fn number(fault: SinkFault) -> u8 {
-    match fault {
-        SinkFault::Memory => 6,
-        SinkFault::Output => 73,
-    }
-}
-
 // Exports to a writer that takes so many bytes, with a ledger for each count of the device.
 fn exported<A: Ledger, B: Ledger>(
     alloc: Global,
@@ -88,23 +78,10 @@ fn exported<A: Ledger, B: Ledger>(
     requires failures { (failures.name ≡ B.name) × (failures.parts ≡ B.parts) × (0 < B.parts) }
 {
     let mut writer = counted::<ShortWriter, A, B>(ShortWriter::new(alloc, most), calls, failures);
-    let lines = Lines::new(alloc)?;
-    if !connection.is_autocommit() {
-        return Ok(Came {
-            fault: 63,
-            taken: Vec::new(alloc),
-        });
-    }
-    let mut sink = CsvSink::over(&mut writer, lines);
-    let fault = match stream_positions(alloc, connection, &mut sink) {
-        Ok(()) => match sink.hand_on(alloc) {
-            Ok(()) => 0,
-            Err(fault) => number(fault),
-        },
-        Err(WalkError::Sink(fault)) => number(fault),
-        Err(WalkError::Rows(_)) => 63,
+    let fault = match write_positions(alloc, connection, &mut writer) {
+        Ok(()) => 0,
+        Err(fault) => fault.number(),
     };
-    drop(sink);
     Ok(Came {
         fault,
         taken: writer.inner.into_taken(),
@@ -132,7 +109,10 @@ pub(crate) fn show_exports(rt: &HostRuntime) -> anyhow::Result<()> {
     rt.write_all(all.taken.as_slice())?;
     let cut = export(alloc, &mut connection, 100)?;
     let again = export(alloc, &mut connection, usize::MAX)?;
-    println!(rt; "ended with {}, {}, {} and {}", none.fault, all.fault, cut.fault, again.fault)?;
+    println!(rt;
+        "ended with {}, {}, {} and {}",
+        none.fault, all.fault, cut.fault, again.fault
+    )?;
     println!(rt;
         "a writer of 100 bytes has {}, a beginning: {}; then all: {}",
         cut.taken.len(),

@@ -43,7 +43,9 @@ fn show_cases(rt: &HostRuntime) -> anyhow::Result<()> {
 
 fn main(rt: HostRuntime) -> anyhow::Result<()> {
     show_cases(&rt)?;
-    println!(rt; "== positions_are_exported: none, three orders of two, and to a writer that fails")?;
+    println!(rt;
+        "== positions_are_exported: none, three orders of two, and to a writer that fails"
+    )?;
     show_exports(&rt)?;
     println!(rt)?;
     println!(rt; "== devices_that_fail: each in turn, and lines")?;
