@@ -61,6 +61,7 @@ impl Write for ShortWriter {
 }
 
 /// What an export came to: 0 or the number of its fault, and what was taken.
+#[derive(Drop)]
 struct Came {
     fault: u8,
     taken: Vec<u8>,
