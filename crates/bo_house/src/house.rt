@@ -182,8 +182,10 @@ impl<
     }
 
     fn export<W: Drain>(&self, alloc: Global, file: &str, writer: &mut W) -> Result<(), RunFault> {
-        let connection = self.found(file)?;
-        self.ended(export_shop(alloc, connection, writer))
+        match self.found(file) {
+            Ok(connection) => self.ended(export_shop(alloc, connection, writer)),
+            Err(fault) => Err(fault),
+        }
     }
 
     fn import(&self, alloc: Global, file: &str, csv: &str) -> Result<Body, RunFault> {

@@ -1,7 +1,14 @@
 use Rattle.std.proofs.Common.{inl, inr, [], refl}
+use Rattle.bo_devices.proofs.ToldLemmas.{Adds-nil}
+use Rattle.bo_house.proofs.ExportLemmas.{missing_counts}
 use Rattle.bo_house.proofs.house.HouseHouseFiles.export.Goals as goal
 
-pub returns : goal.returns
-returns g c =
+pub returns-in-Ok : goal.returns-in-Ok
+returns-in-Ok g c =
     let (text, came, added, counted) = c.export_shop.ensures in
-    (text, inl (c.in_ok-connection.connection, c.export_shop.result.connection, c.in_ok-connection.ensures.given, rw c.ended.ensures came), added, rw c.ended.ensures counted)
+    (text, inl (c.in-Ok.connection, c.export_shop.result.connection, c.in-Ok.ensures.given, rw c.ended.ensures came), added, rw c.ended.ensures counted)
+
+pub returns-in-Err : goal.returns-in-Err
+returns-in-Err g c =
+    let missing = c.in-Err.ensures.refused in
+    ([], inr (c.in-Err.fault, refl, (missing, refl)), Adds-nil _, missing_counts g.F.Shelf.stood g.F.Shelf.refuses c.args.file.now c.in-Err.fault _ missing)
