@@ -2,8 +2,8 @@
 """Writes the case files under data/ and the file stdout, from the texts of the requests and of their answers.
 
 A case file begins with a line of moments, one for each request, with a space between two. The rest are the bytes of the
-stream. What stdout has of a case is its name, how it ends, and the bytes that are written. Behind the cases stands `devices.txt`, which
-is written by hand: what comes of command lines and of devices that fail.
+stream. What stdout has of a case is its name, how it ends, and the bytes that are written. Behind the cases stand `exports.txt` and
+`devices.txt`, which are written by hand: what comes of exports, and of command lines and devices that fail.
 
 Nothing here comes from the program: the answers are written out, or built from a status, a body and the form of a head.
 """
