@@ -83,7 +83,7 @@ pub fn a_history_goes_on_after_a_crash<S: Alter, K: Ticks>(
     ensures { (house : House) (begun r : Running) (es : List Event) (before after : DeskView (SqlTables S))
         → let tables = meaning ⟦<SqlTables<S> as Tables>⟧.sure ⟦<SqlTables<S> as Tables>⟧.holds ⟦<SqlTables<S> as Tables>⟧.knows ⟦<SqlTables<S> as Tables>⟧.may_leave in
         RunsSo tables house begun es (over last.now before) r → IsOpenedAgain S.Store (state S.Store last.now.connection) (state S.Store fresh.now) (over again.now after)
-        → (x : ShopView) × RunsSo tables house begun (es ++ Crashed ∷ []) (over again.now after) (opened x) }
+        → (x : ShopView) × RunsSo tables house begun (es ++ Crashed ∷ []) (over again.now after) (opened (words_of house) x) }
 {
     callers_go_on_after_a_crash::<S, K>(last, fresh, again);
 }

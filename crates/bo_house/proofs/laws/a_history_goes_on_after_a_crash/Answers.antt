@@ -13,4 +13,4 @@ returns g c = λ house begun r es before after on again.
     c.callers_go_on_after_a_crash.ensures.goes_on house r 0 (between None (over c.args.last.now before)) None before.organizer before.event before.state
     refl on.of on.running again.found after.organizer after.event after.state again.opens again.clean in
     let may = subst (λ (q : Running). MayLeave (words_of house) q x.1) (ap (λ (b : Between Running). b.desk) x.2) x.3 in
-    (x.1, record { of = x.4; happened = happens_on (words_of house) begun es (Crashed ∷ []) r (opened x.1) on.happened (x.1, may, refl); running = x.5 })
+    (x.1, record { of = x.4; happened = happens_on (words_of house) begun es (Crashed ∷ []) r (opened (words_of house) x.1) on.happened (x.1, may, refl); running = x.5 })
