@@ -33,6 +33,6 @@ returns-in-Err g c =
       made = λ clean. tt;
       none = refused.none;
       blank = λ other. ap (λ (fault : RunFault). Err fault) (c.fault_of_making.ensures ∙ ap fault_of_making (refused.blank other));
-      cause = subst (IsNotMadeFor (state g.S.Store c.args.connection).now) (sym c.fault_of_making.ensures) (not_made _ _ refused.taken);
+      cause = subst (IsNotMadeFor (state g.S.Store c.args.connection).now) (sym c.fault_of_making.ensures) (not_made (state g.S.Store c.args.connection).now _ refused.taken);
       crash = refused.crash_none;
     }
