@@ -67,6 +67,15 @@ struct Came {
     taken: Vec<u8>,
 }
 
+/// What four exports came to, one after another: of no order, of three, of three to a writer that takes 100 bytes, and of three again.
+#[derive(Drop)]
+struct Exports {
+    none: Came,
+    all: Came,
+    cut: Came,
+    again: Came,
+}
+
 // Exports to a writer that takes so many bytes, with a ledger for each count of the device.
 fn exported<A: Ledger, B: Ledger>(
     alloc: Global,
@@ -74,7 +83,7 @@ fn exported<A: Ledger, B: Ledger>(
     most: usize,
     calls: Blank,
     failures: Blank,
-) -> anyhow::Result<Came>
+) -> Came
     requires calls { (calls.name ≡ A.name) × (calls.parts ≡ A.parts) × (0 < A.parts) }
     requires failures { (failures.name ≡ B.name) × (failures.parts ≡ B.parts) × (0 < B.parts) }
 {
@@ -83,42 +92,45 @@ fn exported<A: Ledger, B: Ledger>(
         Ok(()) => 0,
         Err(fault) => fault.number(),
     };
-    Ok(Came {
+    Came {
         fault,
         taken: writer.inner.into_taken(),
-    })
+    }
 }
 
 // The same.
-fn export(
-    alloc: Global,
-    connection: &mut Connection<MemStore>,
-    most: usize,
-) -> anyhow::Result<Came> {
+fn export(alloc: Global, connection: &mut Connection<MemStore>, most: usize) -> Came {
     exported::<Brand, Brand>(alloc, connection, most, Blank::new(1), Blank::new(1))
+}
+
+// Exports from a shop in memory, before and after it gets its orders.
+fn exports(alloc: Global) -> anyhow::Result<Exports> {
+    let (tables, _) = open_memory(alloc)?;
+    let mut connection = tables.into_connection();
+    let none = export(alloc, &mut connection, usize::MAX);
+    connection.execute_batch(ROWS)?;
+    Ok(Exports {
+        none,
+        all: export(alloc, &mut connection, usize::MAX),
+        cut: export(alloc, &mut connection, 100),
+        again: export(alloc, &mut connection, usize::MAX),
+    })
 }
 
 /// Exports no order, then three, then three to a writer that takes 100 bytes, and then again.
 pub(crate) fn show_exports(rt: &HostRuntime) -> anyhow::Result<()> {
-    let alloc = rt.alloc();
-    let (tables, _) = open_memory(alloc)?;
-    let mut connection = tables.into_connection();
-    let none = export(alloc, &mut connection, usize::MAX)?;
-    rt.write_all(none.taken.as_slice())?;
-    connection.execute_batch(ROWS)?;
-    let all = export(alloc, &mut connection, usize::MAX)?;
-    rt.write_all(all.taken.as_slice())?;
-    let cut = export(alloc, &mut connection, 100)?;
-    let again = export(alloc, &mut connection, usize::MAX)?;
+    let it = exports(rt.alloc())?;
+    rt.write_all(it.none.taken.as_slice())?;
+    rt.write_all(it.all.taken.as_slice())?;
     println!(rt;
         "ended with {}, {}, {} and {}",
-        none.fault, all.fault, cut.fault, again.fault
+        it.none.fault, it.all.fault, it.cut.fault, it.again.fault
     )?;
     println!(rt;
         "a writer of 100 bytes has {}, a beginning: {}; then all: {}",
-        cut.taken.len(),
-        all.taken.starts_with(cut.taken.as_slice()),
-        again.taken.as_slice() == all.taken.as_slice()
+        it.cut.taken.len(),
+        it.all.taken.starts_with(it.cut.taken.as_slice()),
+        it.again.taken.as_slice() == it.all.taken.as_slice()
     )?;
     Ok(())
 }
