@@ -69,14 +69,14 @@ struct Came {
 
 /// What four exports came to, one after another: of no order, of three, of three to a writer that takes 100 bytes, and of three again.
 #[derive(Drop)]
-struct Exports {
+struct FourExports {
     none: Came,
     all: Came,
     cut: Came,
     again: Came,
 }
 
-// Exports to a writer that takes so many bytes, with a ledger for each count of the device.
+// FourExports to a writer that takes so many bytes, with a ledger for each count of the device.
 fn exported<A: Ledger, B: Ledger>(
     alloc: Global,
     connection: &mut Connection<MemStore>,
@@ -103,13 +103,13 @@ fn export(alloc: Global, connection: &mut Connection<MemStore>, most: usize) -> 
     exported::<Brand, Brand>(alloc, connection, most, Blank::new(1), Blank::new(1))
 }
 
-// Exports from a shop in memory, before and after it gets its orders.
-fn exports(alloc: Global) -> anyhow::Result<Exports> {
+// FourExports from a shop in memory, before and after it gets its orders.
+fn export_four(alloc: Global) -> anyhow::Result<FourExports> {
     let (tables, _) = open_memory(alloc)?;
     let mut connection = tables.into_connection();
     let none = export(alloc, &mut connection, usize::MAX);
     connection.execute_batch(ROWS)?;
-    Ok(Exports {
+    Ok(FourExports {
         none,
         all: export(alloc, &mut connection, usize::MAX),
         cut: export(alloc, &mut connection, 100),
@@ -117,9 +117,9 @@ fn exports(alloc: Global) -> anyhow::Result<Exports> {
     })
 }
 
-/// Exports no order, then three, then three to a writer that takes 100 bytes, and then again.
+/// FourExports no order, then three, then three to a writer that takes 100 bytes, and then again.
 pub(crate) fn show_exports(rt: &HostRuntime) -> anyhow::Result<()> {
-    let it = exports(rt.alloc())?;
+    let it = export_four(rt.alloc())?;
     rt.write_all(it.none.taken.as_slice())?;
     rt.write_all(it.all.taken.as_slice())?;
     println!(rt;
