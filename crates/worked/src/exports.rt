@@ -76,7 +76,7 @@ struct FourExports {
     again: Came,
 }
 
-// FourExports to a writer that takes so many bytes, with a ledger for each count of the device.
+// Exports to a writer that takes so many bytes, with a ledger for each count of the device.
 fn exported<A: Ledger, B: Ledger>(
     alloc: Global,
     connection: &mut Connection<MemStore>,
@@ -103,7 +103,7 @@ fn export(alloc: Global, connection: &mut Connection<MemStore>, most: usize) -> 
     exported::<Brand, Brand>(alloc, connection, most, Blank::new(1), Blank::new(1))
 }
 
-// FourExports from a shop in memory, before and after it gets its orders.
+// Exports from a shop in memory, before and after it gets its orders.
 fn export_four(alloc: Global) -> anyhow::Result<FourExports> {
     let (tables, _) = open_memory(alloc)?;
     let mut connection = tables.into_connection();
@@ -117,7 +117,7 @@ fn export_four(alloc: Global) -> anyhow::Result<FourExports> {
     })
 }
 
-/// FourExports no order, then three, then three to a writer that takes 100 bytes, and then again.
+/// Exports no order, then three, then three to a writer that takes 100 bytes, and then again.
 pub(crate) fn show_exports(rt: &HostRuntime) -> anyhow::Result<()> {
     let it = export_four(rt.alloc())?;
     rt.write_all(it.none.taken.as_slice())?;
