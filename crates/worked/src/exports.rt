@@ -103,12 +103,23 @@ fn export(alloc: Global, connection: &mut Connection<MemStore>, most: usize) -> 
     exported::<Brand, Brand>(alloc, connection, most, Blank::new(1), Blank::new(1))
 }
 
-// Exports from a shop in memory, before and after it gets its orders.
-fn export_four(alloc: Global) -> anyhow::Result<FourExports> {
+// The database of a shop in memory that has no rows yet.
+fn empty_shop(alloc: Global) -> anyhow::Result<Connection<MemStore>> {
     let (tables, _) = open_memory(alloc)?;
-    let mut connection = tables.into_connection();
-    let none = export(alloc, &mut connection, usize::MAX);
+    Ok(tables.into_connection())
+}
+
+// Puts the orders into it.
+fn put_orders(connection: &mut Connection<MemStore>) -> anyhow::Result<()> {
     connection.execute_batch(ROWS)?;
+    Ok(())
+}
+
+// Exports from a shop, before and after it gets its orders.
+fn export_four(alloc: Global) -> anyhow::Result<FourExports> {
+    let mut connection = empty_shop(alloc)?;
+    let none = export(alloc, &mut connection, usize::MAX);
+    put_orders(&mut connection)?;
     Ok(FourExports {
         none,
         all: export(alloc, &mut connection, usize::MAX),
