@@ -4,8 +4,9 @@ ghost use Rattle.std.specs.Prelude.{◌≡◌, ◌<◌, []};
 
 use bo_feed::open_memory;
 use bo_line::counted;
+use bo_tables::SqlTables;
 use bo_walk::write_positions;
-use sqlite::{Connection, MemStore};
+use sqlite::{Alter, Connection, MemStore};
 use std::alloc::Global;
 use std::io;
 use std::io::Write;
@@ -103,10 +104,15 @@ fn export(alloc: Global, connection: &mut Connection<MemStore>, most: usize) -> 
     exported::<Brand, Brand>(alloc, connection, most, Blank::new(1), Blank::new(1))
 }
 
+// The connection of tables that were opened together with something else, which is let go as a whole: an office that goes part by part is dear
+// to prove.
+fn connection_of<S: Alter, O: Drop>(opened: (SqlTables<S>, O)) -> Connection<S> {
+    opened.0.into_connection()
+}
+
 // The database of a shop in memory that has no rows yet.
 fn empty_shop(alloc: Global) -> anyhow::Result<Connection<MemStore>> {
-    let (tables, _) = open_memory(alloc)?;
-    Ok(tables.into_connection())
+    Ok(connection_of(open_memory(alloc)?))
 }
 
 // Puts the orders into it.
