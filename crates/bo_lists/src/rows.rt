@@ -79,7 +79,7 @@ pub struct OrderPos {
     pub secret: Text,
 }
 
-/// An order with its positions, by id.
+/// An order with its positions, by their numbers.
 #[derive(Drop)]
 pub struct OrderRows {
     pub order: Order,
