@@ -1,5 +1,5 @@
 -- A shop's file that was opened, and what is wrong with one that isn't.
-use Rattle.std.specs.Prelude.{◌≡◌, ◌⊎◌, ℕ, ◌<◌, ◌≤◌, List, map}
+use Rattle.std.specs.Prelude.{◌≡◌, ◌⊎◌, ℕ, ◌<◌, ◌≤◌, List, IsTrue, map}
 use Rattle.sqlite_trees.specs.Tree.{Trees}
 use Rattle.sqlite.specs.Effect.{Database}
 use Rattle.sqlite.specs.State.{State as Connected}
@@ -22,6 +22,7 @@ use Rattle.bo_opens.specs.declared.error.OpenError.TheVariants.{Memory, NotAShop
 use Rattle.bo_opens.specs.declared.file.FileTables.{FileTables}
 use Rattle.bo_opens.specs.Causes.{IsReadable, IsCause}
 use Rattle.bo_opens.specs.Read.{tables_of}
+use Rattle.bo_opens.specs.Stopped.{IsStopped}
 use Rattle.bo_opens.specs.Numbers.{Rise}
 use Rattle.bo_columns.specs.declared.table_rows.TableRows.{TableRows}
 use Rattle.bo_arrange.specs.Arranged.{arranged, rows_in, IsInOrder}
@@ -82,6 +83,11 @@ IsReason db NotAShop = IsCause db NotAShop
 IsReason db (Version version) = IsCause db (Version version)
 IsReason db (Damaged rule) = IsCause db (Damaged rule) ⊎ (IsReadable db × (db.schema ≡ schema → IsDamagedBy rule db.trees))
 IsReason db Store = Unit {0}
+
+-- Why 63 is told of a file whose tables are declared as ours: a transaction is open, or the store stops; or all of it could be read, and
+-- not in order. So a value that can't be read is told, unless a call of the store was refused.
+abbrev pub IsWithheld : Database → Connected → Connected → Type 0
+IsWithheld db old new = IsTrue old.in_transaction ⊎ (IsStopped old new ⊎ IsReadable db)
 
 -- ---- what was opened
 

@@ -10,7 +10,8 @@ ghost use Rattle.bo_opens.specs.declared.error.OpenError.{OpenError};
 ghost use Rattle.bo_opens.specs.Rests.{IsOpenAt, Rests};
 ghost use Rattle.bo_opens.specs.Causes.{IsReadable};
 ghost use Rattle.bo_opens.specs.Lawful.{IsOfMachine};
-ghost use Rattle.bo_file.specs.Opened.{IsReason, IsOpened};
+ghost use Rattle.bo_opens.specs.Stopped.{WhereClosed};
+ghost use Rattle.bo_file.specs.Opened.{IsReason, IsOpened, IsWithheld};
 
 use crate::book::Reopened;
 use crate::reopening::reopen;
@@ -26,7 +27,8 @@ use std::alloc::Global;
 /// Beside a refusal the connection is handed back: 6; 60 where the table `shop` isn't there with its columns; 61 where its row has
 /// another version; 60 where another table isn't there; 62 by the least rule that is broken; 63 where a transaction is open, the
 /// connection is shut, the store fails or doesn't show rows in order. Of 60, 61 and 62 each is told only for its cause, the first
-/// that has one; where the file is opened none has.
+/// that has one; where the file is opened none has. 63 is never told in the place of a value that can't be read, unless a call of
+/// the store was refused.
 pub fn open_file<S: Alter>(
     alloc: Global,
     mut connection: Connection<S>,
@@ -38,6 +40,7 @@ pub fn open_file<S: Alter>(
     ensures found { IfOk result (λ it. HasCleanDisk (state S.Store it.0.connection) → (db : Database) → IsOpenAt db (state S.Store connection) → IsReadable db) }
     ensures whole { IfOk result (λ it. HasCleanDisk (state S.Store it.0.connection) → (db : Database) → IsOpenAt db (state S.Store connection) → db.schema ≡ schema → (error : OpenError) → IsReason db error → IsOfMachine error) }
     ensures cause { IfErr result (λ it. HasCleanDisk (state S.Store it.connection) → (db : Database) → IsOpenAt db (state S.Store connection) → IsReason db it.error) }
+    ensures store { IfErr result (λ it. HasCleanDisk (state S.Store it.connection) → (db : Database) → IsOpenAt db (state S.Store connection) → db.schema ≡ schema → WhereClosed (IsWithheld db (state S.Store connection) (state S.Store it.connection)) it.error) }
     ensures same { IfOk result (λ it. HasCleanDisk (state S.Store it.0.connection) → IsUnchanged (state S.Store connection) (state S.Store it.0.connection)) }
     ensures rests { IfOk result (λ it. Rests (state S.Store connection) (state S.Store it.0.connection)) }
     ensures rests_none { IfErr result (λ it. Rests (state S.Store connection) (state S.Store it.connection)) }

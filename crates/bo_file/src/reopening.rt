@@ -1,6 +1,6 @@
 //! A shop's file is read, and what it holds is opened.
 
-ghost use Rattle.std.specs.Prelude.{◌≡◌, false, IfOk, IfErr, OnOk, IsTrue};
+ghost use Rattle.std.specs.Prelude.{◌≡◌, ◌⊎◌, false, IfOk, IfErr, OnOk, IsTrue};
 ghost use Rattle.sqlite.specs.Effect.{Database};
 ghost use Rattle.sqlite.specs.Held.{state};
 ghost use Rattle.sqlite.specs.State.{HasCleanDisk, Survives, IsUnchanged};
@@ -13,7 +13,8 @@ ghost use Rattle.bo_opens.specs.Rests.{IsOpenAt, Rests};
 ghost use Rattle.bo_opens.specs.Causes.{IsFitFile, IsReadable, IsCause};
 ghost use Rattle.bo_opens.specs.Lawful.{IsOfMachine};
 ghost use Rattle.bo_opens.specs.Read.{tables_of};
-ghost use Rattle.bo_file.specs.Opened.{IsReason, IsOpened};
+ghost use Rattle.bo_opens.specs.Stopped.{IsStopped, WhereClosed};
+ghost use Rattle.bo_file.specs.Opened.{IsReason, IsOpened, IsWithheld};
 
 use crate::book::{Reopened, open_rows};
 use bo_opens::{FileTables, OpenError, read_file};
@@ -32,6 +33,7 @@ fn read_outside<S: Alter>(
     ensures limits { IfOk result IsFitFile }
     ensures found { HasCleanDisk (state S.Store connection.new) → (db : Database) → IsOpenAt db (state S.Store connection.old) → OnOk result (IsReadable db) }
     ensures cause { HasCleanDisk (state S.Store connection.new) → (db : Database) → IsOpenAt db (state S.Store connection.old) → IfErr result (IsCause db) }
+    ensures store { HasCleanDisk (state S.Store connection.new) → (db : Database) → IsOpenAt db (state S.Store connection.old) → db.schema ≡ schema → IfErr result (WhereClosed (IsTrue (state S.Store connection.old).in_transaction ⊎ IsStopped (state S.Store connection.old) (state S.Store connection.new))) }
     ensures outside { OnOk result (connection.new.in_transaction ≡ false) }
     ensures same { HasCleanDisk (state S.Store connection.new) → OnOk result (IsUnchanged (state S.Store connection.old) (state S.Store connection.new)) }
     ensures rests { Rests (state S.Store connection.old) (state S.Store connection.new) }
@@ -61,6 +63,7 @@ pub(crate) fn reopen<S: Alter, B: Book + Drop>(
     ensures found { HasCleanDisk (state S.Store connection.new) → (db : Database) → IsOpenAt db (state S.Store connection.old) → OnOk result (IsReadable db) }
     ensures whole { HasCleanDisk (state S.Store connection.new) → (db : Database) → IsOpenAt db (state S.Store connection.old) → db.schema ≡ schema → OnOk result ((error : OpenError) → IsReason db error → IsOfMachine error) }
     ensures cause { HasCleanDisk (state S.Store connection.new) → (db : Database) → IsOpenAt db (state S.Store connection.old) → IfErr result (IsReason db) }
+    ensures store { HasCleanDisk (state S.Store connection.new) → (db : Database) → IsOpenAt db (state S.Store connection.old) → db.schema ≡ schema → IfErr result (WhereClosed (IsWithheld db (state S.Store connection.old) (state S.Store connection.new))) }
     ensures same { HasCleanDisk (state S.Store connection.new) → OnOk result (IsUnchanged (state S.Store connection.old) (state S.Store connection.new)) }
     ensures rests { Rests (state S.Store connection.old) (state S.Store connection.new) }
     ensures crash { Survives (state S.Store connection.old) (state S.Store connection.new) (λ _. ⊥) }

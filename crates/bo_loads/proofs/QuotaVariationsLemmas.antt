@@ -11,6 +11,7 @@ use Rattle.bo_loads.specs.Texts.{quota_variations_text}
 use Rattle.bo_columns.specs.declared.rows.QuotaVariation.{QuotaVariation}
 use Rattle.bo_columns.specs.Rows.{quota_variation_row}
 use Rattle.bo_columns.proofs.OwnedLemmas.{quota_variations_are}
+use Rattle.bo_loads.specs.Alone.{RunsAlone}
 use Rattle.bo_loads.specs.Select.{IsSelect, IsSelectByOwner}
 use Rattle.bo_loads.proofs.Back.{quota_variation_in, quota_variation_back}
 use Rattle.bo_loads.proofs.Queries.{is_query, query_reads}
@@ -28,6 +29,10 @@ select_reads = ((refl, (refl, refl)), refl)
 asks : is_query (first select_text) ≡ true
 unfolding everything
 asks = refl
+
+pub alone_is : RunsAlone select_text
+unfolding understood everything
+alone_is = refl
 
 pub select_is : IsSelect select_text 6 []
 select_is = record { project = project; order = id_order; names = codes "rowid" ∷ codes "quota_id" ∷ codes "variation_id" ∷ []; asks = select_reads.0; unlisted = select_reads.1; shows = λ params r. refl; reads = query_reads select_text asks }

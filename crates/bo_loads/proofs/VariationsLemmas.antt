@@ -8,6 +8,7 @@ use Rattle.bo_schema.specs.Tables.{schema}
 use Rattle.bo_schema.specs.Shapes.{AsksFor, over, plainly, id_order}
 use Rattle.sqlite_sql.specs.Term.{Term, col}
 use Rattle.bo_loads.specs.Texts.{variations_text}
+use Rattle.bo_loads.specs.Alone.{RunsAlone}
 use Rattle.bo_loads.specs.Select.{IsSelect}
 use Rattle.bo_loads.proofs.Queries.{is_query, query_reads}
 
@@ -24,6 +25,10 @@ select_reads = ((refl, (refl, refl)), refl)
 asks : is_query (first select_text) ≡ true
 unfolding everything
 asks = refl
+
+pub alone_is : RunsAlone select_text
+unfolding understood everything
+alone_is = refl
 
 pub select_is : IsSelect select_text 2 []
 select_is = record { project = project; order = id_order; names = codes "id" ∷ codes "item_id" ∷ codes "name" ∷ codes "default_price" ∷ codes "active" ∷ []; asks = select_reads.0; unlisted = select_reads.1; shows = λ params r. refl; reads = query_reads select_text asks }

@@ -1,4 +1,5 @@
 pub mod Damage
 pub mod Texts
+pub mod Alone
 pub mod Select
 pub mod Lookups

@@ -20,7 +20,7 @@ impl Loaded for ListRow {
 
     ghost tree = { 16 };
 
-    #[tactic(auto, using(crate::proofs::CheckinListsLemmas::select_is))]
+    #[tactic(auto, using(crate::proofs::CheckinListsLemmas::select_is, crate::proofs::CheckinListsLemmas::alone_is))]
     fn statement() -> &'static str {
         "SELECT id, name, all_products, include_pending, multiple, after_exit FROM checkin_lists ORDER BY id"
     }

@@ -20,7 +20,7 @@ impl Loaded for Checkin {
 
     ghost tree = { 19 };
 
-    #[tactic(auto, using(crate::proofs::CheckinsLemmas::select_is))]
+    #[tactic(auto, using(crate::proofs::CheckinsLemmas::select_is, crate::proofs::CheckinsLemmas::alone_is))]
     fn statement() -> &'static str {
         "SELECT id, list_id, position_id, kind, at, nonce FROM checkins ORDER BY id"
     }

@@ -20,7 +20,7 @@ impl Loaded for QuotaCount {
 
     ghost tree = { 21 };
 
-    #[tactic(auto, using(crate::proofs::CountsLemmas::select_is))]
+    #[tactic(auto, using(crate::proofs::CountsLemmas::select_is, crate::proofs::CountsLemmas::alone_is))]
     fn statement() -> &'static str {
         "SELECT quota_id, paid, pending, blocked, carts, waiting FROM quota_count ORDER BY quota_id"
     }

@@ -20,7 +20,7 @@ impl Loaded for Item {
 
     ghost tree = { 1 };
 
-    #[tactic(auto, using(crate::proofs::ItemsLemmas::select_is))]
+    #[tactic(auto, using(crate::proofs::ItemsLemmas::select_is, crate::proofs::ItemsLemmas::alone_is))]
     fn statement() -> &'static str {
         "SELECT id, name, default_price, active, varied FROM items ORDER BY id"
     }

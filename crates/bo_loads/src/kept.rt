@@ -23,7 +23,7 @@ impl Loaded for KeptRow {
 
     ghost tree = { 24 };
 
-    #[tactic(auto, using(crate::proofs::KeptLemmas::select_is))]
+    #[tactic(auto, using(crate::proofs::KeptLemmas::select_is, crate::proofs::KeptLemmas::alone_is))]
     fn statement() -> &'static str {
         "SELECT rowid, token_id, request_key, first_moment, status, allow, body FROM kept ORDER BY rowid"
     }

@@ -20,7 +20,7 @@ impl Loaded for ListItem {
 
     ghost tree = { 17 };
 
-    #[tactic(auto, using(crate::proofs::ListItemsLemmas::select_is))]
+    #[tactic(auto, using(crate::proofs::ListItemsLemmas::select_is, crate::proofs::ListItemsLemmas::alone_is))]
     fn statement() -> &'static str {
         "SELECT rowid, list_id, item_id FROM list_items ORDER BY rowid"
     }

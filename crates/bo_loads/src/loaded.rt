@@ -9,6 +9,7 @@ ghost use Rattle.bo_schema.specs.declared.error.RowError.TheVariants.{Foreign};
 ghost use Rattle.bo_schema.specs.Tables.{schema};
 ghost use Rattle.bo_schema.specs.Parts.{shown};
 ghost use Rattle.bo_columns.specs.Unread.{IsUnread};
+ghost use Rattle.bo_loads.specs.Alone.{RunsAlone};
 ghost use Rattle.bo_loads.specs.Damage.{IsDamaged, IsFor, IsForReading, HasMeaning, HasNoMeaning};
 ghost use Rattle.bo_loads.specs.Select.{IsSelect};
 
@@ -34,7 +35,8 @@ pub trait Loaded: Drop {
     /// The SELECT of all columns of the table.
     fn statement() -> &'static str
         ensures text { result.now ≡ text }
-        ensures select { IsSelect text tree [] };
+        ensures select { IsSelect text tree [] }
+        ensures alone { RunsAlone text };
 
     /// From a row that is shown. Refusals: 62 where it is the row of no such value within its limits, 6.
     fn read(alloc: Global, row: &Row) -> Result<Self, RowError>

@@ -20,7 +20,7 @@ impl Loaded for Order {
 
     ghost tree = { 11 };
 
-    #[tactic(auto, using(crate::proofs::OrdersLemmas::select_is))]
+    #[tactic(auto, using(crate::proofs::OrdersLemmas::select_is, crate::proofs::OrdersLemmas::alone_is))]
     fn statement() -> &'static str {
         "SELECT id, email, status, made_at, expires FROM orders ORDER BY id"
     }

@@ -21,7 +21,7 @@ impl Loaded for OrderPos {
 
     ghost tree = { 12 };
 
-    #[tactic(auto, using(crate::proofs::PositionsLemmas::select_is))]
+    #[tactic(auto, using(crate::proofs::PositionsLemmas::select_is, crate::proofs::PositionsLemmas::alone_is))]
     fn statement() -> &'static str {
         "SELECT id, order_id, positionid, item_id, variation_id, price, voucher_id, secret FROM order_positions ORDER BY id"
     }

@@ -20,7 +20,7 @@ impl Loaded for QuotaItem {
 
     ghost tree = { 4 };
 
-    #[tactic(auto, using(crate::proofs::QuotaItemsLemmas::select_is))]
+    #[tactic(auto, using(crate::proofs::QuotaItemsLemmas::select_is, crate::proofs::QuotaItemsLemmas::alone_is))]
     fn statement() -> &'static str {
         "SELECT rowid, quota_id, item_id FROM quota_items ORDER BY rowid"
     }

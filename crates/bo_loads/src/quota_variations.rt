@@ -20,7 +20,7 @@ impl Loaded for QuotaVariation {
 
     ghost tree = { 6 };
 
-    #[tactic(auto, using(crate::proofs::QuotaVariationsLemmas::select_is))]
+    #[tactic(auto, using(crate::proofs::QuotaVariationsLemmas::select_is, crate::proofs::QuotaVariationsLemmas::alone_is))]
     fn statement() -> &'static str {
         "SELECT rowid, quota_id, variation_id FROM quota_variations ORDER BY rowid"
     }

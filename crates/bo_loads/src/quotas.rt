@@ -20,7 +20,7 @@ impl Loaded for QuotaRow {
 
     ghost tree = { 3 };
 
-    #[tactic(auto, using(crate::proofs::QuotasLemmas::select_is))]
+    #[tactic(auto, using(crate::proofs::QuotasLemmas::select_is, crate::proofs::QuotasLemmas::alone_is))]
     fn statement() -> &'static str {
         "SELECT id, name, size FROM quotas ORDER BY id"
     }

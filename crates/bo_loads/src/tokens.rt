@@ -20,7 +20,7 @@ impl Loaded for Token {
 
     ghost tree = { 22 };
 
-    #[tactic(auto, using(crate::proofs::TokensLemmas::select_is))]
+    #[tactic(auto, using(crate::proofs::TokensLemmas::select_is, crate::proofs::TokensLemmas::alone_is))]
     fn statement() -> &'static str {
         "SELECT id, digest FROM tokens ORDER BY id"
     }

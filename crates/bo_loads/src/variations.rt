@@ -20,7 +20,7 @@ impl Loaded for Variation {
 
     ghost tree = { 2 };
 
-    #[tactic(auto, using(crate::proofs::VariationsLemmas::select_is))]
+    #[tactic(auto, using(crate::proofs::VariationsLemmas::select_is, crate::proofs::VariationsLemmas::alone_is))]
     fn statement() -> &'static str {
         "SELECT id, item_id, name, default_price, active FROM variations ORDER BY id"
     }

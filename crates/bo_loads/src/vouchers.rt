@@ -21,7 +21,7 @@ impl Loaded for VoucherRow {
 
     ghost tree = { 8 };
 
-    #[tactic(auto, using(crate::proofs::VouchersLemmas::select_is))]
+    #[tactic(auto, using(crate::proofs::VouchersLemmas::select_is, crate::proofs::VouchersLemmas::alone_is))]
     fn statement() -> &'static str {
         "SELECT id, code, max_usages, valid_until, block_quota, allow_ignore_quota, price_mode, amount, item_id, variation_id, quota_id, tag, comment, redeemed FROM vouchers ORDER BY id"
     }

@@ -21,7 +21,7 @@ impl Loaded for Waiting {
 
     ghost tree = { 15 };
 
-    #[tactic(auto, using(crate::proofs::WaitingLemmas::select_is))]
+    #[tactic(auto, using(crate::proofs::WaitingLemmas::select_is, crate::proofs::WaitingLemmas::alone_is))]
     fn statement() -> &'static str {
         "SELECT id, email, item_id, variation_id, priority, created, voucher_id FROM waiting ORDER BY id"
     }

@@ -5,6 +5,7 @@ pub mod FitLemmas
 pub mod LimitLemmas
 pub mod SameLemmas
 pub mod Stays
+pub mod Stopping
 pub mod Walked
 pub mod Gathering
 pub mod Refusing

@@ -16,7 +16,7 @@ use Rattle.bo_loads.specs.Damage.{HasMeaning, IsDamaged}
 use Rattle.bo_loads.specs.Select.{IsSelect}
 use Rattle.bo_loads.proofs.Loads.{loads}
 
-unchanged : (s : State) → IsTrue s.is_open → IsUnchanged s s
+pub unchanged : (s : State) → IsTrue s.is_open → IsUnchanged s s
 unchanged s o = (record { was_open = o; is_open = o; now_is = refl; committed_is = refl; mode = refl }, record { changes = refl; last_rowid = refl }, refl)
 
 in_middle : (xs : List Row) (x : Row) (ys : List Row) → Contains (xs ++ x ∷ ys) x

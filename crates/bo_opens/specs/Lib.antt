@@ -1,5 +1,6 @@
 pub mod Numbers
 pub mod Rests
+pub mod Stopped
 pub mod Read
 pub mod Causes
 pub mod Lawful

@@ -4,13 +4,14 @@ ghost use Rattle.std.specs.Prelude.{◌≡◌, false, [], ◌∷◌, IfOk, IfErr
 ghost use Rattle.sqlite.specs.Effect.{Database};
 ghost use Rattle.sqlite.specs.Held.{state};
 ghost use Rattle.sqlite.specs.State.{HasCleanDisk, Survives, IsUnchanged};
-ghost use Rattle.bo_schema.specs.declared.error.RowError.TheVariants.{Damaged};
+ghost use Rattle.bo_schema.specs.declared.error.RowError.TheVariants.{Damaged, Store};
 ghost use Rattle.bo_schema.specs.Tables.{schema};
 ghost use Rattle.bo_columns.specs.Rows.{shop_row};
 ghost use Rattle.bo_columns.specs.Tables.{Holds};
 ghost use Rattle.bo_loads.specs.Damage.{HasNoMeaning, IsFor};
 ghost use Rattle.bo_loads.specs.Texts.{shop_text};
 ghost use Rattle.bo_opens.specs.Rests.{IsOpenAt, Rests};
+ghost use Rattle.bo_opens.specs.Stopped.{IsStopped, WhereClosed};
 ghost use Rattle.bo_opens.specs.Read.{HoldsRows, tables_of};
 ghost use Rattle.bo_opens.specs.Causes.{LacksTable, HasTables, HasDamage, AreFitTables, IsFitFile, IsReadable, ShowsBy, OfTheShop, HasNoOtherVersion, IsCause};
 
@@ -32,7 +33,8 @@ pub struct FileTables {
 
 // What a refusal means where the shop's rows are read, which aren't damaged before they are looked at.
 fn refusal(error: RowError) -> OpenError
-    ensures { (db : Database) → IsFor (HasNoMeaning db.schema shop_text) ⊥ error → IsCause db result }
+    ensures cause { (db : Database) → IsFor (HasNoMeaning db.schema shop_text) ⊥ error → IsCause db result }
+    ensures store { WhereClosed (error ≡ Store) result }
 {
     match error {
         RowError::Memory => OpenError::Memory,
@@ -46,6 +48,7 @@ fn refusal(error: RowError) -> OpenError
 fn readable(read: Result<TableRows, RowError>) -> Result<Option<TableRows>, OpenError>
     ensures read { IfOk result (λ found. IfSome found (λ rows. read ≡ Ok rows)) }
     ensures unread { IfOk result (λ found. found ≡ None → read ≡ Err Damaged) }
+    ensures store { IfErr result (WhereClosed (read ≡ Err Store)) }
     ensures cause { (db : Database) → OfTheShop db HasNoOtherVersion → IfErr read (IsFor (LacksTable db.schema) (db.schema ≡ schema → HasDamage db.trees)) → IfErr result (IsCause db) }
 {
     match read {
@@ -62,6 +65,7 @@ fn tested(rows: Vec<Row>) -> Result<Vec<Row>, OpenError>
     ensures same { IfOk result (λ same. same ≡ rows) }
     ensures passed { OnOk result (HasNoOtherVersion rows.items) }
     ensures cause { (db : Database) → ShowsBy shop_text db rows.items → IfErr result (IsCause db) }
+    ensures never { IfErr result (WhereClosed ⊥) }
 {
     match test_version(rows.as_slice()) {
         Ok(()) => Ok(rows),
@@ -74,6 +78,7 @@ fn read_head<S: Alter>(conn: &mut Connection<S>) -> Result<Vec<Row>, OpenError>
     requires { conn.old.in_transaction ≡ false }
     ensures found { HasCleanDisk (state S.Store conn.new) → (db : Database) → IsOpenAt db (state S.Store conn.old) → IfOk result (λ rows. ShowsBy shop_text db rows.items × HasNoOtherVersion rows.items) }
     ensures cause { HasCleanDisk (state S.Store conn.new) → (db : Database) → IsOpenAt db (state S.Store conn.old) → IfErr result (IsCause db) }
+    ensures store { HasCleanDisk (state S.Store conn.new) → (db : Database) → IsOpenAt db (state S.Store conn.old) → db.schema ≡ schema → IfErr result (WhereClosed (IsStopped (state S.Store conn.old) (state S.Store conn.new))) }
     ensures same { HasCleanDisk (state S.Store conn.new) → OnOk result (IsUnchanged (state S.Store conn.old) (state S.Store conn.new)) }
     ensures rests { Rests (state S.Store conn.old) (state S.Store conn.new) }
     ensures mode { conn.new.in_transaction ≡ false }
@@ -95,6 +100,7 @@ fn read_all<S: Alter>(
     ensures limits { IfOk result (λ read. IfSome read.1 AreFitTables) }
     ensures found { HasCleanDisk (state S.Store conn.new) → (db : Database) → IsOpenAt db (state S.Store conn.old) → IfOk result (λ read. ShowsBy shop_text db read.0.items × HasNoOtherVersion read.0.items × HasTables db.schema × (read.1 ≡ None → db.schema ≡ schema → HasDamage db.trees)) }
     ensures cause { HasCleanDisk (state S.Store conn.new) → (db : Database) → IsOpenAt db (state S.Store conn.old) → IfErr result (IsCause db) }
+    ensures store { HasCleanDisk (state S.Store conn.new) → (db : Database) → IsOpenAt db (state S.Store conn.old) → db.schema ≡ schema → IfErr result (WhereClosed (IsStopped (state S.Store conn.old) (state S.Store conn.new))) }
     ensures same { HasCleanDisk (state S.Store conn.new) → OnOk result (IsUnchanged (state S.Store conn.old) (state S.Store conn.new)) }
     ensures rests { Rests (state S.Store conn.old) (state S.Store conn.new) }
     ensures mode { conn.new.in_transaction ≡ false }
@@ -120,6 +126,7 @@ fn whole_file(
     ensures tables { IfOk result (λ file. tables ≡ Some file.tables) }
     ensures limits { IfSome tables AreFitTables → IfOk result IsFitFile }
     ensures cause { (db : Database) → ShowsBy shop_text db rows.now → HasNoOtherVersion rows.now → HasTables db.schema → (tables ≡ None → db.schema ≡ schema → HasDamage db.trees) → IfErr result (IsCause db) }
+    ensures never { IfErr result (WhereClosed ⊥) }
 {
     match (read_shop(alloc, rows), tables) {
         (Ok(shop), Some(tables)) => Ok(FileTables { shop, tables }),
@@ -139,6 +146,7 @@ pub fn read_file<S: Alter>(alloc: Global, conn: &mut Connection<S>) -> Result<Fi
     ensures limits { IfOk result IsFitFile }
     ensures found { HasCleanDisk (state S.Store conn.new) → (db : Database) → IsOpenAt db (state S.Store conn.old) → OnOk result (IsReadable db) }
     ensures cause { HasCleanDisk (state S.Store conn.new) → (db : Database) → IsOpenAt db (state S.Store conn.old) → IfErr result (IsCause db) }
+    ensures store { HasCleanDisk (state S.Store conn.new) → (db : Database) → IsOpenAt db (state S.Store conn.old) → db.schema ≡ schema → IfErr result (WhereClosed (IsStopped (state S.Store conn.old) (state S.Store conn.new))) }
     ensures same { HasCleanDisk (state S.Store conn.new) → OnOk result (IsUnchanged (state S.Store conn.old) (state S.Store conn.new)) }
     ensures rests { Rests (state S.Store conn.old) (state S.Store conn.new) }
     ensures mode { conn.new.in_transaction ≡ false }

@@ -6,12 +6,14 @@ ghost use Rattle.sqlite_value.specs.Order.{column};
 ghost use Rattle.sqlite.specs.Effect.{Database};
 ghost use Rattle.sqlite.specs.Held.{state};
 ghost use Rattle.sqlite.specs.State.{HasCleanDisk, Survives, IsUnchanged};
+ghost use Rattle.bo_schema.specs.Tables.{schema};
 ghost use Rattle.bo_columns.specs.Rows.{shop_row};
 ghost use Rattle.bo_columns.specs.Fit.{IsFitShop};
 ghost use Rattle.bo_columns.specs.Unread.{IsUnread};
 ghost use Rattle.bo_loads.specs.Damage.{HasNoMeaning, IsFor};
 ghost use Rattle.bo_loads.specs.Texts.{shop_text};
 ghost use Rattle.bo_opens.specs.Rests.{IsOpenAt, Rests};
+ghost use Rattle.bo_opens.specs.Stopped.{IsStopped, WhereClosed, WhereStopped};
 ghost use Rattle.bo_opens.specs.Causes.{HasNextIds, HasTables, ShowsBy, HasNoOtherVersion, IsCause};
 
 use crate::error::OpenError;
@@ -35,6 +37,7 @@ pub(crate) fn shop_rows<S: Alter>(conn: &mut Connection<S>) -> Result<Vec<Row>, 
     requires { conn.old.in_transaction ≡ false }
     ensures shown { HasCleanDisk (state S.Store conn.new) → (db : Database) → IsOpenAt db (state S.Store conn.old) → IfOk result (λ rows. ShowsBy shop_text db rows.items) }
     ensures refused { HasCleanDisk (state S.Store conn.new) → (db : Database) → IsOpenAt db (state S.Store conn.old) → IfErr result (IsFor (HasNoMeaning db.schema shop_text) ⊥) }
+    ensures store { HasCleanDisk (state S.Store conn.new) → (db : Database) → IsOpenAt db (state S.Store conn.old) → db.schema ≡ schema → IfErr result (WhereStopped (IsStopped (state S.Store conn.old) (state S.Store conn.new))) }
     ensures same { HasCleanDisk (state S.Store conn.new) → OnOk result (IsUnchanged (state S.Store conn.old) (state S.Store conn.new)) }
     ensures rests { Rests (state S.Store conn.old) (state S.Store conn.new) }
     ensures mode { conn.new.in_transaction ≡ false }
@@ -62,6 +65,7 @@ fn version_in(row: &Row) -> Result<i64, RowError>
 pub(crate) fn test_version(rows: &[Row]) -> Result<(), OpenError>
     ensures passed { OnOk result (HasNoOtherVersion rows.now) }
     ensures cause { (db : Database) → ShowsBy shop_text db rows.now → IfErr result (IsCause db) }
+    ensures never { IfErr result (WhereClosed ⊥) }
 {
     let [row] = rows else {
         return Ok(());
@@ -81,6 +85,7 @@ pub(crate) fn read_shop(alloc: Global, rows: &[Row]) -> Result<ShopRow, OpenErro
     ensures limits { IfOk result IsFitShop }
     ensures ids { IfOk result HasNextIds }
     ensures cause { (db : Database) → ShowsBy shop_text db rows.now → HasNoOtherVersion rows.now → HasTables db.schema → IfErr result (IsCause db) }
+    ensures never { IfErr result (WhereClosed ⊥) }
 {
     let [row] = rows else {
         return Err(OpenError::Damaged(Rule::Shop));

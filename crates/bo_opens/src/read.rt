@@ -7,6 +7,7 @@ ghost use Rattle.sqlite.specs.State.{HasCleanDisk, Survives, IsUnchanged};
 ghost use Rattle.bo_schema.specs.Tables.{schema};
 ghost use Rattle.bo_loads.specs.Damage.{IsFor};
 ghost use Rattle.bo_opens.specs.Rests.{IsOpenAt, Rests, WhereShown};
+ghost use Rattle.bo_opens.specs.Stopped.{IsStopped, WhereStopped};
 ghost use Rattle.bo_opens.specs.Causes.{IsFitCatalogue, HasCatalogue, LacksCatalogue, IsDamagedCatalogue, AreFitSales, HasSales, LacksSales, AreDamagedSales, AreFitDoors, HasDoors, LacksDoors, AreDamagedDoors, AreFitOthers, HasOthers, LacksOthers, AreDamagedOthers, AreFitTables, HasTables, LacksTable, HasDamage};
 ghost use Rattle.bo_opens.specs.Read.{HoldsCatalogue, HoldsSales, HoldsDoors, HoldsOthers, HoldsRows};
 
@@ -147,6 +148,7 @@ pub fn read_tables<S: Alter>(alloc: Global, conn: &mut Connection<S>) -> Result<
     ensures limits { IfOk result AreFitTables }
     ensures found { HasCleanDisk (state S.Store conn.new) → (db : Database) → IsOpenAt db (state S.Store conn.old) → WhereShown result (HasTables db.schema) }
     ensures refused { HasCleanDisk (state S.Store conn.new) → (db : Database) → IsOpenAt db (state S.Store conn.old) → IfErr result (IsFor (LacksTable db.schema) (db.schema ≡ schema → HasDamage db.trees)) }
+    ensures store { HasCleanDisk (state S.Store conn.new) → (db : Database) → IsOpenAt db (state S.Store conn.old) → db.schema ≡ schema → IfErr result (WhereStopped (IsStopped (state S.Store conn.old) (state S.Store conn.new))) }
     ensures same { HasCleanDisk (state S.Store conn.new) → WhereShown result (IsUnchanged (state S.Store conn.old) (state S.Store conn.new)) }
     ensures rests { Rests (state S.Store conn.old) (state S.Store conn.new) }
     ensures mode { conn.new.in_transaction ≡ false }

@@ -10,6 +10,7 @@ ghost use Rattle.bo_schema.specs.Tables.{schema};
 ghost use Rattle.bo_schema.specs.Parts.{shown};
 ghost use Rattle.bo_loads.specs.Damage.{HasMeaning, HasNoMeaning, IsDamaged, IsFor};
 ghost use Rattle.bo_opens.specs.Rests.{IsOpenAt, Rests, WhereShown};
+ghost use Rattle.bo_opens.specs.Stopped.{IsStopped, WhereStopped};
 
 use crate::table::rows_in;
 use bo_loads::Loaded;
@@ -42,6 +43,7 @@ pub(crate) trait Whole: Drop {
         ensures limits { IfOk result fits }
         ensures found { HasCleanDisk (state S.Store conn.new) → (db : Database) → IsOpenAt db (state S.Store conn.old) → WhereShown result (stands db.schema) }
         ensures refused { HasCleanDisk (state S.Store conn.new) → (db : Database) → IsOpenAt db (state S.Store conn.old) → IfErr result (IsFor (lacks db.schema) (db.schema ≡ schema → is_damaged db.trees)) }
+        ensures store { HasCleanDisk (state S.Store conn.new) → (db : Database) → IsOpenAt db (state S.Store conn.old) → db.schema ≡ schema → IfErr result (WhereStopped (IsStopped (state S.Store conn.old) (state S.Store conn.new))) }
         ensures same { HasCleanDisk (state S.Store conn.new) → WhereShown result (IsUnchanged (state S.Store conn.old) (state S.Store conn.new)) }
         ensures rests { Rests (state S.Store conn.old) (state S.Store conn.new) }
         ensures mode { conn.new.in_transaction ≡ false }
@@ -75,6 +77,7 @@ fn read_both<S: Alter, A: Whole, B: Whole>(
     ensures limits { IfOk result (λ both. A.fits both.0 × B.fits both.1) }
     ensures found { HasCleanDisk (state S.Store conn.new) → (db : Database) → IsOpenAt db (state S.Store conn.old) → WhereShown result (A.stands db.schema × B.stands db.schema) }
     ensures refused { HasCleanDisk (state S.Store conn.new) → (db : Database) → IsOpenAt db (state S.Store conn.old) → IfErr result (IsFor (A.lacks db.schema ⊎ B.lacks db.schema) (db.schema ≡ schema → A.is_damaged db.trees ⊎ B.is_damaged db.trees)) }
+    ensures store { HasCleanDisk (state S.Store conn.new) → (db : Database) → IsOpenAt db (state S.Store conn.old) → db.schema ≡ schema → IfErr result (WhereStopped (IsStopped (state S.Store conn.old) (state S.Store conn.new))) }
     ensures same { HasCleanDisk (state S.Store conn.new) → WhereShown result (IsUnchanged (state S.Store conn.old) (state S.Store conn.new)) }
     ensures rests { Rests (state S.Store conn.old) (state S.Store conn.new) }
     ensures mode { conn.new.in_transaction ≡ false }

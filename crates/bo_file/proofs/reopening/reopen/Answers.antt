@@ -1,4 +1,4 @@
-use Rattle.std.proofs.Common.{◌≡◌, sym, subst}
+use Rattle.std.proofs.Common.{◌≡◌, inl, inr, sym, subst}
 use Rattle.sqlite.specs.Effect.{IsDatabase}
 use Rattle.sqlite.specs.Held.{state}
 use Rattle.bo_base.specs.Slugs.{IsSlug}
@@ -8,6 +8,7 @@ use Rattle.bo_opens.proofs.FitLemmas.{of_readable}
 use Rattle.bo_opens.proofs.ReadLemmas.{if_ok, if_err, on_ok}
 use Rattle.bo_opens.proofs.SameLemmas.{file_of}
 use Rattle.bo_opens.proofs.Stays.{stays_same}
+use Rattle.bo_opens.proofs.Stopping.{closed_always, closed_so}
 use Rattle.bo_typed.specs.Typed.{AreBelowNext, IsTypedShop}
 use Rattle.bo_file.proofs.Least.{reason, unread, clear}
 use Rattle.bo_file.proofs.Refused.{is_opened, both_on, on_three}
@@ -50,6 +51,12 @@ returns-in-Ok-clause-cause g c clean db at =
 
 pub returns-in-Err-clause-cause : goal.returns-in-Err-clause-cause
 returns-in-Err-clause-cause g c clean db at = unread db c.in-Err.error (c.in-Err.ensures.cause clean db at)
+
+pub returns-in-Ok-clause-store : goal.returns-in-Ok-clause-store
+returns-in-Ok-clause-store g c clean db at known = closed_always c.open_rows.result _ (inr (inr (c.in-Ok.ensures.found clean db at)))
+
+pub returns-in-Err-clause-store : goal.returns-in-Err-clause-store
+returns-in-Err-clause-store g c clean db at known = closed_so c.in-Err.error _ _ (c.in-Err.ensures.store clean db at known) (λ why. elim why [ inl inside ↦ inl inside | inr stopped ↦ inr (inl stopped) ])
 
 pub returns-in-Ok-clause-same : goal.returns-in-Ok-clause-same
 returns-in-Ok-clause-same g c clean = on_ok c.open_rows.result _ _ c.open_rows.ensures.head (λ it is. c.in-Ok.ensures.same clean)

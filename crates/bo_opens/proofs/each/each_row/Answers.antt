@@ -1,4 +1,4 @@
-use Rattle.std.proofs.Common.{rules, inl, inr, [], ◌∷◌, ◌++◌, refl, sym, subst, ◌∙◌, arith}
+use Rattle.std.proofs.Common.{◌≡◌, ◌≤◌, rules, inl, inr, [], ◌∷◌, ◌++◌, length, refl, sym, ap, subst, ◌∙◌, arith, length-append}
 use Rattle.sqlite.specs.Effect.{Database}
 use Rattle.sqlite.specs.Held.{state}
 use Rattle.sqlite.specs.State.{HasCleanDisk, FailsToQuery}
@@ -8,6 +8,10 @@ use Rattle.bo_schema.specs.Failures.{failure_of}
 use Rattle.bo_loads.specs.Damage.{HasNoMeaning, IsFor}
 use Rattle.bo_loads.proofs.Causes.{failed}
 use Rattle.bo_opens.proofs.Stays.{query_stays, commits_none, begun_reads, begins_from, shown_from}
+use Rattle.bo_schema.specs.Tables.{schema}
+use Rattle.bo_opens.specs.Stopped.{WhereStopped}
+use Rattle.bo_opens.proofs.Refusing.{unchanged}
+use Rattle.bo_opens.proofs.Stopping.{endless, stopped_later, stops, where_stopped}
 use Rattle.bo_opens.proofs.Walked.{took_more}
 use Rattle.bo_opens.proofs.each.each_row.Goals as goal
 
@@ -17,6 +21,13 @@ returns-in-Err-clause-refused g c clean =
     let new = state g.S.Store c.query.follows.lender-at-none in
     let fails : FailsToQuery c.args.sql.now [] old new c.in-Err.error = (rw c.in-Err.is at c.query.follows.holds-at-none).err clean in
     subst (IsFor _ ⊥) (sym c.of.ensures) (failed old new c.args.sql.now [] c.in-Err.error ⊥ (c.requires.reads old.now.schema) (inl fails))
+
+pub returns-in-Err-clause-store : goal.returns-in-Err-clause-store
+returns-in-Err-clause-store g c clean tree is alone opened known =
+    let old = state g.S.Store c.args.conn.now in
+    let new = state g.S.Store c.query.follows.lender-at-none in
+    let fails : FailsToQuery c.args.sql.now [] old new c.in-Err.error = (rw c.in-Err.is at c.query.follows.holds-at-none).err clean in
+    subst (WhereStopped _) (sym c.of.ensures) (stops c.args.sql.now tree is alone old new known opened c.in-Err.error fails)
 
 pub returns-in-Err-clause-rests : goal.returns-in-Err-clause-rests
 returns-in-Err-clause-rests g c clean opened =
@@ -35,7 +46,7 @@ pub rows-init : goal.rows-init
 rows-init g c =
     let made = c.in-Ok.ensures in
     let reads = c.requires.reads c.args.conn.now.schema in
-    (refl, commits_none _ _ _ _ reads made.survives, made.mode c.requires.outside, ([], refl, λ clean. begun_reads g.S.Store c.args.sql.now [] c.args.conn.now _ reads (made.begun clean)))
+    (refl, commits_none _ _ _ _ reads made.survives, made.mode c.requires.outside, ([], refl, λ clean. begun_reads g.S.Store c.args.sql.now [] c.args.conn.now _ reads (made.begun clean), refl))
 
 pub rows-preserved : goal.rows-preserved
 rows-preserved g c =
@@ -53,6 +64,7 @@ rows-preserved g c =
         λ clean.
             let had = inv.3.2 (omega (arith, moved.survives.clean, clean)) in
             ((rw (c.in-Ok-next.is, c.in-Some.is) at (moved.ok clean)) c.args.sql.now [] inv.3.0 had.0, unchanged_then old was now had.1 (rw c.in-Ok-next.is at (moved.same clean))),
+        omega (arith, length-append inv.3.0 (c.in-Some.row.now ∷ []), inv.3.3),
       ),
     )
 
@@ -123,6 +135,32 @@ returns-in-Err-next-clause-refused g c clean =
     let told = failed was now c.args.sql.now [] c.in-Err-next.error ⊥ (c.requires.reads was.now.schema) (inl fails) in
     let here = subst (λ (d : Database). IsFor (HasNoMeaning d.schema c.args.sql.now) ⊥ (failure_of c.in-Err-next.error)) had.1.0.now_is told in
     search rules
+
+pub returns-in-Err-next-clause-store : goal.returns-in-Err-next-clause-store
+returns-in-Err-next-clause-store g c clean tree is alone opened known =
+    let moved = c.next.follows.holds-at-none in
+    let inv = c.rows.invariant in
+    let old = state g.S.Store c.args.conn.now in
+    let was = state g.S.Store c.rows.rows.conn.now in
+    let now = state g.S.Store c.next.follows.lender-at-none.conn.now in
+    let late : HasCleanDisk now = search rules in
+    let had = inv.3.2 (omega (arith, moved.survives.clean, late)) in
+    let fails : FailsToQuery c.args.sql.now [] was now c.in-Err-next.error = (rw c.in-Err-next.is at (moved.err late)) c.args.sql.now [] inv.3.0 had.0 in
+    let has : was.now.schema ≡ schema = ap (λ (d : Database). d.schema) had.1.0.now_is ∙ known in
+    let told = stops c.args.sql.now tree is alone was now has had.1.0.is_open c.in-Err-next.error fails in
+    let here = where_stopped (failure_of c.in-Err-next.error) _ _ told (stopped_later old was now had.1 inv.1) in
+    search rules
+
+pub returns-clause-store : goal.returns-clause-store
+returns-clause-store g c clean tree is alone opened known =
+    let inv = c.rows.invariant in
+    let old = state g.S.Store c.args.conn.now in
+    let was = state g.S.Store c.rows.rows.conn.now in
+    let late : HasCleanDisk was = search rules in
+    let had = inv.3.2 late in
+    let begins = begins_from c.args.sql.now [] old was inv.3.0 had.1 (given_begin g.S.Store c.args.sql.now [] c.rows.rows.conn.now inv.3.0 had.0) in
+    let many : 18446744073709551615 ≤ length inv.3.0 = omega (arith, inv.3.3, c.rows-test.false) in
+    inr (inr (endless c.args.sql.now tree is old known (unchanged old opened) inv.3.0 begins many))
 
 pub returns-clause-broken : goal.returns-clause-broken
 returns-clause-broken g c =

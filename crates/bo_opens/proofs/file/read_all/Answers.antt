@@ -6,6 +6,7 @@ use Rattle.sqlite.proofs.Callers.{unchanged_then}
 use Rattle.bo_opens.proofs.ReadLemmas.{then, if_some, was_ok, was_err}
 use Rattle.bo_opens.proofs.Shown.{shown_either}
 use Rattle.bo_opens.proofs.Stays.{at_same}
+use Rattle.bo_opens.proofs.Stopping.{err_closed, err_stopped, stopped_later}
 use Rattle.bo_opens.proofs.file.read_all.Goals as goal
 
 pub returns-in-Ok-readable-clause-loaded : goal.returns-in-Ok-readable-clause-loaded
@@ -40,6 +41,16 @@ returns-in-Err-readable-clause-cause g c clean db at =
     let head = c.in-Ok.ensures.found clean_mid db at in
     let at_mid = at_same start mid (c.in-Ok.ensures.same clean_mid) db at in
     c.in-Err-readable.ensures.cause db (c.in-Ok.rows.items, head.0, head.1) (c.read_tables.ensures.refused clean db at_mid)
+
+pub returns-in-Err-readable-clause-store : goal.returns-in-Err-readable-clause-store
+returns-in-Err-readable-clause-store g c clean db at known =
+    let start = state g.S.Store c.args.conn.now in
+    let mid = state g.S.Store c.read_head.new.conn in
+    let end = state g.S.Store c.read_tables.new.conn in
+    let clean_mid : HasCleanDisk mid = omega (arith, clean, c.read_tables.ensures.crash.clean) in
+    let same = c.in-Ok.ensures.same clean_mid in
+    err_closed c.read_tables.result c.in-Err-readable.error _ c.in-Err-readable.ensures.store
+    (err_stopped c.read_tables.result _ _ (c.read_tables.ensures.store clean db (at_same start mid same db at) known) (stopped_later start mid end same c.read_head.ensures.crash))
 
 pub returns-in-Ok-readable-clause-rests : goal.returns-in-Ok-readable-clause-rests
 returns-in-Ok-readable-clause-rests g c clean opened =

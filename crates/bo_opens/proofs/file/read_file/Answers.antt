@@ -5,6 +5,7 @@ use Rattle.bo_opens.specs.Read.{tables_of}
 use Rattle.bo_opens.specs.Causes.{ShowsBy, HasNoOtherVersion}
 use Rattle.bo_opens.proofs.FitLemmas.{read_holds, readable}
 use Rattle.bo_opens.proofs.ReadLemmas.{both_ok, on_always, was_some}
+use Rattle.bo_opens.proofs.Stopping.{never_closed}
 use Rattle.bo_opens.proofs.file.read_file.Goals as goal
 
 pub returns-in-Ok-clause-held : goal.returns-in-Ok-clause-held
@@ -27,6 +28,9 @@ pub returns-in-Ok-clause-cause : goal.returns-in-Ok-clause-cause
 returns-in-Ok-clause-cause g c clean db at =
     let found = c.in-Ok.ensures.found clean db at in
     c.whole_file.ensures.cause db (subst (ShowsBy shop_text db) (sym c.as_slice.ensures.value) found.0) (subst HasNoOtherVersion (sym c.as_slice.ensures.value) found.1) found.2 found.3
+
+pub returns-in-Ok-clause-store : goal.returns-in-Ok-clause-store
+returns-in-Ok-clause-store g c clean db at known = never_closed c.whole_file.result _ c.whole_file.ensures.never
 
 pub returns-in-Ok-clause-same : goal.returns-in-Ok-clause-same
 returns-in-Ok-clause-same g c clean = on_always c.whole_file.result _ (c.in-Ok.ensures.same clean)

@@ -1,4 +1,4 @@
-use Rattle.std.proofs.Common.{◌≡◌, inl, [], sym, subst}
+use Rattle.std.proofs.Common.{◌≡◌, ◌∙◌, inl, [], ap, sym, subst}
 use Rattle.sqlite.specs.Effect.{Database}
 use Rattle.sqlite.specs.Held.{state}
 use Rattle.sqlite.specs.State.{FailsToQuery, Shown}
@@ -8,6 +8,8 @@ use Rattle.bo_loads.proofs.Causes.{failed}
 use Rattle.bo_opens.specs.Causes.{ShowsBy}
 use Rattle.bo_opens.proofs.CauseLemmas.{shown_by}
 use Rattle.bo_opens.proofs.Stays.{commits_none, query_stays, shown_same, stays_same}
+use Rattle.bo_opens.specs.Stopped.{WhereStopped}
+use Rattle.bo_opens.proofs.Stopping.{stops}
 use Rattle.bo_opens.proofs.head.shop_rows.Goals as goal
 
 pub returns-in-Ok-clause-shown : goal.returns-in-Ok-clause-shown
@@ -23,6 +25,13 @@ returns-in-Err-clause-refused g c clean db at =
     let fails : FailsToQuery shop_text [] old (state g.S.Store c.query_all.new.self) c.in-Err.error = rw c.statement.ensures.text at (c.in-Err.ensures.err clean) in
     let told = failed old (state g.S.Store c.query_all.new.self) shop_text [] c.in-Err.error ⊥ (c.statement.ensures.select.reads old.now.schema) (inl fails) in
     subst (λ (d : Database). IsFor (HasNoMeaning d.schema shop_text) ⊥ c.of.result) at.now (subst (IsFor _ ⊥) (sym c.of.ensures) told)
+
+pub returns-in-Err-clause-store : goal.returns-in-Err-clause-store
+returns-in-Err-clause-store g c clean db at known =
+    let old = state g.S.Store c.args.conn.now in
+    let new = state g.S.Store c.query_all.new.self in
+    let fails : FailsToQuery shop_text [] old new c.in-Err.error = rw c.statement.ensures.text at (c.in-Err.ensures.err clean) in
+    subst (WhereStopped _) (sym c.of.ensures) (stops shop_text 0 c.statement.ensures.select c.statement.ensures.alone old new (ap (λ (d : Database). d.schema) at.now ∙ known) at.is_open c.in-Err.error fails)
 
 pub returns-in-Ok-clause-same : goal.returns-in-Ok-clause-same
 returns-in-Ok-clause-same g c clean =

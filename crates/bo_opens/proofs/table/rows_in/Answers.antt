@@ -12,6 +12,10 @@ use Rattle.bo_loads.proofs.Causes.{means_something, unread_for}
 use Rattle.bo_opens.proofs.Gathering.{gathers}
 use Rattle.bo_opens.proofs.Refusing.{begins_meaning, damaged_in}
 use Rattle.bo_opens.proofs.Shown.{not_damaged, where_damaged}
+use Rattle.bo_loads.specs.Alone.{RunsAlone}
+use Rattle.bo_loads.specs.Select.{IsSelect}
+use Rattle.bo_opens.specs.Stopped.{IsStopped}
+use Rattle.bo_opens.proofs.Stopping.{unread_goes_on}
 use Rattle.bo_opens.proofs.table.rows_in.Goals as goal
 
 pub returns-in-Ok-taken-clause-loaded : goal.returns-in-Ok-taken-clause-loaded
@@ -65,3 +69,14 @@ returns-in-Err-taken-clause-found g c clean db at =
 
 pub returns-in-Err-clause-found : goal.returns-in-Err-clause-found
 returns-in-Err-clause-found g c clean db at = not_damaged c.in-Err.error _ _ (c.in-Err.ensures.refused clean)
+
+pub returns-in-Err-clause-store : goal.returns-in-Err-clause-store
+returns-in-Err-clause-store g c clean db at known =
+    let text = sym c.statement.ensures.text in
+    c.in-Err.ensures.store clean g.T.Loaded.tree (subst (λ t. IsSelect t g.T.Loaded.tree []) text c.statement.ensures.select) (subst RunsAlone text c.statement.ensures.alone) at.is_open (ap (λ (d : Database). d.schema) at.now ∙ known)
+
+pub returns-in-Err-taken-clause-store : goal.returns-in-Err-taken-clause-store
+returns-in-Err-taken-clause-store g c clean db at known =
+    let some = rw c.in-Err-taken.is at c.in-Ok.ensures.stopped in
+    let stopped = IsStopped (state g.S.Store c.args.conn.now) (state g.S.Store c.each_row.new.conn) in
+    unread_goes_on ((w : g.row.T.Denot) → g.T.Loaded.fits w → some.row ≢ g.T.Loaded.as_row w) stopped c.in-Err-taken.refusal some.stopped

@@ -8,6 +8,8 @@ use Rattle.bo_opens.proofs.CauseLemmas.{of_first, of_second}
 use Rattle.bo_opens.proofs.ReadLemmas.{was_err}
 use Rattle.bo_opens.proofs.Shown.{was_damaged}
 use Rattle.bo_opens.proofs.Stays.{at_same}
+use Rattle.bo_opens.specs.Stopped.{IsStopped, WhereStopped}
+use Rattle.bo_opens.proofs.Stopping.{err_stopped, stopped_later, where_stopped}
 use Rattle.bo_opens.proofs.whole.read_both.Goals as goal
 use Rattle.bo_opens.proofs.whole.read_both.Goals.{in-Ok-read-2, in-Err-read-2}
 
@@ -40,4 +42,26 @@ returns-after-read-3-clause-refused g c clean db at =
     elim c.match-read-3.branch [
       | in-Ok-read-2 w ↦ subst (λ r. IfErr r (IsFor (F ⊎ G) (db.schema ≡ schema → D ⊎ E))) (sym w.result-is) (of_first F G (db.schema ≡ schema) D E Damaged first)
       | in-Err-read-2 w ↦ subst (λ r. IfErr r (IsFor (F ⊎ G) (db.schema ≡ schema → D ⊎ E))) (sym w.result-is) (of_second F G (db.schema ≡ schema) D E _ (was_err c.read-in-Err-Damaged.result _ _ w.in-Err-read-2.is second))
+    ]
+
+pub returns-in-Err-read-clause-store : goal.returns-in-Err-read-clause-store
+returns-in-Err-read-clause-store g c clean db at known =
+    let old = state g.S.Store c.args.conn.now in
+    let mid = state g.S.Store c.read.new.conn in
+    let new = state g.S.Store c.read-in-Ok.new.conn in
+    let clean_mid : HasCleanDisk mid = omega (arith, clean, c.read-in-Ok.ensures.crash.clean) in
+    let same = c.in-Ok.ensures.same clean_mid in
+    where_stopped c.in-Err-read.error _ _ (c.in-Err-read.ensures.store clean db (at_same old mid same db at) known) (stopped_later old mid new same c.read.ensures.crash)
+
+pub returns-after-read-3-clause-store : goal.returns-after-read-3-clause-store
+returns-after-read-3-clause-store g c clean db at known =
+    let old = state g.S.Store c.args.conn.now in
+    let mid = state g.S.Store c.read.new.conn in
+    let new = state g.S.Store c.read-in-Err-Damaged.new.conn in
+    let clean_mid : HasCleanDisk mid = omega (arith, clean, c.read-in-Err-Damaged.ensures.crash.clean) in
+    let same = was_damaged c.read.result _ (c.in-Err-Damaged.is ∙ ap Err c.in-Err-Damaged.field-0-is) (c.read.ensures.same clean_mid) in
+    let second = err_stopped c.read-in-Err-Damaged.result _ _ (c.read-in-Err-Damaged.ensures.store clean db (at_same old mid same db at) known) (stopped_later old mid new same c.read.ensures.crash) in
+    elim c.match-read-3.branch [
+      | in-Ok-read-2 w ↦ subst (λ r. IfErr r (WhereStopped (IsStopped old new))) (sym w.result-is) tt
+      | in-Err-read-2 w ↦ subst (λ r. IfErr r (WhereStopped (IsStopped old new))) (sym w.result-is) (was_err c.read-in-Err-Damaged.result _ _ w.in-Err-read-2.is second)
     ]
