@@ -6,7 +6,7 @@ pub mod failure;
 pub mod laws;
 pub mod room;
 pub mod run;
-mod step;
+pub mod step;
 
 pub use desk::Desk;
 pub use failure::Failure;
