@@ -1,0 +1,4 @@
+mod HallLemmas
+mod RecordLemmas
+mod StoryLemmas
+mod TurnLemmas

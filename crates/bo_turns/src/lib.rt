@@ -1,0 +1,15 @@
+//! Many conversations at one desk, in any order of their turns.
+#![tactic(auto)]
+
+pub mod hall;
+pub mod laws;
+pub mod place;
+pub mod stage;
+pub mod talk;
+pub mod turns;
+
+pub use hall::Hall;
+pub use place::Place;
+pub use stage::{Needs, Stage};
+pub use talk::Talk;
+pub use turns::{Next, serve_turns};

@@ -1,0 +1,85 @@
+//! What happens in a hall, one after another.
+
+ghost use Rattle.std.specs.Prelude.{◌≡◌, ◌<◌, ◌≤◌, length};
+ghost use Rattle.bo_connection.specs.Run.{AtTick};
+ghost use Rattle.bo_turns.specs.Acts.{between};
+ghost use Rattle.bo_turns.specs.Halls.{Does, DoesAll, LetsIn};
+
+use crate::hall::Hall;
+use bo_connection::Desk;
+use bo_devices::{Device, Ticks};
+use bo_ends::Ends;
+use std::alloc::Global;
+use std::sync::ledger::Ledger;
+
+/// What happens next in a hall.
+#[derive(Clone, Copy, Drop, PartialEq, Eq)]
+pub enum Next {
+    /// The next caller comes, if a place is free.
+    Comes,
+    /// Whoever is at that place has a turn.
+    Turn(usize),
+    /// Whoever is at that place leaves.
+    Leaves(usize),
+}
+
+// The last of those who are to come, to a place that is free.
+fn come_in<E: Ends>(alloc: Global, hall: &mut Hall<E>, comers: &mut Vec<E>)
+    ensures { LetsIn hall.old hall.new }
+{
+    let Some(place) = hall.free_place() else {
+        return;
+    };
+    let Some(ends) = comers.pop() else {
+        return;
+    };
+    let _ = hall.let_in(alloc, place, ends);
+}
+
+// What is next.
+fn do_next<E: Ends, L: Ledger, M: Ledger, T: Ticks, D: Desk>(
+    alloc: Global,
+    piece: &mut [u8],
+    page: &mut Device<Vec<u8>, L, M>,
+    hall: &mut Hall<E>,
+    comers: &mut Vec<E>,
+    next: Next,
+    ticks: &mut T,
+    desk: &mut D,
+)
+    requires some { 0 < length piece.old }
+    requires most { length piece.old ≤ 65536 }
+    ensures does { Does (AtTick T.reads D.serves) (between (T.told ticks.old) desk.old) (between (T.told ticks.new) desk.new) hall.old hall.new next }
+    ensures piece { length piece.new ≡ length piece.old }
+{
+    match next {
+        Next::Comes => come_in(alloc, hall, comers),
+        Next::Turn(place) => {
+            let _ = hall.turn(alloc, place, piece, page, ticks, desk);
+        }
+        Next::Leaves(place) => {
+            let _ = hall.leave(place);
+        }
+    }
+}
+
+/// Has callers come, each have their turns, and leave, in whatever order they do, at one desk. Where nobody is left who may come, or no place is
+/// free, nobody comes.
+pub fn serve_turns<E: Ends, L: Ledger, M: Ledger, T: Ticks, D: Desk>(
+    alloc: Global,
+    piece: &mut [u8],
+    page: &mut Device<Vec<u8>, L, M>,
+    hall: &mut Hall<E>,
+    comers: &mut Vec<E>,
+    order: &[Next],
+    ticks: &mut T,
+    desk: &mut D,
+)
+    requires some { 0 < length piece.old }
+    requires most { length piece.old ≤ 65536 }
+    ensures { DoesAll (AtTick T.reads D.serves) (between (T.told ticks.old) desk.old) (between (T.told ticks.new) desk.new) hall.old hall.new order.now }
+{
+    for next in order {
+        do_next(alloc, piece, page, hall, comers, *next, ticks, desk);
+    }
+}
