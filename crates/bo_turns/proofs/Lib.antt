@@ -1,4 +1,4 @@
-mod HallLemmas
-mod RecordLemmas
-mod StoryLemmas
-mod TurnLemmas
+pub mod HallLemmas
+pub mod RecordLemmas
+pub mod StoryLemmas
+pub mod TurnLemmas

@@ -63,8 +63,8 @@ fn do_next<E: Ends, L: Ledger, M: Ledger, T: Ticks, D: Desk>(
     }
 }
 
-/// Has callers come, each have their turns, and leave, in whatever order they do, at one desk. Where nobody is left who may come, or no place is
-/// free, nobody comes.
+/// Callers come, have turns and leave, in whatever order, at one desk. Nobody comes where nobody is left who may, where no place is free, or
+/// where there is no memory for one more.
 pub fn serve_turns<E: Ends, L: Ledger, M: Ledger, T: Ticks, D: Desk>(
     alloc: Global,
     piece: &mut [u8],
