@@ -150,6 +150,19 @@ same_either false x = refl
 no_overlay : (db : Trees) (tree : ℕ) → overlay db [] tree ≡ db tree
 no_overlay db tree = rw (same_either {A = Option (List Row)} _ None)
 
+-- an answer puts in order what the join shows of the trees
+pub in_order : (db : Trees) (d : Database) → d.trees ≡ db → (rows : List Row) (a : IsAnswer joined (overlay d.trees []) [] rows)
+    → IsPermutation (lines (map (shown schema 12) (db 12)) (map (shown schema 11) (db 11)) (map (shown schema 8) (db 8))) a.ordered
+in_order db d is rows a =
+    let over = overlay d.trees [] in
+    let same : (tree : ℕ) → over tree ≡ db tree = λ tree. no_overlay d.trees tree ∙ ap (λ (x : Trees). x tree) is in
+    let outs : map (output joined) a.staged ≡ lines (map (shown schema 12) (db 12)) (map (shown schema 11) (db 11)) (map (shown schema 8) (db 8)) =
+    ap (map (output joined)) a.grouped ∙ from_trees Null over []
+    ∙ ap (λ l. lines (map (shown schema 12) l) (map (shown schema 11) (over 11)) (map (shown schema 8) (over 8))) (same 12)
+    ∙ ap (λ l. lines (map (shown schema 12) (db 12)) (map (shown schema 11) l) (map (shown schema 8) (over 8))) (same 11)
+    ∙ ap (λ l. lines (map (shown schema 12) (db 12)) (map (shown schema 11) (db 11)) (map (shown schema 8) l)) (same 8) in
+    IsPermutation-trans _ _ _ (IsPermutation-same _ _ (sym (a.distinct ∙ outs))) a.same
+
 module _ (db : Trees) (t : Tables) (held : Holds db t) (shop : ShopRow) (s : State) (ks : List Kept) (st : Stand shop t s ks) (so : IsSound s) where
   position_rows : IsPermutation (map position_row t.positions) (map (shown schema 12) (db 12))
   position_rows = held.1.1.1.1.1.1.1.1.1.0
@@ -187,15 +200,7 @@ module _ (db : Trees) (t : Tables) (held : Holds db t) (shop : ShopRow) (s : Sta
   pub answers : (d : Database) → d.trees ≡ db → (rows : List Row) → Reads (Select (plainly joined) names) d [] rows → rows ≡ map cells (exported s.lists)
   answers d is rows h =
       let a : IsAnswer joined (overlay d.trees []) [] rows = h.answer Null in
-      let over = overlay d.trees [] in
-      let same : (tree : ℕ) → over tree ≡ db tree = λ tree. no_overlay d.trees tree ∙ ap (λ (x : Trees). x tree) is in
-      let outs : map (output joined) a.staged ≡ lines (map (shown schema 12) (db 12)) (map (shown schema 11) (db 11)) (map (shown schema 8) (db 8)) =
-      ap (map (output joined)) a.grouped ∙ from_trees Null over []
-      ∙ ap (λ l. lines (map (shown schema 12) l) (map (shown schema 11) (over 11)) (map (shown schema 8) (over 8))) (same 12)
-      ∙ ap (λ l. lines (map (shown schema 12) (db 12)) (map (shown schema 11) l) (map (shown schema 8) (over 8))) (same 11)
-      ∙ ap (λ l. lines (map (shown schema 12) (db 12)) (map (shown schema 11) (db 11)) (map (shown schema 8) l)) (same 8) in
-      let whole : IsPermutation (map sorted_as (exported s.lists)) a.ordered =
-      IsPermutation-trans _ _ _ all_lines (IsPermutation-trans _ _ _ (IsPermutation-same _ _ (sym (a.distinct ∙ outs))) a.same) in
+      let whole : IsPermutation (map sorted_as (exported s.lists)) a.ordered = IsPermutation-trans _ _ _ all_lines (in_order db d is rows a) in
       let (es, turned, from) = pull_back sorted_as _ _ whole (exported s.lists) refl in
       let near = all-permutation IsNear (exported s.lists) es turned (exported_near s.lists so.ordered.whole) in
       let order = exported_rise s.lists so.ids.orders.in_order so.ordered.whole in

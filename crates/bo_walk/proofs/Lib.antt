@@ -4,4 +4,5 @@ pub mod Ordered
 pub mod Partners
 pub mod Exports
 pub mod Streamed
+pub mod Fitting
 pub mod WriteLemmas

@@ -6,11 +6,11 @@ use Rattle.sqlite_value.specs.declared.value.Value.TheVariants.{Null, Int, Text}
 use Rattle.sqlite_value.specs.Order.{Row, column}
 use Rattle.sqlite_resolve.specs.declared.compiled.Compiled.{Compiled}
 use Rattle.sqlite_schema.specs.declared.command.Command.TheVariants.{Select}
-use Rattle.sqlite.specs.Effect.{Database}
+use Rattle.sqlite.specs.Effect.{Database, Reads}
 use Rattle.sqlite.specs.Clock.{timed}
 use Rattle.sqlite.specs.Listing.{understood}
 use Rattle.sqlite.specs.Values.{or_null}
-use Rattle.sqlite.specs.State.{State as Connected, IsUnchanged, Shown, Begins}
+use Rattle.sqlite.specs.State.{State as Connected, Shown, Begins}
 use Rattle.sqlite.proofs.Callers.{EndsIn, begins_shown, reads_as}
 use Rattle.bo_schema.specs.Tables.{schema}
 use Rattle.bo_schema.specs.Shapes.{command_in, plainly}
@@ -33,6 +33,7 @@ use Rattle.bo_walk.specs.declared.positions.WalkError.{WalkError}
 use Rattle.bo_walk.specs.declared.positions.WalkError.TheVariants.{Sink, Rows}
 use Rattle.bo_walk.specs.Handed.{OfOffice, IsFrontOf, HandsAll, HandsUpTo, HandsSome, StopsAt}
 use Rattle.bo_opens.specs.Took.{Took, TakesAll, TakesSome, BreaksOff, IsFront}
+use Rattle.bo_opens.proofs.Refusing.{unchanged}
 use Rattle.bo_walk.proofs.Asked.{joined_text, joined, names, asks}
 use Rattle.bo_walk.proofs.Exports.{answers}
 
@@ -104,33 +105,37 @@ module _ {W K : Type 0} (sink : W → K) (takes : K → ExportRow → K → Type
 
 -- ---- what they are
 
-module _ (old new : Connected) (known : old.now.schema ≡ schema) (t : Tables) (held : Holds old.now.trees t) (shop : ShopRow) (s : State) (ks : List Kept) (st : Stand shop t s ks) (so : IsSound s) where
-  all_are : (other : Connected) (rows : List Row) → Shown joined_text [] old other rows → rows ≡ map cells (exported s.lists)
-  all_are other rows h =
-      answers old.now.trees t held shop s ks st so old.now refl rows (reads_as joined_text [] old other schema known (Select (plainly joined) names) (asked (understood schema joined_text) _ asks.0.0) asks.0.1 asks.1 rows h)
-
-  unchanged : IsTrue old.is_open → IsUnchanged old old
-  unchanged o = (record { was_open = o; is_open = o; now_is = refl; committed_is = refl; mode = refl }, record { changes = refl; last_rowid = refl }, refl)
+module _ (old : Connected) (known : old.now.schema ≡ schema) where
+  pub read : (other : Connected) (rows : List Row) → Shown joined_text [] old other rows → Reads (Select (plainly joined) names) old.now [] rows
+  read other rows h = reads_as joined_text [] old other schema known (Select (plainly joined) names) (asked (understood schema joined_text) _ asks.0.0) asks.0.1 asks.1 rows h
 
   command_of : (c : Compiled) → understood old.now.schema joined_text ≡ Ok c → c.command ≡ Select (plainly joined) names
   command_of c is =
       let both : Some c.command ≡ Some (Select (plainly joined) names) = sym (ap command_in is) ∙ ap (λ k. command_in (understood k joined_text)) known ∙ asks.0.0 in cc
 
+  -- an answer that begins with these rows goes on to its end
+  pub goes_on : IsTrue old.is_open → (rows : List Row) → Begins joined_text [] old rows → (rest : List Row) × Shown joined_text [] old old (rows ++ rest)
+  goes_on o rows h = begins_shown joined_text [] old old rows h (unchanged old o) (λ c db it source. subst (λ k. EndsIn k db (timed [] c.formats it.now)) (sym (command_of c it.is)) tt)
+
+module _ (old new : Connected) (known : old.now.schema ≡ schema) (t : Tables) (held : Holds old.now.trees t) (shop : ShopRow) (s : State) (ks : List Kept) (st : Stand shop t s ks) (so : IsSound s) where
+  all_are : (other : Connected) (rows : List Row) → Shown joined_text [] old other rows → rows ≡ map cells (exported s.lists)
+  all_are other rows h = answers old.now.trees t held shop s ks st so old.now refl rows (read old known other rows h)
+
   front_is : IsTrue old.is_open → (es : List ExportRow) (rows : List Row) → rows ≡ map cells es → Begins joined_text [] old rows → IsFrontOf es (exported s.lists)
   front_is o es rows are h =
-      let whole = begins_shown joined_text [] old old rows h (unchanged o) (λ c db it source. subst (λ k. EndsIn k db (timed [] c.formats it.now)) (sym (command_of c it.is)) tt) in
+      let whole = goes_on old known o rows h in
       front_lines es (exported s.lists) whole.0 (ap (λ l. l ++ whole.0) (sym are) ∙ all_are old (rows ++ whole.0) whole.1)
 
   -- so are those before the last one
   front_before : IsTrue old.is_open → (es : List ExportRow) (rows : List Row) (row : Row) → rows ≡ map cells es → Begins joined_text [] old (rows ++ row ∷ []) → IsFrontOf es (exported s.lists)
   front_before o es rows row are h =
-      let whole = begins_shown joined_text [] old old (rows ++ row ∷ []) h (unchanged o) (λ c db it source. subst (λ k. EndsIn k db (timed [] c.formats it.now)) (sym (command_of c it.is)) tt) in
+      let whole = goes_on old known o (rows ++ row ∷ []) h in
       front_lines es (exported s.lists) (row ∷ whole.0) (ap (λ l. l ++ row ∷ whole.0) (sym are) ∙ sym (append_assoc rows (row ∷ []) whole.0) ∙ all_are old ((rows ++ row ∷ []) ++ whole.0) whole.1)
 
-of_trees : (d : Database) (s : Connected) (t : Tables) → s.now ≡ d → Holds d.trees t → Holds s.now.trees t
+pub of_trees : (d : Database) (s : Connected) (t : Tables) → s.now ≡ d → Holds d.trees t → Holds s.now.trees t
 of_trees d s t same held = subst (λ (x : Database). Holds x.trees t) (sym same) held
 
-of_schema : (d : Database) (s : Connected) → s.now ≡ d → d.schema ≡ schema → s.now.schema ≡ schema
+pub of_schema : (d : Database) (s : Connected) → s.now ≡ d → d.schema ≡ schema → s.now.schema ≡ schema
 of_schema d s same known = ap (λ (x : Database). x.schema) same ∙ known
 
 module _ {W K : Type 0} (sink : W → K) (takes : K → ExportRow → K → Type 0) (refuses : K → ExportRow → SinkFault → K → Type 0) (old new : Connected) (before after : W) where
@@ -179,7 +184,7 @@ module _ {W K : Type 0} (sink : W → K) (takes : K → ExportRow → K → Type
       let l = lined sink takes before h.mid h.rows h.took in
       record {
         rows = l.lines;
-        took = subst (λ k. Took takes (sink before) l.lines k) (sym h.stopped) l.took;
+        took = subst (λ k. Took takes (sink before) l.lines k) (sym h.stopped.0) l.took;
         are = λ clean db at known t held shop s ks st so. front_before old new (of_schema db old at.now known) t (of_trees db old t at.now held) shop s ks st so at.is_open l.lines h.rows h.row l.are (h.front clean);
       }
 

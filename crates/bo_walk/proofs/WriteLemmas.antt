@@ -18,11 +18,12 @@ use Rattle.bo_export.specs.declared.sink.SinkFault.TheVariants.{Memory, Output}
 use Rattle.bo_csv.specs.Handing.{Goes, HandsOn, IsReady, Stops, gathered}
 use Rattle.bo_csv.specs.PositionLines.{header_line, positions_text, row_line}
 use Rattle.bo_csv.specs.declared.positions.Lines.{Lines}
-use Rattle.bo_walk.specs.Faults.{fault_of_walk}
-use Rattle.bo_walk.specs.Handed.{HandsAll, HandsSome, HandsUpTo, IsFrontOf, OfOffice}
+use Rattle.bo_walk.specs.Faults.{IsOfMachine, fault_of_walk}
+use Rattle.bo_walk.specs.Handed.{HandsAll, HandsSome, HandsUpTo, IsFrontOf, OfFitTables, OfOffice}
 use Rattle.bo_walk.specs.Written.{Exports}
 use Rattle.bo_walk.specs.declared.positions.WalkError.{WalkError}
 use Rattle.bo_walk.specs.declared.positions.WalkError.TheVariants.{Sink, Rows}
+use Rattle.bo_walk.proofs.Fitting.{sunk}
 
 -- ---- one text after another
 
@@ -130,6 +131,7 @@ module _ {K N : Type 0} (name : K → N) (lines : K → Lines) (page : K → Pag
             added = Adds-append (page before).taken (page mid).taken (page after).taken p (gathered (lines mid)) added more;
             counted = still ∙ same;
             written = λ clean db at known tables held shop s ks stand sound. so_far mid h.rows t ∙ ap (λ (rs : List ExportRow). header_line ++ lines_text rs) (h.are clean db at known tables held shop s ks stand sound);
+            cause = λ clean db at known tables held fit. tt;
             rests = rests;
             crash = crash;
           },
@@ -149,6 +151,7 @@ module _ {K N : Type 0} (name : K → N) (lines : K → Lines) (page : K → Pag
               c.rest,
               c.whole ∙ so_far mid h.rows t ∙ ap (λ (rs : List ExportRow). header_line ++ lines_text rs) (h.are clean db at known tables held shop s ks stand sound),
             );
+            cause = λ clean db at known tables held fit. sunk fault;
             rests = rests;
             crash = crash;
           },
@@ -175,15 +178,16 @@ module _ {K N : Type 0} (name : K → N) (lines : K → Lines) (page : K → Pag
                       ∙ append_assoc header_line (lines_text (h.rows ++ h.row ∷ [])) (lines_text front.0)
                       ∙ ap (λ (g : List ℕ). header_line ++ g) (sym (both_texts (h.rows ++ h.row ∷ []) front.0) ∙ ap lines_text front.1),
                 );
+            cause = λ clean db at known tables held fit. sunk fault;
             rests = rests;
             crash = crash;
           },
         )
 
     -- a row wasn't read
-    pub exports_unread : (error : RowError) → HandsAll Takes Refuses (λ rows. OfOffice old new (λ lists. IsFrontOf rows (exported lists))) before after
+    pub exports_unread : (error : RowError) → OfFitTables old new (IsOfMachine (fault_of_walk (Rows error))) → HandsAll Takes Refuses (λ rows. OfOffice old new (λ lists. IsFrontOf rows (exported lists))) before after
         → (text : List ℕ) × Exports old new text (page before) (page after) (Err (fault_of_walk (Rows error)))
-    exports_unread error h =
+    exports_unread error cause h =
         let t = taken before after h.rows ready h.took in (
           t.goes.0,
           record {
@@ -196,15 +200,16 @@ module _ {K N : Type 0} (name : K → N) (lines : K → Lines) (page : K → Pag
                       ∙ append_assoc header_line (lines_text h.rows) (lines_text front.0)
                       ∙ ap (λ (g : List ℕ). header_line ++ g) (sym (both_texts h.rows front.0) ∙ ap lines_text front.1),
                 );
+            cause = cause;
             rests = rests;
             crash = crash;
           },
         )
 
-    pub exports_broken : (error : WalkError) → HandsSome Takes Refuses (λ rows. OfOffice old new (λ lists. IsFrontOf rows (exported lists))) before after error
+    pub exports_broken : (error : WalkError) → OfFitTables old new (IsOfMachine (fault_of_walk error)) → HandsSome Takes Refuses (λ rows. OfOffice old new (λ lists. IsFrontOf rows (exported lists))) before after error
         → (text : List ℕ) × Exports old new text (page before) (page after) (Err (fault_of_walk error))
-    exports_broken (Sink fault) h = exports_some fault h
-    exports_broken (Rows error) h = exports_unread error h
+    exports_broken (Sink fault) cause h = exports_some fault h
+    exports_broken (Rows error) cause h = exports_unread error cause h
 
   -- it keeps its writer, too
   pub kept_broken : (P : List ExportRow → Type 0) (error : WalkError) (before after : K) → IsReady (lines before) → HandsSome Takes Refuses P before after error → name after ≡ name before
@@ -212,13 +217,14 @@ module _ {K N : Type 0} (name : K → N) (lines : K → Lines) (page : K → Pag
   kept_broken P (Rows error) before after ready h = kept_all P before after ready h
 
 -- a database of which nothing is written stays as it is
-pub exports_none : (s : Connected) (page : Page) (fault : RunFault) → Rests s s → Survives s s (λ _. ⊥) → CountsCut fault page.failures page.failures → (text : List ℕ) × Exports s s text page page (Err fault)
-exports_none s page fault rests crash counted = (
+pub exports_none : (s : Connected) (page : Page) (fault : RunFault) → IsOfMachine fault → Rests s s → Survives s s (λ _. ⊥) → CountsCut fault page.failures page.failures → (text : List ℕ) × Exports s s text page page (Err fault)
+exports_none s page fault cause rests crash counted = (
   [],
   record {
     added = Adds-nil page.taken;
     counted = counted;
     written = λ clean db at known tables held shop office ks stand sound. (positions_text office.lists, refl);
+    cause = λ clean db at known tables held fit. cause;
     rests = rests;
     crash = crash;
   },

@@ -15,3 +15,10 @@ fault_of_walk (Rows rows.Memory) = faults.Memory
 fault_of_walk (Rows rows.Foreign) = faults.NotAShop
 fault_of_walk (Rows rows.Damaged) = faults.Damaged rules.Limits
 fault_of_walk (Rows rows.Store) = faults.Store
+
+-- memory was refused, or the store or the writer failed, and nothing is wrong with the file
+abbrev pub IsOfMachine : RunFault → Type 0
+IsOfMachine faults.Memory = Unit {0}
+IsOfMachine faults.Store = Unit {0}
+IsOfMachine faults.Unwritten = Unit {0}
+IsOfMachine fault = ⊥

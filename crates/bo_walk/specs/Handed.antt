@@ -1,10 +1,11 @@
 -- Which lines of an export a sink was handed.
-use Rattle.std.specs.Prelude.{◌≡◌, List, [], ◌∷◌, ◌++◌}
+use Rattle.std.specs.Prelude.{◌≡◌, ◌≢◌, List, [], ◌∷◌, ◌++◌}
 use Rattle.sqlite_value.specs.Order.{Row}
 use Rattle.sqlite.specs.Effect.{Database}
 use Rattle.sqlite.specs.State.{State as Connected, HasCleanDisk}
 use Rattle.bo_schema.specs.Tables.{schema}
 use Rattle.bo_columns.specs.Tables.{Tables, Holds}
+use Rattle.bo_columns.specs.Unread.{IsUnread}
 use Rattle.bo_columns.specs.declared.rows.ShopRow.{ShopRow}
 use Rattle.bo_export.specs.declared.row.ExportRow.{ExportRow}
 use Rattle.bo_export.specs.declared.sink.SinkFault.{SinkFault}
@@ -12,15 +13,20 @@ use Rattle.bo_kept.specs.declared.kept.Kept.{Kept}
 use Rattle.bo_lists.specs.Lists.{Lists, State}
 use Rattle.bo_sound.specs.Sound.{IsSound}
 use Rattle.bo_stand.specs.Stands.{Stand}
+use Rattle.bo_opens.specs.Lawful.{AreFit}
 use Rattle.bo_opens.specs.Rests.{IsOpenAt}
 use Rattle.bo_opens.specs.Took.{Took}
-use Rattle.bo_walk.specs.Cells.{cells}
+use Rattle.bo_walk.specs.Cells.{IsFitLine, cells}
 use Rattle.bo_walk.specs.declared.positions.WalkError.{WalkError}
 use Rattle.bo_walk.specs.declared.positions.WalkError.TheVariants.{Sink, Rows}
 
 -- of the sound box office whose tables the open connection shows, where the disk returned what was written
 abbrev pub OfOffice : Connected → Connected → (Lists → Type 0) → Type 0
 OfOffice old new P = HasCleanDisk new → (db : Database) → IsOpenAt db old → db.schema ≡ schema → (t : Tables) → Holds db.trees t → (shop : ShopRow) (s : State) (ks : List Kept) → Stand shop t s ks → IsSound s → P s.lists
+
+-- of tables that the open connection shows, which hold a shop whose values are within their limits, where the disk returned what was written
+abbrev pub OfFitTables : Connected → Connected → Type 0 → Type 0
+OfFitTables old new P = HasCleanDisk new → (db : Database) → IsOpenAt db old → db.schema ≡ schema → (t : Tables) → Holds db.trees t → AreFit t → P
 
 -- the list begins with these
 abbrev pub IsFrontOf : List ExportRow → List ExportRow → Type 0
@@ -46,7 +52,7 @@ module _ {K : Type 0} (takes : K → ExportRow → K → Type 0) (refuses : K �
   HandsSome (Sink fault) = HandsUpTo fault
   HandsSome (Rows e) = HandsAll
 
--- what a row leaves that isn't taken: one that is no line leaves all as it was
+-- what a row leaves that isn't taken: one that isn't read leaves all as it was, for want of memory or because it is that of no line within its limits
 abbrev pub StopsAt : {K : Type 0} → (K → ExportRow → SinkFault → K → Type 0) → K → Row → WalkError → K → Type 0
 StopsAt refuses old row (Sink fault) new = (e : ExportRow) × (row ≡ cells e) × refuses old e fault new
-StopsAt refuses old row (Rows e) new = new ≡ old
+StopsAt refuses old row (Rows e) new = (new ≡ old) × IsUnread ((line : ExportRow) → IsFitLine line → row ≢ cells line) e

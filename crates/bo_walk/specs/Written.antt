@@ -1,5 +1,5 @@
 -- What was written of an export.
-use Rattle.std.specs.Prelude.{◌≡◌, List, ℕ, ◌++◌, Result, Ok, Err}
+use Rattle.std.specs.Prelude.{◌≡◌, List, ℕ, ◌++◌, Result, Ok, Err, IfErr}
 use Rattle.sqlite.specs.State.{State as Connected, Survives}
 use Rattle.bo_devices.specs.Told.{Adds}
 use Rattle.bo_http.specs.Written.{Page}
@@ -7,17 +7,20 @@ use Rattle.bo_line.specs.Saying.{CountsEnd}
 use Rattle.bo_line.specs.declared.fault.RunFault.{RunFault}
 use Rattle.bo_opens.specs.Rests.{Rests}
 use Rattle.bo_csv.specs.PositionLines.{positions_text}
-use Rattle.bo_walk.specs.Handed.{OfOffice}
+use Rattle.bo_walk.specs.Faults.{IsOfMachine}
+use Rattle.bo_walk.specs.Handed.{OfFitTables, OfOffice}
 
 -- the text is all of it, or beside a fault a beginning
 abbrev pub IsWritten : Result (Unit {0}) RunFault → List ℕ → List ℕ → Type 0
 IsWritten (Ok u) text all = text ≡ all
 IsWritten (Err fault) text all = (rest : List ℕ) × (text ++ rest ≡ all)
 
--- this text was written of the order positions of a database, which is left as it was, in a crash too
+-- This text was written of the order positions of a database, which is left as it was, in a crash too. Of a shop whose values are within
+-- their limits the fault is none of the file's.
 pub record Exports (old new : Connected) (text : List ℕ) (before after : Page) (outcome : Result (Unit {0}) RunFault) : Type 0 where
   pub added : Adds before.taken text after.taken
   pub counted : CountsEnd outcome before.failures after.failures
   pub written : OfOffice old new (λ lists. IsWritten outcome text (positions_text lists))
+  pub cause : OfFitTables old new (IfErr outcome IsOfMachine)
   pub rests : Rests old new
   pub crash : Survives old new (λ _. ⊥)

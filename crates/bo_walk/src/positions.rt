@@ -1,12 +1,15 @@
 //! The order positions of a file, handed to a sink one after another.
 
-ghost use Rattle.std.specs.Prelude.{◌≡◌, false, IfOk, IfErr, OnOk};
+ghost use Rattle.std.specs.Prelude.{◌≡◌, ◌≢◌, false, IfOk, IfErr, OnOk};
 ghost use Rattle.sqlite.specs.Held.{state};
 ghost use Rattle.sqlite.specs.State.{Survives};
+ghost use Rattle.bo_columns.specs.Unread.{IsUnread};
+ghost use Rattle.bo_export.specs.declared.row.ExportRow.{ExportRow};
 ghost use Rattle.bo_export.specs.Exported.{exported};
 ghost use Rattle.bo_opens.specs.Rests.{Rests};
-ghost use Rattle.bo_walk.specs.Cells.{cells};
-ghost use Rattle.bo_walk.specs.Handed.{OfOffice, IsFrontOf, HandsAll, HandsSome, StopsAt};
+ghost use Rattle.bo_walk.specs.Cells.{IsFitLine, cells};
+ghost use Rattle.bo_walk.specs.Faults.{IsOfMachine, fault_of_walk};
+ghost use Rattle.bo_walk.specs.Handed.{OfFitTables, OfOffice, IsFrontOf, HandsAll, HandsSome, StopsAt};
 
 use bo_columns::Column;
 use bo_export::{ExportRow, Sink, SinkFault};
@@ -24,9 +27,10 @@ pub enum WalkError {
     Rows(RowError),
 }
 
-// A line, from the row that shows it.
+// A line, from the row that shows it. Refusals: 62 where it is the row of no line within its limits, 6.
 fn line_of(alloc: Global, row: &Row) -> Result<ExportRow, RowError>
-    ensures { IfOk result (λ e. row.now ≡ cells e) }
+    ensures line { IfOk result (λ e. row.now ≡ cells e) }
+    ensures refused { IfErr result (IsUnread ((e : ExportRow) → IsFitLine e → row.now ≢ cells e)) }
 {
     if row.column_count() != 8 {
         return Err(RowError::Damaged);
@@ -71,7 +75,8 @@ impl<K: Sink> Taker<WalkError> for Walk<K> {
 
 /// Hands the order positions of the box office that a file holds to a sink, order by order, each one's by their numbers there, one at a
 /// time, of which the store holds some. The connection stays as it is. Where the sink refuses one, that refusal is answered as it came, and
-/// those before it were taken; else 6, 60, 62, and 63 where the store fails.
+/// those before it were taken; else 6, 60, 62, and 63 where the store fails. 60 and 62 aren't answered of tables that hold a shop whose values
+/// are within their limits.
 pub fn stream_positions<S: Alter, K: Sink>(
     alloc: Global,
     conn: &mut Connection<S>,
@@ -80,6 +85,7 @@ pub fn stream_positions<S: Alter, K: Sink>(
     requires { conn.old.in_transaction ≡ false }
     ensures all { OnOk result (HandsAll K.Sink.takes K.Sink.refuses (λ rows. OfOffice (state S.Store conn.old) (state S.Store conn.new) (λ lists. rows ≡ exported lists)) walk.old.sink walk.new.sink) }
     ensures some { IfErr result (HandsSome K.Sink.takes K.Sink.refuses (λ rows. OfOffice (state S.Store conn.old) (state S.Store conn.new) (λ lists. IsFrontOf rows (exported lists))) walk.old.sink walk.new.sink) }
+    ensures cause { OfFitTables (state S.Store conn.old) (state S.Store conn.new) (IfErr result (λ e. IsOfMachine (fault_of_walk e))) }
     ensures rests { Rests (state S.Store conn.old) (state S.Store conn.new) }
     ensures mode { conn.new.in_transaction ≡ false }
     ensures crash { Survives (state S.Store conn.old) (state S.Store conn.new) (λ _. ⊥) }

@@ -72,7 +72,8 @@ fn write_outside<S: Alter, W: Drain>(
 }
 
 /// Writes the order positions of the box office that a database holds as CSV while it reads them, one at a time: all of them, or beside a
-/// fault a beginning. The connection stays as it is. Where a transaction is open nothing is written, and that is fault 63.
+/// fault a beginning. The connection stays as it is. Where a transaction is open nothing is written, and that is fault 63. Of a shop whose
+/// values are within their limits the fault is 6, 63 or 73.
 pub fn write_positions<S: Alter, W: Drain>(
     alloc: Global,
     connection: &mut Connection<S>,

@@ -1,6 +1,7 @@
 use Rattle.sqlite.specs.Held.{state}
 use Rattle.bo_loads.proofs.Queries.{query_reads}
 use Rattle.bo_walk.proofs.Asked.{joined_text, only_asks}
+use Rattle.bo_walk.proofs.Fitting.{refused_so, stopped_so}
 use Rattle.bo_walk.proofs.Streamed.{handed, broken, some_of}
 use Rattle.bo_walk.proofs.positions.stream_positions.Goals as goal
 
@@ -18,3 +19,10 @@ returns-in-Err-clause-some g c =
 pub returns-in-Err-taken-clause-some : goal.returns-in-Err-taken-clause-some
 returns-in-Err-taken-clause-some g c =
     some_of (λ w. w.sink) g.K.Sink.takes g.K.Sink.refuses (state g.S.Store c.args.conn.now) (state g.S.Store c.each_row.new.conn) c.args.walk.now c.each_row.new.taker c.in-Err-taken.fault (rw c.in-Err-taken.is at c.in-Ok.ensures.stopped)
+
+pub returns-in-Err-clause-cause : goal.returns-in-Err-clause-cause
+returns-in-Err-clause-cause g c = refused_so (state g.S.Store c.args.conn.now) (state g.S.Store c.each_row.new.conn) c.in-Err.error c.in-Err.ensures.refused
+
+pub returns-in-Err-taken-clause-cause : goal.returns-in-Err-taken-clause-cause
+returns-in-Err-taken-clause-cause g c =
+    stopped_so (λ w. w.sink) _ g.K.Sink.refuses (state g.S.Store c.args.conn.now) (state g.S.Store c.each_row.new.conn) c.args.walk.now c.each_row.new.taker c.in-Err-taken.fault (rw c.in-Err-taken.is at c.in-Ok.ensures.stopped)

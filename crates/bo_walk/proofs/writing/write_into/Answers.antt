@@ -20,7 +20,7 @@ returns-in-Err-clause-exported g c =
     let first : Page = record { taken = g.W.Drain.taken before.out.now; failures = g.W.Drain.failures before.out.now } in
     let last : Page = record { taken = g.W.Drain.taken after.out.now; failures = g.W.Drain.failures after.out.now } in
     let it = exports_broken (λ k. k.out.ghost_name) (λ k. k.lines.now) (λ k. record { taken = g.W.Drain.taken k.out.now; failures = g.W.Drain.failures k.out.now })
-    old new c.stream_positions.ensures.rests c.stream_positions.ensures.crash before after after c.requires.ready c.requires.names c.in-Err.error c.in-Err.ensures.some in
+    old new c.stream_positions.ensures.rests c.stream_positions.ensures.crash before after after c.requires.ready c.requires.names c.in-Err.error c.in-Err.ensures.cause c.in-Err.ensures.some in
     subst (λ (f : RunFault). (text : List ℕ) × Exports old new text first last (Err f)) (sym c.fault_of_walk.ensures) it
 
 pub returns-in-Ok-clause-same : goal.returns-in-Ok-clause-same

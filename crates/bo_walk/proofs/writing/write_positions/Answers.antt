@@ -6,4 +6,4 @@ use Rattle.bo_walk.proofs.writing.write_positions.Goals as goal
 
 pub returns-then-not-is_autocommit : goal.returns-then-not-is_autocommit
 returns-then-not-is_autocommit g c =
-    exports_none (state g.S.Store c.args.connection.now) (record { taken = g.W.Drain.taken c.args.writer.now; failures = g.W.Drain.failures c.args.writer.now }) faults.Store (search rules) (search rules) refl
+    exports_none (state g.S.Store c.args.connection.now) (record { taken = g.W.Drain.taken c.args.writer.now; failures = g.W.Drain.failures c.args.writer.now }) faults.Store tt (search rules) (search rules) refl
