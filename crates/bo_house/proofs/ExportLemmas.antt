@@ -1,5 +1,5 @@
 -- What an export of a shop's database comes to.
-use Rattle.std.proofs.Common.{◌≡◌, ◌⊎◌, inl, inr, ℕ, Bool, List, [], Result, Err, IsTrue, refl, sym, subst, arith}
+use Rattle.std.proofs.Common.{◌≡◌, inl, inr, ℕ, Bool, List, [], Result, IsTrue, refl, sym, subst, arith}
 use Rattle.sqlite_trees.specs.declared.store.Store.{Ghosts}
 use Rattle.sqlite.specs.Held.{state}
 use Rattle.sqlite.specs.State.{State as Connected, HasCleanDisk}
@@ -7,6 +7,7 @@ use Rattle.sqlite.specs.declared.connection.Connection.{Connection}
 use Rattle.sqlite.proofs.StateLemmas.{survives_then}
 use Rattle.bo_opens.specs.declared.error.OpenError.{OpenError}
 use Rattle.bo_opens.specs.declared.error.OpenError.TheVariants as opening
+use Rattle.bo_opens.proofs.LimitLemmas.{sound_fits}
 use Rattle.bo_opens.proofs.Stays.{at_same, then_stays}
 use Rattle.bo_tables.specs.declared.sql.SqlTables.{SqlTables}
 use Rattle.bo_desk.specs.Streams.{DeskView}
@@ -68,6 +69,11 @@ opened_exported {S} g old first left desk text before after outcome opens same e
       written = λ clean db at known.
           let opened = opens.opened (early clean) db at known in
           it.written clean db (at_same old here (opens.same (early clean)) db at) known opened.tables opened.held desk.tables.head desk.state _ opened.stand opens.sound;
+      cause = λ clean db at known.
+          let opened = opens.opened (early clean) db at known in
+          let typed = opened.typed in
+          it.cause clean db (at_same old here (opens.same (early clean)) db at) known opened.tables opened.held
+          (sound_fits desk.tables.head opened.tables desk.state _ typed.first typed.organizer typed.event typed.token opened.stand opens.sound typed.rows);
       rests = λ clean opened. then_stays old here (state g left) (opens.same (early clean)) (it.rests clean opened);
       crash = survives_then old here (state g left) (λ _. ⊥) (λ _. ⊥) (λ _. ⊥) (λ _ db none. none) (λ _ db none. none) opens.crash it.crash;
     })

@@ -1,5 +1,5 @@
 -- What becomes of a shop's database when its order positions are exported.
-use Rattle.std.specs.Prelude.{◌≡◌, ◌⊎◌, ℕ, List, [], Result}
+use Rattle.std.specs.Prelude.{◌≡◌, ◌⊎◌, ℕ, List, [], Result, IfErr}
 use Rattle.sqlite_trees.specs.declared.store.Store.{Ghosts}
 use Rattle.sqlite.specs.Effect.{Database}
 use Rattle.sqlite.specs.Held.{state}
@@ -11,15 +11,17 @@ use Rattle.bo_tables.specs.declared.sql.SqlTables.{SqlTables}
 use Rattle.bo_desk.specs.Streams.{DeskView}
 use Rattle.bo_line.specs.declared.fault.RunFault.{RunFault}
 use Rattle.bo_csv.specs.PositionLines.{positions_text}
+use Rattle.bo_walk.specs.Faults.{IsOfMachine}
 use Rattle.bo_walk.specs.Written.{IsWritten}
 use Rattle.bo_house.specs.Served.{OpensAs, StaysUnopened}
 
 -- The shop in the database is opened, and this text is written of its order positions: all of it, or beside a fault a beginning. The database
--- is left as it was, in a crash too.
+-- is left as it was, in a crash too. A fault is none of the file's: 6, 63 or 73.
 pub record IsOpenedAndExported {S : Type 0} (g : Ghosts S) (text : List ℕ) (old : Connected) (left : Connection S) (outcome : Result (Unit {0}) RunFault) : Type 0 where
   pub desk : DeskView (SqlTables S)
   pub opens : OpensAs g old desk
   pub written : HasCleanDisk (state g left) → (db : Database) → IsOpenAt db old → db.schema ≡ schema → IsWritten outcome text (positions_text desk.state.lists)
+  pub cause : HasCleanDisk (state g left) → (db : Database) → IsOpenAt db old → db.schema ≡ schema → IfErr outcome IsOfMachine
   pub rests : Rests old (state g left)
   pub crash : Survives old (state g left) (λ _. ⊥)
 
