@@ -46,9 +46,6 @@ for F G D E f k Foreign h = f h
 for F G D E f k Damaged h = k h
 for F G D E f k Store h = tt
 
-pub foreign_for : (F D : Type 0) (e : RowError) → IsFor F D e → e ≡ Foreign → F
-foreign_for F D e h is = subst (IsFor F D) is h
-
 pub on_ok : {T E : Type 0} (r : Result T E) (P : T → Type 0) (Q : Type 0) → IfOk r P → ((x : T) → P x → Q) → OnOk r Q
 on_ok (Ok x) P Q h k = k x h
 on_ok (Err e) P Q h k = tt

@@ -22,5 +22,5 @@ mod variations;
 mod vouchers;
 mod waiting;
 
-pub use loaded::{Loaded, load};
+pub use loaded::Loaded;
 pub use lookups::{FindByOwner, find_kept, find_token, members_of};

@@ -1,16 +1,13 @@
 //! A row that a table of the file shows.
 
-ghost use Rattle.std.specs.Prelude.{◌≡◌, ◌≢◌, ℕ, map, true, List, [], All, IfOk, IfErr, OnOk, IsPermutation};
+ghost use Rattle.std.specs.Prelude.{◌≡◌, ◌≢◌, ℕ, map, true, List, [], All, IfOk, IfErr};
 ghost use Rattle.sqlite_value.specs.Order.{Row as Shown};
 ghost use Rattle.sqlite.specs.Held.{state};
 ghost use Rattle.sqlite.specs.Values.{bound};
 ghost use Rattle.sqlite.specs.State.{HasCleanDisk, Survives, KeepsCommit, Shown as Shows};
-ghost use Rattle.bo_schema.specs.declared.error.RowError.TheVariants.{Foreign};
-ghost use Rattle.bo_schema.specs.Tables.{schema};
-ghost use Rattle.bo_schema.specs.Parts.{shown};
 ghost use Rattle.bo_columns.specs.Unread.{IsUnread};
 ghost use Rattle.bo_loads.specs.Alone.{RunsAlone};
-ghost use Rattle.bo_loads.specs.Damage.{IsDamaged, IsFor, IsForReading, HasMeaning, HasNoMeaning};
+ghost use Rattle.bo_loads.specs.Damage.{IsDamaged, IsFor, IsForReading, HasNoMeaning};
 ghost use Rattle.bo_loads.specs.Select.{IsSelect};
 
 use bo_schema::RowError;
@@ -83,23 +80,4 @@ pub(crate) fn rows_of<S: Alter, T: Loaded>(
         Ok(rows) => read_rows(alloc, rows.as_slice()),
         Err(error) => Err(RowError::of(error)),
     }
-}
-
-/// All rows of a table, by their numbers. Nothing changes.
-/// Refusals: 6, 60 where the file has no such table with these columns, 62, 63.
-pub fn load<S: Alter, T: Loaded>(
-    alloc: Global,
-    tx: &mut Transaction<'_, S>,
-) -> Result<Vec<T>, RowError>
-    ensures same { tx.new.conn.ghost_name ≡ tx.old.conn.ghost_name }
-    ensures loaded { HasCleanDisk (state S.Store tx.new.conn.now) → (state S.Store tx.old.conn.now).now.schema ≡ schema → IfOk result (λ all. IsPermutation (map T.Loaded.as_row all.items) (map (shown schema T.Loaded.tree) ((state S.Store tx.old.conn.now).now.trees T.Loaded.tree))) }
-    ensures limits { IfOk result (λ all. All T.Loaded.fits all.items) }
-    ensures refused { HasCleanDisk (state S.Store tx.new.conn.now) → (state S.Store tx.old.conn.now).now.schema ≡ schema → IfErr result (IsFor ⊥ (IsDamaged T.Loaded.as_row T.Loaded.fits (map (shown schema T.Loaded.tree) ((state S.Store tx.old.conn.now).now.trees T.Loaded.tree)))) }
-    ensures found { HasCleanDisk (state S.Store tx.new.conn.now) → OnOk result (HasMeaning (state S.Store tx.old.conn.now).now.schema T.Loaded.text) }
-    ensures lacking { HasCleanDisk (state S.Store tx.new.conn.now) → IfErr result (λ e. e ≡ Foreign → HasNoMeaning (state S.Store tx.old.conn.now).now.schema T.Loaded.text) }
-    ensures still { HasCleanDisk (state S.Store tx.new.conn.now) → (state S.Store tx.old.conn.now).now.schema ≡ schema → OnOk result ((state S.Store tx.new.conn.now).now ≡ (state S.Store tx.old.conn.now).now) }
-    ensures kept { HasCleanDisk (state S.Store tx.new.conn.now) → (state S.Store tx.old.conn.now).in_transaction ≡ true → KeepsCommit (state S.Store tx.old.conn.now) (state S.Store tx.new.conn.now) }
-    ensures crash { Survives (state S.Store tx.old.conn.now) (state S.Store tx.new.conn.now) (λ _. ⊥) }
-{
-    rows_of(alloc, tx, T::statement(), &[])
 }
