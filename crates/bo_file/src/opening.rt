@@ -17,21 +17,23 @@ use crate::book::Reopened;
 use crate::reopening::reopen;
 use bo_counters::Counters;
 use bo_office::Office;
-use bo_opens::OpenError;
+use bo_opens::{OpenError, Progress};
 use bo_tables::{HandedBack, SqlTables};
 use sqlite::{Alter, Connection};
 use std::alloc::Global;
 
 /// Opens a shop's file: its tables, and the box office that they hold, with its counters. The box office is sound, its tables hold
-/// it with all answers that stand in them, and know their tokens. Nothing in the file changes, and a crash leaves what stood.
+/// it with all answers that stand in them, and know their tokens. Nothing in the file changes, and a crash leaves what stood. The
+/// progress hears of each row that was read.
 /// Beside a refusal the connection is handed back: 6; 60 where the table `shop` isn't there with its columns; 61 where its row has
 /// another version; 60 where another table isn't there; 62 by the least rule that is broken; 63 where a transaction is open, the
 /// connection is shut, the store fails or doesn't show rows in order. Of 60, 61 and 62 each is told only for its cause, the first
 /// that has one; where the file is opened none has. 63 is never told in the place of a value that can't be read, unless a call of
 /// the store was refused.
-pub fn open_file<S: Alter>(
+pub fn open_file<S: Alter, P: Progress>(
     alloc: Global,
     mut connection: Connection<S>,
+    progress: &mut P,
 ) -> Result<(SqlTables<S>, Office<Counters>), HandedBack<S, OpenError>>
     ensures opened { IfOk result (λ it. HasCleanDisk (state S.Store it.0.connection) → (db : Database) → IsOpenAt db (state S.Store connection) → db.schema ≡ schema → IsOpened db.trees it.0.head it.0.next_row it.1.state (state S.Store it.0.connection)) }
     ensures names { IfOk result (λ it. (it.1.organizer ≡ it.0.head.organizer) × (it.1.event ≡ it.0.head.event)) }
@@ -47,7 +49,7 @@ pub fn open_file<S: Alter>(
     ensures crash { IfOk result (λ it. Survives (state S.Store connection) (state S.Store it.0.connection) (λ _. ⊥)) }
     ensures crash_none { IfErr result (λ it. Survives (state S.Store connection) (state S.Store it.connection) (λ _. ⊥)) }
 {
-    match reopen(alloc, &mut connection, Counters::new(alloc)) {
+    match reopen(alloc, &mut connection, Counters::new(alloc), progress) {
         Ok(it) => {
             let Reopened {
                 head,

@@ -17,16 +17,17 @@ ghost use Rattle.bo_opens.specs.Stopped.{IsStopped, WhereClosed};
 ghost use Rattle.bo_file.specs.Opened.{IsReason, IsOpened, IsWithheld};
 
 use crate::book::{Reopened, open_rows};
-use bo_opens::{FileTables, OpenError, read_file};
+use bo_opens::{FileTables, OpenError, Progress, read_file};
 use bo_schema::schema_known;
 use bo_usage::Book;
 use sqlite::{Alter, Connection};
 use std::alloc::Global;
 
 // All that the tables of a file hold, read outside a transaction. Refusals: those of `read_file`, and 63 where one is open.
-fn read_outside<S: Alter>(
+fn read_outside<S: Alter, P: Progress>(
     alloc: Global,
     connection: &mut Connection<S>,
+    progress: &mut P,
 ) -> Result<FileTables, OpenError>
     ensures held { HasCleanDisk (state S.Store connection.new) → (db : Database) → IsOpenAt db (state S.Store connection.old) → db.schema ≡ schema → IfOk result (λ file. Holds db.trees (tables_of file)) }
     ensures version { IfOk result (λ file. file.shop.version ≡ 1) }
@@ -42,7 +43,7 @@ fn read_outside<S: Alter>(
     if !connection.is_autocommit() {
         return Err(OpenError::Store);
     }
-    read_file(alloc, connection)
+    read_file(alloc, connection, progress)
 }
 
 /// What a shop's file holds, with an empty book that gets the rows of its box office. Nothing in the file changes, and a crash
@@ -50,10 +51,11 @@ fn read_outside<S: Alter>(
 /// Refusals: 6; 60 where the table `shop` isn't there with its columns; 61 where its row has another version; 60 where another table
 /// isn't there; 62 by the least rule that is broken; 63 where a transaction is open, the connection is shut, the store fails or
 /// doesn't show rows in order. Of 60, 61 and 62 each is told only for its cause, the first that has one; where the file is opened none has.
-pub(crate) fn reopen<S: Alter, B: Book + Drop>(
+pub(crate) fn reopen<S: Alter, B: Book + Drop, P: Progress>(
     alloc: Global,
     connection: &mut Connection<S>,
     book: B,
+    progress: &mut P,
 ) -> Result<Reopened<B>, OpenError>
     requires { B.state book ≡ empty }
     ensures opened { HasCleanDisk (state S.Store connection.new) → (db : Database) → IsOpenAt db (state S.Store connection.old) → db.schema ≡ schema → IfOk result (λ it. IsOpened db.trees it.head it.next_row (B.state it.book) (state S.Store connection.new)) }
@@ -69,7 +71,7 @@ pub(crate) fn reopen<S: Alter, B: Book + Drop>(
     ensures crash { Survives (state S.Store connection.old) (state S.Store connection.new) (λ _. ⊥) }
 {
     schema_known(connection);
-    match read_outside(alloc, connection) {
+    match read_outside(alloc, connection, progress) {
         Ok(file) => open_rows(alloc, book, file),
         Err(error) => Err(error),
     }

@@ -13,6 +13,7 @@ ghost use Rattle.bo_opens.specs.Rests.{Rests};
 ghost use Rattle.bo_opens.specs.Stopped.{IsStopped, WhereStopped};
 ghost use Rattle.bo_opens.specs.Took.{TakesAll, TakesSome, BreaksOff};
 
+use crate::progress::Progress;
 use bo_schema::RowError;
 use sqlite::{Alter, Connection, Row};
 use std::alloc::Global;
@@ -32,12 +33,13 @@ pub trait Taker<E> {
 }
 
 /// Hands each row of a query to a taker, in the order in which they come, up to the one that it refuses, whose refusal is answered. The
-/// connection stays as it is. Refusals: 6, 60 where the query has no meaning in the file, 63.
-pub fn each_row<S: Alter, E: Drop, K: Taker<E>>(
+/// progress hears of each that was taken. The connection stays as it is. Refusals: 6, 60 where the query has no meaning in the file, 63.
+pub fn each_row<S: Alter, E: Drop, K: Taker<E>, P: Progress>(
     alloc: Global,
     conn: &mut Connection<S>,
     sql: &str,
     taker: &mut K,
+    progress: &mut P,
 ) -> Result<Result<(), E>, RowError>
     requires outside { conn.old.in_transaction ≡ false }
     requires reads { (s : Schema) → IsForReading s sql.now }
@@ -66,6 +68,7 @@ pub fn each_row<S: Alter, E: Drop, K: Taker<E>>(
         if let Err(refusal) = taker.take(alloc, row) {
             return Ok(Err(refusal));
         }
+        progress.row();
     }
     Err(RowError::Store)
 }

@@ -17,6 +17,7 @@ ghost use Rattle.bo_opens.specs.Causes.{LacksTable, HasTables, HasDamage, AreFit
 
 use crate::error::OpenError;
 use crate::head::{read_shop, shop_rows, test_version};
+use crate::progress::Progress;
 use crate::read::read_tables;
 use bo_columns::{ShopRow, TableRows};
 use bo_rules::Rule;
@@ -91,9 +92,10 @@ fn read_head<S: Alter>(conn: &mut Connection<S>) -> Result<Vec<Row>, OpenError>
 }
 
 // The rows of the table `shop`, and those of the other tables where their values can be read. Refusals: 6, 60, 61, 63.
-fn read_all<S: Alter>(
+fn read_all<S: Alter, P: Progress>(
     alloc: Global,
     conn: &mut Connection<S>,
+    progress: &mut P,
 ) -> Result<(Vec<Row>, Option<TableRows>), OpenError>
     requires { conn.old.in_transaction ≡ false }
     ensures loaded { HasCleanDisk (state S.Store conn.new) → (db : Database) → IsOpenAt db (state S.Store conn.old) → db.schema ≡ schema → IfOk result (λ read. IfSome read.1 (HoldsRows db.trees)) }
@@ -107,7 +109,7 @@ fn read_all<S: Alter>(
     ensures crash { Survives (state S.Store conn.old) (state S.Store conn.new) (λ _. ⊥) }
 {
     match read_head(conn) {
-        Ok(rows) => match readable(read_tables(alloc, conn)) {
+        Ok(rows) => match readable(read_tables(alloc, conn, progress)) {
             Ok(tables) => Ok((rows, tables)),
             Err(error) => Err(error),
         },
@@ -139,7 +141,11 @@ fn whole_file(
 /// Refusals: 6; 60 where the table `shop` isn't there with its columns; 61 where its row has another version; 60 where another table
 /// isn't there; 62 by rule 1 where there isn't one row of the shop, or a value or a next id of it is out of range; 62 by rule 2 where
 /// a value of another table is; 63. They are told in this order.
-pub fn read_file<S: Alter>(alloc: Global, conn: &mut Connection<S>) -> Result<FileTables, OpenError>
+pub fn read_file<S: Alter, P: Progress>(
+    alloc: Global,
+    conn: &mut Connection<S>,
+    progress: &mut P,
+) -> Result<FileTables, OpenError>
     requires { conn.old.in_transaction ≡ false }
     ensures held { HasCleanDisk (state S.Store conn.new) → (db : Database) → IsOpenAt db (state S.Store conn.old) → db.schema ≡ schema → IfOk result (λ file. Holds db.trees (tables_of file)) }
     ensures version { IfOk result (λ file. file.shop.version ≡ 1) }
@@ -152,7 +158,7 @@ pub fn read_file<S: Alter>(alloc: Global, conn: &mut Connection<S>) -> Result<Fi
     ensures mode { conn.new.in_transaction ≡ false }
     ensures crash { Survives (state S.Store conn.old) (state S.Store conn.new) (λ _. ⊥) }
 {
-    match read_all(alloc, conn) {
+    match read_all(alloc, conn, progress) {
         Ok((rows, tables)) => whole_file(alloc, rows.as_slice(), tables),
         Err(error) => Err(error),
     }

@@ -11,6 +11,7 @@ ghost use Rattle.bo_opens.specs.Stopped.{IsStopped, WhereStopped};
 ghost use Rattle.bo_opens.specs.Causes.{IsFitCatalogue, HasCatalogue, LacksCatalogue, IsDamagedCatalogue, AreFitSales, HasSales, LacksSales, AreDamagedSales, AreFitDoors, HasDoors, LacksDoors, AreDamagedDoors, AreFitOthers, HasOthers, LacksOthers, AreDamagedOthers, AreFitTables, HasTables, LacksTable, HasDamage};
 ghost use Rattle.bo_opens.specs.Read.{HoldsCatalogue, HoldsSales, HoldsDoors, HoldsOthers, HoldsRows};
 
+use crate::progress::Progress;
 use crate::whole::Whole;
 use bo_columns::{CatalogueRows, DoorRows, OtherRows, SaleRows, TableRows};
 use bo_schema::RowError;
@@ -28,8 +29,12 @@ impl Whole for CatalogueRows {
 
     ghost is_damaged = { IsDamagedCatalogue };
 
-    fn read<S: Alter>(alloc: Global, conn: &mut Connection<S>) -> Result<CatalogueRows, RowError> {
-        match Whole::read(alloc, conn) {
+    fn read<S: Alter, P: Progress>(
+        alloc: Global,
+        conn: &mut Connection<S>,
+        progress: &mut P,
+    ) -> Result<CatalogueRows, RowError> {
+        match Whole::read(alloc, conn, progress) {
             Ok((items, (variations, (quotas, (quota_items, quota_variations))))) => Ok(
                 CatalogueRows {
                     items,
@@ -55,8 +60,12 @@ impl Whole for SaleRows {
 
     ghost is_damaged = { AreDamagedSales };
 
-    fn read<S: Alter>(alloc: Global, conn: &mut Connection<S>) -> Result<SaleRows, RowError> {
-        match Whole::read(alloc, conn) {
+    fn read<S: Alter, P: Progress>(
+        alloc: Global,
+        conn: &mut Connection<S>,
+        progress: &mut P,
+    ) -> Result<SaleRows, RowError> {
+        match Whole::read(alloc, conn, progress) {
             Ok((vouchers, (carts, (orders, (positions, waiting))))) => Ok(SaleRows {
                 vouchers,
                 carts,
@@ -80,8 +89,12 @@ impl Whole for DoorRows {
 
     ghost is_damaged = { AreDamagedDoors };
 
-    fn read<S: Alter>(alloc: Global, conn: &mut Connection<S>) -> Result<DoorRows, RowError> {
-        match Whole::read(alloc, conn) {
+    fn read<S: Alter, P: Progress>(
+        alloc: Global,
+        conn: &mut Connection<S>,
+        progress: &mut P,
+    ) -> Result<DoorRows, RowError> {
+        match Whole::read(alloc, conn, progress) {
             Ok((checkin_lists, (list_items, checkins))) => Ok(DoorRows {
                 checkin_lists,
                 list_items,
@@ -103,8 +116,12 @@ impl Whole for OtherRows {
 
     ghost is_damaged = { AreDamagedOthers };
 
-    fn read<S: Alter>(alloc: Global, conn: &mut Connection<S>) -> Result<OtherRows, RowError> {
-        match Whole::read(alloc, conn) {
+    fn read<S: Alter, P: Progress>(
+        alloc: Global,
+        conn: &mut Connection<S>,
+        progress: &mut P,
+    ) -> Result<OtherRows, RowError> {
+        match Whole::read(alloc, conn, progress) {
             Ok((counts, (tokens, kept))) => Ok(OtherRows {
                 counts,
                 tokens,
@@ -126,8 +143,12 @@ impl Whole for TableRows {
 
     ghost is_damaged = { HasDamage };
 
-    fn read<S: Alter>(alloc: Global, conn: &mut Connection<S>) -> Result<TableRows, RowError> {
-        match Whole::read(alloc, conn) {
+    fn read<S: Alter, P: Progress>(
+        alloc: Global,
+        conn: &mut Connection<S>,
+        progress: &mut P,
+    ) -> Result<TableRows, RowError> {
+        match Whole::read(alloc, conn, progress) {
             Ok((catalogue, (sales, (doors, others)))) => Ok(TableRows {
                 catalogue,
                 sales,
@@ -142,7 +163,11 @@ impl Whole for TableRows {
 /// All rows of all tables but the shop's own. The connection stays as it is.
 /// Refusals: 6, 60 where the file lacks one of the tables with its columns, 62 where a value can't be read, 63. That a table is
 /// lacking is told though a value of another one can't be read.
-pub fn read_tables<S: Alter>(alloc: Global, conn: &mut Connection<S>) -> Result<TableRows, RowError>
+pub fn read_tables<S: Alter, P: Progress>(
+    alloc: Global,
+    conn: &mut Connection<S>,
+    progress: &mut P,
+) -> Result<TableRows, RowError>
     requires { conn.old.in_transaction ≡ false }
     ensures loaded { HasCleanDisk (state S.Store conn.new) → (db : Database) → IsOpenAt db (state S.Store conn.old) → db.schema ≡ schema → IfOk result (HoldsRows db.trees) }
     ensures limits { IfOk result AreFitTables }
@@ -154,5 +179,5 @@ pub fn read_tables<S: Alter>(alloc: Global, conn: &mut Connection<S>) -> Result<
     ensures mode { conn.new.in_transaction ≡ false }
     ensures crash { Survives (state S.Store conn.old) (state S.Store conn.new) (λ _. ⊥) }
 {
-    Whole::read(alloc, conn)
+    Whole::read(alloc, conn, progress)
 }

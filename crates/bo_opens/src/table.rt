@@ -12,6 +12,7 @@ ghost use Rattle.bo_opens.specs.Rests.{IsOpenAt, Rests, WhereShown};
 ghost use Rattle.bo_opens.specs.Stopped.{IsStopped, WhereStopped};
 
 use crate::each::{Taker, each_row};
+use crate::progress::Progress;
 use bo_loads::Loaded;
 use bo_schema::RowError;
 use sqlite::{Alter, Connection, Row};
@@ -40,9 +41,10 @@ impl<T: Loaded> Taker<RowError> for Gathered<T> {
 }
 
 /// The rows of a table, by their numbers, of which the store holds some at a time. The connection stays as it is. Refusals: 6, 60, 62, 63.
-pub(crate) fn rows_in<S: Alter, T: Loaded>(
+pub(crate) fn rows_in<S: Alter, T: Loaded, P: Progress>(
     alloc: Global,
     conn: &mut Connection<S>,
+    progress: &mut P,
 ) -> Result<Vec<T>, RowError>
     requires { conn.old.in_transaction ≡ false }
     ensures loaded { HasCleanDisk (state S.Store conn.new) → (db : Database) → IsOpenAt db (state S.Store conn.old) → db.schema ≡ schema → IfOk result (λ all. IsPermutation (map T.as_row all.items) (map (shown schema T.tree) (db.trees T.tree))) }
@@ -58,7 +60,7 @@ pub(crate) fn rows_in<S: Alter, T: Loaded>(
     let mut gathered: Gathered<T> = Gathered {
         all: Vec::new(alloc),
     };
-    let taken = match each_row(alloc, conn, T::statement(), &mut gathered) {
+    let taken = match each_row(alloc, conn, T::statement(), &mut gathered, progress) {
         Ok(taken) => taken,
         Err(error) => return Err(error),
     };

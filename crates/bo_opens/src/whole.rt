@@ -12,6 +12,7 @@ ghost use Rattle.bo_loads.specs.Damage.{HasMeaning, HasNoMeaning, IsDamaged, IsF
 ghost use Rattle.bo_opens.specs.Rests.{IsOpenAt, Rests, WhereShown};
 ghost use Rattle.bo_opens.specs.Stopped.{IsStopped, WhereStopped};
 
+use crate::progress::Progress;
 use crate::table::rows_in;
 use bo_loads::Loaded;
 use bo_schema::RowError;
@@ -37,7 +38,11 @@ pub(crate) trait Whole: Drop {
     /// Reads it. The connection stays as it is.
     /// Refusals: 6, 60 where the file lacks one of the tables with these columns, 62 where a value can't be read, 63. That a table
     /// is lacking is told though a value of another one can't be read.
-    fn read<S: Alter>(alloc: Global, conn: &mut Connection<S>) -> Result<Self, RowError>
+    fn read<S: Alter, P: Progress>(
+        alloc: Global,
+        conn: &mut Connection<S>,
+        progress: &mut P,
+    ) -> Result<Self, RowError>
         requires { conn.old.in_transaction ≡ false }
         ensures loaded { HasCleanDisk (state S.Store conn.new) → (db : Database) → IsOpenAt db (state S.Store conn.old) → db.schema ≡ schema → IfOk result (is_in db.trees) }
         ensures limits { IfOk result fits }
@@ -62,15 +67,20 @@ impl<T: Loaded> Whole for Vec<T> {
 
     ghost is_damaged = { λ trees. IsDamaged T.as_row T.fits (map (shown schema T.tree) (trees T.tree)) };
 
-    fn read<S: Alter>(alloc: Global, conn: &mut Connection<S>) -> Result<Vec<T>, RowError> {
-        rows_in(alloc, conn)
+    fn read<S: Alter, P: Progress>(
+        alloc: Global,
+        conn: &mut Connection<S>,
+        progress: &mut P,
+    ) -> Result<Vec<T>, RowError> {
+        rows_in(alloc, conn, progress)
     }
 }
 
 // One, and then the other.
-fn read_both<S: Alter, A: Whole, B: Whole>(
+fn read_both<S: Alter, A: Whole, B: Whole, P: Progress>(
     alloc: Global,
     conn: &mut Connection<S>,
+    progress: &mut P,
 ) -> Result<(A, B), RowError>
     requires { conn.old.in_transaction ≡ false }
     ensures loaded { HasCleanDisk (state S.Store conn.new) → (db : Database) → IsOpenAt db (state S.Store conn.old) → db.schema ≡ schema → IfOk result (λ both. A.is_in db.trees both.0 × B.is_in db.trees both.1) }
@@ -83,12 +93,12 @@ fn read_both<S: Alter, A: Whole, B: Whole>(
     ensures mode { conn.new.in_transaction ≡ false }
     ensures crash { Survives (state S.Store conn.old) (state S.Store conn.new) (λ _. ⊥) }
 {
-    match A::read(alloc, conn) {
-        Ok(first) => match B::read(alloc, conn) {
+    match A::read(alloc, conn, progress) {
+        Ok(first) => match B::read(alloc, conn, progress) {
             Ok(second) => Ok((first, second)),
             Err(error) => Err(error),
         },
-        Err(RowError::Damaged) => match B::read(alloc, conn) {
+        Err(RowError::Damaged) => match B::read(alloc, conn, progress) {
             Ok(_) => Err(RowError::Damaged),
             Err(error) => Err(error),
         },
@@ -107,7 +117,11 @@ impl<A: Whole, B: Whole> Whole for (A, B) {
 
     ghost is_damaged = { λ trees. A.is_damaged trees ⊎ B.is_damaged trees };
 
-    fn read<S: Alter>(alloc: Global, conn: &mut Connection<S>) -> Result<(A, B), RowError> {
-        read_both(alloc, conn)
+    fn read<S: Alter, P: Progress>(
+        alloc: Global,
+        conn: &mut Connection<S>,
+        progress: &mut P,
+    ) -> Result<(A, B), RowError> {
+        read_both(alloc, conn, progress)
     }
 }

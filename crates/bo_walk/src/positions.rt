@@ -13,7 +13,7 @@ ghost use Rattle.bo_walk.specs.Handed.{OfFitTables, OfOffice, IsFrontOf, HandsAl
 
 use bo_columns::Column;
 use bo_export::{ExportRow, Sink, SinkFault};
-use bo_opens::{Taker, each_row};
+use bo_opens::{Progress, Taker, each_row};
 use bo_schema::RowError;
 use sqlite::{Alter, Connection, Row};
 use std::alloc::Global;
@@ -74,13 +74,14 @@ impl<K: Sink> Taker<WalkError> for Walk<K> {
 }
 
 /// Hands the order positions of the box office that a file holds to a sink, order by order, each one's by their numbers there, one at a
-/// time, of which the store holds some. The connection stays as it is. Where the sink refuses one, that refusal is answered as it came, and
-/// those before it were taken; else 6, 60, 62, and 63 where the store fails. 60 and 62 aren't answered of tables that hold a shop whose values
-/// are within their limits.
-pub fn stream_positions<S: Alter, K: Sink>(
+/// time, of which the store holds some; the progress hears of each that was taken. The connection stays as it is. Where the sink refuses
+/// one, that refusal is answered as it came, and those before it were taken; else 6, 60, 62, and 63 where the store fails. 60 and 62 aren't
+/// answered of tables that hold a shop whose values are within their limits.
+pub fn stream_positions<S: Alter, K: Sink, P: Progress>(
     alloc: Global,
     conn: &mut Connection<S>,
     walk: &mut Walk<K>,
+    progress: &mut P,
 ) -> Result<(), WalkError>
     requires { conn.old.in_transaction ≡ false }
     ensures all { OnOk result (HandsAll K.Sink.takes K.Sink.refuses (λ rows. OfOffice (state S.Store conn.old) (state S.Store conn.new) (λ lists. rows ≡ exported lists)) walk.old.sink walk.new.sink) }
@@ -92,7 +93,7 @@ pub fn stream_positions<S: Alter, K: Sink>(
 {
     let sql =
         "SELECT p.order_id, p.positionid, o.status, p.item_id, p.variation_id, p.price, v.code, p.secret FROM order_positions AS p JOIN orders AS o ON o.id = p.order_id LEFT JOIN vouchers AS v ON v.id = p.voucher_id ORDER BY p.order_id, p.positionid";
-    let taken = match each_row(alloc, conn, sql, walk) {
+    let taken = match each_row(alloc, conn, sql, walk, progress) {
         Ok(taken) => taken,
         Err(error) => return Err(WalkError::Rows(error)),
     };

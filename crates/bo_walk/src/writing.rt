@@ -12,6 +12,7 @@ use bo_csv::{CsvSink, Lines};
 use bo_devices::Drain;
 use bo_export::SinkFault;
 use bo_line::RunFault;
+use bo_opens::Progress;
 use bo_rules::Rule;
 use bo_schema::RowError;
 use sqlite::{Alter, Connection};
@@ -33,10 +34,11 @@ pub fn fault_of_walk(error: WalkError) -> RunFault
 }
 
 // Hands the order positions of a database to a sink that has gathered the names of the columns, one after another, and on what it gathered.
-fn write_into<S: Alter, W: Drain>(
+fn write_into<S: Alter, W: Drain, P: Progress>(
     alloc: Global,
     connection: &mut Connection<S>,
     walk: &mut Walk<CsvSink<'_, W>>,
+    progress: &mut P,
 ) -> Result<(), RunFault>
     requires outside { connection.old.in_transaction ≡ false }
     requires ready { IsReady walk.old.sink.lines.now }
@@ -44,7 +46,7 @@ fn write_into<S: Alter, W: Drain>(
     ensures same { walk.new.sink.out.ghost_name ≡ walk.old.sink.out.ghost_name }
     ensures exported { (text : List ℕ) × Exports (state S.Store connection.old) (state S.Store connection.new) text (record { taken = W.taken walk.old.sink.out.now; failures = W.failures walk.old.sink.out.now }) (record { taken = W.taken walk.new.sink.out.now; failures = W.failures walk.new.sink.out.now }) result }
 {
-    if let Err(error) = stream_positions(alloc, connection, walk) {
+    if let Err(error) = stream_positions(alloc, connection, walk, progress) {
         return Err(fault_of_walk(error));
     }
     match walk.sink.hand_on(alloc) {
@@ -54,10 +56,11 @@ fn write_into<S: Alter, W: Drain>(
 }
 
 // Writes the order positions of a database that is in no transaction.
-fn write_outside<S: Alter, W: Drain>(
+fn write_outside<S: Alter, W: Drain, P: Progress>(
     alloc: Global,
     connection: &mut Connection<S>,
     writer: &mut W,
+    progress: &mut P,
 ) -> Result<(), RunFault>
     requires { connection.old.in_transaction ≡ false }
     ensures { (text : List ℕ) × Exports (state S.Store connection.old) (state S.Store connection.new) text (record { taken = W.taken writer.old; failures = W.failures writer.old }) (record { taken = W.taken writer.new; failures = W.failures writer.new }) result }
@@ -68,21 +71,22 @@ fn write_outside<S: Alter, W: Drain>(
     let mut walk = Walk {
         sink: CsvSink::over(writer, &mut lines),
     };
-    write_into(alloc, connection, &mut walk)
+    write_into(alloc, connection, &mut walk, progress)
 }
 
 /// Writes the order positions of the box office that a database holds as CSV while it reads them, one at a time: all of them, or beside a
-/// fault a beginning. The connection stays as it is. Where a transaction is open nothing is written, and that is fault 63. Of a shop whose
-/// values are within their limits the fault is 6, 63 or 73.
-pub fn write_positions<S: Alter, W: Drain>(
+/// fault a beginning; the progress hears of each. The connection stays as it is. Where a transaction is open nothing is written, and that
+/// is fault 63. Of a shop whose values are within their limits the fault is 6, 63 or 73.
+pub fn write_positions<S: Alter, W: Drain, P: Progress>(
     alloc: Global,
     connection: &mut Connection<S>,
     writer: &mut W,
+    progress: &mut P,
 ) -> Result<(), RunFault>
     ensures { (text : List ℕ) × Exports (state S.Store connection.old) (state S.Store connection.new) text (record { taken = W.taken writer.old; failures = W.failures writer.old }) (record { taken = W.taken writer.new; failures = W.failures writer.new }) result }
 {
     if !connection.is_autocommit() {
         return Err(RunFault::Store);
     }
-    write_outside(alloc, connection, writer)
+    write_outside(alloc, connection, writer, progress)
 }

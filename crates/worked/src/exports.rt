@@ -4,6 +4,7 @@ ghost use Rattle.std.specs.Prelude.{◌≡◌, ◌<◌, []};
 
 use bo_feed::open_memory;
 use bo_line::counted;
+use bo_opens::Quiet;
 use bo_tables::SqlTables;
 use bo_walk::write_positions;
 use sqlite::{Alter, Connection, MemStore};
@@ -89,7 +90,7 @@ fn exported<A: Ledger, B: Ledger>(
     requires failures { (failures.name ≡ B.name) × (failures.parts ≡ B.parts) × (0 < B.parts) }
 {
     let mut writer = counted::<ShortWriter, A, B>(ShortWriter::new(alloc, most), calls, failures);
-    let fault = match write_positions(alloc, connection, &mut writer) {
+    let fault = match write_positions(alloc, connection, &mut writer, &mut Quiet) {
         Ok(()) => 0,
         Err(fault) => fault.number(),
     };
