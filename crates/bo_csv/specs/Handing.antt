@@ -1,5 +1,6 @@
 -- Lines that are gathered, and handed on to a writer.
 use Rattle.std.specs.Prelude.{◌≡◌, ℕ, ◌+◌, List, ◌++◌, Result, Ok, Err}
+use Rattle.csv.specs.Writing.{writer_under}
 use Rattle.bo_devices.specs.Told.{Adds}
 use Rattle.bo_http.specs.Written.{AddsPart, Page}
 use Rattle.bo_export.specs.declared.sink.SinkFault.{SinkFault}
@@ -14,6 +15,10 @@ IsReady lines = IsAtLine lines.text
 -- the text of the lines
 abbrev pub gathered : Lines → List ℕ
 gathered lines = written (λ v. v.items) lines.text
+
+-- the same, but for the last bytes, which the CSV writer holds back
+abbrev pub settled : Lines → List ℕ
+settled lines = (writer_under lines.text).items
 
 -- A text goes behind what is gathered, of which the front is handed on, perhaps none of it.
 abbrev pub Goes : List ℕ → List ℕ → List ℕ → Page → Page → Type 0

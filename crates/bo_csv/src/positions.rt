@@ -1,12 +1,12 @@
 //! The lines of an export, as a CSV file.
 
-ghost use Rattle.std.specs.Prelude.{◌≡◌, ◌++◌, [], IfOk, OnOk, map};
+ghost use Rattle.std.specs.Prelude.{◌≡◌, ◌++◌, [], IfOk, OnOk, length, map};
 ghost use Rattle.std.specs.List.{concat};
 ghost use Rattle.csv.specs.Records.{fields_of, partial_of};
 ghost use Rattle.csv.specs.Writing.{default_writer, row_text};
 ghost use Rattle.bo_base.specs.Codes.{order_code};
 ghost use Rattle.bo_base.specs.Money.{cents_text};
-ghost use Rattle.bo_csv.specs.Handing.{IsReady, gathered};
+ghost use Rattle.bo_csv.specs.Handing.{IsReady, gathered, settled};
 ghost use Rattle.bo_csv.specs.Lines.{Gains, IsAtLine, written};
 ghost use Rattle.bo_csv.specs.PositionLines.{code_or_empty, header_line, row_fields, row_line, rows_text};
 
@@ -51,7 +51,9 @@ impl Lines {
     }
 
     /// The bytes that are gathered, but for the last ones, at most 8,192.
-    pub(crate) fn len(&self) -> usize {
+    pub(crate) fn len(&self) -> usize
+        ensures { result ≡ length (settled self.now) }
+    {
         self.text.get_ref().len()
     }
 
