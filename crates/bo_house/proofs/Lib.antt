@@ -3,3 +3,5 @@ mod TokenLemmas
 mod ActLemmas
 mod ImportLemmas
 mod ExportLemmas
+mod TakenLemmas
+mod BoundLemmas

@@ -9,7 +9,8 @@ use Rattle.bo_schema.specs.Tables.{schema}
 use Rattle.bo_sound.specs.Sound.{IsSound}
 use Rattle.bo_opens.specs.Rests.{IsOpenAt, Rests}
 use Rattle.bo_opens.specs.declared.error.OpenError.{OpenError}
-use Rattle.bo_file.specs.Opened.{IsOpened, IsReason}
+use Rattle.bo_opens.specs.Stopped.{WhereClosed}
+use Rattle.bo_file.specs.Opened.{IsOpened, IsReason, IsWithheld}
 use Rattle.bo_tables.specs.declared.sql.SqlTables.{SqlTables}
 use Rattle.bo_connection.specs.Run.{AtTick}
 use Rattle.bo_desk.specs.Streams.{DeskView, Meaning, Serves}
@@ -54,5 +55,6 @@ pub record StaysUnopened {S A : Type 0} (g : Ghosts S) (old : Connected) (left :
   pub error : OpenError
   pub told : outcome ≡ Err (fault_of_opening error)
   pub cause : HasCleanDisk (state g left) → (db : Database) → IsOpenAt db old → IsReason db error
+  pub store : HasCleanDisk (state g left) → (db : Database) → IsOpenAt db old → db.schema ≡ schema → WhereClosed (IsWithheld db old (state g left)) error
   pub rests : Rests old (state g left)
   pub crash : Survives old (state g left) (λ _. ⊥)

@@ -9,4 +9,4 @@ returns-in-Ok-clause-opens g c =
 pub returns-in-Err-clause-stays : goal.returns-in-Err-clause-stays
 returns-in-Err-clause-stays g c =
     let e = c.in-Err.ensures in
-    record { error = c.in-Err.field-0.error; told = ap (λ f. Err f) c.fault_of_opening.ensures; cause = e.cause; rests = e.rests_none; crash = e.crash_none }
+    record { error = c.in-Err.field-0.error; told = ap (λ f. Err f) c.fault_of_opening.ensures; cause = e.cause; store = e.store; rests = e.rests_none; crash = e.crash_none }

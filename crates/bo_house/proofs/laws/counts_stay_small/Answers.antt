@@ -1,0 +1,8 @@
+use Rattle.bo_house.proofs.BoundLemmas.{quota_bounded, voucher_bounded}
+use Rattle.bo_house.proofs.laws.counts_stay_small.Goals as goal
+
+pub returns-clause-quotas : goal.returns-clause-quotas
+returns-clause-quotas c = quota_bounded
+
+pub returns-clause-vouchers : goal.returns-clause-vouchers
+returns-clause-vouchers c = voucher_bounded

@@ -1,0 +1,13 @@
+-- How far the counts of a sound office go.
+use Rattle.std.specs.Prelude.{ℕ, ◌*◌, ◌≤◌}
+use Rattle.bo_base.specs.Counts.{most_uses}
+use Rattle.bo_catalogue.specs.Limits.{most_rows}
+use Rattle.bo_lists.specs.declared.rows.Usage.{Usage}
+
+-- the rows of a table count once each, and each voucher blocks no more places than it may be used
+pub record IsBounded (usage : Usage) : Type 0 where
+  pub paid : usage.paid ≤ most_rows
+  pub pending : usage.pending ≤ most_rows
+  pub blocked : usage.blocked ≤ most_rows * most_uses
+  pub carts : usage.carts ≤ most_rows
+  pub waiting : usage.waiting ≤ most_rows
