@@ -5,7 +5,7 @@ T = "2026-05-01T10:00:00Z"
 PHRASES = {
     200: "OK", 201: "Created", 204: "No Content", 400: "Bad Request", 401: "Unauthorized", 403: "Forbidden", 404: "Not Found",
     405: "Method Not Allowed", 413: "Payload Too Large", 431: "Request Header Fields Too Large",
-    501: "Not Implemented",
+    501: "Not Implemented", 503: "Service Unavailable",
 }
 cases = []
 
@@ -165,3 +165,8 @@ def availability(size, number, blocking=0, carts=0, paid=0, pending=0, waiting=0
     return answer(200, f'{{"available":{available},"available_number":{number},"blocking_vouchers":{blocking},'
                        f'"cart_positions":{carts},"paid_orders":{paid},"pending_orders":{pending},"total_size":{size},'
                        f'"waiting_list":{waiting}}}')
+
+
+def unread(line, column):
+    """What is told of an import whose CSV file can't be read there."""
+    return f"fault 72: Line {line} of the CSV file, counted below its first, column {column}, can't be read or is out of its range. Nothing was imported."

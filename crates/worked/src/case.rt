@@ -6,7 +6,7 @@ use crate::cut::Cut;
 use crate::listed::Listed;
 use bo_base::{Moment, Steps};
 use bo_connection::Failure;
-use bo_devices::Device;
+use bo_devices::{Device, Drain, Source, Ticks};
 use bo_feed::serve_house;
 use bo_times::read_moment;
 use std::alloc::{AllocError, Global};
@@ -14,22 +14,58 @@ use std::io::Write;
 use std::marker::Brand;
 use std::sync::ledger::{Blank, Ledger};
 
-// The moments that the first line of a case lists.
-fn moments(alloc: Global, line: &str) -> anyhow::Result<Vec<Moment>> {
+/// The most bytes that come at a time where a case comes in one piece.
+pub(crate) const WHOLE: usize = 65536;
+
+/// What answers a stream of requests.
+pub(crate) trait Answers {
+    /// Answers it.
+    fn answer<R: Source, T: Ticks, W: Drain>(
+        &mut self,
+        alloc: Global,
+        reader: &mut R,
+        ticks: &mut T,
+        writer: &mut W,
+    ) -> Result<(), Failure>;
+}
+
+/// A box office that is made for the stream, in SQLite's memory.
+#[derive(Clone, Copy)]
+struct Fresh;
+
+impl Answers for Fresh {
+    fn answer<R: Source, T: Ticks, W: Drain>(
+        &mut self,
+        alloc: Global,
+        reader: &mut R,
+        ticks: &mut T,
+        writer: &mut W,
+    ) -> Result<(), Failure> {
+        serve_house(alloc, reader, ticks, writer)
+    }
+}
+
+// The moments that the first line of a case lists, and how many of them stand before a bar: these were told before.
+fn moments(alloc: Global, line: &str) -> anyhow::Result<(Vec<Moment>, usize)> {
     let mut moments = Vec::new(alloc);
+    let mut told = 0;
     for word in line.split(' ') {
-        if !word.is_empty() {
+        if word == "|" {
+            told = moments.len();
+        } else if !word.is_empty() {
             moments.push(read_moment(word)?)?;
         }
     }
-    Ok(moments)
+    Ok((moments, told))
 }
 
 // How the stream ends, and what is written, with a ledger for each count.
-fn run<A: Ledger, B: Ledger, C: Ledger, D: Ledger, E: Ledger>(
+fn run<A: Ledger, B: Ledger, C: Ledger, D: Ledger, E: Ledger, S: Answers>(
     alloc: Global,
     moments: &[Moment],
+    told: usize,
     input: Cut<'_>,
+    shop: &mut S,
     output: &mut Vec<u8>,
     reads: Blank,
     read_failures: Blank,
@@ -55,25 +91,32 @@ fn run<A: Ledger, B: Ledger, C: Ledger, D: Ledger, E: Ledger>(
     };
     let mut ticks = Listed {
         moments,
-        told: 0,
+        told,
         failures: Steps::<E>::new(tick_failures),
     };
-    serve_house(alloc, &mut reader, &mut ticks, &mut writer)
+    shop.answer(alloc, &mut reader, &mut ticks, &mut writer)
 }
 
-/// How a case ends, and in the lines below what is written, where at most so many bytes come at a time.
-pub(crate) fn answered(alloc: Global, case: &[u8], most: usize) -> anyhow::Result<Vec<u8>> {
+/// How a case ends, and in the lines below what is written, where this answers it and at most so many bytes come at a time.
+pub(crate) fn answer_case<S: Answers>(
+    alloc: Global,
+    case: &[u8],
+    most: usize,
+    shop: &mut S,
+) -> anyhow::Result<Vec<u8>> {
     let Some(end) = case.iter().position(|b| *b == b'\n') else {
         return Ok(Vec::new(alloc));
     };
     let line = str::from_utf8(&case[..end])?;
-    let moments = moments(alloc, line)?;
+    let (moments, told) = moments(alloc, line)?;
     let stream = Cut::new(&case[end + 1..], most);
     let mut written = Vec::new(alloc);
-    let ended = run::<Brand, Brand, Brand, Brand, Brand>(
+    let ended = run::<Brand, Brand, Brand, Brand, Brand, S>(
         alloc,
         moments.as_slice(),
+        told,
         stream,
+        shop,
         &mut written,
         Blank::new(1),
         Blank::new(1),
@@ -88,4 +131,9 @@ pub(crate) fn answered(alloc: Global, case: &[u8], most: usize) -> anyhow::Resul
     }
     shown.extend_from_slice(written.as_slice())?;
     Ok(shown)
+}
+
+/// The same where a box office of its own answers.
+pub(crate) fn answered(alloc: Global, case: &[u8], most: usize) -> anyhow::Result<Vec<u8>> {
+    answer_case(alloc, case, most, &mut Fresh)
 }

@@ -12,14 +12,12 @@ sys.path[:0] = [f"{TOP}/bin", f"{TOP}/crates/worked/cases"]
 import unproved
 from forms import *
 import first_path, catalogue, vouchers, orders, bulk, limits, edges, waiting, doors, keys  # noqa: E401, F401 (they list their cases)
-from doors import admitted, list_row, new_list, scan
+from files import TILL, some_rows, two_orders
 from keys import LAST_SECOND, NEXT_DAY, keyed
-from orders import ONE, new_order, order_row, position_row
-from vouchers import half_past, made, new_voucher
-from waiting import join, joined
+from orders import ONE, order_row, position_row
+from vouchers import half_past
 
 MADE, DAY = 1777629600, 86400
-TILL = "Authorization: Token till\r\n"
 # The cases of worked rows 12 and 13 by name, and the rest of those on keys.
 ON_KEYS = [
     "a_refusal_is_told_again", "a_key_lasts_a_day", "a_repeat_may_ask_for_anything", "a_key_that_was_first_on_an_unknown_path",
@@ -36,46 +34,6 @@ each_has_its_own = ("each_token_has_keys_of_its_own", setup(2) + [
     (T, keyed("/cartpositions/", '{"item":1}', "other", token=TILL), sold_out(1)),
     (T, keyed("/cartpositions/", '{"item":1}', "other", token=TILL), sold_out(1)),
     (T, ask, left(2, 2)),
-], "ended")
-
-
-def order_body(two_tokens):
-    return keyed("/orders/", ONE, "k", **({"token": TILL} if two_tokens else {}))
-
-
-# The same order under the same key from two tokens.
-two_orders = ("two_tokens_order_under_one_key", setup(2) + [
-    (T, order_body(False), answer(201, order_row([position_row(1, 3)]))),
-    (T, order_body(True), answer(201, order_row([position_row(2, 4, order=2, code="AAAAC")], code="AAAAC"))),
-    (T, order_body(False), answer(201, order_row([position_row(1, 3)]))),
-    (T, order_body(True), answer(201, order_row([position_row(2, 4, order=2, code="AAAAC")], code="AAAAC"))),
-], "ended")
-
-
-def paid(number, tick, code, voucher="null", item=1):
-    """An order of one position that was paid when it was made, as it is shown."""
-    return answer(201, order_row([position_row(number, tick, order=number, code=code, item=item, voucher=voucher)], code=code, status="p"))
-
-
-def pay(item, voucher):
-    return new_order(f'{{"email":"a@x","status":"p","positions":[{{"item":{item},"voucher":"{voucher}"}}]}}')
-
-
-some_rows = ("a_shop_of_some_rows", setup(9) + [
-    (T, post("/items/", '{"name":"Balcony","default_price":"23.00"}'), item(2, "Balcony", "23.00")),
-    (T, post("/quotas/", '{"name":"B","size":9,"items":[2],"variations":[]}'), answer(201, quota_row(2, "B", 9, items="2"))),
-    (T, new_voucher('{"code":"CLUB","max_usages":2,"block_quota":true,"item":1}'), made(1, "CLUB", max_usages=2, block_quota="true", item=1)),
-    (T, new_voucher('{"code":"HIGH","item":2}'), made(2, "HIGH", item=2)),
-    (T, pay(1, "CLUB"), paid(1, 7, "AAAAB", voucher=1)),
-    (T, pay(1, "CLUB"), paid(2, 8, "AAAAC", voucher=1)),
-    (T, keyed("/orders/", ONE, "k"), answer(201, order_row([position_row(3, 9, order=3, code="AAAAD")], code="AAAAD"))),
-    (T, hold, cart(1, 10, T, half_past)),
-    (T, new_list(), answer(201, list_row(1))),
-    (T, scan('{"nonce":"n1"}'), admitted(position_row(1, 7, voucher=1))),
-    (T, post("/items/", '{"name":"Box","default_price":"40.00","variations":[{"value":"Left"}]}'),
-     answer(201, item_row(3, "Box", "40.00", variations=[variation_row(1, "Left", "40.00")]))),
-    (T, post("/quotas/", '{"name":"C","size":0,"items":[3],"variations":[1]}'), answer(201, quota_row(3, "C", 0, items="3", variations="1"))),
-    (T, post("/waitinglistentries/", '{"email":"w@x","item":3,"variation":1}'), joined(1, "w@x", item=3, variation=1)),
 ], "ended")
 
 # Statements that spoil the file which the last case leaves, with the fault by which it isn't opened afterwards.

@@ -1,0 +1,80 @@
+//! A case that a shop answers whose file is open.
+
+use crate::case::{Answers, WHOLE, answer_case};
+use bo_connection::{Desk, Failure, Room, run_stream};
+use bo_desk::{HouseWords, Office, ShopDesk};
+use bo_devices::{Drain, Source, Ticks};
+use bo_dues::Dues;
+use bo_kept::Tables;
+use std::alloc::Global;
+
+/// The tables of a shop that answered a case; how it ended, and what was written.
+pub(crate) struct Answered<T> {
+    pub(crate) tables: T,
+    pub(crate) told: anyhow::Result<Vec<u8>>,
+}
+
+/// A desk that answers a stream.
+struct AtDesk<'a, K: Desk> {
+    desk: &'a mut K,
+}
+
+impl<K: Desk> Answers for AtDesk<'_, K> {
+    fn answer<R: Source, T: Ticks, W: Drain>(
+        &mut self,
+        alloc: Global,
+        reader: &mut R,
+        ticks: &mut T,
+        writer: &mut W,
+    ) -> Result<(), Failure> {
+        let Ok(mut room) = Room::new(alloc) else {
+            return Err(Failure::Memory);
+        };
+        run_stream(alloc, &mut room, reader, ticks, self.desk, writer)
+    }
+}
+
+// How a case ends and what is written, where this desk answers it, which is lent: it is dear to prove where it is handed back.
+fn answer_at<K: Desk>(alloc: Global, case: &[u8], desk: &mut K) -> anyhow::Result<Vec<u8>> {
+    let mut at = AtDesk { desk };
+    let told = answer_case(alloc, case, WHOLE, &mut at);
+    let AtDesk { desk: _ } = at;
+    told
+}
+
+// The same, and the desk's tables.
+fn answer_shop<T: Tables + Drop, B: Dues + Drop>(
+    alloc: Global,
+    case: &[u8],
+    mut desk: ShopDesk<T, B>,
+) -> Answered<T> {
+    let told = answer_at(alloc, case, &mut desk);
+    Answered {
+        tables: desk.into_tables(),
+        told,
+    }
+}
+
+// The tables that were opened together with something else, which is let go as a whole.
+fn tables_of<T, O: Drop>(opened: (T, O)) -> T {
+    opened.0
+}
+
+/// How a case ends, and in the lines below what is written, where the shop of an office answers it, over the tables that were opened with
+/// it; and the tables.
+pub(crate) fn answer_opened<T: Tables + Drop, B: Dues + Drop>(
+    alloc: Global,
+    case: &[u8],
+    opened: (T, Office<B>),
+) -> Answered<T> {
+    match HouseWords::new(alloc, opened.1.organizer(), opened.1.event()) {
+        Ok(words) => {
+            let (tables, office) = opened;
+            answer_shop(alloc, case, ShopDesk::with_words(tables, office, words))
+        }
+        Err(error) => Answered {
+            tables: tables_of(opened),
+            told: Err(anyhow::Error::from(error)),
+        },
+    }
+}
