@@ -17,7 +17,7 @@ ghost use Rattle.bo_house.specs.Filed.{AddsTokenIn, GetsToken, IsOfStore};
 use crate::faults::fault_of_token;
 use crate::filed::{Filed, connection_of};
 use crate::opening::open_shop;
-use bo_line::RunFault;
+use bo_line::{Console, RunFault};
 use bo_tables::{SqlTables, TokenError, add_token};
 use sha2::{Digest, Sha256};
 use sqlite::{Alter, Connection};
@@ -60,14 +60,15 @@ fn add_over<S: Alter + Drop, O: Drop>(opened: (SqlTables<S>, O), token: &str) ->
 /// added before keeps its number, and nothing changes. Faults: 60, 61 and 62 where the database holds no shop that is whole, each for its
 /// cause alone; 16 where the token is new and the shop has 1,000,000 of them; 6 and 63. Beside a fault nothing has changed. A crash leaves
 /// the shop as it was, or with the token where it is new.
-pub fn add_shop_token<S: Alter + Drop>(
+pub fn add_shop_token<O: Console, S: Alter + Drop>(
+    rt: &O,
     alloc: Global,
     connection: Connection<S>,
     token: &str,
 ) -> Filed<S, u64>
     ensures { AddsTokenIn S.Store (sha256 token.now) (state S.Store connection) result.connection result.outcome }
 {
-    match open_shop(alloc, connection) {
+    match open_shop(rt, alloc, connection) {
         Ok(opened) => add_over(opened, token),
         Err(filed) => filed,
     }

@@ -8,15 +8,20 @@ ghost use Rattle.bo_line.specs.Saying.{CountsEnd};
 
 use crate::filed::{Filed, connection_of};
 use crate::opening::open_shop;
+use crate::progress::Shown;
 use bo_devices::Drain;
+use bo_line::Console;
+use bo_usage::Book;
 use bo_walk::write_positions;
 use sqlite::{Alter, Connection};
 use std::alloc::Global;
 
 /// `export`: opens the shop in a database, lets the office go, and writes the order positions as CSV while it reads them, one at a time.
 /// Faults: 60, 61 and 62 where the database holds no shop that is whole, each for its cause alone, and then nothing is written; 73 where the
-/// writer fails, 63 where the store does, and 6, and then a beginning was written. Nothing has changed in the database.
-pub fn export_shop<S: Alter + Drop, W: Drain>(
+/// writer fails, 63 where the store does, and 6, and then a beginning was written. Nothing has changed in the database. A terminal shows how
+/// many positions were written, out of how many.
+pub fn export_shop<O: Console, S: Alter + Drop, W: Drain>(
+    rt: &O,
     alloc: Global,
     connection: Connection<S>,
     writer: &mut W,
@@ -24,10 +29,12 @@ pub fn export_shop<S: Alter + Drop, W: Drain>(
     ensures { (text : List ℕ) × IsExported S.Store text (state S.Store connection) result.connection result.outcome
         × Adds (W.taken writer.old) text (W.taken writer.new) × CountsEnd result.outcome (W.failures writer.old) (W.failures writer.new) }
 {
-    match open_shop(alloc, connection) {
+    match open_shop(rt, alloc, connection) {
         Ok(opened) => {
+            let mut shown = Shown::exporting(rt, opened.1.book().positions().len() as u64);
             let mut connection = connection_of(opened);
-            let outcome = write_positions(alloc, &mut connection, writer);
+            let outcome = write_positions(alloc, &mut connection, writer, &mut shown);
+            shown.end();
             Filed {
                 connection,
                 outcome,

@@ -18,7 +18,7 @@ use crate::working::work_shop;
 use bo_base::{Body, Slug};
 use bo_devices::Drain;
 use bo_kept::Tables;
-use bo_line::{HouseFiles, Place, Report, RunFault};
+use bo_line::{Console, HouseFiles, Place, Report, RunFault};
 use bo_serve::System;
 use bo_tables::SqlTables;
 use sqlite::{Alter, Connection};
@@ -97,7 +97,7 @@ impl<'a, R, S: Alter + Drop, F: Shelf<Connection<S>>> House<'a, R, S, F> {
 }
 
 impl<
-    R: Net<Listener = TcpListener, Stream = TcpStream> + Clock + System,
+    R: Net<Listener = TcpListener, Stream = TcpStream> + Clock + System + Console,
     S: Alter + Drop,
     F: Shelf<Connection<S>>,
 > HouseFiles for House<'_, R, S, F> {
@@ -157,7 +157,7 @@ impl<
 
     fn add_token(&self, alloc: Global, file: &str, token: &str) -> Result<u64, RunFault> {
         let connection = self.found(file)?;
-        self.ended(add_shop_token(alloc, connection, token))
+        self.ended(add_shop_token(self.rt, alloc, connection, token))
     }
 
     fn serve<W: Drain>(
@@ -178,12 +178,12 @@ impl<
 
     fn report(&self, alloc: Global, file: &str, report: Report) -> Result<Body, RunFault> {
         let connection = self.found(file)?;
-        self.ended(report_shop(alloc, connection, report))
+        self.ended(report_shop(self.rt, alloc, connection, report))
     }
 
     fn export<W: Drain>(&self, alloc: Global, file: &str, writer: &mut W) -> Result<(), RunFault> {
         match self.found(file) {
-            Ok(connection) => self.ended(export_shop(alloc, connection, writer)),
+            Ok(connection) => self.ended(export_shop(self.rt, alloc, connection, writer)),
             Err(fault) => Err(fault),
         }
     }

@@ -12,6 +12,7 @@ use crate::acting::act_opened;
 use crate::faults::fault_of_file;
 use crate::filed::{Filed, connection_of};
 use crate::opening::open_shop;
+use crate::progress::tell_read;
 use crate::words::ImportWords;
 use bo_base::{Body, List};
 use bo_commands::{Command, NewVoucher};
@@ -19,7 +20,7 @@ use bo_csv::{codes_of, read_vouchers};
 use bo_desk::Office;
 use bo_dues::Dues;
 use bo_kept::Tables;
-use bo_line::RunFault;
+use bo_line::{Console, RunFault};
 use bo_serve::System;
 use bo_tables::SqlTables;
 use sqlite::{Alter, Connection};
@@ -52,7 +53,7 @@ fn add_vouchers<R: System, S: Alter + Drop, B: Dues + Drop>(
 }
 
 // Adds the vouchers that the lines of a text ask for.
-fn add_read<R: System, S: Alter + Drop, B: Dues + Drop>(
+fn add_read<R: System + Console, S: Alter + Drop, B: Dues + Drop>(
     rt: &R,
     alloc: Global,
     opened: (SqlTables<S>, Office<B>),
@@ -62,7 +63,10 @@ fn add_read<R: System, S: Alter + Drop, B: Dues + Drop>(
         (Ok text.now) (desk_with opened.0 opened.1.organizer opened.1.event opened.1.state) result.connection result.outcome }
 {
     match read_vouchers(alloc, text) {
-        Ok(vouchers) => add_vouchers(rt, alloc, opened, vouchers),
+        Ok(vouchers) => {
+            tell_read(rt, vouchers.as_slice().len() as u64);
+            add_vouchers(rt, alloc, opened, vouchers)
+        }
         Err(fault) => Filed {
             connection: connection_of(opened),
             outcome: Err(fault_of_file(fault)),
@@ -71,7 +75,7 @@ fn add_read<R: System, S: Alter + Drop, B: Dues + Drop>(
 }
 
 // Adds the vouchers of a file to a shop that was opened.
-fn import_opened<R: System, S: Alter + Drop, B: Dues + Drop>(
+fn import_opened<R: System + Console, S: Alter + Drop, B: Dues + Drop>(
     rt: &R,
     alloc: Global,
     opened: (SqlTables<S>, Office<B>),
@@ -94,7 +98,7 @@ fn import_opened<R: System, S: Alter + Drop, B: Dues + Drop>(
 /// `CODE VERDICT`. Faults, in this order: 60, 61 and 62 where the database holds no shop that is whole, each for its cause alone; that of
 /// the file, or 70 to 74 for what it says; 85 where there is no clock or no draw; 63 where the store refused the rows or memory ran out
 /// within it; and 6. Beside a fault nothing has changed.
-pub fn import_shop<R: System, S: Alter + Drop>(
+pub fn import_shop<R: System + Console, S: Alter + Drop>(
     rt: &R,
     alloc: Global,
     connection: Connection<S>,
@@ -103,7 +107,7 @@ pub fn import_shop<R: System, S: Alter + Drop>(
     ensures { IsOpenedAndImported (IsRead R.shows R.gives) S.Store (meaning ⟦<SqlTables<S> as Tables>⟧.sure ⟦<SqlTables<S> as Tables>⟧.holds ⟦<SqlTables<S> as Tables>⟧.knows ⟦<SqlTables<S> as Tables>⟧.may_leave)
         source (state S.Store connection) result.connection result.outcome ⊎ StaysUnopened S.Store (state S.Store connection) result.connection result.outcome }
 {
-    match open_shop(alloc, connection) {
+    match open_shop(rt, alloc, connection) {
         Ok(opened) => import_opened(rt, alloc, opened, source),
         Err(filed) => filed,
     }

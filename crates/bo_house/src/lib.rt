@@ -12,6 +12,7 @@ pub mod importing;
 pub mod laws;
 pub mod making;
 mod opening;
+mod progress;
 pub mod reporting;
 pub mod serving;
 pub mod shelf;

@@ -7,23 +7,30 @@ ghost use Rattle.bo_house.specs.Served.{OpensAs, StaysUnopened};
 
 use crate::faults::fault_of_opening;
 use crate::filed::Filed;
+use crate::progress::Shown;
 use bo_counters::Counters;
 use bo_desk::Office;
 use bo_file::open_file;
+use bo_line::Console;
 use bo_tables::{HandedBack, SqlTables};
 use sqlite::{Alter, Connection};
 use std::alloc::Global;
 
 /// Opens the shop in a database, or gives what becomes of the command that it was to be opened for. Faults: 60, 61 and 62 where the
-/// database holds no shop that is whole, each for its cause alone, 63 and 6. Opening changes nothing, in a crash too.
-pub(crate) fn open_shop<S: Alter, T: Drop>(
+/// database holds no shop that is whole, each for its cause alone, 63 and 6. Opening changes nothing, in a crash too. A terminal shows how
+/// many rows were read.
+pub(crate) fn open_shop<O: Console, S: Alter, T: Drop>(
+    rt: &O,
     alloc: Global,
     connection: Connection<S>,
 ) -> Result<(SqlTables<S>, Office<Counters>), Filed<S, T>>
     ensures opens { IfOk result (λ it. OpensAs S.Store (state S.Store connection) (desk_with it.0 it.1.organizer it.1.event it.1.state)) }
     ensures stays { IfErr result (λ filed. StaysUnopened S.Store (state S.Store connection) filed.connection filed.outcome) }
 {
-    match open_file(alloc, connection) {
+    let mut shown = Shown::opening(rt);
+    let opened = open_file(alloc, connection, &mut shown);
+    shown.end();
+    match opened {
         Ok(opened) => Ok(opened),
         Err(HandedBack { connection, error }) => Err(Filed {
             connection,

@@ -12,7 +12,7 @@ use crate::words::append_count;
 use bo_base::Body;
 use bo_desk::Office;
 use bo_dues::Dues;
-use bo_line::{Report, RunFault};
+use bo_line::{Console, Report, RunFault};
 use bo_reports::{door_text, sales_text};
 use bo_tables::SqlTables;
 use bo_usage::Book;
@@ -84,7 +84,8 @@ fn report_opened<S: Alter + Drop, B: Dues + Drop>(
 /// tables are of version 1, as a text. Faults: 60, 61 and 62 where the database holds no shop that
 /// is whole, each for its cause alone, 50 where it has no list of that number, 63 and 6. Nothing has changed in the database, whose tables
 /// have been of no other version so far.
-pub fn report_shop<S: Alter + Drop>(
+pub fn report_shop<O: Console, S: Alter + Drop>(
+    rt: &O,
     alloc: Global,
     connection: Connection<S>,
     report: Report,
@@ -92,7 +93,7 @@ pub fn report_shop<S: Alter + Drop>(
     ensures { IsOpenedAndReported S.Store report (state S.Store connection) result.connection result.outcome
         ⊎ StaysUnopened S.Store (state S.Store connection) result.connection result.outcome }
 {
-    match open_shop(alloc, connection) {
+    match open_shop(rt, alloc, connection) {
         Ok(opened) => report_opened(alloc, report, opened),
         Err(filed) => filed,
     }

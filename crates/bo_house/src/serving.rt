@@ -13,7 +13,7 @@ use bo_desk::{HouseWords, Office, ShopDesk};
 use bo_devices::Drain;
 use bo_dues::Dues;
 use bo_kept::Tables;
-use bo_line::{Place, RunFault};
+use bo_line::{Console, Place, RunFault};
 use bo_serve::{System, serve_at};
 use bo_tables::SqlTables;
 use sqlite::{Alter, Connection};
@@ -80,7 +80,7 @@ fn serve_opened<
 /// and 6, and then nothing is said and nothing has changed; 81 where the address can't be listened at or takes no callers any more; 83
 /// where that it listens couldn't be said.
 pub fn serve_shop<
-    R: Net<Listener = TcpListener, Stream = TcpStream> + Clock + System,
+    R: Net<Listener = TcpListener, Stream = TcpStream> + Clock + System + Console,
     S: Alter + Drop,
     W: Drain,
 >(
@@ -96,7 +96,7 @@ pub fn serve_shop<
         ⊎ (StaysUnopened S.Store (state S.Store connection) result.connection result.outcome
         × IsSilent (record { taken = W.taken writer.old; failures = W.failures writer.old }) (record { taken = W.taken writer.new; failures = W.failures writer.new })) }
 {
-    match open_shop(alloc, connection) {
+    match open_shop(rt, alloc, connection) {
         Ok(opened) => serve_opened(rt, alloc, place, opened, writer),
         Err(filed) => filed,
     }

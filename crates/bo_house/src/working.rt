@@ -14,6 +14,7 @@ use crate::words::WorkWords;
 use bo_base::Body;
 use bo_commands::Command;
 use bo_kept::Tables;
+use bo_line::Console;
 use bo_serve::System;
 use bo_tables::SqlTables;
 use sqlite::{Alter, Connection};
@@ -23,7 +24,7 @@ use std::alloc::Global;
 /// draw of the system; tells what was done, `expired E, deleted D, sent S`. Faults: 60, 61 and 62 where the database holds no shop that is
 /// whole, each for its cause alone, 63 where the store refused the work or memory ran out within it, 85 where there is no clock or no
 /// draw, and 6. Beside a fault nothing has changed.
-pub fn work_shop<R: System, S: Alter + Drop>(
+pub fn work_shop<R: System + Console, S: Alter + Drop>(
     rt: &R,
     alloc: Global,
     connection: Connection<S>,
@@ -31,7 +32,7 @@ pub fn work_shop<R: System, S: Alter + Drop>(
     ensures { IsOpenedAndWorked (IsRead R.shows R.gives) S.Store (meaning ⟦<SqlTables<S> as Tables>⟧.sure ⟦<SqlTables<S> as Tables>⟧.holds ⟦<SqlTables<S> as Tables>⟧.knows ⟦<SqlTables<S> as Tables>⟧.may_leave)
         (state S.Store connection) result.connection result.outcome ⊎ StaysUnopened S.Store (state S.Store connection) result.connection result.outcome }
 {
-    match open_shop(alloc, connection) {
+    match open_shop(rt, alloc, connection) {
         Ok(opened) => act_opened(rt, alloc, opened, WorkWords, Command::Periodic),
         Err(filed) => filed,
     }

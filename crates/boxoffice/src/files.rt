@@ -5,9 +5,12 @@ ghost use Rattle.bo_house.specs.Shelved.{is_shelf_fault};
 
 use bo_base::Body;
 use bo_house::Shelf;
-use bo_line::RunFault;
+use bo_line::{Console, RunFault};
 use sqlite::{Connection, Error, ErrorCode, File, FileStore};
 use std::{fs, io};
+
+// A file of so many bytes takes about a second to open.
+const LARGE: u64 = 10_000_000;
 
 /// The files of this machine.
 #[derive(Clone, Copy)]
@@ -35,6 +38,17 @@ fn unread(error: io::Error) -> RunFault {
     }
 }
 
+// Says on a terminal that a large file is opened: the store looks at all of it before it gives a row, and tells nothing meanwhile.
+fn tell_opening(rt: &HostRuntime, file: &str) {
+    if let Ok(found) = fs::metadata(rt, file) {
+        let size = found.len();
+        if size >= LARGE && rt.has_reader() {
+            let megabytes = size / 1_000_000;
+            let _ = eprintln!(rt; "boxoffice: opening {file}, {megabytes} MB");
+        }
+    }
+}
+
 impl Shelf<Connection<FileStore<File>>> for HostFiles<'_> {
     ghost stood = { λ _ _. ⊤ };
 
@@ -49,6 +63,7 @@ impl Shelf<Connection<FileStore<File>>> for HostFiles<'_> {
     }
 
     fn open(&self, file: &str) -> Result<Connection<FileStore<File>>, RunFault> {
+        tell_opening(self.rt, file);
         match Connection::open(self.rt, file) {
             Ok(connection) => Ok(connection),
             Err(error) => Err(unopened(error)),

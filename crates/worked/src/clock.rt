@@ -1,8 +1,10 @@
 //! What is read of a system's clock and its chance.
 
+use bo_line::Console;
 use bo_serve::read_tick;
+use std::fmt::Display;
 use std::io;
-use std::io::ErrorKind;
+use std::io::{Eprint, ErrorKind, Print};
 use std::random::RandomSource;
 use std::time::{Clock, Duration};
 
@@ -38,6 +40,37 @@ impl RandomSource for Shown {
             next = next.wrapping_add(1);
         }
         Ok(())
+    }
+}
+
+// Nobody reads what it prints.
+impl Print for Shown {
+    fn print<D: Display + Drop>(&self, _value: D) -> io::Result<()> {
+        Ok(())
+    }
+
+    fn println<D: Display + Drop>(&self, _value: D) -> io::Result<()> {
+        Ok(())
+    }
+
+    fn write_all(&self, _bytes: &[u8]) -> io::Result<()> {
+        Ok(())
+    }
+}
+
+impl Eprint for Shown {
+    fn eprint<D: Display + Drop>(&self, _value: D) -> io::Result<()> {
+        Ok(())
+    }
+
+    fn eprintln<D: Display + Drop>(&self, _value: D) -> io::Result<()> {
+        Ok(())
+    }
+}
+
+impl Console for Shown {
+    fn has_reader(&self) -> bool {
+        false
     }
 }
 

@@ -1,11 +1,12 @@
 //! What is done with a shop's file, and what is told of it.
 
-use crate::clock::at;
+use crate::clock::{Shown, at};
 use crate::shop::{Answered, answer_opened};
 use bo_base::{Body, Slug};
 use bo_file::open_file;
 use bo_house::{Filed, add_shop_token, fault_of_opening, import_shop, make_new_shop, report_shop};
 use bo_line::{Advice, Report, RunFault};
+use bo_opens::Quiet;
 use bo_tables::HandedBack;
 use bo_trials::{Acted, Acts, Deed, TrialError};
 use sqlite::{Alter, Connection};
@@ -61,7 +62,7 @@ fn told_case(answered: anyhow::Result<Vec<u8>>) -> Result<Vec<u8>, TrialError> {
 
 // Answers the requests of a case, over the file that is opened once.
 fn answer<S: Alter + Drop>(alloc: Global, connection: Connection<S>, case: &str) -> Acted<S> {
-    match open_file(alloc, connection) {
+    match open_file(alloc, connection, &mut Quiet) {
         Ok(opened) => {
             let Answered { tables, told } = answer_opened(alloc, case.as_bytes(), opened);
             Acted {
@@ -109,12 +110,17 @@ fn make<S: Alter + Drop>(
     }
 }
 
+// The system of each deed: 10:00 on 1 May 2026.
+fn system() -> Shown {
+    at(1_777_629_600)
+}
+
 // Adds a token.
 fn add_token<S: Alter + Drop>(alloc: Global, connection: Connection<S>, token: &str) -> Acted<S> {
     let Filed {
         connection,
         outcome,
-    } = add_shop_token(alloc, connection, token);
+    } = add_shop_token(&system(), alloc, connection, token);
     Acted {
         connection,
         told: told_token(alloc, outcome),
@@ -129,12 +135,12 @@ fn source(alloc: Global, csv: &str) -> Result<Body, RunFault> {
     }
 }
 
-// Adds the vouchers of a CSV file, at 10:00 on 1 May 2026.
+// Adds the vouchers of a CSV file.
 fn import<S: Alter + Drop>(alloc: Global, connection: Connection<S>, csv: &str) -> Acted<S> {
     let Filed {
         connection,
         outcome,
-    } = import_shop(&at(1_777_629_600), alloc, connection, source(alloc, csv));
+    } = import_shop(&system(), alloc, connection, source(alloc, csv));
     Acted {
         connection,
         told: told_text(alloc, outcome),
@@ -146,7 +152,7 @@ fn report<S: Alter + Drop>(alloc: Global, connection: Connection<S>, report: Rep
     let Filed {
         connection,
         outcome,
-    } = report_shop(alloc, connection, report);
+    } = report_shop(&system(), alloc, connection, report);
     Acted {
         connection,
         told: told_text(alloc, outcome),
