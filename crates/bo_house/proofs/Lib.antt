@@ -3,5 +3,3 @@ mod TokenLemmas
 mod ActLemmas
 mod ImportLemmas
 mod ExportLemmas
-mod TakenLemmas
-mod BoundLemmas

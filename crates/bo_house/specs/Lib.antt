@@ -8,5 +8,3 @@ pub mod Reported
 pub mod Exported
 pub mod Shelved
 pub mod Evening
-pub mod Taken
-pub mod Bounded

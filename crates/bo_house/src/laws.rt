@@ -1,14 +1,11 @@
 //! Laws of a shop that is served from its file, and worked on there, over crashes.
 
-ghost use Rattle.std.specs.Prelude.{◌≡◌, ◌≤◌, ◌++◌, ℕ, List, [], ◌∷◌, None, Option, Result, codes};
-ghost use Rattle.std.specs.List.{AllByRecursion};
+ghost use Rattle.std.specs.Prelude.{◌≡◌, ◌++◌, ℕ, List, [], ◌∷◌, None, Option, Result, codes};
 ghost use Rattle.sqlite.specs.Held.{state};
 ghost use Rattle.sqlite.specs.State.{HasCleanDisk};
 ghost use Rattle.bo_base.specs.declared.answer.Answer.{Answer};
 ghost use Rattle.bo_base.specs.declared.answer.Response.{Response};
 ghost use Rattle.bo_base.specs.declared.draw.Draw.{Draw};
-ghost use Rattle.bo_catalogue.specs.declared.rows.Quota.{Quota};
-ghost use Rattle.bo_catalogue.specs.Limits.{most_rows};
 ghost use Rattle.bo_commands.specs.declared.replies.Reply.{Reply};
 ghost use Rattle.bo_commands.specs.declared.replies.Reply.TheVariants as replies;
 ghost use Rattle.bo_commands.specs.declared.requests.Command.{Command};
@@ -19,7 +16,6 @@ ghost use Rattle.bo_commands.specs.declared.waiting.PeriodicCounts.{PeriodicCoun
 ghost use Rattle.bo_connection.specs.Run.{AtTick};
 ghost use Rattle.bo_devices.specs.declared.device.Tick.{Tick};
 ghost use Rattle.bo_lists.specs.Lists.{State};
-ghost use Rattle.bo_lists.specs.Usage.{redeemed, usage_of};
 ghost use Rattle.bo_kept.specs.House.{House};
 ghost use Rattle.bo_kept.specs.ShopView.{ShopView};
 ghost use Rattle.bo_csv.specs.VerdictLines.{verdict_lines};
@@ -29,18 +25,14 @@ ghost use Rattle.bo_desk.specs.Streams.{DeskView, IsOf, Serves, ServesRunning, d
 ghost use Rattle.bo_file.specs.Found.{IsFound};
 ghost use Rattle.bo_file.specs.Opened.{IsReason};
 ghost use Rattle.bo_house.specs.Acting.{Acts, own_arrival, told_of};
-ghost use Rattle.bo_house.specs.Bounded.{IsBounded};
 ghost use Rattle.bo_house.specs.Evening.{IsOpenedAgain, RunsSo, over};
 ghost use Rattle.bo_house.specs.Imported.{import_words};
 ghost use Rattle.bo_house.specs.Served.{OpensAs};
-ghost use Rattle.bo_house.specs.Taken.{TakesItsChanges};
 ghost use Rattle.bo_house.specs.Worked.{work_text, work_words};
 ghost use Rattle.bo_line.specs.declared.fault.RunFault.{RunFault};
 ghost use Rattle.bo_opens.specs.Lawful.{IsOfMachine};
 ghost use Rattle.bo_opens.specs.declared.error.OpenError.{OpenError};
-ghost use Rattle.bo_runs.specs.Runs.{Arrival, IsFitArrival, trace};
 ghost use Rattle.bo_serve.specs.Visits.{Between, Visits, between, seen_at};
-ghost use Rattle.bo_sound.specs.Sound.{IsSound};
 ghost use Rattle.bo_streams.specs.Streams.{ServesHistory};
 ghost use Rattle.bo_tables.specs.declared.sql.SqlTables.{SqlTables};
 
@@ -153,17 +145,4 @@ pub fn own_commands_tell_what_they_did()
     ensures other_work { (reply : Reply) → ((counts : PeriodicCounts) → reply ≡ replies.Periodic counts → ⊥) → (work_words reply).body ≡ codes "{}" }
     ensures other_imports { (given : List (List ℕ)) (reply : Reply)
         → ((verdicts : List Verdict) → reply ≡ replies.Imported verdicts → ⊥) → (import_words given reply).body ≡ codes "{}" }
-{}
-
-/// Whatever commands come to a sound office, a file takes the changes of each step: the members of each quota and the items of each
-/// check-in list rise, and no voucher is put after one was dropped. So no write is refused for its changes.
-pub fn a_file_takes_what_a_step_changes()
-    ensures { (arrivals : List Arrival) (state : State) → AllByRecursion IsFitArrival arrivals → IsSound state → AllByRecursion TakesItsChanges (trace arrivals state) }
-{}
-
-/// No count of a sound office comes near 2^64: the rows of a table, 1,000,000 at most, count once each, and as many vouchers block at most
-/// 1,000,000 places each. So each fits in the 64 bits in which a file has it.
-pub fn counts_stay_small()
-    ensures quotas { (state : State) → IsSound state → (quota : Quota) → IsBounded (usage_of state.lists state.moment quota) }
-    ensures vouchers { (state : State) → IsSound state → (voucher : ℕ) → redeemed voucher state.lists ≤ most_rows }
 {}

@@ -16,8 +16,7 @@ struct Grouped(u64);
 
 impl fmt::Display for Grouped {
     fn fmt<W: fmt::Write>(&self, f: &mut fmt::Formatter<W>) -> fmt::Result {
-        let (millions, thousands, ones) =
-            (self.0 / 1_000_000, self.0 / 1000 % 1000, self.0 % 1000);
+        let (millions, thousands, ones) = (self.0 / 1_000_000, self.0 / 1000 % 1000, self.0 % 1000);
         if millions > 0 {
             write!(f, "{millions},{thousands:03},{ones:03}")
         } else if thousands > 0 {

@@ -85,7 +85,7 @@ use Rattle.bo_runs.specs.Runs.{Arrival, IsFitArrival, stepped, trace}
 use Rattle.bo_runs.proofs.Runs.{sound_at, sound_after}
 use Rattle.bo_stand.specs.Lawful.{puts_come_first}
 use Rattle.bo_stand.specs.Stands.{IsRising}
-use Rattle.bo_house.specs.Taken.{IsTaken, TakesItsChanges}
+use Rattle.bo_taken.specs.Taken.{IsTaken, TakesItsChanges}
 
 -- ---- changes that a file takes whatever they are
 

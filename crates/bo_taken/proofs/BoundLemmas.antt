@@ -11,7 +11,7 @@ use Rattle.bo_lists.specs.Lists.{Lists, State}
 use Rattle.bo_lists.specs.Usage.{blocked_by, cart_counts, position_counts, redeemed, usage_of, uses, waits_for}
 use Rattle.bo_sound.specs.Limits.{IsLimitedVoucher}
 use Rattle.bo_sound.specs.Sound.{IsSound}
-use Rattle.bo_house.specs.Bounded.{IsBounded}
+use Rattle.bo_taken.specs.Bounded.{IsBounded}
 
 -- at most so many each
 blocks_few : (b : Bool) (most spent : ℕ) → most ≤ 1000000 → (if b then most - spent else 0) ≤ 1000000

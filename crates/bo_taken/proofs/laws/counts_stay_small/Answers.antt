@@ -1,5 +1,5 @@
-use Rattle.bo_house.proofs.BoundLemmas.{quota_bounded, voucher_bounded}
-use Rattle.bo_house.proofs.laws.counts_stay_small.Goals as goal
+use Rattle.bo_taken.proofs.BoundLemmas.{quota_bounded, voucher_bounded}
+use Rattle.bo_taken.proofs.laws.counts_stay_small.Goals as goal
 
 pub returns-clause-quotas : goal.returns-clause-quotas
 returns-clause-quotas c = quota_bounded

@@ -1,0 +1,2 @@
+mod TakenLemmas
+mod BoundLemmas

@@ -1,0 +1,4 @@
+//! What a file takes of a sound office.
+#![tactic(auto)]
+
+pub mod laws;
