@@ -9,12 +9,18 @@ ghost use Rattle.bo_line.specs.Saying.{CountsEnd};
 use crate::filed::{Filed, connection_of};
 use crate::opening::open_shop;
 use crate::progress::Shown;
+use bo_desk::Office;
 use bo_devices::Drain;
 use bo_line::Console;
 use bo_usage::Book;
 use bo_walk::write_positions;
 use sqlite::{Alter, Connection};
 use std::alloc::Global;
+
+// What a terminal is shown of an export: how many of an office's order positions were written.
+fn shown_of<'a, O: Console, B: Book>(rt: &'a O, office: &Office<B>) -> Shown<'a, O> {
+    Shown::exporting(rt, office.book().positions().len() as u64)
+}
 
 /// `export`: opens the shop in a database, lets the office go, and writes the order positions as CSV while it reads them, one at a time.
 /// Faults: 60, 61 and 62 where the database holds no shop that is whole, each for its cause alone, and then nothing is written; 73 where the
@@ -31,7 +37,7 @@ pub fn export_shop<O: Console, S: Alter + Drop, W: Drain>(
 {
     match open_shop(rt, alloc, connection) {
         Ok(opened) => {
-            let mut shown = Shown::exporting(rt, opened.1.book().positions().len() as u64);
+            let mut shown = shown_of(rt, &opened.1);
             let mut connection = connection_of(opened);
             let outcome = write_positions(alloc, &mut connection, writer, &mut shown);
             shown.end();
