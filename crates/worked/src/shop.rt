@@ -34,7 +34,7 @@ impl<K: Desk> Answers for AtDesk<'_, K> {
     }
 }
 
-// How a case ends and what is written, where this desk answers it, which is lent: it is dear to prove where it is handed back.
+// How a case ends and what is written, where this desk answers it.
 fn answer_at<K: Desk>(alloc: Global, case: &[u8], desk: &mut K) -> anyhow::Result<Vec<u8>> {
     let mut at = AtDesk { desk };
     let told = answer_case(alloc, case, WHOLE, &mut at);
