@@ -104,11 +104,14 @@ as_till = requests([(T, get("/items/", token=TILL), "")])
 known, unknown = ended(listed("/items/", 0, [])), ended(detail(401, "Invalid token."))
 known_then = [known, "token 2\n", known, "token 3\n"]
 unknown_then = [unknown, "token 2\n", known, "token 3\n"]
-trial("token", [], token("till", 2), [as_till, token("till", 2), as_till, token("door", 3)],
-      [("in, answered", "token 2\n", *known_then),
-       ("in, fault 63", NOT_READ, *known_then),
-       ("out, fault 63", NOT_READ, *unknown_then),
-       ("out, not opened", NOT_OPENED, *unknown_then)])
+the_token = token("till", 2), [as_till, token("till", 2), as_till, token("door", 3)]
+of_token = [("in, answered", "token 2\n", *known_then),
+            ("in, fault 63", NOT_READ, *known_then),
+            ("out, fault 63", NOT_READ, *unknown_then),
+            ("out, not opened", NOT_OPENED, *unknown_then)]
+trial("token", [], *the_token, of_token)
+# One outcome isn't listed: whatever is told otherwise is counted.
+trial("token_with_an_outcome_too_few", [], *the_token, of_token[:-1])
 
 two_vouchers = imported([row("A1", item=1), row("A2", item=1)], ["A1 added", "A2 added"])
 listed_vouchers = requests([(T, get("/vouchers/"), "")])
@@ -145,7 +148,7 @@ trial("order_under_a_key", [requests(setup(1))],
       kind="refusals")
 
 
-# How often each outcome came, as a run printed it.
+# How often each outcome came, and behind them how often something else did, where it did, as a run printed it.
 COUNTS = {
     ("stops", "order_under_a_key", "log", "what wasn't synced is lost"): [26, 0, 6, 0, 28],
     ("stops", "order_under_a_key", "log", "what was written is kept"): [26, 1, 5, 0, 28],
@@ -159,6 +162,10 @@ COUNTS = {
     ("stops", "token", "log", "what was written is kept"): [14, 1, 5, 28],
     ("stops", "token", "database file", "what wasn't synced is lost"): [5, 0, 0, 100],
     ("stops", "token", "database file", "what was written is kept"): [5, 0, 0, 100],
+    ("stops", "token_with_an_outcome_too_few", "log", "what wasn't synced is lost"): [14, 0, 6, 28],
+    ("stops", "token_with_an_outcome_too_few", "log", "what was written is kept"): [14, 1, 5, 28],
+    ("stops", "token_with_an_outcome_too_few", "database file", "what wasn't synced is lost"): [5, 0, 0, 100],
+    ("stops", "token_with_an_outcome_too_few", "database file", "what was written is kept"): [5, 0, 0, 100],
     ("stops", "import", "log", "what wasn't synced is lost"): [14, 0, 6, 28],
     ("stops", "import", "log", "what was written is kept"): [14, 1, 5, 28],
     ("stops", "import", "database file", "what wasn't synced is lost"): [5, 0, 0, 100],
@@ -190,13 +197,14 @@ WORDS = {
 
 
 def came(kind, name, outcomes):
-    """What is printed of a trial. None of what came is anything else than one of its outcomes."""
+    """What is printed of a trial. Where its counts are as many as its outcomes, nothing else came."""
     form, *ways = WORDS[kind]
     for file in ("log", "database file"):
         for way in ways:
             counts = COUNTS.get((kind, name, file, way), [0] * len(outcomes))
             ins, outs = (sum(count for it, count in zip(outcomes, counts) if it[0].startswith(which)) for which in ("in", "out"))
-            yield f"{name}, {form.format(file=file, calls=ins + outs)}, {way}: in {ins}, out {outs}, otherwise 0\n"
+            otherwise = sum(counts[len(outcomes):])
+            yield f"{name}, {form.format(file=file, calls=ins + outs + otherwise)}, {way}: in {ins}, out {outs}, otherwise {otherwise}\n"
             yield from (f"    {count} {it[0]}\n" for it, count in zip(outcomes, counts))
 
 
