@@ -40,7 +40,7 @@ Does made added served worked reported exported imported (runs from step) old ne
 Does made added served worked reported exported imported (makes file organizer event) old new ended =
     (run : Result (Unit {0}) RunFault) × MakesShop made file organizer event (page_of old) (page_of new) run × OnlyWrites old new × (ended ≡ end_of_run run)
 Does made added served worked reported exported imported (adds file token) old new ended = (run : Result (Unit {0}) RunFault) × AddsToken added file token (page_of old) (page_of new) run × OnlyWrites old new × (ended ≡ end_of_run run)
-Does made added served worked reported exported imported (serves file listen connections) old new ended =
+Does made added served worked reported exported imported (serves file listen connections log) old new ended =
     (run : Result (Unit {0}) RunFault) × ServesFile served file listen connections (page_of old) (page_of new) run × OnlyWrites old new × (ended ≡ end_of_run run)
 Does made added served worked reported exported imported (works file) old new ended = (run : Result (Unit {0}) RunFault) × WorksFile worked file (page_of old) (page_of new) run × OnlyWrites old new × (ended ≡ end_of_run run)
 Does made added served worked reported exported imported (reports file name list) old new ended = ReportsWhere (report_of name list) reported file (page_of old) (page_of new) ended × OnlyWrites old new

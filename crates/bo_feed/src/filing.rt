@@ -7,7 +7,7 @@ ghost use Rattle.bo_line.specs.Saying.{AddsToken, ExportsFile, ImportsFile, Make
 use bo_base::{Body, is_slug};
 use bo_devices::Drain;
 use bo_http::write_all;
-use bo_line::{HouseFiles, Place, Report, RunFault, is_token, said, say, serve_values};
+use bo_line::{HouseFiles, Place, Report, RunFault, ServeLine, is_token, said, say, serve_values};
 use itoa::Buffer;
 use std::alloc::Global;
 
@@ -66,22 +66,21 @@ pub fn add_token<F: HouseFiles, W: Drain>(
 pub fn serve_shop<F: HouseFiles, W: Drain>(
     alloc: Global,
     files: &F,
-    file: &str,
-    listen: &str,
-    connections: Option<&str>,
+    line: ServeLine<'_>,
     writer: &mut W,
 ) -> Result<(), RunFault>
-    ensures { ServesFile F.served file.now listen.now (option_map (λ t. t.now) connections.entry) (record { taken = W.taken writer.old; failures = W.failures writer.old }) (record { taken = W.taken writer.new; failures = W.failures writer.new }) result }
+    ensures { ServesFile F.served line.entry.file.now line.entry.listen.now (option_map (λ t. t.now) line.entry.connections) (record { taken = W.taken writer.old; failures = W.failures writer.old }) (record { taken = W.taken writer.new; failures = W.failures writer.new }) result }
 {
-    let Some((addr, connections)) = serve_values(listen, connections) else {
+    let Some((addr, connections)) = serve_values(line.listen, line.connections) else {
         return Err(RunFault::Argument);
     };
     let place = Place {
         addr,
-        text: listen,
+        text: line.listen,
         connections,
+        log: line.log,
     };
-    files.serve(alloc, file, &place, writer)
+    files.serve(alloc, line.file, &place, writer)
 }
 
 /// `periodic`: does the periodic work of the shop in a file, and says what was done, `expired E, deleted D, sent S`.

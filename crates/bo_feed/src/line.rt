@@ -63,17 +63,7 @@ pub fn run<O: Console, F: HouseFiles, R: Source, W: Drain>(
         Ok(Line::TokenAdd(line)) => {
             tell_run(rt, add_token(alloc, files, line.file, line.token, writer))
         }
-        Ok(Line::Serve(line)) => tell_run(
-            rt,
-            serve_shop(
-                alloc,
-                files,
-                line.file,
-                line.listen,
-                line.connections,
-                writer,
-            ),
-        ),
+        Ok(Line::Serve(line)) => tell_run(rt, serve_shop(alloc, files, line, writer)),
         Ok(Line::Periodic(line)) => tell_run(rt, work_shop(alloc, files, line.file, writer)),
         Ok(Line::Report(line)) => {
             report_file(rt, alloc, files, line.file, line.report, line.list, writer)

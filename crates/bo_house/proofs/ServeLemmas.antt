@@ -1,5 +1,5 @@
 -- What serving a shop's database comes to.
-use Rattle.std.proofs.Common.{◌≡◌, ◌∙◌, ◌⊎◌, inl, ℕ, List, Option, Result, Err, ap₂, refl, subst, arith}
+use Rattle.std.proofs.Common.{◌≡◌, ◌∙◌, ◌⊎◌, inl, ℕ, List, [], Option, None, Result, Err, ap₂, refl, subst, arith}
 use Rattle.sqlite_trees.specs.declared.store.Store.{Ghosts}
 use Rattle.sqlite.specs.State.{State as Connected}
 use Rattle.sqlite.specs.declared.connection.Connection.{Connection}
@@ -10,7 +10,16 @@ use Rattle.bo_devices.specs.declared.device.Tick.{Tick}
 use Rattle.bo_http.specs.Written.{Page}
 use Rattle.bo_line.specs.declared.fault.RunFault.{RunFault}
 use Rattle.bo_line.specs.declared.fault.RunFault.TheVariants as faults
+use Rattle.bo_http.specs.Messages.{Message}
+use Rattle.bo_base.specs.declared.answer.Answer.{Answer}
+use Rattle.bo_turns.specs.Acts.{Between, between}
+use Rattle.bo_turns.specs.Halls.{Hall, story}
+use Rattle.bo_turns.proofs.StoryLemmas.{story_opens}
 use Rattle.bo_house.specs.Served.{IsOpenedAndServed, IsSilent, LeadsFrom, OpensAs, StaysUnopened}
+
+-- a hall into which nobody came
+pub nobody_came : {D : Type 0} (Serves : D → Tick → Message → Answer → D → Type 0) (at : Between D) → Hall Serves 0 at at (story [] [] [])
+nobody_came Serves at = (story_opens Serves at 0).hall
 
 module _ {S : Type 0} (reads : Option Tick → Type 0) (tables : Meaning (SqlTables S)) (most : ℕ) where
   -- the desk of words that were made of an office's names is the office's
@@ -22,7 +31,7 @@ module _ {S : Type 0} (reads : Option Tick → Type 0) (tables : Meaning (SqlTab
 
   -- there was no memory for the words
   pub nobody_answered : (first : DeskView (SqlTables S)) (left : Connection S) → left ≡ first.tables.connection → LeadsFrom reads tables most first left (Err faults.Memory)
-  nobody_answered first left is = record { last = first; serving = (0, omega arith, refl, refl); connection = is }
+  nobody_answered first left is = record { last = first; serving = (record { came = 0; within = omega arith; all = story [] [] []; hall = nobody_came _ (between None first) }, refl); connection = is }
 
   pub is_served : (g : Ghosts S) (old : Connected) (before after : Page) (desk : DeskView (SqlTables S)) (left : Connection S) (outcome : Result (Unit {0}) RunFault) → OpensAs g old desk
       → LeadsFrom reads tables most desk left outcome → IsOpenedAndServed reads g tables most old left outcome ⊎ (StaysUnopened g old left outcome × IsSilent before after)

@@ -17,7 +17,8 @@ use Rattle.bo_desk.specs.Streams.{DeskView, Meaning, Serves}
 use Rattle.bo_devices.specs.declared.device.Tick.{Tick}
 use Rattle.bo_http.specs.Written.{Page}
 use Rattle.bo_line.specs.declared.fault.RunFault.{RunFault}
-use Rattle.bo_serve.specs.Visits.{AnswersCallers, between, most_of}
+use Rattle.bo_serve.specs.Visits.{AnswersCallers, most_of}
+use Rattle.bo_turns.specs.Acts.{between}
 use Rattle.bo_house.specs.Faults.{fault_of_opening}
 
 -- The desk is that of the shop in the database: where the disk returned what was written and the connection was open, its tables and its
@@ -34,7 +35,7 @@ pub record OpensAs {S : Type 0} (g : Ghosts S) (old : Connected) (desk : DeskVie
   pub crash : Survives old (state g desk.tables.connection) (λ _. ⊥)
 
 -- from this desk callers are answered, at most so many, each request at a tick that was read of the system; and the connection is that of the
--- desk as the last one left it
+-- desk as they left it
 pub record LeadsFrom {S : Type 0} (reads : Option Tick → Type 0) (tables : Meaning (SqlTables S)) (most : ℕ) (first : DeskView (SqlTables S)) (left : Connection S) (outcome : Result (Unit {0}) RunFault) : Type 0 where
   pub last : DeskView (SqlTables S)
   pub serving : AnswersCallers (AtTick reads (Serves tables)) (most_of most) (between None first) (between None last) outcome

@@ -40,7 +40,7 @@ pub fn export_shop<O: Console, S: Alter + Drop, W: Drain>(
             let mut shown = shown_of(rt, &opened.1);
             let mut connection = connection_of(opened);
             let outcome = write_positions(alloc, &mut connection, writer, &mut shown);
-            shown.end();
+            let _ = shown.end();
             Filed {
                 connection,
                 outcome,

@@ -19,7 +19,7 @@ use bo_base::{Body, Slug};
 use bo_devices::Drain;
 use bo_kept::Tables;
 use bo_line::{Console, HouseFiles, Place, Report, RunFault};
-use bo_serve::System;
+use bo_serve::{Log, System};
 use bo_tables::SqlTables;
 use sqlite::{Alter, Connection};
 use std::alloc::{AllocError, Global};
@@ -167,8 +167,9 @@ impl<
         place: &Place<'_>,
         writer: &mut W,
     ) -> Result<(), RunFault> {
+        let log = Log::new(self.rt, alloc, file, place.log);
         let connection = self.found(file)?;
-        self.ended(serve_shop(self.rt, alloc, connection, place, writer))
+        self.ended(serve_shop(self.rt, alloc, connection, &log, place, writer))
     }
 
     fn work(&self, alloc: Global, file: &str) -> Result<Body, RunFault> {

@@ -32,15 +32,16 @@ ghost use Rattle.bo_house.specs.Worked.{work_text, work_words};
 ghost use Rattle.bo_line.specs.declared.fault.RunFault.{RunFault};
 ghost use Rattle.bo_opens.specs.Lawful.{IsOfMachine};
 ghost use Rattle.bo_opens.specs.declared.error.OpenError.{OpenError};
-ghost use Rattle.bo_serve.specs.Visits.{Between, Visits, between, seen_at};
 ghost use Rattle.bo_streams.specs.Streams.{ServesHistory};
 ghost use Rattle.bo_tables.specs.declared.sql.SqlTables.{SqlTables};
+ghost use Rattle.bo_turns.specs.Acts.{Between, between, seen_at};
+ghost use Rattle.bo_turns.specs.Halls.{Hall, Story};
 
+use bo_callers::laws::{callers_go_on_with_a_history, callers_run_on};
 use bo_deliveries::laws::shops_run_in_any_words;
 use bo_devices::Ticks;
 use bo_file::crashes::{a_crash_damages_nothing, a_shop_runs_on_after_a_crash};
 use bo_kept::Tables;
-use bo_serve::laws::{callers_go_on_with_a_history, callers_run_on};
 use bo_tables::SqlTables;
 use sqlite::{Alter, Connection};
 
@@ -53,18 +54,18 @@ pub fn callers_go_on_after_a_crash<S: Alter, K: Ticks>(
     fresh: &Connection<S>,
     again: &SqlTables<S>,
 )
-    ensures goes_on { (house : House) (r : Running) (n : ℕ) (first : Between (DeskView (SqlTables S))) (told : Option (List Tick)) (organizer event : List ℕ) (s : State)
+    ensures goes_on { (house : House) (r : Running) (came : ℕ) (all : Story) (first : Between (DeskView (SqlTables S))) (told : Option (List Tick)) (organizer event : List ℕ) (s : State)
         → let tables = meaning ⟦<SqlTables<S> as Tables>⟧.sure ⟦<SqlTables<S> as Tables>⟧.holds ⟦<SqlTables<S> as Tables>⟧.knows ⟦<SqlTables<S> as Tables>⟧.may_leave in
         let end = between told (desk_with last.now organizer event s) in
-        Visits (AtTick K.reads (Serves tables)) n first end → IsOf tables house first.desk → IsRunning (words_of house) tables.holds tables.may_leave first.desk.tables first.desk.state r
+        Hall (AtTick K.reads (Serves tables)) came first end all → IsOf tables house first.desk → IsRunning (words_of house) tables.holds tables.may_leave first.desk.tables first.desk.state r
         → IsFound (state S.Store last.now.connection) (state S.Store fresh.now)
         → (name happening : List ℕ) (z : State) → OpensAs S.Store (state S.Store fresh.now) (desk_with again.now name happening z)
         → HasCleanDisk (state S.Store again.now.connection)
-        → (q : Running) × (x : ShopView) × Visits (AtTick K.reads (ServesRunning house)) n (seen_at first r) (seen_at end q) × MayLeave (words_of house) q x
+        → (q : Running) × (x : ShopView) × Hall (AtTick K.reads (ServesRunning house)) came (seen_at first r) (seen_at end q) all × MayLeave (words_of house) q x
         × IsOf tables house (desk_with again.now name happening z) × IsRunning (words_of house) tables.holds tables.may_leave again.now z (opened (words_of house) x) }
-    ensures unharmed { (house : House) (r : Running) (n : ℕ) (first : Between (DeskView (SqlTables S))) (told : Option (List Tick)) (organizer event : List ℕ) (s : State)
+    ensures unharmed { (house : House) (r : Running) (came : ℕ) (all : Story) (first : Between (DeskView (SqlTables S))) (told : Option (List Tick)) (organizer event : List ℕ) (s : State)
         → let tables = meaning ⟦<SqlTables<S> as Tables>⟧.sure ⟦<SqlTables<S> as Tables>⟧.holds ⟦<SqlTables<S> as Tables>⟧.knows ⟦<SqlTables<S> as Tables>⟧.may_leave in
-        Visits (AtTick K.reads (Serves tables)) n first (between told (desk_with last.now organizer event s)) → IsOf tables house first.desk
+        Hall (AtTick K.reads (Serves tables)) came first (between told (desk_with last.now organizer event s)) all → IsOf tables house first.desk
         → IsRunning (words_of house) tables.holds tables.may_leave first.desk.tables first.desk.state r
         → IsFound (state S.Store last.now.connection) (state S.Store fresh.now) → (error : OpenError) → IsReason (state S.Store fresh.now).now error → IsOfMachine error }
 {
@@ -114,19 +115,19 @@ pub fn an_evening_is_one_history<S: Alter, K: Ticks>(
     fresh: &Connection<S>,
     again: &SqlTables<S>,
 )
-    ensures { (house : House) (begun r : Running) (es : List Event) (n m : ℕ) (first end : Between (DeskView (SqlTables S))) (told : Option (List Tick)) (a b c d : DeskView (SqlTables S))
+    ensures { (house : House) (begun r : Running) (es : List Event) (n m : ℕ) (before after : Story) (first end : Between (DeskView (SqlTables S))) (told : Option (List Tick)) (a b c d : DeskView (SqlTables S))
         (words : Reply → Response) (command : Command) (tick : Tick) (outcome : Result (List ℕ) RunFault)
         → let tables = meaning ⟦<SqlTables<S> as Tables>⟧.sure ⟦<SqlTables<S> as Tables>⟧.holds ⟦<SqlTables<S> as Tables>⟧.knows ⟦<SqlTables<S> as Tables>⟧.may_leave in
         RunsSo tables house begun es first.desk r
-        → Visits (AtTick K.reads (Serves tables)) n first (between told (over served.now a))
+        → Hall (AtTick K.reads (Serves tables)) n first (between told (over served.now a)) before
         → IsOpenedAgain S.Store (state S.Store served.now.connection) (state S.Store closed.now) (over opened_for.now b)
         → Acts words command tick tables (over opened_for.now b) (over acted.now c) outcome
         → IsOpenedAgain S.Store (state S.Store acted.now.connection) (state S.Store fresh.now) (over again.now d)
-        → Visits (AtTick K.reads (Serves tables)) m (between None (over again.now d)) end → HasCleanDisk (state S.Store end.desk.tables.connection)
+        → Hall (AtTick K.reads (Serves tables)) m (between None (over again.now d)) end after → HasCleanDisk (state S.Store end.desk.tables.connection)
         → (fs : List Event) × (x : ShopView) × (answer : Answer) × (gs : List Event) × (q : Running)
-        × Visits (AtTick K.reads (ServesHistory house)) n (seen_at first es) (between told fs)
+        × Hall (AtTick K.reads (ServesHistory house)) n (seen_at first es) (between told fs) before
         × (outcome ≡ told_of answer)
-        × Visits (AtTick K.reads (ServesHistory house)) m (between None (((fs ++ Crashed ∷ []) ++ event_of (words_of house) (own_arrival command tick) answer x ∷ []) ++ Crashed ∷ [])) (seen_at end gs)
+        × Hall (AtTick K.reads (ServesHistory house)) m (between None (((fs ++ Crashed ∷ []) ++ event_of (words_of house) (own_arrival command tick) answer x ∷ []) ++ Crashed ∷ [])) (seen_at end gs) after
         × RunsSo tables house begun gs end.desk q }
 {
     callers_go_on_with_a_history::<SqlTables<S>, K>();

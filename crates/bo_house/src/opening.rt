@@ -16,9 +16,31 @@ use bo_tables::{HandedBack, SqlTables};
 use sqlite::{Alter, Connection};
 use std::alloc::Global;
 
-/// Opens the shop in a database, or gives what becomes of the command that it was to be opened for. Faults: 60, 61 and 62 where the
-/// database holds no shop that is whole, each for its cause alone, 63 and 6. Opening changes nothing, in a crash too. A terminal shows how
-/// many rows were read.
+/// Opens the shop in a database, or gives what becomes of the command that it was to be opened for; and how many rows were read. Faults: 60, 61
+/// and 62 where the database holds no shop that is whole, each for its cause alone, 63 and 6. Opening changes nothing, in a crash too. A
+/// terminal shows how many rows were read.
+pub(crate) fn open_counted<O: Console, S: Alter, T: Drop>(
+    rt: &O,
+    alloc: Global,
+    connection: Connection<S>,
+    rows: &mut u64,
+) -> Result<(SqlTables<S>, Office<Counters>), Filed<S, T>>
+    ensures opens { IfOk result (λ it. OpensAs S.Store (state S.Store connection) (desk_with it.0 it.1.organizer it.1.event it.1.state)) }
+    ensures stays { IfErr result (λ filed. StaysUnopened S.Store (state S.Store connection) filed.connection filed.outcome) }
+{
+    let mut shown = Shown::opening(rt);
+    let opened = open_file(alloc, connection, &mut shown);
+    *rows = shown.end();
+    match opened {
+        Ok(opened) => Ok(opened),
+        Err(HandedBack { connection, error }) => Err(Filed {
+            connection,
+            outcome: Err(fault_of_opening(error)),
+        }),
+    }
+}
+
+/// The same, where nobody asks how many rows were read.
 pub(crate) fn open_shop<O: Console, S: Alter, T: Drop>(
     rt: &O,
     alloc: Global,
@@ -27,14 +49,6 @@ pub(crate) fn open_shop<O: Console, S: Alter, T: Drop>(
     ensures opens { IfOk result (λ it. OpensAs S.Store (state S.Store connection) (desk_with it.0 it.1.organizer it.1.event it.1.state)) }
     ensures stays { IfErr result (λ filed. StaysUnopened S.Store (state S.Store connection) filed.connection filed.outcome) }
 {
-    let mut shown = Shown::opening(rt);
-    let opened = open_file(alloc, connection, &mut shown);
-    shown.end();
-    match opened {
-        Ok(opened) => Ok(opened),
-        Err(HandedBack { connection, error }) => Err(Filed {
-            connection,
-            outcome: Err(fault_of_opening(error)),
-        }),
-    }
+    let mut rows = 0;
+    open_counted(rt, alloc, connection, &mut rows)
 }

@@ -74,12 +74,13 @@ impl<'a, O: Console> Shown<'a, O> {
         };
     }
 
-    /// Ends its line, where it began one: whatever is said next begins another.
-    pub(crate) fn end(mut self) {
+    /// Ends its line, where it began one: whatever is said next begins another. How many rows there were.
+    pub(crate) fn end(mut self) -> u64 {
         if self.is_begun {
             self.tell();
             let _ = eprintln!(self.rt; "");
         }
+        self.count
     }
 }
 

@@ -8,13 +8,13 @@ ghost use Rattle.bo_serve.specs.Clock.{IsRead};
 ghost use Rattle.bo_house.specs.Served.{IsOpenedAndServed, IsSilent, LeadsFrom, StaysUnopened};
 
 use crate::filed::{Filed, connection_of};
-use crate::opening::open_shop;
+use crate::opening::open_counted;
 use bo_desk::{HouseWords, Office, ShopDesk};
 use bo_devices::Drain;
 use bo_dues::Dues;
 use bo_kept::Tables;
 use bo_line::{Console, Place, RunFault};
-use bo_serve::{System, serve_at};
+use bo_serve::{Log, Noted, System, serve_at};
 use bo_tables::SqlTables;
 use sqlite::{Alter, Connection};
 use std::alloc::Global;
@@ -23,37 +23,40 @@ use std::time::Clock;
 
 // Serves a desk, and hands back the connection of its tables.
 fn serve_desk<
-    R: Net<Listener = TcpListener, Stream = TcpStream> + Clock + System,
+    R: Net<Listener = TcpListener, Stream = TcpStream> + Clock + System + Console,
     S: Alter + Drop,
     B: Dues + Drop,
     W: Drain,
 >(
     rt: &R,
     alloc: Global,
+    log: &Log<'_, R>,
     place: &Place<'_>,
-    mut desk: ShopDesk<SqlTables<S>, B>,
+    desk: ShopDesk<SqlTables<S>, B>,
     writer: &mut W,
 ) -> Filed<S, ()>
     ensures said { TellsListening place.now.text.now (record { taken = W.taken writer.old; failures = W.failures writer.old }) (record { taken = W.taken writer.new; failures = W.failures writer.new }) result.outcome }
     ensures leads { LeadsFrom (IsRead R.shows R.gives) (meaning ⟦<SqlTables<S> as Tables>⟧.sure ⟦<SqlTables<S> as Tables>⟧.holds ⟦<SqlTables<S> as Tables>⟧.knows ⟦<SqlTables<S> as Tables>⟧.may_leave)
         place.now.connections desk result.connection result.outcome }
 {
-    let outcome = serve_at(rt, alloc, place, &mut desk, writer);
+    let mut noted = Noted::new(log, desk);
+    let outcome = serve_at(rt, alloc, log, place, &mut noted, writer);
     Filed {
-        connection: desk.into_tables().into_connection(),
+        connection: noted.into_desk().into_tables().into_connection(),
         outcome,
     }
 }
 
 // Serves tables that were opened together with their office.
 fn serve_opened<
-    R: Net<Listener = TcpListener, Stream = TcpStream> + Clock + System,
+    R: Net<Listener = TcpListener, Stream = TcpStream> + Clock + System + Console,
     S: Alter + Drop,
     B: Dues + Drop,
     W: Drain,
 >(
     rt: &R,
     alloc: Global,
+    log: &Log<'_, R>,
     place: &Place<'_>,
     opened: (SqlTables<S>, Office<B>),
     writer: &mut W,
@@ -66,7 +69,7 @@ fn serve_opened<
         Ok(words) => {
             let (tables, office) = opened;
             let desk = ShopDesk::with_words(tables, office, words);
-            serve_desk(rt, alloc, place, desk, writer)
+            serve_desk(rt, alloc, log, place, desk, writer)
         }
         Err(_) => Filed {
             connection: connection_of(opened),
@@ -75,8 +78,8 @@ fn serve_opened<
     }
 }
 
-/// `serve`: opens the shop in a database, listens at an address, says so, and answers the callers that come, one after another, each from
-/// the shop as the one before left it. Faults: 60, 61 and 62 where the database holds no shop that is whole, each for its cause alone, 63
+/// `serve`: opens the shop in a database, listens at an address, says so, and answers the callers that come, many of them at once, each request
+/// from the shop as the one before left it; a log is told what happens. Faults: 60, 61 and 62 where the database holds no shop that is whole, each for its cause alone, 63
 /// and 6, and then nothing is said and nothing has changed; 81 where the address can't be listened at or takes no callers any more; 83
 /// where that it listens couldn't be said.
 pub fn serve_shop<
@@ -87,6 +90,7 @@ pub fn serve_shop<
     rt: &R,
     alloc: Global,
     connection: Connection<S>,
+    log: &Log<'_, R>,
     place: &Place<'_>,
     writer: &mut W,
 ) -> Filed<S, ()>
@@ -96,8 +100,12 @@ pub fn serve_shop<
         ⊎ (StaysUnopened S.Store (state S.Store connection) result.connection result.outcome
         × IsSilent (record { taken = W.taken writer.old; failures = W.failures writer.old }) (record { taken = W.taken writer.new; failures = W.failures writer.new })) }
 {
-    match open_shop(rt, alloc, connection) {
-        Ok(opened) => serve_opened(rt, alloc, place, opened, writer),
+    let mut rows = 0;
+    match open_counted(rt, alloc, connection, &mut rows) {
+        Ok(opened) => {
+            log.tell_opened(rows);
+            serve_opened(rt, alloc, log, place, opened, writer)
+        }
         Err(filed) => filed,
     }
 }

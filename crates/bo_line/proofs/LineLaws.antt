@@ -1,5 +1,5 @@
 -- What lines ask for whose texts are not known.
-use Rattle.std.proofs.Common.{◌≡◌, ◌++◌, ℕ, List, [], ◌∷◌, Some, None, codes, refl}
+use Rattle.std.proofs.Common.{◌≡◌, ◌++◌, ℕ, List, [], ◌∷◌, Some, None, codes, refl, true, false}
 use Rattle.clap.specs.declared.error.ErrorKind.TheVariants as kinds
 use Rattle.clap.proofs.OnLiterals.{clap_on_literals}
 use Rattle.bo_line.specs.Asked.{adds, asked, exports, imports, makes, migrates, none, plain_words, reports, runs, serves, works}
@@ -85,17 +85,21 @@ pub no_token : (program : List ℕ) → asked (program ∷ codes "token-add" ∷
 unfolding clap_on_literals asked
 no_token program = refl
 
-pub serves_shop : (program listen : List ℕ) → asked (program ∷ codes "serve" ∷ codes "hall.db" ∷ (codes "--listen=" ++ listen) ∷ []) ≡ serves (codes "hall.db") listen None
+pub serves_shop : (program listen : List ℕ) → asked (program ∷ codes "serve" ∷ codes "hall.db" ∷ (codes "--listen=" ++ listen) ∷ []) ≡ serves (codes "hall.db") listen None false
 unfolding clap_on_literals asked
 serves_shop program listen = refl
 
 pub serves_so_many : (program listen connections : List ℕ)
-    → asked (program ∷ codes "serve" ∷ codes "hall.db" ∷ (codes "--listen=" ++ listen) ∷ (codes "--connections=" ++ connections) ∷ []) ≡ serves (codes "hall.db") listen (Some connections)
+    → asked (program ∷ codes "serve" ∷ codes "hall.db" ∷ (codes "--listen=" ++ listen) ∷ (codes "--connections=" ++ connections) ∷ []) ≡ serves (codes "hall.db") listen (Some connections) false
 unfolding clap_on_literals asked
 serves_so_many program listen connections = refl
 
+pub serves_and_logs : (program listen : List ℕ) → asked (program ∷ codes "serve" ∷ codes "hall.db" ∷ (codes "--listen=" ++ listen) ∷ codes "--log" ∷ []) ≡ serves (codes "hall.db") listen None true
+unfolding clap_on_literals asked
+serves_and_logs program listen = refl
+
 pub signed_connections : asked (plain_words (codes "boxoffice" ∷ codes "serve" ∷ codes "hall.db" ∷ codes "--listen" ∷ codes "[::1]:80" ∷ codes "--connections" ∷ codes "-1" ∷ []))
-    ≡ serves (codes "hall.db") (codes "[::1]:80") (Some [])
+    ≡ serves (codes "hall.db") (codes "[::1]:80") (Some []) false
 unfolding clap_on_literals asked
 signed_connections = refl
 

@@ -28,7 +28,7 @@ plain_words words = plain_behind false words
 
 -- What a line asks for: a run of `feed` with the texts of `--from` and `--step`; a shop in a new file of this name, for this
 -- organizer and this event; this token for the shop in the file of this name; the shop in the file of this name at the text of
--- `--listen`, with the text of `--connections` where it is there; the periodic work of the shop in the file of this name; the report
+-- `--listen`, with the text of `--connections` where it is there, and whether `--log` is; the periodic work of the shop in the file of this name; the report
 -- of this name on it, with the text of `--list` where it is there; the order positions of the shop in the file of this name; the
 -- vouchers of a CSV file for it, by the names of both; the version of the tables of the shop in the file of this name; or nothing, for a
 -- reason among these.
@@ -36,7 +36,7 @@ pub data Asked : Type 0 where
   runs : Text → Text → Asked
   makes : Text → Text → Text → Asked
   adds : Text → Text → Asked
-  serves : Text → Text → Option Text → Asked
+  serves : Text → Text → Option Text → Bool → Asked
   works : Text → Asked
   reports : Text → Text → Option Text → Asked
   exports : Text → Asked
@@ -47,6 +47,14 @@ pub data Asked : Type 0 where
 -- the text of an argument among the matches of the command, which is empty where there is none
 abbrev pub text_of : Text → List Row → Text
 text_of name rows = unwrap_or (first_of name rows) []
+
+abbrev pub is_true : Option Text → Bool
+is_true (Some text) = bytes_eq text (codes "true")
+is_true None = false
+
+-- whether a flag without a text is among the matches of the command
+abbrev pub is_set : Text → List Row → Bool
+is_set name rows = is_true (first_of name rows)
 
 -- what a command with these matches asks for that names a file alone, or none
 abbrev pub asked_of_few : Text → List Row → Asked
@@ -61,7 +69,7 @@ abbrev pub asked_of : Text → List Row → Asked
 asked_of command rows =
     if bytes_eq command (codes "init") then makes (text_of (codes "file") rows) (text_of (codes "organizer") rows) (text_of (codes "event") rows)
     else (if bytes_eq command (codes "token-add") then adds (text_of (codes "file") rows) (text_of (codes "token") rows)
-    else (if bytes_eq command (codes "serve") then serves (text_of (codes "file") rows) (text_of (codes "listen") rows) (first_of (codes "connections") rows)
+    else (if bytes_eq command (codes "serve") then serves (text_of (codes "file") rows) (text_of (codes "listen") rows) (first_of (codes "connections") rows) (is_set (codes "log") rows)
     else (if bytes_eq command (codes "report") then reports (text_of (codes "file") rows) (text_of (codes "report") rows) (first_of (codes "list") rows)
     else (if bytes_eq command (codes "import-vouchers") then imports (text_of (codes "file") rows) (text_of (codes "csv") rows)
     else asked_of_few command rows))))
@@ -80,7 +88,7 @@ abbrev pub asked_by_line : Line → Asked
 asked_by_line (lines.Feed line) = runs line.from.now line.step.now
 asked_by_line (lines.Init line) = makes line.file.now line.organizer.now line.event.now
 asked_by_line (lines.TokenAdd line) = adds line.file.now line.token.now
-asked_by_line (lines.Serve line) = serves line.file.now line.listen.now (option_map (λ t. t.now) line.connections)
+asked_by_line (lines.Serve line) = serves line.file.now line.listen.now (option_map (λ t. t.now) line.connections) line.log
 asked_by_line (lines.Periodic line) = works line.file.now
 asked_by_line (lines.Report line) = reports line.file.now line.report.now (option_map (λ t. t.now) line.list)
 asked_by_line (lines.Export line) = exports line.file.now

@@ -2,6 +2,7 @@
 use Rattle.std.specs.Prelude.{◌≡◌, true, Some, Result, Ok, codes}
 use Rattle.clap.specs.Simple.{on_top}
 use Rattle.std.specs.declared.alloc.AllocError.{AllocError}
+use Rattle.clap.specs.declared.builder.action.ArgAction.TheVariants.{SetTrue}
 use Rattle.clap.specs.declared.builder.command.Command.{Command}
 use Rattle.clap.specs.Words.{App, Rule, Shape, Text, app_of, new_app, new_rule, with_rule, with_subcommand}
 
@@ -16,6 +17,10 @@ flag name = record (word name) { long = Some name }
 -- `--NAME TEXT`, which may be left out
 abbrev pub choice : Text → Rule
 choice name = record (new_rule name) { value_names = 1; long = Some name }
+
+-- `--NAME`, which may be left out
+abbrev pub switch : Text → Rule
+switch name = record (new_rule name) { action = Some SetTrue; long = Some name }
 
 -- `feed --from MOMENT --step SECONDS`
 abbrev pub feed_app : App
@@ -33,9 +38,9 @@ init_app = with_rule (with_rule (file_app (codes "init")) (flag (codes "organize
 abbrev pub token_app : App
 token_app = with_rule (file_app (codes "token-add")) (word (codes "token"))
 
--- `serve FILE --listen ADDR [--connections N]`
+-- `serve FILE --listen ADDR [--connections N] [--log]`
 abbrev pub serve_app : App
-serve_app = with_rule (with_rule (file_app (codes "serve")) (flag (codes "listen"))) (choice (codes "connections"))
+serve_app = with_rule (with_rule (with_rule (file_app (codes "serve")) (flag (codes "listen"))) (choice (codes "connections"))) (switch (codes "log"))
 
 -- `periodic FILE`
 abbrev pub work_app : App

@@ -24,6 +24,8 @@ pub struct Place<'a> {
     pub text: &'a str,
     /// How many connections are answered; 0 is without end.
     pub connections: u64,
+    /// Whether each request and each connection's end is told on standard error.
+    pub log: bool,
 }
 
 /// What the commands on a shop's file ask for, each by the file's name. What a file holds no clause can say: what becomes of it is the
@@ -63,7 +65,7 @@ pub trait HouseFiles {
         requires { IsToken token.now }
         ensures { added file.now token.now result };
 
-    /// Serves the shop in a file: says that it listens once callers can come, and then answers them, one connection after another.
+    /// Serves the shop in a file: says that it listens once callers can come, and then answers them, many at once.
     /// Faults: 80 where the file can't be opened, 60 to 63 where it isn't a shop's that is whole, 81 where the address can't be listened
     /// at or takes no callers any more, 83 where the writer fails, and 6.
     fn serve<W: Drain>(

@@ -1,6 +1,6 @@
 //! Laws of the command line.
 
-ghost use Rattle.std.specs.Prelude.{◌≡◌, ◌++◌, ℕ, List, [], ◌∷◌, Some, None, codes};
+ghost use Rattle.std.specs.Prelude.{◌≡◌, ◌++◌, ℕ, List, [], ◌∷◌, Some, None, codes, true, false};
 ghost use Rattle.clap.specs.declared.error.ErrorKind.TheVariants.{DisplayHelp, DisplayVersion, MissingRequiredArgument, MissingSubcommand, UnknownArgument};
 ghost use Rattle.bo_line.specs.Asked.{adds, asked, exports, imports, makes, migrates, none, plain_words, reports, runs, serves, works};
 
@@ -34,13 +34,14 @@ pub fn files_and_tokens_are_known_by_their_places()
         × (asked (program ∷ codes "token-add" ∷ codes "hall.db" ∷ []) ≡ none (MissingRequiredArgument ∷ [])) }
 {}
 
-/// A line of `serve` names its file by its place, and the address behind a flag; how many connections there are may be left out.
+/// A line of `serve` names its file by its place, and the address behind a flag; how many connections there are, and that they are told of, may be left out.
 pub fn a_served_file_is_known_by_its_place()
-    ensures served { (program listen : List ℕ) → asked (program ∷ codes "serve" ∷ codes "hall.db" ∷ (codes "--listen=" ++ listen) ∷ []) ≡ serves (codes "hall.db") listen None }
+    ensures served { (program listen : List ℕ) → asked (program ∷ codes "serve" ∷ codes "hall.db" ∷ (codes "--listen=" ++ listen) ∷ []) ≡ serves (codes "hall.db") listen None false }
     ensures counted { (program listen connections : List ℕ)
-        → asked (program ∷ codes "serve" ∷ codes "hall.db" ∷ (codes "--listen=" ++ listen) ∷ (codes "--connections=" ++ connections) ∷ []) ≡ serves (codes "hall.db") listen (Some connections) }
+        → asked (program ∷ codes "serve" ∷ codes "hall.db" ∷ (codes "--listen=" ++ listen) ∷ (codes "--connections=" ++ connections) ∷ []) ≡ serves (codes "hall.db") listen (Some connections) false }
+    ensures logged { (program listen : List ℕ) → asked (program ∷ codes "serve" ∷ codes "hall.db" ∷ (codes "--listen=" ++ listen) ∷ codes "--log" ∷ []) ≡ serves (codes "hall.db") listen None true }
     ensures signed { asked (plain_words (codes "boxoffice" ∷ codes "serve" ∷ codes "hall.db" ∷ codes "--listen" ∷ codes "[::1]:80" ∷ codes "--connections" ∷ codes "-1" ∷ []))
-        ≡ serves (codes "hall.db") (codes "[::1]:80") (Some []) }
+        ≡ serves (codes "hall.db") (codes "[::1]:80") (Some []) false }
     ensures lacking { (program : List ℕ) → asked (program ∷ codes "serve" ∷ codes "hall.db" ∷ []) ≡ none (MissingRequiredArgument ∷ []) }
 {}
 

@@ -27,5 +27,5 @@ pub use ticks::{FeedTicks, Pace};
 pub use values::{Report, ReportFault, feed_values, is_token, report_of, serve_values};
 pub use words::{
     FeedLine, FileLine, ImportLine, InitLine, Line, ReportLine, ServeLine, TokenLine, plain_words,
-    read_line,
+    program_version, read_line,
 };

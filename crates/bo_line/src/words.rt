@@ -3,10 +3,10 @@
 ghost use Rattle.std.specs.Prelude.{◌≡◌, IfOk, IfErr, Some, codes, map, option_map, string_bytes, false};
 ghost use Rattle.clap.specs.Walk.{rule_of, texts};
 ghost use Rattle.clap.specs.Words.{app_of, first_of, found_of, kind_of, rows_of};
-ghost use Rattle.bo_line.specs.Asked.{IsReason, asked, asked_by_line, asked_of, asked_of_few, is_signed, plain_words, takes_number, text_of};
-ghost use Rattle.bo_line.specs.Words.{IsWith, choice, export_app, feed_app, file_app, flag, import_app, init_app, migrate_app, program, report_app, serve_app, token_app, word, work_app};
+ghost use Rattle.bo_line.specs.Asked.{IsReason, asked, asked_by_line, asked_of, asked_of_few, is_set, is_signed, plain_words, takes_number, text_of};
+ghost use Rattle.bo_line.specs.Words.{IsWith, choice, export_app, feed_app, file_app, flag, import_app, init_app, migrate_app, program, report_app, serve_app, switch, token_app, word, work_app};
 
-use clap::{Arg, ArgMatches, Command, Error};
+use clap::{Arg, ArgAction, ArgMatches, Command, Error};
 use std::alloc::{AllocError, Global};
 
 // What is said of the file of a command.
@@ -15,6 +15,14 @@ const SHOPS_FILE: &str = "The shop's file";
 // What follows the program's name where its version is asked for: the version, whose first number is that of the tables which it opens; that
 // of the tables; and the kit by which it is proved and compiled, as `rt version` prints it.
 const VERSION: &str = "1.0.0\ntables: version 1\nkit: rattle-kit-13f logic dac8208d650f15bf";
+
+/// The version of the program, as `--version` names it first.
+pub fn program_version() -> &'static str {
+    match VERSION.lines().next() {
+        Some(version) => version,
+        None => VERSION,
+    }
+}
 
 /// What a command line asks for.
 #[derive(Clone, Copy)]
@@ -77,6 +85,8 @@ pub struct ServeLine<'a> {
     pub listen: &'a str,
     /// The text of `--connections`, where it is there.
     pub connections: Option<&'a str>,
+    /// Whether `--log` is there.
+    pub log: bool,
 }
 
 /// The text of a line that names a file alone: one of `periodic`, `export` or `migrate`.
@@ -112,6 +122,17 @@ fn choice<'a>(alloc: Global, name: &'a str, text: &'a str, help: &'a str) -> Arg
     ensures global { result.global ≡ false }
 {
     Arg::new(alloc, name).long(name).value_name(text).help(help)
+}
+
+// A flag without a text, which may be left out.
+fn switch<'a>(alloc: Global, name: &'a str, help: &'a str) -> Arg<'a>
+    ensures rule { rule_of result ≡ switch name.entry.now }
+    ensures global { result.global ≡ false }
+{
+    Arg::new(alloc, name)
+        .long(name)
+        .action(ArgAction::SetTrue)
+        .help(help)
 }
 
 // A flag with a text, which has to be there.
@@ -221,7 +242,7 @@ fn serve_command<'a>(alloc: Global) -> Result<Command<'a>, AllocError>
     file_command(
         alloc,
         "serve",
-        "Answers HTTP requests at an address, one connection after another, from a shop's file",
+        "Answers HTTP requests at an address, on many connections at once, from a shop's file",
         "Example:\n  boxoffice serve hall.db --listen 127.0.0.1:8080",
         SHOPS_FILE,
     )?
@@ -236,6 +257,11 @@ fn serve_command<'a>(alloc: Global) -> Result<Command<'a>, AllocError>
         "connections",
         "N",
         "Ends after N connections, 0 to 1000000; without it, or with 0, never",
+    ))?
+    .arg(switch(
+        alloc,
+        "log",
+        "Writes a line for each request and each connection to standard error",
     ))
 }
 
@@ -397,6 +423,16 @@ fn text_of<'a>(matches: &ArgMatches<'a>, name: &str) -> &'a str
     }
 }
 
+// Whether a flag without a text is there.
+fn is_set(matches: &ArgMatches<'_>, name: &str) -> bool
+    ensures { result ≡ is_set name.now (rows_of (found_of matches.now)) }
+{
+    match given(matches, name) {
+        Some(text) => text == "true",
+        None => false,
+    }
+}
+
 // The file of a line that names one alone.
 fn file_of<'a>(matches: &ArgMatches<'a>) -> FileLine<'a>
     ensures { result.file.now ≡ text_of (codes "file") (rows_of (found_of matches.now)) }
@@ -447,6 +483,7 @@ fn line_of<'a>(command: &str, matches: &ArgMatches<'a>) -> Line<'a>
             file: text_of(matches, "file"),
             listen: text_of(matches, "listen"),
             connections: given(matches, "connections"),
+            log: is_set(matches, "log"),
         });
     }
     if command == "report" {

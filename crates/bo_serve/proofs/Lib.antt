@@ -1,2 +1,1 @@
-mod LawLemmas
 mod VisitLemmas

@@ -1,66 +1,61 @@
--- Connections one after another.
-use Rattle.std.specs.Prelude.{◌≡◌, ◌≤◌, ◌⊎◌, ⊤, ℕ, zero, suc, List, Option, Result, Ok, Err}
+-- Callers at once, at one desk.
+use Rattle.std.specs.Prelude.{◌≡◌, ◌≤◌, ◌⊎◌, ⊤, ℕ, zero, suc, List, [], ◌∷◌, None, Result, Ok, Err}
 use Rattle.bo_base.specs.declared.answer.Answer.{Answer}
 use Rattle.bo_devices.specs.declared.device.Tick.{Tick}
 use Rattle.bo_http.specs.Messages.{Message}
-use Rattle.bo_connection.specs.declared.failure.Failure.{Failure}
 use Rattle.bo_connection.specs.declared.failure.Failure.TheVariants as failures
-use Rattle.bo_connection.specs.Run.{Devices, RunLeads}
 use Rattle.bo_line.specs.declared.fault.RunFault.{RunFault}
 use Rattle.bo_line.specs.declared.fault.RunFault.TheVariants as faults
+use Rattle.bo_turns.specs.declared.turns.Next.{Next}
+use Rattle.bo_turns.specs.declared.turns.Next.TheVariants as nexts
+pub use Rattle.bo_turns.specs.Acts.{Between, between, seen_at}
+use Rattle.bo_turns.specs.Halls.{Callers, DoesAll, Hall, LetsIn, Story, with_place}
 
--- where a house stands between two connections: the ticks that were told, where that is known, and its desk
-pub record Between (D : Type 0) : Type 0 where
-  pub told : Option (List Tick)
-  pub desk : D
+-- callers come and leave, one after another, and nobody has a turn
+abbrev pub Rearranges : Callers → Callers → List Next → Type 0
+Rearranges old new [] = new ≡ old
+Rearranges old new (nexts.Comes ∷ others) = (amid : Callers) × LetsIn old amid × Rearranges amid new others
+Rearranges old new (nexts.Leaves place ∷ others) = Rearranges (with_place place None old) new others
+Rearranges old new (nexts.Turn place ∷ others) = ⊥
 
-abbrev pub between : {D : Type 0} → Option (List Tick) → D → Between D
-between told desk = record { told = told; desk = desk }
+pub record Rearranged (old new : Callers) : Type 0 where
+  pub order : List Next
+  pub all : Rearranges old new order
 
--- the same with another desk
-abbrev pub seen_at : {D E : Type 0} → Between D → E → Between E
-seen_at place desk = between place.told desk
+-- callers come, have turns and leave, in some order
+pub record Happened {D : Type 0} (Serves : D → Tick → Message → Answer → D → Type 0) (from to : Between D) (old new : Callers) : Type 0 where
+  pub order : List Next
+  pub all : DoesAll Serves from to old new order
 
--- where the two directions of a connection stand: what its caller still sends, and what was written, where they are known; and how often it
--- was read
-pub record Wire : Type 0 where
-  pub left : Option (List ℕ)
-  pub calls : ℕ
-  pub taken : Option (List ℕ)
+-- At most so many callers came, many of them at once, and each has the conversation of its own bytes.
+pub record Served {D : Type 0} (Serves : D → Tick → Message → Answer → D → Type 0) (most : ℕ) (old new : Between D) : Type 0 where
+  pub came : ℕ
+  pub within : came ≤ most
+  pub all : Story
+  pub hall : Hall Serves came old new all
 
-abbrev pub wired : {D : Type 0} → Wire → Between D → Devices D
-wired wire place = record { left = wire.left; calls = wire.calls; told = place.told; desk = place.desk; taken = wire.taken }
-
--- one connection: a run over whatever its caller sends, to its end or to where it breaks off
-pub record Visit {D : Type 0} (Serves : D → Tick → Message → Answer → D → Type 0) (old new : Between D) : Type 0 where
-  pub first : Wire
-  pub last : Wire
-  pub result : Result (Unit {0}) Failure
-  pub run : RunLeads Serves (wired first old) (wired last new) result
-
--- a caller comes: it is answered in such a run, or it was gone before
-abbrev pub Comes : {D : Type 0} → (D → Tick → Message → Answer → D → Type 0) → Between D → Between D → Type 0
-Comes Serves old new = Visit Serves old new ⊎ (new ≡ old)
-
--- so many callers came, one after another, each to the desk as the one before left it
-abbrev pub Visits : {D : Type 0} → (D → Tick → Message → Answer → D → Type 0) → ℕ → Between D → Between D → Type 0
-Visits Serves zero old new = new ≡ old
-Visits {D} Serves (suc n) old new = (mid : Between D) × Visits Serves n old mid × Comes Serves mid new
-
--- how many callers are answered: so many, and for 0 as many as a `u64` counts, which no house sees the end of
+-- how many callers are let in: so many, and for 0 as many as a `u64` counts, which no house sees the end of
 abbrev pub most_of : ℕ → ℕ
 most_of zero = 18446744073709551615
 most_of (suc n) = suc n
 
--- Why that ends early: no more callers can be let in; or there is no room for a connection, or where it listens couldn't be said, and then
--- nobody was answered.
+-- Why that ends early: no more callers can be let in; or there is no room for a house, or where it listens couldn't be said, and then nobody came.
 abbrev pub EndsEarly : RunFault → ℕ → Type 0
 EndsEarly faults.Listen n = ⊤
 EndsEarly faults.Memory n = n ≡ 0
 EndsEarly (faults.Run failures.Output) n = n ≡ 0
 EndsEarly fault n = ⊥
 
--- all of them came; or some did, and then a fault ended it
+-- a house that can't be opened
+abbrev pub EndsAtOnce : RunFault → Type 0
+EndsAtOnce fault = (fault ≡ faults.Listen) ⊎ (fault ≡ faults.Memory)
+
+-- rounds end early only where no more callers can be let in; or there is no room for them, and nothing happened
+abbrev pub RoundsEnd : Result (Unit {0}) RunFault → Callers → Callers → Type 0
+RoundsEnd (Ok u) old new = ⊤
+RoundsEnd (Err fault) old new = (fault ≡ faults.Listen) ⊎ ((fault ≡ faults.Memory) × (new ≡ old))
+
+-- all of them came; or some did, and a fault ended it
 abbrev pub AnswersCallers : {D : Type 0} → (D → Tick → Message → Answer → D → Type 0) → ℕ → Between D → Between D → Result (Unit {0}) RunFault → Type 0
-AnswersCallers Serves most old new (Ok u) = Visits Serves most old new
-AnswersCallers Serves most old new (Err fault) = (n : ℕ) × (n ≤ most) × EndsEarly fault n × Visits Serves n old new
+AnswersCallers Serves most old new (Ok u) = Served Serves most old new
+AnswersCallers Serves most old new (Err fault) = (served : Served Serves most old new) × EndsEarly fault served.came

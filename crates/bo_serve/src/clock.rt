@@ -56,7 +56,7 @@ pub struct ClockTicks<'a, O, M: Ledger> {
 }
 
 // The moment of what the clock shows.
-fn moment_shown(shown: io::Result<Duration>) -> Option<Moment>
+pub(crate) fn moment_shown(shown: io::Result<Duration>) -> Option<Moment>
     ensures { result ≡ moment_shown shown }
 {
     match shown {

@@ -1,14 +1,19 @@
-//! Callers over the network: each is answered from the desk as the one before it left it.
+//! Callers over the network: many of them at once, in one thread, at one desk.
 #![tactic(auto)]
 
-mod caller;
 pub mod clock;
-pub mod laws;
+mod door;
+mod house;
 pub mod listening;
+pub mod log;
+pub mod noted;
+mod parting;
 pub mod serving;
-pub mod visit;
+mod times;
 
+pub use bo_callers::laws;
 pub use clock::{ClockTicks, System, read_tick};
 pub use listening::serve_at;
+pub use log::Log;
+pub use noted::{Attended, Noted};
 pub use serving::serve_callers;
-pub use visit::answer;

@@ -7,11 +7,13 @@ ghost use Rattle.bo_serve.specs.Clock.{IsRead};
 ghost use Rattle.bo_serve.specs.Visits.{AnswersCallers, between, most_of};
 
 use crate::clock::{ClockTicks, System};
+use crate::log::Log;
+use crate::noted::Attended;
 use crate::serving::serve_callers;
 use bo_base::Steps;
 use bo_connection::Desk;
 use bo_devices::Drain;
-use bo_line::{Place, RunFault, said, say};
+use bo_line::{Console, Place, RunFault, said, say};
 use std::alloc::Global;
 use std::marker::Brand;
 use std::net::{Net, TcpListener, TcpStream};
@@ -19,10 +21,11 @@ use std::sync::ledger::{Blank, Ledger};
 use std::time::Clock;
 
 // Answers the callers of a listener by the system's clock, with a ledger for the failures of its ticks.
-fn serve_listener<M: Ledger, R: Clock + System, D: Desk>(
+fn serve_listener<M: Ledger, R: Net + Clock + System + Console, D: Desk + Attended>(
     rt: &R,
     alloc: Global,
-    listener: &TcpListener,
+    log: &Log<'_, R>,
+    listener: TcpListener,
     connections: u64,
     desk: &mut D,
     blank: Blank,
@@ -32,17 +35,24 @@ fn serve_listener<M: Ledger, R: Clock + System, D: Desk>(
 {
     let failures = Steps::<M>::new(blank);
     let mut ticks = ClockTicks::<R, M> { rt, failures };
-    serve_callers(alloc, rt, listener, connections, &mut ticks, desk)
+    serve_callers(alloc, rt, log, listener, connections, &mut ticks, desk)
 }
 
-/// Listens at an address, says so, and answers the callers that come, one after another, by the system's clock and its draws. Faults: 81
+/// Listens at an address, says so, and answers the callers that come, many of them at once, by the system's clock and its draws. Faults: 81
 /// where the address can't be listened at, and then nothing is said; 83 where that couldn't be said, and then nobody is answered; 81 and 6
 /// as `serve_callers`.
 pub fn serve_at<
-    R: Net<Listener = TcpListener, Stream = TcpStream> + Clock + System,
-    D: Desk,
+    R: Net<Listener = TcpListener, Stream = TcpStream> + Clock + System + Console,
+    D: Desk + Attended,
     W: Drain,
->(rt: &R, alloc: Global, place: &Place<'_>, desk: &mut D, writer: &mut W) -> Result<(), RunFault>
+>(
+    rt: &R,
+    alloc: Global,
+    log: &Log<'_, R>,
+    place: &Place<'_>,
+    desk: &mut D,
+    writer: &mut W,
+) -> Result<(), RunFault>
     ensures said { TellsListening place.now.text.now (record { taken = W.taken writer.old; failures = W.failures writer.old }) (record { taken = W.taken writer.new; failures = W.failures writer.new }) result }
     ensures leads { AnswersCallers (AtTick (IsRead R.shows R.gives) D.serves) (most_of place.now.connections) (between None desk.old) (between None desk.new) result }
 {
@@ -53,7 +63,8 @@ pub fn serve_at<
         Ok(()) => serve_listener::<Brand, R, D>(
             rt,
             alloc,
-            &listener,
+            log,
+            listener,
             place.connections,
             desk,
             Blank::new(1),

@@ -1,6 +1,6 @@
 //! The callers of a house, each at its place.
 
-ghost use Rattle.std.specs.Prelude.{◌≡◌, ℕ, ◌<◌, ◌≤◌, None, length, replicate, IfOk, IfSome, IfNone, OnOk, OnErr};
+ghost use Rattle.std.specs.Prelude.{◌≡◌, ℕ, ◌<◌, ◌≤◌, None, length, option_map, replicate, IfOk, IfSome, IfNone, OnOk, OnErr};
 ghost use Rattle.bo_connection.specs.Run.{AtTick};
 ghost use Rattle.bo_turns.specs.Acts.{between};
 ghost use Rattle.bo_turns.specs.Talks.{begun};
@@ -85,6 +85,16 @@ impl<E: Ends> Hall<E> {
             return None;
         }
         find_free(&self.places)
+    }
+
+    /// The number of whoever is at a place.
+    pub fn number(&self, place: usize) -> Option<u64>
+        ensures { result ≡ option_map (λ c. c.number) (at_place place self.now) }
+    {
+        match self.places.get(place) {
+            Some(found) => found.number(),
+            None => None,
+        }
     }
 
     /// What whoever is at a place needs for the next turn.

@@ -1,6 +1,6 @@
 //! A place for a caller.
 
-ghost use Rattle.std.specs.Prelude.{◌≡◌, ◌<◌, ◌≤◌, [], None, Some, length, is_none, IfOk, OnOk, OnErr};
+ghost use Rattle.std.specs.Prelude.{◌≡◌, ◌<◌, ◌≤◌, [], None, Some, length, is_none, option_map, IfOk, OnOk, OnErr};
 ghost use Rattle.bo_connection.specs.Run.{AtTick};
 ghost use Rattle.bo_turns.specs.Acts.{between};
 ghost use Rattle.bo_turns.specs.Talks.{begun};
@@ -63,6 +63,16 @@ impl<E: Ends> Place<E> {
         ensures { result ≡ is_none self.now }
     {
         self.talk.is_none()
+    }
+
+    /// The number of whoever is here.
+    pub fn number(&self) -> Option<u64>
+        ensures { result ≡ option_map (λ c. c.number) self.now }
+    {
+        match &self.talk {
+            Some(_) => Some(self.number),
+            None => None,
+        }
     }
 
     /// What whoever is here needs for the next turn.

@@ -18,6 +18,9 @@ use std::marker::Model;
 use std::mem;
 use std::sync::ledger::Ledger;
 
+/// The most bytes of room that a conversation keeps between two answers.
+const KEPT: usize = 65536;
+
 /// A conversation over the two directions of a connection: the bytes that came and weren't taken yet, and the answer of which a part may not
 /// be sent yet.
 #[derive(Drop)]
@@ -90,10 +93,13 @@ impl<E: Ends> Talk<E> {
         }
     }
 
-    // Sends what is left of the answer, as far as it is taken.
+    // Sends what is left of the answer, as far as it is taken. Where nothing is left it writes nothing.
     fn send(&mut self) -> Result<(), Refused>
         ensures { Sends self.old self.new }
     {
+        if self.at == self.answer.len() {
+            return Ok(());
+        }
         match self.ends.write(&self.answer[self.at..]) {
             Ok(n) => {
                 self.at += n;
@@ -221,6 +227,16 @@ impl<E: Ends> Talk<E> {
         self.send()
     }
 
+    // Gives back the room of a large answer that was sent whole.
+    fn give_back(&mut self, alloc: Global)
+        ensures { self.new ≡ self.old }
+    {
+        if self.at == self.answer.len() && self.answer.capacity() > KEPT {
+            self.answer = Vec::new(alloc);
+            self.at = 0;
+        }
+    }
+
     // Waits for what it needs.
     fn wait(&mut self) -> Result<(), Refused>
         ensures { self.new ≡ self.old }
@@ -250,7 +266,10 @@ impl<E: Ends> Talk<E> {
         ensures piece { length piece.new ≡ length piece.old }
     {
         match self.go_on(alloc, piece, page, ticks, desk) {
-            Ok(()) => self.wait(),
+            Ok(()) => {
+                self.give_back(alloc);
+                self.wait()
+            }
             Err(refused) => Err(refused),
         }
     }

@@ -2,8 +2,8 @@
 """Writes the case files under data/ and the file stdout, from the texts of the requests and of their answers.
 
 A case file begins with a line of moments, one for each request, with a space between two. The rest are the bytes of the
-stream. What stdout has of a case is its name, how it ends, and the bytes that are written. Behind the cases stand what clocks.py, files.py
-and trials.py have, and `exports.txt` and `devices.txt`, which are written by hand: what comes of exports, and of command lines and devices
+stream. What stdout has of a case is its name, how it ends, and the bytes that are written. Behind the cases stand what clocks.py, together.py,
+files.py and trials.py have, and `exports.txt` and `devices.txt`, which are written by hand: what comes of exports, and of command lines and devices
 that fail.
 
 Nothing here comes from the program: the answers are written out, or built from a status, a body and the form of a head.
@@ -22,6 +22,7 @@ import edges  # noqa: F401
 import waiting  # noqa: F401
 import doors  # noqa: F401
 import keys  # noqa: F401
+import together  # noqa: F401
 import clocks
 import files
 import trials
@@ -41,9 +42,9 @@ def main():
         told = "".join(told for _, _, told in exchanges)
         out.append(f"== {name}: {ending}\n{told}\n")
     (data / "names").write_text("".join(f"{name}\n" for name, _, _ in cases))
-    for name, text in [*files.data().items(), *trials.data().items()]:
+    for name, text in [*together.data().items(), *files.data().items(), *trials.data().items()]:
         (data / name).write_bytes(text.encode())
-    out += [clocks.output(), files.output(), trials.output()]
+    out += [clocks.output(), together.output(), files.output(), trials.output()]
     exports = b"== positions_are_exported: none, three orders of two, and to a writer that fails\n" + (HERE / "cases" / "exports.txt").read_bytes()
     devices = b"== devices_that_fail: each in turn, and lines\n" + (HERE / "cases" / "devices.txt").read_bytes()
     (HERE / "stdout").write_bytes("".join(out).encode() + exports + devices)

@@ -45,8 +45,8 @@ impl Answers for Fresh {
     }
 }
 
-// The moments that the first line of a case lists, and how many of them stand before a bar: these were told before.
-fn moments(alloc: Global, line: &str) -> anyhow::Result<(Vec<Moment>, usize)> {
+/// The moments that the first line of a case lists, and how many of them stand before a bar: these were told before.
+pub(crate) fn moments(alloc: Global, line: &str) -> anyhow::Result<(Vec<Moment>, usize)> {
     let mut moments = Vec::new(alloc);
     let mut told = 0;
     for word in line.split(' ') {

@@ -1,8 +1,9 @@
 //! The worked cases: each stream of requests under `data/` is answered by a box office of its own, once in one piece and once
-//! byte by byte. Printed are its name, how it ends, and what is written. Behind them stands what is read of clocks, shops whose files are in
-//! memory (`cases/files.py`): closed and opened, damaged, imported into and reported on, and stopped or refused at each of their calls
-//! (`cases/trials.py`); order positions that are exported (`cases/exports.txt`); and what comes of command lines, one of them over devices
-//! that fail (`cases/devices.txt`): all in the same program, since a second one would have to read all libraries again.
+//! byte by byte. Printed are its name, how it ends, and what is written. Behind them stands what is read of clocks; what callers are told who are
+//! there at once (`cases/together.py`); shops whose files are in memory (`cases/files.py`): closed and opened, damaged, imported into and
+//! reported on, and stopped or refused at each of their calls (`cases/trials.py`); order positions that are exported (`cases/exports.txt`); and
+//! what comes of command lines, one of them over devices that fail (`cases/devices.txt`): all in the same program, since a second one would have
+//! to read all libraries again.
 //!
 //! A case file begins with a line of moments, one for each whole request, with a space between two. What follows are the
 //! bytes of the stream. `data/names` has the names of the cases, one a line. `cases/write.py` writes them, and `stdout`, from the
@@ -21,6 +22,7 @@ mod files;
 mod lines;
 mod listed;
 mod shop;
+mod together;
 mod tried;
 
 use crate::case::answered;
@@ -28,6 +30,7 @@ use crate::clock::show_clocks;
 use crate::devices::show_devices;
 use crate::exports::show_exports;
 use crate::files::show_files;
+use crate::together::show_together;
 use std::fs;
 
 // Answers each case, and prints what is written.
@@ -53,6 +56,8 @@ fn main(rt: HostRuntime) -> anyhow::Result<()> {
     show_cases(&rt)?;
     println!(rt; "== clocks_of_a_system: what is read of each")?;
     show_clocks(&rt)?;
+    println!(rt; "== callers_at_once: two over memory, in every interleaving of what they do")?;
+    show_together(&rt)?;
     show_files(&rt)?;
     println!(rt;
         "== positions_are_exported: none, three orders of two, and to a writer that fails"

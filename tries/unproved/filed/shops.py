@@ -11,7 +11,7 @@ TOP = os.path.dirname(os.path.dirname(os.path.dirname(os.path.dirname(os.path.ab
 sys.path[:0] = [f"{TOP}/bin", f"{TOP}/crates/worked/cases"]
 import unproved
 from forms import *
-import first_path, catalogue, vouchers, orders, bulk, limits, edges, waiting, doors, keys  # noqa: E401, F401 (they list their cases)
+import first_path, catalogue, vouchers, orders, bulk, limits, edges, waiting, doors, keys, together  # noqa: E401, F401 (they list their cases)
 from files import TILL, some_rows, two_orders
 from keys import LAST_SECOND, NEXT_DAY, keyed
 from orders import ONE, order_row, position_row

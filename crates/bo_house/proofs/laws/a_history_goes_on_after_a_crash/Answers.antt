@@ -2,7 +2,9 @@ use Rattle.std.proofs.Common.{◌∷◌, [], None, refl, ap, subst}
 use Rattle.bo_deliveries.specs.Histories.{Crashed, MayLeave, Running, opened}
 use Rattle.bo_deliveries.proofs.Crashes.{happens_on}
 use Rattle.bo_desk.specs.Streams.{words_of}
-use Rattle.bo_serve.specs.Visits.{Between, between}
+use Rattle.bo_turns.specs.Acts.{Between, between}
+use Rattle.bo_turns.specs.Halls.{story}
+use Rattle.bo_house.proofs.ServeLemmas.{nobody_came}
 use Rattle.bo_house.specs.Evening.{over}
 use Rattle.bo_house.proofs.laws.a_history_goes_on_after_a_crash.Goals as goal
 
@@ -10,7 +12,7 @@ use Rattle.bo_house.proofs.laws.a_history_goes_on_after_a_crash.Goals as goal
 pub returns : goal.returns
 returns g c = λ house begun r es before after on again.
     let x =
-    c.callers_go_on_after_a_crash.ensures.goes_on house r 0 (between None (over c.args.last.now before)) None before.organizer before.event before.state
-    refl on.of on.running again.found after.organizer after.event after.state again.opens again.clean in
-    let may = subst (λ (q : Running). MayLeave (words_of house) q x.1) (ap (λ (b : Between Running). b.desk) x.2) x.3 in
+    c.callers_go_on_after_a_crash.ensures.goes_on house r 0 (story [] [] []) (between None (over c.args.last.now before)) None before.organizer before.event before.state
+    (nobody_came _ (between None (over c.args.last.now before))) on.of on.running again.found after.organizer after.event after.state again.opens again.clean in
+    let may = subst (λ (q : Running). MayLeave (words_of house) q x.1) x.2.acted x.3 in
     (x.1, record { of = x.4; happened = happens_on (words_of house) begun es (Crashed ∷ []) r (opened (words_of house) x.1) on.happened (x.1, may, refl); running = x.5 })

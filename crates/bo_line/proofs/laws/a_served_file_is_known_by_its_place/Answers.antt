@@ -1,4 +1,4 @@
-use Rattle.bo_line.proofs.LineLaws.{no_listen, serves_shop, serves_so_many, signed_connections}
+use Rattle.bo_line.proofs.LineLaws.{no_listen, serves_and_logs, serves_shop, serves_so_many, signed_connections}
 use Rattle.bo_line.proofs.laws.a_served_file_is_known_by_its_place.Goals as goal
 
 pub returns-clause-served : goal.returns-clause-served
@@ -6,6 +6,9 @@ returns-clause-served c = serves_shop
 
 pub returns-clause-counted : goal.returns-clause-counted
 returns-clause-counted c = serves_so_many
+
+pub returns-clause-logged : goal.returns-clause-logged
+returns-clause-logged c = serves_and_logs
 
 pub returns-clause-signed : goal.returns-clause-signed
 returns-clause-signed c = signed_connections

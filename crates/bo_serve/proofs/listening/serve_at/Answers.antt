@@ -1,13 +1,16 @@
-use Rattle.std.proofs.Common.{inr, refl, Ok, Err, arith}
+use Rattle.std.proofs.Common.{inl, inr, refl, Ok, Err}
+use Rattle.bo_connection.specs.Run.{AtTick}
 use Rattle.bo_http.specs.Written.{Page}
 use Rattle.bo_line.proofs.SayLemmas.{says_listening}
+use Rattle.bo_serve.specs.Clock.{IsRead}
+use Rattle.bo_serve.proofs.VisitLemmas.{answers_none, answers_unsaid}
 use Rattle.bo_serve.proofs.listening.serve_at.Goals as goal
 
 pub returns-in_default-clause-said : goal.returns-in_default-clause-said
 returns-in_default-clause-said g c = inr (refl, (_, refl))
 
 pub returns-in_default-clause-leads : goal.returns-in_default-clause-leads
-returns-in_default-clause-leads g c = (0, omega arith, tt, refl)
+returns-in_default-clause-leads g c = answers_none (AtTick (IsRead g.R.System.shows g.R.System.gives) g.D.Desk.serves) _ _ _ _ refl (inl refl)
 
 pub returns-in-Ok-say-clause-said : goal.returns-in-Ok-say-clause-said
 returns-in-Ok-say-clause-said g c =
@@ -15,11 +18,11 @@ returns-in-Ok-say-clause-said g c =
     let new : Page = record { taken = g.W.Drain.taken c.say.new.writer; failures = g.W.Drain.failures c.say.new.writer } in
     says_listening _ _ old new (Ok c.in-Ok-say.field-0) _ c.as_bytes.ensures.value c.in-Ok-say.ensures tt
 
-pub returns-clause-said : goal.returns-clause-said
-returns-clause-said g c =
+pub returns-in-Err-clause-said : goal.returns-in-Err-clause-said
+returns-in-Err-clause-said g c =
     let old : Page = record { taken = g.W.Drain.taken c.args.writer.now; failures = g.W.Drain.failures c.args.writer.now } in
     let new : Page = record { taken = g.W.Drain.taken c.say.new.writer; failures = g.W.Drain.failures c.say.new.writer } in
     says_listening _ _ old new (Err c.in-Err.refused) _ c.as_bytes.ensures.value c.in-Err.ensures c.said.ensures
 
-pub returns-clause-leads : goal.returns-clause-leads
-returns-clause-leads g c = rw c.said.ensures (0, omega arith, refl, refl)
+pub returns-in-Err-clause-leads : goal.returns-in-Err-clause-leads
+returns-in-Err-clause-leads g c = rw c.said.ensures (answers_unsaid (AtTick (IsRead g.R.System.shows g.R.System.gives) g.D.Desk.serves) _ _ _ refl)

@@ -1,27 +1,28 @@
-use Rattle.std.proofs.Common.{◌+◌, ℕ, refl, sym, subst, add-one, arith}
+use Rattle.std.proofs.Common.{arith, inl, refl, subst, ◌≤◌}
 use Rattle.bo_connection.specs.Run.{AtTick}
-use Rattle.bo_serve.specs.Visits.{EndsEarly, Visits, between}
+use Rattle.bo_turns.specs.Acts.{between}
+use Rattle.bo_turns.specs.Halls.{Callers}
+use Rattle.bo_serve.specs.Visits.{Happened, RoundsEnd, most_of}
+use Rattle.bo_serve.proofs.VisitLemmas.{answers_all, answers_none}
 use Rattle.bo_serve.proofs.serving.serve_callers.Goals as goal
 
+pub returns-in-Ok-open : goal.returns-in-Ok-open
+returns-in-Ok-open g c =
+    let S = AtTick g.T.Ticks.reads g.D.Desk.serves in
+    let from = between (g.T.Ticks.told c.args.ticks.now) c.args.desk.now in
+    let to = between (g.T.Ticks.told c.serve_with.new.ticks) c.serve_with.new.desk in
+    let hall = c.serve_with.new.house.hall in
+    let count = rw (c.in-Ok-open.ensures.hall, c.in-Ok-open.ensures.left) at c.serve_with.ensures.count in
+    answers_all S from to 128 (most_of c.args.connections) hall c.serve_with.result
+    (omega (arith, count))
+    (subst (λ (h : Callers). Happened S from to h hall) c.in-Ok-open.ensures.hall c.serve_with.ensures.hall)
+    (subst (λ (h : Callers). RoundsEnd c.serve_with.result h hall) c.in-Ok-open.ensures.hall c.serve_with.ensures.ends)
+
+pub returns : goal.returns
+returns g c = answers_none (AtTick g.T.Ticks.reads g.D.Desk.serves) _ _ _ _ refl c.in-Err.ensures.ends
+
 pub returns-in_default : goal.returns-in_default
-returns-in_default g c = (0, omega arith, refl, refl)
+returns-in_default g c = answers_none (AtTick g.T.Ticks.reads g.D.Desk.serves) _ _ _ _ refl (inl refl)
 
-pub loop-turn-init : goal.loop-turn-init
-loop-turn-init g c = refl
-
-pub loop-turn-preserved : goal.loop-turn-preserved
-loop-turn-preserved g c =
-    let first = between (g.T.Ticks.told c.args.ticks.now) c.args.desk.now in
-    let last = between (g.T.Ticks.told c.serve_next.new.ticks) c.serve_next.new.desk in
-    subst (λ (n : ℕ). Visits (AtTick g.T.Ticks.reads g.D.Desk.serves) n first last) (sym (add-one c.loop-turn.turn)) (_, c.loop-turn.invariant, c.serve_next.ensures.comes)
-
-pub returns-in-Err : goal.returns-in-Err
-returns-in-Err g c =
-    let first = between (g.T.Ticks.told c.args.ticks.now) c.args.desk.now in
-    let last = between (g.T.Ticks.told c.serve_next.new.ticks) c.serve_next.new.desk in
-    let n = c.loop-turn.turn + 1 in (
-      n,
-      omega (arith, c.loop-turn-test.true, c.most_of-turn-end.ensures),
-      subst (λ f. EndsEarly f n) (sym c.in-Err.ensures.ends) tt,
-      subst (λ (m : ℕ). Visits (AtTick g.T.Ticks.reads g.D.Desk.serves) m first last) (sym (add-one c.loop-turn.turn)) (_, c.loop-turn.invariant, c.in-Err.ensures.comes),
-    )
+pub returns-in_default-try_clone : goal.returns-in_default-try_clone
+returns-in_default-try_clone g c = answers_none (AtTick g.T.Ticks.reads g.D.Desk.serves) _ _ _ _ refl (inl refl)

@@ -1,0 +1,124 @@
+//! Connections that ended, of which what still comes is read away.
+
+ghost use Rattle.std.specs.Prelude.{◌≡◌, length};
+
+use mio::net::TcpStream;
+use mio::{Interest, Registry, Token};
+use std::alloc::{AllocError, Global};
+use std::io;
+use std::io::{ErrorKind, Read};
+use std::net::Shutdown;
+
+/// How long that takes at most, in milliseconds.
+const AWAY: u64 = 5_000;
+
+/// How many bytes are read away at most.
+const MOST: usize = 4_194_304;
+
+/// A connection that ended: nothing more is written to it, and what still comes is read away. Where it remained unread the system would break the
+/// connection off, and the caller could lose the answer that was written last.
+#[derive(Drop)]
+struct Parting {
+    stream: TcpStream,
+    since: u64,
+    read: usize,
+}
+
+/// Connections that ended, each at a place.
+#[derive(Drop)]
+pub(crate) struct Partings {
+    places: Vec<Option<Parting>>,
+}
+
+// Has nothing more be written to a stream, and waits for what it brings.
+fn part(mut stream: TcpStream, registry: &Registry, token: Token, now: u64) -> io::Result<Parting> {
+    stream.shutdown(Shutdown::Write)?;
+    registry.reregister(&mut stream, token, Interest::READABLE)?;
+    Ok(Parting {
+        stream,
+        since: now,
+        read: 0,
+    })
+}
+
+// Reads once what it brings, and waits for more. Whether more may come.
+fn read_away(
+    parting: &mut Parting,
+    registry: &Registry,
+    token: Token,
+    piece: &mut [u8],
+) -> io::Result<bool>
+    ensures { length piece.new ≡ length piece.old }
+{
+    match parting.stream.read(piece) {
+        Ok(0) => return Ok(false),
+        Ok(n) => parting.read = parting.read.saturating_add(n),
+        Err(error) => match error.kind() {
+            ErrorKind::WouldBlock | ErrorKind::Interrupted => {}
+            _ => return Ok(false),
+        },
+    }
+    if parting.read >= MOST {
+        return Ok(false);
+    }
+    registry.reregister(&mut parting.stream, token, Interest::READABLE)?;
+    Ok(true)
+}
+
+impl Partings {
+    /// So many places, and no connection at any.
+    pub(crate) fn new(alloc: Global, count: usize) -> Result<Partings, AllocError> {
+        let mut places = Vec::new(alloc);
+        for _ in 0..count {
+            places.push(None)?;
+        }
+        Ok(Partings { places })
+    }
+
+    /// Whether no connection is there.
+    pub(crate) fn is_empty(&self) -> bool {
+        self.places.iter().all(|it| it.is_none())
+    }
+
+    // The first place that is free, or else the first one.
+    fn place(&self) -> usize {
+        self.places.iter().position(|it| it.is_none()).unwrap_or(0)
+    }
+
+    /// A connection ends. Its events come under its place, behind so many others.
+    pub(crate) fn add(&mut self, stream: TcpStream, registry: &Registry, behind: usize, now: u64) {
+        let place = self.place();
+        let token = Token(behind.saturating_add(place));
+        if let Some(found) = self.places.get_mut(place) {
+            *found = part(stream, registry, token, now).ok();
+        }
+    }
+
+    /// An event of the connection at a place.
+    pub(crate) fn hear(&mut self, place: usize, registry: &Registry, token: Token, piece: &mut [u8])
+        ensures { length piece.new ≡ length piece.old }
+    {
+        let Some(found) = self.places.get_mut(place) else {
+            return;
+        };
+        let Some(mut parting) = found.take() else {
+            return;
+        };
+        if read_away(&mut parting, registry, token, piece).unwrap_or(false) {
+            *found = Some(parting);
+        }
+    }
+
+    /// Closes those whose time is up.
+    pub(crate) fn close_late(&mut self, now: u64) {
+        for found in self.places.iter_mut() {
+            let is_late = match found {
+                Some(parting) => now.saturating_sub(parting.since) >= AWAY,
+                None => false,
+            };
+            if is_late {
+                *found = None;
+            }
+        }
+    }
+}

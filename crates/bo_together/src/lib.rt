@@ -1,0 +1,16 @@
+//! What callers are told who are there at once, over memory, in every order of what two of them do. Who answers them is up to whoever asks.
+#![tactic(auto)]
+
+pub mod error;
+mod floor;
+mod merges;
+mod outcomes;
+mod party;
+mod serving;
+mod told;
+mod words;
+
+pub use bo_turns::Next;
+pub use error::TogetherError;
+pub use party::Party;
+pub use told::{Houses, together_told};

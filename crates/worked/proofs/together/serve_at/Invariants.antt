@@ -1,0 +1,4 @@
+use Rattle.worked.proofs.together.serve_at.Given as goal
+
+abbrev pub ghosts-serve_with : goal.ghosts-serve_with
+ghosts-serve_with g a = record { name = a.blank.name; parts = a.blank.parts }

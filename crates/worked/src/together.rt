@@ -1,0 +1,97 @@
+//! Callers who are there at once, over memory, in every order of what two of them do.
+
+ghost use Rattle.std.specs.Prelude.{◌≡◌, ◌<◌};
+
+use crate::case::moments;
+use crate::listed::Listed;
+use bo_base::{Moment, Steps};
+use bo_connection::Desk;
+use bo_desk::{Office, ShopDesk};
+use bo_dues::Dues;
+use bo_feed::open_memory;
+use bo_kept::Tables;
+use bo_together::{Houses, Next, Party, TogetherError, together_told};
+use std::alloc::Global;
+use std::fs;
+use std::marker::Brand;
+use std::sync::ledger::{Blank, Ledger};
+
+/// What makes a shop in SQLite's memory, each time anew.
+#[derive(Clone, Copy)]
+struct NewShops;
+
+// What callers are told at a desk, with a ledger for the failures of the clock.
+fn serve_with<M: Ledger, K: Desk>(
+    alloc: Global,
+    party: &Party<'_>,
+    order: &[Next],
+    moments: &[Moment],
+    desk: &mut K,
+    blank: Blank,
+) -> Result<Vec<Vec<u8>>, TogetherError>
+    requires { (blank.name ≡ M.name) × (blank.parts ≡ M.parts) × (0 < M.parts) }
+{
+    let mut ticks = Listed {
+        moments,
+        told: 0,
+        failures: Steps::<M>::new(blank),
+    };
+    party.serve(alloc, order, &mut ticks, desk)
+}
+
+// What callers are told at a desk.
+fn serve_at<K: Desk>(
+    alloc: Global,
+    party: &Party<'_>,
+    order: &[Next],
+    desk: &mut K,
+) -> Result<Vec<Vec<u8>>, TogetherError> {
+    let Ok((moments, _)) = moments(alloc, party.moments()) else {
+        return Err(TogetherError::Unread);
+    };
+    serve_with::<Brand, K>(alloc, party, order, moments.as_slice(), desk, Blank::new(1))
+}
+
+// What callers are told by the shop of an office, over the tables that were opened with it.
+fn serve_shop<T: Tables + Drop, B: Dues + Drop>(
+    alloc: Global,
+    party: &Party<'_>,
+    order: &[Next],
+    opened: (T, Office<B>),
+) -> Result<Vec<Vec<u8>>, TogetherError> {
+    let (tables, office) = opened;
+    let mut desk = ShopDesk::over(alloc, tables, office)?;
+    serve_at(alloc, party, order, &mut desk)
+}
+
+impl Houses for NewShops {
+    fn serve(
+        &self,
+        alloc: Global,
+        party: &Party<'_>,
+        order: &[Next],
+    ) -> Result<Vec<Vec<u8>>, TogetherError> {
+        match open_memory(alloc) {
+            Ok(opened) => serve_shop(alloc, party, order, opened),
+            Err(_) => Err(TogetherError::Memory),
+        }
+    }
+}
+
+// Prints what comes of some callers.
+fn show(rt: &HostRuntime, name: &str) -> anyhow::Result<()> {
+    let path = format!(in rt.alloc(); "{name}.together")?;
+    let text = fs::read_to_string(rt, path.as_str())?;
+    let told = together_told(rt.alloc(), &NewShops, name, text.as_str())?;
+    rt.write_all(told.as_slice())?;
+    Ok(())
+}
+
+/// Prints what comes of the callers of each file whose name a file lists.
+pub(crate) fn show_together(rt: &HostRuntime) -> anyhow::Result<()> {
+    let names = fs::read_to_string(rt, "together")?;
+    for name in names.lines() {
+        show(rt, name)?;
+    }
+    Ok(())
+}
