@@ -1,36 +1,31 @@
 //! A book that keeps counters.
 
-ghost use Rattle.std.specs.Prelude.{◌≡◌, ◌≤◌, ◌<◌, ◌+◌, map, reverse, Some, OnOk, IsTrue, ◌↔◌, true};
-ghost use Rattle.std.specs.Bool.{Decides};
+ghost use Rattle.std.specs.Prelude.{◌≡◌, ◌≤◌, ◌+◌, [], Some, OnOk, IsTrue, ◌↔◌, true};
+ghost use Rattle.std.specs.List.{list_all};
 ghost use Rattle.bo_catalogue.specs.CatalogueLists.{quota_at};
 ghost use Rattle.bo_lists.specs.Lists.{empty};
 ghost use Rattle.bo_lists.specs.Headroom.{held};
 ghost use Rattle.bo_lists.specs.Usage.{redeemed, usage_of};
-ghost use Rattle.bo_lists.specs.Change.{after_change, after_all, applied};
-ghost use Rattle.bo_lists.specs.Weight.{change_weight, weight};
-ghost use Rattle.bo_catalogue.specs.Member.{quota_weight};
+ghost use Rattle.bo_lists.specs.Change.{applied};
+ghost use Rattle.bo_lists.specs.Weight.{weight};
 ghost use Rattle.bo_lists.specs.CameDue.{came_due, naming_due};
+ghost use Rattle.bo_lists.specs.CountRows.{counts_after};
+ghost use Rattle.bo_settle.specs.Spared.{spares_used};
 
 use bo_base::{Moment, Steps};
-use bo_catalogue::{Item, Quota, Variation};
-use bo_lists::{
-    CartPos, Change, Changes, Checkin, CheckinList, NextIds, Order, OrderPos, Usage, Voucher,
-    Waiting,
-};
-use bo_shifts::blocking::shift_voucher;
-use bo_shifts::carts::shift_cart;
-use bo_shifts::holds::{held_by, hold_at, hold_drop, hold_put};
-use bo_shifts::passing::count_at;
-use bo_shifts::shift::{forget, keep};
-use bo_shifts::turns::{count_order, count_position, redeemed_in, vouchers};
+use bo_catalogue::Quota;
+use bo_lists::{Changes, CountRows, NextIds, Usage};
+use bo_settle::again::count_again;
+use bo_settle::settle::settle;
+use bo_settle::spared::spare_used;
+use bo_shifts::holds::held_by;
+use bo_shifts::turns::redeemed_in;
 use bo_shifts::usage_later::later;
-use bo_shifts::waiting::shift_waiting;
 use bo_sorted::place_of;
 use bo_store::{Ended, Store};
-use bo_usage::LookUps;
 use std::alloc::{AllocError, Global};
-use std::marker::{Brand, Model};
-use std::sync::ledger::{Blank, Ledger};
+use std::marker::Model;
+use std::sync::ledger::Ledger;
 
 /// A book that keeps the usage of each quota at its moment, how often each voucher is redeemed, and how many live cart
 /// positions name it.
@@ -112,290 +107,90 @@ impl Counters {
 }
 
 impl Counters {
-    /// Puts a cart position in the place of its id.
-    fn put_cart(&mut self, row: CartPos)
-        requires { 1 ≤ self.old.room }
-        ensures lists { self.new.state ≡ record self.old.state { lists = after_change (Change.PutCart row) self.old.state.lists } }
-        ensures room { self.old.room ≤ self.new.room + 1 }
+    // Whether there are no changes, and no time passes.
+    fn is_still(&self, changes: &Changes, at: Moment) -> bool
+        ensures none { result ≡ true → changes.now.list ≡ [] }
+        ensures moment { result ≡ true → at ≤ self.now.state.moment }
     {
-        self.store.known();
-        shift_cart(
-            &self.store,
-            &mut self.usages,
-            self.store.moment(),
-            Some(&row),
-            self.store.cart(row.id),
-        );
-        hold_put(&self.store, &mut self.holds, &row);
-        self.store.apply_one(Change::PutCart(row));
-    }
-}
-
-impl Counters {
-    /// Removes the cart position of an id, if there is one.
-    fn drop_cart(&mut self, id: u64)
-        requires { 1 ≤ self.old.room }
-        ensures lists { self.new.state ≡ record self.old.state { lists = after_change (Change.DropCart id) self.old.state.lists } }
-        ensures room { self.old.room ≤ self.new.room + 1 }
-    {
-        self.store.known();
-        shift_cart(
-            &self.store,
-            &mut self.usages,
-            self.store.moment(),
-            None,
-            self.store.cart(id),
-        );
-        hold_drop(&self.store, &mut self.holds, id);
-        self.store.apply_one(Change::DropCart(id));
+        changes.as_slice().is_empty() && !self.store.moment().is_before(at)
     }
 
-    /// Puts a waiting entry in the place of its id.
-    fn put_waiting(&mut self, row: Waiting)
-        requires { 1 ≤ self.old.room }
-        ensures lists { self.new.state ≡ record self.old.state { lists = after_change (Change.PutWaiting row) self.old.state.lists } }
-        ensures room { self.old.room ≤ self.new.room + 1 }
+    // Sets the ids that new rows get, where no row changes and no time passes.
+    fn put_next(&mut self, next: NextIds, at: Moment)
+        requires { self.old.state.moment ≡ at }
+        ensures { self.new.state ≡ record { lists = self.old.state.lists; next = next; moment = at } }
     {
-        self.store.known();
-        shift_waiting(
-            &self.store,
-            &mut self.usages,
-            Some(&row),
-            self.store.entry(row.id),
-        );
-        self.store.apply_one(Change::PutWaiting(row));
-    }
-
-    /// Removes the waiting entry of an id, if there is one.
-    fn drop_waiting(&mut self, id: u64)
-        requires { 1 ≤ self.old.room }
-        ensures lists { self.new.state ≡ record self.old.state { lists = after_change (Change.DropWaiting id) self.old.state.lists } }
-        ensures room { self.old.room ≤ self.new.room + 1 }
-    {
-        self.store.known();
-        shift_waiting(&self.store, &mut self.usages, None, self.store.entry(id));
-        self.store.apply_one(Change::DropWaiting(id));
-    }
-}
-
-impl Counters {
-    /// Sets the ids that new rows get, and the moment, and counts what that changes.
-    fn pass(&mut self, next: NextIds, at: Moment)
-        requires { self.old.state.moment ≤ at }
-        ensures state { self.new.state ≡ record { lists = self.old.state.lists; next = next; moment = at } }
-        ensures room { self.new.room ≡ self.old.room }
-    {
-        count_at(&self.store, &mut self.usages, &self.redeems, at);
-        hold_at(&self.store, &mut self.holds, at);
         self.store.set(next, at);
     }
 
-    /// Puts a quota in the place of its id.
-    fn put_quota(&mut self, row: Quota)
-        requires { quota_weight row ≤ self.old.room }
-        ensures lists { self.new.state ≡ record self.old.state { lists = after_change (Change.PutQuota row) self.old.state.lists } }
-        ensures room { self.old.room ≤ self.new.room + quota_weight row }
+    // Makes exactly these changes, at a moment, and counts all again.
+    fn count_all(&mut self, changes: Changes, at: Moment)
+        requires { weight changes.list ≤ self.old.room }
+        ensures { self.new.state ≡ applied changes at self.old.state }
     {
-        self.store.known();
-        let catalogue = self.store.catalogue();
-        catalogue.known();
-        let usage = usage_for(&self.store, &self.usages, &row);
-        keep(catalogue.quotas(), &mut self.usages, row.id, usage);
-        self.store.apply_one(Change::PutQuota(row));
-    }
-
-    /// Puts a voucher in the place of its id.
-    fn put_voucher(&mut self, row: Voucher)
-        requires { 1 ≤ self.old.room }
-        ensures lists { self.new.state ≡ record self.old.state { lists = after_change (Change.PutVoucher row) self.old.state.lists } }
-        ensures room { self.old.room ≤ self.new.room + 1 }
-    {
-        self.store.known();
-        let spent = redeemed_in(&self.store, &self.redeems, row.id);
-        let held = held_by(&self.store, &self.holds, row.id, self.store.moment());
-        shift_voucher(
-            &self.store,
+        count_again(
+            &mut self.store,
             &mut self.usages,
-            spent,
-            Some(&row),
-            self.store.voucher(row.id),
+            &mut self.redeems,
+            &mut self.holds,
+            changes,
+            at,
         );
-        keep(vouchers(&self.store), &mut self.redeems, row.id, spent);
-        keep(vouchers(&self.store), &mut self.holds, row.id, held);
-        self.store.apply_one(Change::PutVoucher(row));
     }
 
-    /// Removes the voucher of an id, if there is one.
-    fn drop_voucher(&mut self, id: u64)
-        requires { 1 ≤ self.old.room }
-        ensures lists { self.new.state ≡ record self.old.state { lists = after_change (Change.DropVoucher id) self.old.state.lists } }
-        ensures room { self.old.room ≤ self.new.room + 1 }
-    {
-        self.store.known();
-        let spent = redeemed_in(&self.store, &self.redeems, id);
-        shift_voucher(
-            &self.store,
-            &mut self.usages,
-            spent,
-            None,
-            self.store.voucher(id),
-        );
-        forget(vouchers(&self.store), &mut self.redeems, id);
-        forget(vouchers(&self.store), &mut self.holds, id);
-        self.store.apply_one(Change::DropVoucher(id));
-    }
-}
-
-// What uses a quota that is put: what used it before, unless its products change.
-fn usage_for(store: &Store, usages: &[Usage], quota: &Quota) -> Usage
-    requires { usages.now ≡ map (usage_of store.now.state.lists store.now.state.moment) store.now.state.lists.catalogue.quotas }
-    ensures { result ≡ usage_of store.now.state.lists store.now.state.moment quota.now }
-{
-    let catalogue = store.catalogue();
-    catalogue.known();
-    let quotas = catalogue.quotas();
-    if let Ok(place) = place_of(quotas, quota.id) {
-        if has_same_members(&quotas[place], quota) {
-            return usages[place];
-        }
-    }
-    recount_at(store, store.moment(), quota)
-}
-
-// Whether two quotas have the same products.
-fn has_same_members(a: &Quota, b: &Quota) -> bool
-    ensures items { result ≡ true → a.now.items ≡ b.now.items }
-    ensures variations { result ≡ true → a.now.variations ≡ b.now.variations }
-{
-    are_same(a.items.as_slice(), b.items.as_slice())
-        && are_same(a.variations.as_slice(), b.variations.as_slice())
-}
-
-// Whether these are the same ids.
-fn are_same(a: &[u64], b: &[u64]) -> bool
-    ensures { Decides result (a.now ≡ b.now) }
-{
-    a == b
-}
-
-// What uses a quota, counted afresh.
-fn recount_at(store: &Store, at: Moment, quota: &Quota) -> Usage
-    ensures { result ≡ usage_of store.now.state.lists at quota.now }
-{
-    recount_in::<Brand>(store, at, quota, Blank::new(1))
-}
-
-// The same, in a ledger of steps that nobody reads.
-fn recount_in<L: Ledger>(store: &Store, at: Moment, quota: &Quota, blank: Blank) -> Usage
-    requires name { blank.name ≡ L.name }
-    requires parts { blank.parts ≡ L.parts }
-    requires some { 0 < blank.parts }
-    ensures { result ≡ usage_of store.now.state.lists at quota.now }
-{
-    let mut steps = Steps::<L>::new(blank);
-    store.recount(at, quota, &mut steps)
-}
-
-impl Counters {
-    /// Puts an order position in the place of its id.
-    fn put_position(&mut self, row: OrderPos)
-        requires { 1 ≤ self.old.room }
-        ensures lists { self.new.state ≡ record self.old.state { lists = after_change (Change.PutPosition row) self.old.state.lists } }
-        ensures room { self.old.room ≤ self.new.room + 1 }
-    {
-        count_position(&self.store, &mut self.usages, &mut self.redeems, &row);
-        self.store.apply_one(Change::PutPosition(row));
-    }
-
-    /// Puts an order in the place of its id.
-    fn put_order(&mut self, row: Order)
-        requires { 1 ≤ self.old.room }
-        ensures lists { self.new.state ≡ record self.old.state { lists = after_change (Change.PutOrder row) self.old.state.lists } }
-        ensures room { self.old.room ≤ self.new.room + 1 }
-    {
-        count_order(&self.store, &mut self.usages, &mut self.redeems, &row);
-        self.store.apply_one(Change::PutOrder(row));
-    }
-
-    /// Puts an item in the place of its id.
-    fn put_item(&mut self, row: Item)
-        requires { 1 ≤ self.old.room }
-        ensures lists { self.new.state ≡ record self.old.state { lists = after_change (Change.PutItem row) self.old.state.lists } }
-        ensures room { self.old.room ≤ self.new.room + 1 }
-    {
-        self.store.apply_one(Change::PutItem(row));
-    }
-
-    /// Puts a variation in the place of its id.
-    fn put_variation(&mut self, row: Variation)
-        requires { 1 ≤ self.old.room }
-        ensures lists { self.new.state ≡ record self.old.state { lists = after_change (Change.PutVariation row) self.old.state.lists } }
-        ensures room { self.old.room ≤ self.new.room + 1 }
-    {
-        self.store.apply_one(Change::PutVariation(row));
-    }
-
-    /// Puts a check-in list in the place of its id.
-    fn put_checkin_list(&mut self, row: CheckinList)
-        requires { 1 ≤ self.old.room }
-        ensures lists { self.new.state ≡ record self.old.state { lists = after_change (Change.PutCheckinList row) self.old.state.lists } }
-        ensures room { self.old.room ≤ self.new.room + 1 }
-    {
-        self.store.apply_one(Change::PutCheckinList(row));
-    }
-
-    /// Puts a check-in in the place of its id.
-    fn put_checkin(&mut self, row: Checkin)
-        requires { 1 ≤ self.old.room }
-        ensures lists { self.new.state ≡ record self.old.state { lists = after_change (Change.PutCheckin row) self.old.state.lists } }
-        ensures room { self.old.room ≤ self.new.room + 1 }
-    {
-        self.store.apply_one(Change::PutCheckin(row));
-    }
-
-    /// Makes one change.
-    fn apply_one(&mut self, change: Change)
-        requires { change_weight change ≤ self.old.room }
-        ensures lists { self.new.state ≡ record self.old.state { lists = after_change change self.old.state.lists } }
-        ensures room { self.old.room ≤ self.new.room + change_weight change }
-    {
-        match change {
-            Change::PutItem(row) => self.put_item(row),
-            Change::PutVariation(row) => self.put_variation(row),
-            Change::PutQuota(row) => self.put_quota(row),
-            Change::PutVoucher(row) => self.put_voucher(row),
-            Change::PutCart(row) => self.put_cart(row),
-            Change::PutOrder(row) => self.put_order(row),
-            Change::PutPosition(row) => self.put_position(row),
-            Change::PutWaiting(row) => self.put_waiting(row),
-            Change::DropVoucher(id) => self.drop_voucher(id),
-            Change::DropCart(id) => self.drop_cart(id),
-            Change::DropWaiting(id) => self.drop_waiting(id),
-            Change::PutCheckinList(row) => self.put_checkin_list(row),
-            Change::PutCheckin(row) => self.put_checkin(row),
-        }
-    }
-
-    // Makes these changes in order.
-    fn apply_list(&mut self, mut list: Vec<Change>)
-        requires { weight list.items ≤ self.old.room }
-        ensures { self.new.state ≡ record self.old.state { lists = after_all list.items self.old.state.lists } }
-    {
-        list.reverse();
-        while let Some(change) = list.pop() {
-            self.apply_one(change);
-        }
-    }
-
-    /// Makes exactly these changes, at a moment. Time passes first.
+    /// Makes exactly these changes, at a moment, and counts all again, unless nothing changes. It costs all rows: where the counts that changes
+    /// change are known, `settle_all` takes them over.
     pub fn apply_all(&mut self, changes: Changes, at: Moment)
         requires room { weight changes.list ≤ self.old.room }
         requires moment { self.old.state.moment ≤ at }
         ensures { self.new.state ≡ applied changes at self.old.state }
     {
-        let (list, next) = changes.into_parts();
-        self.pass(next, at);
-        self.apply_list(list);
+        if self.is_still(&changes, at) {
+            self.put_next(changes.next(), at);
+        } else {
+            self.count_all(changes, at);
+        }
+    }
+
+    // Whether these changes drop no voucher that is redeemed.
+    fn spares_used(&self, changes: &Changes) -> bool
+        ensures { result ≡ list_all (spares_used self.now.state.lists) changes.now.list }
+    {
+        spare_used(&self.store, &self.redeems, changes.as_slice())
+    }
+
+    // Makes exactly these changes, at a moment, and puts the counts that they change. Nothing is counted.
+    fn put_counts(&mut self, changes: Changes, counts: &CountRows, at: Moment)
+        requires room { weight changes.list ≤ self.old.room }
+        requires moment { self.old.state.moment ≤ at }
+        requires counts { counts.now ≡ counts_after self.old.state (applied changes at self.old.state) }
+        requires spared { list_all (spares_used self.old.state.lists) changes.list ≡ true }
+        ensures { self.new.state ≡ applied changes at self.old.state }
+    {
+        settle(
+            &mut self.store,
+            &mut self.usages,
+            &mut self.redeems,
+            &mut self.holds,
+            changes,
+            counts,
+            at,
+        );
+    }
+
+    /// Makes exactly these changes, at a moment, where the counts that they change are known. These are put, unless a voucher
+    /// goes that is redeemed: then they are counted again.
+    pub fn settle_all(&mut self, changes: Changes, counts: &CountRows, at: Moment)
+        requires room { weight changes.list ≤ self.old.room }
+        requires moment { self.old.state.moment ≤ at }
+        requires counts { counts.now ≡ counts_after self.old.state (applied changes at self.old.state) }
+        ensures { self.new.state ≡ applied changes at self.old.state }
+    {
+        if self.spares_used(&changes) {
+            self.put_counts(changes, counts, at);
+        } else {
+            self.apply_all(changes, at);
+        }
     }
 
     /// An empty box office: no rows, every next id 1, moment 0.

@@ -3,6 +3,7 @@
 use crate::counters::Counters;
 use bo_base::Moment;
 use bo_dues::Dues;
+use bo_lists::{Changes, CountRows};
 use bo_sorted::ids::sorted;
 use std::alloc::{AllocError, Global};
 
@@ -19,5 +20,9 @@ impl Dues for Counters {
         let from = store.moment();
         let ids = store.vouchers().ending(from.get(), at.get()).to_vec(alloc)?;
         Ok(sorted(ids))
+    }
+
+    fn settle(&mut self, changes: Changes, counts: &CountRows, at: Moment) {
+        self.settle_all(changes, counts, at);
     }
 }

@@ -7,7 +7,6 @@ ghost use Rattle.bo_lists.specs.CountRows.{counts_after};
 ghost use Rattle.bo_counts.specs.Touched.{quotas_by};
 ghost use Rattle.bo_counts.specs.Reached.{reached, AreAsked};
 
-use crate::copies::log_of;
 use crate::sides::Sides;
 use crate::touched::TouchedRows;
 use crate::view::View;
@@ -23,36 +22,50 @@ use std::alloc::{AllocError, Global};
 /// the quotas and vouchers that are new or whose counts differ, and the ids of the vouchers that are gone.
 /// It is refused where there is no memory, and where a count doesn't fit in 64 bits.
 /// Only those quotas are asked that changes put, or that are reached by what they touch or by what came due.
+/// The changes are given back: none of their rows is copied.
 pub fn counts_after<B: Dues>(
     book: &B,
     alloc: Global,
-    changes: &Changes,
+    changes: Changes,
     at: Moment,
-) -> Result<CountRows, AllocError>
+) -> Result<(Changes, CountRows), AllocError>
     requires moment { (B.state book.now).moment ≤ at }
-    ensures { IfOk result (λ rows. rows ≡ counts_after (B.state book.now) (applied changes.now at (B.state book.now))) }
+    ensures changes { IfOk result (λ r. r.0 ≡ changes) }
+    ensures rows { IfOk result (λ r. r.1 ≡ counts_after (B.state book.now) (applied changes at (B.state book.now))) }
 {
+    let (list, next) = changes.into_parts();
     let none = ChangeLog::new(alloc);
-    let log = log_of(alloc, changes.as_slice())?;
-    counts_by(book, alloc, &none, &log, changes.as_slice(), at)
+    let log = log_of(alloc, list)?;
+    let rows = counts_by(book, alloc, &none, &log, at)?;
+    Ok((Changes::new(log.into_vec(), next), rows))
 }
 
-// The same, with the log of no change and that of the changes.
+// A log of these changes, which finds the last one of each row.
+fn log_of(alloc: Global, mut list: Vec<Change>) -> Result<ChangeLog, AllocError>
+    ensures { IfOk result (λ log. log ≡ list.items) }
+{
+    let mut log = ChangeLog::new(alloc);
+    list.reverse();
+    while let Some(change) = list.pop() {
+        log.push(change)?;
+    }
+    Ok(log)
+}
+
+// What is told of the changes of a log. `none` has no changes.
 fn counts_by<B: Dues>(
     book: &B,
     alloc: Global,
     none: &ChangeLog,
     log: &ChangeLog,
-    changes: &[Change],
     at: Moment,
 ) -> Result<CountRows, AllocError>
     requires moment { (B.state book.now).moment ≤ at }
     requires none { none.now ≡ [] }
-    requires log { log.now ≡ changes.now }
-    ensures { IfOk result (λ rows. rows ≡ counts_after (B.state book.now) (record { lists = after_all changes.now (B.state book.now).lists; next = (B.state book.now).next; moment = at })) }
+    ensures { IfOk result (λ rows. rows ≡ counts_after (B.state book.now) (record { lists = after_all log.now (B.state book.now).lists; next = (B.state book.now).next; moment = at })) }
 {
     let sides = Sides::new(book, alloc, none, log, at)?;
-    sides.counts(alloc, changes)
+    sides.counts(alloc, log.as_slice())
 }
 
 impl<'s, B: Dues> Sides<'s, B> {

@@ -1,7 +1,6 @@
 //! The counts of quotas and vouchers that changes change.
 #![tactic(auto)]
 
-mod copies;
 mod counts;
 mod due;
 mod reached;

@@ -3,6 +3,7 @@
 ghost use Rattle.std.specs.Prelude.{◌≡◌, ◌≤◌, ℕ, IfOk, OnOk};
 ghost use Rattle.bo_base.specs.declared.draw.Draw.{Draw};
 ghost use Rattle.bo_lists.specs.Change.{applied};
+ghost use Rattle.bo_lists.specs.CountRows.{counts_after};
 ghost use Rattle.bo_lists.specs.Weight.{weight};
 ghost use Rattle.bo_sound.specs.Sound.{IsSound};
 ghost use Rattle.bo_service.specs.Machine.{RefusesWithoutChange, step, answer, changes_of};
@@ -10,7 +11,8 @@ ghost use Rattle.bo_service.specs.Machine.{RefusesWithoutChange, step, answer, c
 use crate::deciding::decide_over;
 use bo_base::{Draw, Known, Moment, Slug};
 use bo_commands::{Command, Query, Reply};
-use bo_lists::Changes;
+use bo_dues::Dues;
+use bo_lists::{Changes, CountRows};
 use bo_usage::Book;
 use std::alloc::{AllocError, Global};
 use std::marker::Model;
@@ -148,5 +150,20 @@ impl<B: Book> Office<B> {
         ensures event { self.new.event ≡ self.old.event }
     {
         self.book.apply(changes, at);
+    }
+}
+
+impl<B: Dues> Office<B> {
+    /// Makes these changes, as `adopt` does, where the counts that they change are known: the book need not count.
+    pub fn settle(&mut self, changes: Changes, counts: &CountRows, at: Moment)
+        requires room { weight changes.list ≤ self.old.room }
+        requires moment { self.old.state.moment ≤ at }
+        requires sound { IsSound (applied changes at self.old.state) }
+        requires counts { counts.now ≡ counts_after self.old.state (applied changes at self.old.state) }
+        ensures state { self.new.state ≡ applied changes at self.old.state }
+        ensures organizer { self.new.organizer ≡ self.old.organizer }
+        ensures event { self.new.event ≡ self.old.event }
+    {
+        self.book.settle(changes, counts, at);
     }
 }

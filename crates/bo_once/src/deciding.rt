@@ -46,7 +46,7 @@ impl<T: Tables, B: Dues, W: Wording> Shop<T, B, W> {
     }
 
     // What a write changes at a moment, and what is told.
-    pub(crate) fn decide(
+    fn decide(
         &self,
         alloc: Global,
         at: Moment,
@@ -74,16 +74,22 @@ impl<T: Tables, B: Dues, W: Wording> Shop<T, B, W> {
         }
     }
 
-    // The counts that are written with changes.
+    // What a write changes at a moment, the counts that are written with that, and what is told.
     pub(crate) fn counted(
         &self,
         alloc: Global,
-        changes: &Changes,
         at: Moment,
-    ) -> Result<CountRows, AllocError>
-        requires { self.now.state.moment ≤ at }
-        ensures { IfOk result (λ rows. rows ≡ counts_after self.now.state (applied changes.now at self.now.state)) }
+        draw: Draw,
+        request: Request,
+    ) -> Result<(Changes, CountRows, Response), AllocError>
+        requires write { is_write request ≡ true }
+        requires later { self.now.state.moment ≤ at }
+        ensures done { IfOk result (λ r. (applied r.0 at self.now.state, r.2) ≡ done (W.words self.now.wording) request at draw self.now.state) }
+        ensures sound { IfOk result (λ r. IsSound (applied r.0 at self.now.state)) }
+        ensures counts { IfOk result (λ r. r.1 ≡ counts_after self.now.state (applied r.0 at self.now.state)) }
     {
-        counts_after(self.office.book(), alloc, changes, at)
+        let (decided, response) = self.decide(alloc, at, draw, request)?;
+        let (changes, counts) = counts_after(self.office.book(), alloc, decided, at)?;
+        Ok((changes, counts, response))
     }
 }

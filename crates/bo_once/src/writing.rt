@@ -18,7 +18,7 @@ use bo_kept::{Kept, Tables, TablesError};
 use std::alloc::Global;
 
 impl<T: Tables, B: Dues, W: Wording> Shop<T, B, W> {
-    // Carries a write out: decides, words, counts, takes memory, commits with the answer to keep, adopts.
+    // Carries a write out: decides, words, counts, takes memory, commits with the answer to keep, settles.
     fn execute(
         &mut self,
         alloc: Global,
@@ -46,10 +46,7 @@ impl<T: Tables, B: Dues, W: Wording> Shop<T, B, W> {
             request,
             ..
         } = arrival;
-        let Ok((changes, response)) = self.decide(alloc, at, draw, request) else {
-            return Err(TablesError::Memory);
-        };
-        let Ok(counts) = self.counted(alloc, &changes, at) else {
+        let Ok((changes, counts, response)) = self.counted(alloc, at, draw, request) else {
             return Err(TablesError::Memory);
         };
         let Ok(()) = self.office.reserve(&changes) else {
@@ -62,7 +59,7 @@ impl<T: Tables, B: Dues, W: Wording> Shop<T, B, W> {
             response,
         };
         self.tables.commit(&changes, &counts, at, to_keep(&kept))?;
-        self.office.adopt(changes, at);
+        self.office.settle(changes, &counts, at);
         Ok(kept.response)
     }
 

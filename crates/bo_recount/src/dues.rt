@@ -3,6 +3,7 @@
 use crate::recount::Recount;
 use bo_base::Moment;
 use bo_dues::Dues;
+use bo_lists::{Changes, CountRows};
 use bo_usage::Book;
 use std::alloc::{AllocError, Global};
 
@@ -23,5 +24,11 @@ impl Dues for Recount {
             .filter(|voucher| voucher.ends_between(from, at))
             .map(|voucher| voucher.id)
             .collect(alloc)
+    }
+
+    // It keeps no counts.
+    fn settle(&mut self, changes: Changes, counts: &CountRows, at: Moment) {
+        let _ = counts;
+        self.apply(changes, at);
     }
 }

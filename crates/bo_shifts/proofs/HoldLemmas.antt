@@ -1,24 +1,23 @@
 -- The uses that are held in carts, through changes and as time passes.
-use Rattle.std.proofs.Common.{◌≡◌, ℕ, ◌+◌, ◌≤◌, Bool, true, false, ◌&&◌, leb, ltb, List, map, Option, Some, None, refl, ap, ◌∙◌, sum_by, count_by, arith}
+use Rattle.std.proofs.Common.{◌≡◌, ℕ, ◌+◌, ◌≤◌, Bool, true, false, ◌&&◌, leb, ltb, List, map, Option, Some, None, refl, ◌∙◌, sum_by, count_by, arith}
 use Rattle.std.specs.Prelude.{if◌then◌else◌}
 use Rattle.std.proofs.lemmas.Bool.Decides.{nat_tests}
 use Rattle.std.proofs.lemmas.List.Sums.{count_by-le-length}
-use Rattle.bo_sorted.specs.Tables.{with_row, without_row, sum_at}
+use Rattle.bo_sorted.specs.Tables.{sum_at}
 use Rattle.bo_sorted.proofs.Edits.{sum_by-with_row, sum_by-without_row}
 use Rattle.bo_lists.specs.declared.rows.CartPos.{CartPos}
-use Rattle.bo_lists.specs.declared.rows.Voucher.{Voucher}
-use Rattle.bo_lists.specs.declared.changes.Change.TheVariants.{PutVoucher, PutCart, DropVoucher, DropCart}
+use Rattle.bo_lists.specs.declared.changes.Change.TheVariants.{PutCart, DropCart}
 use Rattle.bo_lists.specs.CameDue.{is_due_cart}
 use Rattle.bo_lists.specs.Change.{after_change}
 use Rattle.bo_lists.specs.Conditions.{is_live_cart, names, holds}
 use Rattle.bo_lists.specs.Headroom.{held}
 use Rattle.bo_lists.specs.Kept.{IsKept}
-use Rattle.bo_lists.specs.Lists.{Lists, State, cart_at}
+use Rattle.bo_lists.specs.Lists.{Lists, cart_at}
 use Rattle.bo_lists.proofs.Time.{sum_by_split}
 use Rattle.bo_indexed.specs.Indexes.{Finds}
 use Rattle.bo_indexed.proofs.EntryLemmas.{sums_like, sum_map}
 use Rattle.bo_usage.specs.Shares.{held_name}
-use Rattle.bo_shifts.specs.Held.{AreHeld, named_by}
+use Rattle.bo_shifts.specs.Held.{named_by}
 use Rattle.bo_shifts.specs.Turns.{turn, turn_each}
 use Rattle.bo_shifts.proofs.TurnLemmas.{one_use, up_one, down_one, down_each}
 
@@ -87,18 +86,3 @@ module _ (lists : Lists) (from to x : ℕ) (le : from ≤ to) where
       ∙ finds (λ o. one_use x (named_by o))
       ∙ sums_like (λ c. if is_due_cart from to c then one_use x (named_by (Some c)) else 0) (λ c. one (is_due_cart from to c && names x c.voucher)) lists.carts (λ c. first_and (is_due_cart from to c) (names x c.voucher)) in
       omega (arith, down_each (map (λ i. named_by (cart_at i lists)) ids) (λ n. held from n lists) x, gone, held_later)
-
-module _ (old new : State) where
-  -- what isn't of cart positions or vouchers changes no number
-  pub held_same : (lists : Lists) (holds : List ℕ) → new ≡ record old { lists = lists } → lists.carts ≡ old.lists.carts → lists.vouchers ≡ old.lists.vouchers → AreHeld old.lists old.moment holds → AreHeld new.lists new.moment holds
-  held_same lists holds is carts vouchers held_old = rw (is, carts, vouchers) held_old
-
-  pub held_new : (lists : Lists) (holds : List ℕ) → new ≡ record old { lists = lists } → AreHeld lists old.moment holds → AreHeld new.lists new.moment holds
-  held_new lists holds is held_now = rw is held_now
-
-  -- a voucher that is put is held as often as its id was
-  pub held_put_voucher : (was now : List ℕ) (row : Voucher) (count m : ℕ) → m ≡ old.moment → count ≡ held m row.id old.lists → new ≡ record old { lists = after_change (PutVoucher row) old.lists } → ((f : Voucher → ℕ) (row' : Voucher) → row'.id ≡ row.id → count ≡ f row' → was ≡ map f old.lists.vouchers → now ≡ map f (with_row (λ r. r.id) row' old.lists.vouchers)) → AreHeld old.lists old.moment was → AreHeld new.lists new.moment now
-  held_put_voucher was now row count m m_is is new_is keeps held_old = rw new_is (keeps (λ v. held old.moment v.id old.lists) row refl (is ∙ ap (λ at. held at row.id old.lists) m_is) held_old)
-
-  pub held_drop_voucher : (was now : List ℕ) (id : ℕ) → new ≡ record old { lists = after_change (DropVoucher id) old.lists } → ((f : Voucher → ℕ) → was ≡ map f old.lists.vouchers → now ≡ map f (without_row (λ r. r.id) id old.lists.vouchers)) → AreHeld old.lists old.moment was → AreHeld new.lists new.moment now
-  held_drop_voucher was now id new_is forgets held_old = rw new_is (forgets (λ v. held old.moment v.id old.lists) held_old)

@@ -7,7 +7,4 @@ pub mod Later
 pub mod ShiftLemmas
 pub mod Kept
 pub mod TurnLemmas
-pub mod Positions
-pub mod Ending
 pub mod HoldLemmas
-pub mod PlaceLemmas

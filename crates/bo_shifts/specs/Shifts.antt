@@ -1,17 +1,13 @@
 -- What a change adds to the usage of a quota, and takes from it.
-use Rattle.std.specs.Prelude.{ℕ, ◌+◌, ◌-◌, min, max, Bool, false, ◌&&◌, ◌==◌, List, [], ◌∷◌, Option, Some, None, count_by, sum_by, if◌then◌else◌}
-use Rattle.bo_sorted.specs.Tables.{sum_at}
+use Rattle.std.specs.Prelude.{ℕ, ◌+◌, ◌-◌, min, max, Bool, ◌&&◌, List, [], ◌∷◌, Option, Some, count_by, sum_by, if◌then◌else◌}
 use Rattle.bo_catalogue.specs.declared.rows.Quota.{Quota}
 use Rattle.bo_lists.specs.declared.rows.CartPos.{CartPos}
 use Rattle.bo_lists.specs.declared.rows.Waiting.{Waiting}
 use Rattle.bo_lists.specs.declared.rows.Usage.{Usage}
-use Rattle.bo_lists.specs.Lists.{Lists, cart_at, voucher_at}
+use Rattle.bo_lists.specs.Lists.{Lists}
 use Rattle.bo_lists.specs.declared.rows.Voucher.{Voucher}
-use Rattle.bo_lists.specs.Conditions.{blocks}
-use Rattle.bo_lists.specs.Headroom.{held_in}
-use Rattle.bo_lists.specs.Usage.{blocked_by, cart_counts}
+use Rattle.bo_lists.specs.Usage.{cart_counts}
 use Rattle.bo_lists.specs.CameDue.{is_due_cart, is_due_voucher}
-use Rattle.bo_usage.specs.Covers.{cover_alike}
 use Rattle.bo_usage.specs.Shares.{blocked_share, cart_share, waiting_share}
 use Rattle.bo_shifts.specs.Later.{release_if, free_if}
 
@@ -53,10 +49,6 @@ freed lists from to quota = sum_by (λ v. if is_due_voucher from to v then free_
 abbrev pub lapsed : Lists → ℕ → ℕ → Quota → ℕ
 lapsed lists from to quota = count_by (λ c. is_due_cart from to c && cart_counts lists from quota c) lists.carts
 
--- the cart positions of these ids that counted have ended
-abbrev pub lapse_shift : Lists → ℕ → List ℕ → Quota → Usage → Usage
-lapse_shift lists from ids quota usage = record usage { carts = moved usage.carts 0 (sum_by (λ i. cart_share lists from quota (cart_at i lists)) ids) }
-
 -- time passes
 abbrev pub time_shift : Lists → ℕ → ℕ → Quota → Usage → Usage
 time_shift lists from to quota usage = record usage {
@@ -64,43 +56,6 @@ time_shift lists from to quota usage = record usage {
   carts = moved usage.carts (freed lists from to quota) (lapsed lists from to quota);
 }
 
--- the cart positions that it covers at one moment, as far as they are live at another
-unfoldable pub covered_share : Lists → ℕ → ℕ → Quota → Option Voucher → ℕ
-covered_share lists from to quota voucher = sum_at (λ v. if blocks from quota v then held_in to quota v.id lists else 0) voucher
-
--- a voucher that is redeemed so often no longer blocks, and the cart positions that it covered count
-abbrev pub leave_shift : Lists → ℕ → ℕ → ℕ → Option Voucher → Quota → Usage → Usage
-leave_shift lists from to spent voucher quota usage = record usage {
-  blocked = moved usage.blocked 0 (blocked_share from quota spent voucher);
-  carts = moved usage.carts (covered_share lists from to quota voucher) 0;
-}
-
--- a voucher that is redeemed so often blocks, and covers cart positions
-abbrev pub enter_shift : Lists → ℕ → ℕ → Option Voucher → Quota → Usage → Usage
-enter_shift lists at spent voucher quota usage = record usage {
-  blocked = moved usage.blocked (blocked_share at quota spent voucher) 0;
-  carts = moved usage.carts 0 (covered_share lists at at quota voucher);
-}
-
--- one comes in the place of another of its id, and covers the same cart positions at each moment
-abbrev pub covers_as : Option Voucher → Option Voucher → Bool
-covers_as None _ = false
-covers_as (Some come) None = false
-covers_as (Some come) (Some gone) = come.id == gone.id && cover_alike come gone
-
 -- what one blocks that is redeemed so often comes, and what another blocks goes
 abbrev pub block_shift : ℕ → ℕ → Option Voucher → Option Voucher → Quota → Usage → Usage
 block_shift at spent come gone quota usage = record usage { blocked = moved usage.blocked (blocked_share at quota spent come) (blocked_share at quota spent gone) }
-
--- one comes in the place of another: where it covers the same, the cart positions count as they did
-abbrev pub voucher_shift : Lists → ℕ → ℕ → Option Voucher → Option Voucher → Quota → Usage → Usage
-voucher_shift lists at spent come gone quota usage =
-    if covers_as come gone then block_shift at spent come gone quota usage
-    else enter_shift lists at spent come quota (leave_shift lists at at spent gone quota usage)
-
--- the vouchers of these ids have ended
-abbrev pub end_shift : Lists → ℕ → ℕ → List ℕ → Quota → Usage → Usage
-end_shift lists from to ids quota usage = record usage {
-  blocked = moved usage.blocked 0 (sum_by (λ i. sum_at (blocked_by lists from quota) (voucher_at i lists)) ids);
-  carts = moved usage.carts (sum_by (λ i. covered_share lists from to quota (voucher_at i lists)) ids) 0;
-}

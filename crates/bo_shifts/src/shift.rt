@@ -3,17 +3,13 @@
 ghost use Rattle.std.specs.Prelude.{◌≡◌, ◌≤◌, ◌<◌, ◌+◌, ◌-◌, length, map, vec_capacity};
 ghost use Rattle.std.specs.List.{insert};
 ghost use Rattle.bo_sorted.specs.Tables.{with_row, without_row, AreInOrder};
-ghost use Rattle.std.specs.Option.{option_copied};
 ghost use Rattle.bo_catalogue.specs.declared.rows.Quota.{Quota};
 ghost use Rattle.bo_lists.specs.declared.rows.Usage.{Usage};
-ghost use Rattle.bo_shifts.specs.Shifts.{map_beside, moved, cart_shift, waiting_shift};
+ghost use Rattle.bo_shifts.specs.Shifts.{moved};
 
-use bo_base::Moment;
 use bo_catalogue::Quota;
-use bo_lists::{CartPos, Usage, Waiting};
+use bo_lists::Usage;
 use bo_sorted::{Row, place_of};
-use bo_store::Store;
-use bo_usage::rules::{cart_share, waiting_share};
 
 /// What happens to the usage of a quota.
 pub trait Shift {
@@ -34,56 +30,6 @@ pub fn moved(count: u64, come: u64, gone: u64) -> u64
     ensures value { result ≡ moved count come gone }
 {
     count.saturating_add(come).saturating_sub(gone)
-}
-
-/// A cart position comes, and one goes.
-#[derive(Drop)]
-pub struct CartShift<'s> {
-    pub store: &'s Store,
-    pub at: Moment,
-    pub come: Option<&'s CartPos>,
-    pub gone: Option<&'s CartPos>,
-}
-
-impl<'s> Shift for CartShift<'s> {
-    ghost shift = { λ s. cart_shift s.store.now.state.lists s.at (option_copied s.come) (option_copied s.gone) };
-
-    ghost ready = { λ s. Unit {0} };
-
-    fn shifted(&self, quota: &Quota, usage: Usage) -> Usage {
-        Usage {
-            carts: moved(
-                usage.carts,
-                cart_share(self.store, self.at, quota, self.come),
-                cart_share(self.store, self.at, quota, self.gone),
-            ),
-            ..usage
-        }
-    }
-}
-
-/// A waiting entry comes, and one goes.
-#[derive(Drop)]
-pub struct WaitingShift<'s> {
-    pub come: Option<&'s Waiting>,
-    pub gone: Option<&'s Waiting>,
-}
-
-impl<'s> Shift for WaitingShift<'s> {
-    ghost shift = { λ s. waiting_shift (option_copied s.come) (option_copied s.gone) };
-
-    ghost ready = { λ s. Unit {0} };
-
-    fn shifted(&self, quota: &Quota, usage: Usage) -> Usage {
-        Usage {
-            waiting: moved(
-                usage.waiting,
-                waiting_share(quota, self.come),
-                waiting_share(quota, self.gone),
-            ),
-            ..usage
-        }
-    }
 }
 
 /// Keeps a value for the row of an id that is put.

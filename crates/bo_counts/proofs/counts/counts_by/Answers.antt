@@ -8,4 +8,4 @@ pub counts-requires : goal.counts-requires
 counts-requires g c =
     ap (λ (s : State). s.lists) c.in_ok-sides.ensures.after
     ∙ ap (λ (s : State). after_all c.args.log.now s.lists) (sym c.in_ok-sides.ensures.before)
-    ∙ ap (λ (changes : List Change). after_all changes c.in_ok-sides.sides.before.lists) c.requires.log
+    ∙ ap (λ (changes : List Change). after_all changes c.in_ok-sides.sides.before.lists) (sym c.as_slice.ensures)

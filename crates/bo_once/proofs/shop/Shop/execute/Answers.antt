@@ -12,16 +12,16 @@ pub returns-clause-done : goal.returns-clause-done
 returns-clause-done g c = λ sure v views none.
     let tables_is : c.self.inside.tables ≡ c.args.self.now.tables = ap (λ (o : OpenShop g.row.T.Denot g.row.W.Denot). o.tables) c.self.view_is in
     executed-views g.T.Tables.holds (g.W.Wording.words c.args.self.now.wording) c.args.arrival c.args.at c.in-Ok.changes c.in-Ok.response (listed c.to_keep.result) c.args.self.now.state
-    c.in-Ok.ensures.done c.to_keep.ensures c.in-Ok-counted.counts c.in-Ok-counted.ensures c.args.self.now.tables c.commit.new.self c.adopt.new.self.state v views none
+    c.in-Ok.ensures.done c.to_keep.ensures c.in-Ok.counts c.in-Ok.ensures.counts c.args.self.now.tables c.commit.new.self c.settle.new.self.state v views none
     (λ s ks held counted. c.in_ok-commit.ensures.all sure s ks (subst (λ (t : g.row.T.Denot). g.T.Tables.holds t s ks) (sym tables_is) held) counted)
-    (c.adopt.ensures.state ∙ (ap (λ (s : State). applied c.in-Ok.changes c.args.at s) c.reserve.ensures.state
+    (c.settle.ensures.state ∙ (ap (λ (s : State). applied c.in-Ok.changes c.args.at s) c.reserve.ensures.state
     ∙ ap (λ (o : OpenShop g.row.T.Denot g.row.W.Denot). applied c.in-Ok.changes c.args.at o.state) c.self.view_is))
 
 pub returns-clause-settled : goal.returns-clause-settled
 returns-clause-settled g c = λ sure left may v views.
     let tables_is : c.self.inside.tables ≡ c.args.self.now.tables = ap (λ (o : OpenShop g.row.T.Denot g.row.W.Denot). o.tables) c.self.view_is in
     executed-same g.T.Tables.holds (g.W.Wording.words c.args.self.now.wording) c.args.arrival c.args.at c.in-Ok.changes c.in-Ok.response (listed c.to_keep.result) c.args.self.now.state
-    c.in-Ok.ensures.done c.to_keep.ensures c.in-Ok-counted.counts c.in-Ok-counted.ensures c.args.self.now.tables left v views
+    c.in-Ok.ensures.done c.to_keep.ensures c.in-Ok.counts c.in-Ok.ensures.counts c.args.self.now.tables left v views
     (λ s ks held counted. c.in_ok-commit.ensures.settled sure left may s ks (subst (λ (t : g.row.T.Denot). g.T.Tables.holds t s ks) (sym tables_is) held) counted)
 
 pub returns-clause-crash : goal.returns-clause-crash
@@ -31,4 +31,4 @@ returns-clause-crash g c = λ left may.
     ⊎ ((v : ShopView) → Views g.T.Tables.holds t c.args.self.now.state v → IsSame left (executed_at (g.W.Wording.words c.args.self.now.wording) c.args.arrival c.args.at v).0 × IsSound left.state))
     tables_is
     (executed-leaves g.T.Tables.holds (g.W.Wording.words c.args.self.now.wording) c.args.arrival c.args.at c.in-Ok.changes c.in-Ok.response (listed c.to_keep.result) c.args.self.now.state
-    c.in-Ok.ensures.done c.to_keep.ensures c.in-Ok-counted.counts c.in-Ok-counted.ensures c.self.inside.tables left _ c.in-Ok.ensures.sound (c.commit.ensures.crash left may))
+    c.in-Ok.ensures.done c.to_keep.ensures c.in-Ok.counts c.in-Ok.ensures.counts c.self.inside.tables left _ c.in-Ok.ensures.sound (c.commit.ensures.crash left may))

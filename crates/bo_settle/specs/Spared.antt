@@ -1,0 +1,11 @@
+-- Changes that drop no voucher that is redeemed.
+use Rattle.std.specs.Prelude.{Bool, true, ◌==◌}
+use Rattle.bo_lists.specs.declared.changes.Change.{Change}
+use Rattle.bo_lists.specs.declared.changes.Change.TheVariants.{DropVoucher}
+use Rattle.bo_lists.specs.Lists.{Lists}
+use Rattle.bo_lists.specs.Usage.{redeemed}
+
+-- the change drops no voucher that is redeemed by these rows
+abbrev pub spares_used : Lists → Change → Bool
+spares_used lists (DropVoucher id) = redeemed id lists == 0
+spares_used lists _ = true

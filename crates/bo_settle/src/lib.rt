@@ -1,0 +1,8 @@
+//! A book takes over the counts that were written with its changes.
+#![tactic(auto)]
+
+pub mod again;
+mod beside;
+mod fresh;
+pub mod settle;
+pub mod spared;
