@@ -1,5 +1,6 @@
 -- What the tables of the file hold.
-use Rattle.std.specs.Prelude.{ℕ, List, [], ◌∷◌, map}
+use Rattle.std.specs.Prelude.{◌≡◌, ℕ, List, [], ◌∷◌, map, length, take, drop}
+use Rattle.std.specs.List.{AllByRecursion}
 use Rattle.sqlite_value.specs.Order.{Row}
 use Rattle.sqlite_trees.specs.Tree.{Trees}
 use Rattle.bo_columns.specs.declared.rows.ShopRow.{ShopRow}
@@ -21,6 +22,7 @@ use Rattle.bo_columns.specs.declared.rows.Token.{Token}
 use Rattle.bo_columns.specs.declared.rows.KeptRow.{KeptRow}
 use Rattle.bo_schema.specs.Tables.{schema}
 use Rattle.bo_schema.specs.Parts.{Part, HoldParts}
+use Rattle.bo_schema.specs.Versions.{schema_of_version}
 use Rattle.bo_columns.specs.Rows.{shop_row, item_row, variation_row, quota_row, quota_item_row, quota_variation_row, voucher_row, cart_row, order_row, position_row, waiting_row, list_row, list_item_row, checkin_row, count_row, token_row, kept_row}
 
 -- the rows of each table, in some order
@@ -70,6 +72,15 @@ parts t =
 -- the file's trees show these rows
 abbrev pub Holds : Trees → Tables → Type 0
 Holds db t = HoldParts schema db (parts t)
+
+-- how many tables a version has
+abbrev pub tables_of : ℕ → ℕ
+tables_of version = length (schema_of_version version).tables
+
+-- the trees of a file of a version show these rows in the tables that it has, and the tables that it hasn't have none
+pub record HoldsAt (version : ℕ) (db : Trees) (t : Tables) : Type 0 where
+  pub shown : HoldParts (schema_of_version version) db (take (tables_of version) (parts t))
+  pub none : AllByRecursion (λ (p : Part). p.rows ≡ []) (drop (tables_of version) (parts t))
 
 abbrev pub no_rows : Tables
 no_rows = record { shop = []; items = []; variations = []; quotas = []; quota_items = []; quota_variations = []; vouchers = []; carts = []; orders = []; positions = []; waiting = []; checkin_lists = []; list_items = []; checkins = []; counts = []; tokens = []; kept = [] }

@@ -2,6 +2,7 @@
 use Rattle.std.proofs.Common.{◌≡◌, ℕ, slice_index_or, List, Option, Some, None, IfSome}
 use Rattle.std.specs.List.{All}
 use Rattle.std.specs.Str.{IsUtf8}
+use Rattle.bo_schema.specs.Tables.{this_version}
 use Rattle.bo_columns.specs.declared.rows.QuotaRow.{QuotaRow}
 use Rattle.bo_columns.specs.declared.rows.VoucherRow.{VoucherRow}
 use Rattle.bo_columns.specs.declared.rows.ListRow.{ListRow}
@@ -38,7 +39,7 @@ fit_typed t fit = record {
   kept = fit.kept;
 }
 
-pub typed_read : (file : FileTables) → file.shop.version ≡ 1 → IsFitFile file → AreBelowNext file.shop file.tables.others.tokens.items → IsTypedShop file.shop (tables_of file)
+pub typed_read : (file : FileTables) → file.shop.version ≡ this_version → IsFitFile file → AreBelowNext file.shop file.tables.others.tokens.items → IsTypedShop file.shop (tables_of file)
 typed_read file first fit numbered = record {
   first = first;
   organizer = fit.shop.organizer;

@@ -7,3 +7,4 @@ pub mod Opened
 pub mod Again
 pub mod Damage
 pub mod Tokens
+pub mod Upgraded

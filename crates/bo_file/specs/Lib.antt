@@ -1,2 +1,3 @@
 pub mod Opened
 pub mod Found
+pub mod Upgraded

@@ -7,13 +7,15 @@ ghost use Rattle.bo_base.specs.declared.answer.Response.{Response};
 ghost use Rattle.bo_lists.specs.Lists.{State, empty};
 ghost use Rattle.bo_commands.specs.declared.replies.Reply.{Reply};
 ghost use Rattle.bo_schema.specs.Tables.{schema};
+ghost use Rattle.bo_schema.specs.Versions.{schema_of_version};
 ghost use Rattle.bo_kept.specs.declared.kept.Kept.{Kept};
 ghost use Rattle.bo_kept.specs.House.{House};
 ghost use Rattle.bo_kept.specs.ShopView.{ShopView, IsSame};
-ghost use Rattle.bo_schema.specs.Whole.{MayBeWritten};
-ghost use Rattle.bo_tables.specs.Begun.{HasToken};
+ghost use Rattle.bo_schema.specs.Whole.{IsWritten, MayBeWritten};
+ghost use Rattle.bo_tables.specs.Begun.{HasToken, IsUpgraded, of_this_version};
 ghost use Rattle.bo_tables.specs.Shops.{HoldsWhileOpen, KnowsWhileOpen, Leaves};
 ghost use Rattle.bo_columns.specs.declared.rows.ShopRow.{ShopRow};
+ghost use Rattle.bo_columns.specs.Tables.{Tables as Held};
 ghost use Rattle.bo_opens.specs.declared.error.OpenError.{OpenError};
 ghost use Rattle.bo_opens.specs.Lawful.{IsOfMachine};
 ghost use Rattle.bo_file.specs.Opened.{IsReason, IsOpened};
@@ -23,6 +25,7 @@ ghost use Rattle.bo_deliveries.specs.Histories.{Event, Crashed, Running, MayLeav
 ghost use Rattle.bo_tables.specs.Made.{IsMade};
 ghost use Rattle.bo_tables.specs.Tokens.{house_with, raised, next_one};
 ghost use Rattle.bo_file.specs.Found.{IsFound};
+ghost use Rattle.bo_file.specs.Upgraded.{HoldsShopAt, IsOpenedAsBefore};
 
 use bo_kept::Tables;
 use bo_schema::schema_known;
@@ -140,4 +143,25 @@ pub fn a_token_is_in_or_out<S: Alter>(
     let _ = new;
     let _ = fresh;
     let _ = after;
+}
+
+/// A file that was brought to this version is opened as the shop that it held, with its answers and its tokens. After a crash while it was,
+/// it is wholly of the earlier version, as it was, or wholly of this one, and opened so.
+pub fn an_upgrade_is_in_or_out<S: Alter>(
+    old: &Connection<S>,
+    new: &Connection<S>,
+    fresh: &Connection<S>,
+    opened: &Connection<S>,
+)
+    ensures done { (from : ℕ) (head : ShopRow) (t : Held) (s : State) (ks : List Kept) → HoldsShopAt from head t s ks (state S.Store old.now)
+        → IsWritten (IsUpgraded (of_this_version head) from) (state S.Store old.now) (state S.Store new.now) → IsOpenedAsBefore head t s ks (state S.Store new.now).now (state S.Store opened.now) }
+    ensures crash { (from : ℕ) (head : ShopRow) (t : Held) (s : State) (ks : List Kept) → HoldsShopAt from head t s ks (state S.Store old.now)
+        → Survives (state S.Store old.now) (state S.Store new.now) (MayBeWritten (schema_of_version from) (λ (_ : Unit {0}). IsUpgraded (of_this_version head) from) (state S.Store old.now))
+        → IsFound (state S.Store new.now) (state S.Store fresh.now)
+        → ((state S.Store fresh.now).now ≡ (state S.Store old.now).now) ⊎ IsOpenedAsBefore head t s ks (state S.Store fresh.now).now (state S.Store opened.now) }
+{
+    schema_known(old);
+    let _ = new;
+    schema_known(fresh);
+    let _ = opened;
 }

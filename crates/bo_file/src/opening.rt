@@ -4,7 +4,7 @@ ghost use Rattle.std.specs.Prelude.{◌≡◌, IfOk, IfErr};
 ghost use Rattle.sqlite.specs.Effect.{Database};
 ghost use Rattle.sqlite.specs.Held.{state};
 ghost use Rattle.sqlite.specs.State.{HasCleanDisk, Survives, IsUnchanged};
-ghost use Rattle.bo_schema.specs.Tables.{schema};
+ghost use Rattle.bo_schema.specs.Tables.{schema, this_version};
 ghost use Rattle.bo_sound.specs.Sound.{IsSound};
 ghost use Rattle.bo_opens.specs.declared.error.OpenError.{OpenError};
 ghost use Rattle.bo_opens.specs.Rests.{IsOpenAt, Rests};
@@ -37,7 +37,7 @@ pub fn open_file<S: Alter, P: Progress>(
 ) -> Result<(SqlTables<S>, Office<Counters>), HandedBack<S, OpenError>>
     ensures opened { IfOk result (λ it. HasCleanDisk (state S.Store it.0.connection) → (db : Database) → IsOpenAt db (state S.Store connection) → db.schema ≡ schema → IsOpened db.trees it.0.head it.0.next_row it.1.state (state S.Store it.0.connection)) }
     ensures names { IfOk result (λ it. (it.1.organizer ≡ it.0.head.organizer) × (it.1.event ≡ it.0.head.event)) }
-    ensures version { IfOk result (λ it. it.0.head.version ≡ 1) }
+    ensures version { IfOk result (λ it. it.0.head.version ≡ this_version) }
     ensures sound { IfOk result (λ it. IsSound it.1.state) }
     ensures found { IfOk result (λ it. HasCleanDisk (state S.Store it.0.connection) → (db : Database) → IsOpenAt db (state S.Store connection) → IsReadable db) }
     ensures whole { IfOk result (λ it. HasCleanDisk (state S.Store it.0.connection) → (db : Database) → IsOpenAt db (state S.Store connection) → db.schema ≡ schema → (error : OpenError) → IsReason db error → IsOfMachine error) }

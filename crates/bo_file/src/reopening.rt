@@ -4,7 +4,7 @@ ghost use Rattle.std.specs.Prelude.{◌≡◌, ◌⊎◌, false, IfOk, IfErr, On
 ghost use Rattle.sqlite.specs.Effect.{Database};
 ghost use Rattle.sqlite.specs.Held.{state};
 ghost use Rattle.sqlite.specs.State.{HasCleanDisk, Survives, IsUnchanged};
-ghost use Rattle.bo_schema.specs.Tables.{schema};
+ghost use Rattle.bo_schema.specs.Tables.{schema, this_version};
 ghost use Rattle.bo_lists.specs.Lists.{empty};
 ghost use Rattle.bo_sound.specs.Sound.{IsSound};
 ghost use Rattle.bo_columns.specs.Tables.{Holds};
@@ -30,7 +30,7 @@ fn read_outside<S: Alter, P: Progress>(
     progress: &mut P,
 ) -> Result<FileTables, OpenError>
     ensures held { HasCleanDisk (state S.Store connection.new) → (db : Database) → IsOpenAt db (state S.Store connection.old) → db.schema ≡ schema → IfOk result (λ file. Holds db.trees (tables_of file)) }
-    ensures version { IfOk result (λ file. file.shop.version ≡ 1) }
+    ensures version { IfOk result (λ file. file.shop.version ≡ this_version) }
     ensures limits { IfOk result IsFitFile }
     ensures found { HasCleanDisk (state S.Store connection.new) → (db : Database) → IsOpenAt db (state S.Store connection.old) → OnOk result (IsReadable db) }
     ensures cause { HasCleanDisk (state S.Store connection.new) → (db : Database) → IsOpenAt db (state S.Store connection.old) → IfErr result (IsCause db) }
@@ -60,7 +60,7 @@ pub(crate) fn reopen<S: Alter, B: Book + Drop, P: Progress>(
     requires { B.state book ≡ empty }
     ensures opened { HasCleanDisk (state S.Store connection.new) → (db : Database) → IsOpenAt db (state S.Store connection.old) → db.schema ≡ schema → IfOk result (λ it. IsOpened db.trees it.head it.next_row (B.state it.book) (state S.Store connection.new)) }
     ensures names { IfOk result (λ it. (it.organizer ≡ it.head.organizer) × (it.event ≡ it.head.event)) }
-    ensures version { IfOk result (λ it. it.head.version ≡ 1) }
+    ensures version { IfOk result (λ it. it.head.version ≡ this_version) }
     ensures sound { IfOk result (λ it. IsSound (B.state it.book)) }
     ensures found { HasCleanDisk (state S.Store connection.new) → (db : Database) → IsOpenAt db (state S.Store connection.old) → OnOk result (IsReadable db) }
     ensures whole { HasCleanDisk (state S.Store connection.new) → (db : Database) → IsOpenAt db (state S.Store connection.old) → db.schema ≡ schema → OnOk result ((error : OpenError) → IsReason db error → IsOfMachine error) }

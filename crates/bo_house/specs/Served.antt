@@ -5,7 +5,7 @@ use Rattle.sqlite.specs.Effect.{Database}
 use Rattle.sqlite.specs.Held.{state}
 use Rattle.sqlite.specs.State.{State as Connected, HasCleanDisk, IsUnchanged, Survives}
 use Rattle.sqlite.specs.declared.connection.Connection.{Connection}
-use Rattle.bo_schema.specs.Tables.{schema}
+use Rattle.bo_schema.specs.Tables.{schema, this_version}
 use Rattle.bo_sound.specs.Sound.{IsSound}
 use Rattle.bo_opens.specs.Rests.{IsOpenAt, Rests}
 use Rattle.bo_opens.specs.declared.error.OpenError.{OpenError}
@@ -22,13 +22,13 @@ use Rattle.bo_turns.specs.Acts.{between}
 use Rattle.bo_house.specs.Faults.{fault_of_opening}
 
 -- The desk is that of the shop in the database: where the disk returned what was written and the connection was open, its tables and its
--- office are what the rows are opened as. The tables are of version 1, the office is sound, and opening changed nothing, in a crash too.
+-- office are what the rows are opened as. The tables are of this version, the office is sound, and opening changed nothing, in a crash too.
 pub record OpensAs {S : Type 0} (g : Ghosts S) (old : Connected) (desk : DeskView (SqlTables S)) : Type 0 where
   pub opened : HasCleanDisk (state g desk.tables.connection) → (db : Database) → IsOpenAt db old → db.schema ≡ schema
       → IsOpened db.trees desk.tables.head desk.tables.next_row desk.state (state g desk.tables.connection)
   pub organizer : desk.organizer ≡ desk.tables.head.organizer
   pub event : desk.event ≡ desk.tables.head.event
-  pub version : desk.tables.head.version ≡ 1
+  pub version : desk.tables.head.version ≡ this_version
   pub sound : IsSound desk.state
   pub same : HasCleanDisk (state g desk.tables.connection) → IsUnchanged old (state g desk.tables.connection)
   pub rests : Rests old (state g desk.tables.connection)

@@ -69,7 +69,7 @@ of_second F G K D E Store h = tt
 pub version_told : (shop : ShopRow) (row : Row) (version : ℤ) → row ≡ shop_row shop → column row 1 ≡ Int version → pos shop.version ≡ version
 version_told shop row version is told = let both = sym (ap (λ (r : Row). column r 1) is) ∙ told in cc
 
--- the shop's row has version 1
+-- the shop's row has this version
 pub one_is_ours : (rows : List Row) → IsOneShop rows → HasNoOtherVersion rows
 one_is_ours rows (shop, fit, ids, first, is) version (row, one, told, other) =
     let same : row ≡ shop_row shop = cc in

@@ -9,7 +9,7 @@ use Rattle.sqlite_trees.specs.Tree.{Trees}
 use Rattle.sqlite_schema.specs.declared.schema.Schema.{Schema}
 use Rattle.sqlite.specs.Effect.{Database}
 use Rattle.sqlite.proofs.Callers.{one_permutation}
-use Rattle.bo_schema.specs.Tables.{schema}
+use Rattle.bo_schema.specs.Tables.{schema, this_version}
 use Rattle.bo_columns.specs.declared.rows.ShopRow.{ShopRow}
 use Rattle.bo_columns.specs.Rows.{shop_row, item_row, variation_row, quota_row, quota_item_row, quota_variation_row, voucher_row, cart_row, order_row, position_row, waiting_row, list_row, list_item_row, checkin_row, count_row, token_row, kept_row}
 use Rattle.bo_columns.specs.Fit.{IsFitItem, IsFitVariation, IsFitQuota, IsFitVoucher, IsFitCart, IsFitOrder, IsFitPosition, IsFitWaiting, IsFitList, IsFitCheckin, IsFitToken, IsFitKept}
@@ -127,7 +127,7 @@ shown_again db known (all, shows, (shop, fit, ids, first, is)) rows again =
     (shop, fit, ids, first, one_permutation (shop_row shop) rows (IsPermutation-trans _ _ _ one (IsPermutation-sym _ _ (shows_rows of_shop.select_text 0 of_shop.select_is db known rows again))))
 
 -- a version that is told is that of the shop's row
-pub tells : (t : Tables) (db : Database) → db.schema ≡ schema → Holds db.trees t → (shop : ShopRow) → t.shop ≡ shop ∷ [] → (version : ℤ) → IsCause db (Version version) → (pos shop.version ≡ version) × (version ≢ pos 1)
+pub tells : (t : Tables) (db : Database) → db.schema ≡ schema → Holds db.trees t → (shop : ShopRow) → t.shop ≡ shop ∷ [] → (version : ℤ) → IsCause db (Version version) → (pos shop.version ≡ version) × (version ≢ pos this_version)
 tells t db known held shop one version (rows, shows, (row, single, told, other)) =
     let is = alone t db known held shop one rows shows in
     let same : row ≡ shop_row shop = cc in
@@ -159,7 +159,7 @@ module _ (db : Database) (known : db.schema ≡ schema) where
 
 -- ---- a file that was read
 
-pub fit_read : (file : FileTables) → file.shop.version ≡ 1 → IsFitFile file → AreFit (tables_of file)
+pub fit_read : (file : FileTables) → file.shop.version ≡ this_version → IsFitFile file → AreFit (tables_of file)
 fit_read file first fit = record {
   shop = file.shop;
   alone = refl;
@@ -190,7 +190,7 @@ read_holds db rows file known shows is held =
     let e = held.others in
     (shop, (a.items, (a.variations, (a.quotas, (a.quota_items, (a.quota_variations, (b.vouchers, (b.carts, (b.orders, (b.positions, (b.waiting, (d.checkin_lists, (d.list_items, (d.checkins, (e.counts, (e.tokens, (e.kept, tt)))))))))))))))))
 
-pub readable : (db : Database) (rows : List Row) (o : Option TableRows) (r : Result FileTables OpenError) → ShowsBy of_shop.select_text db rows → IfOk r (λ file. rows ≡ shop_row file.shop ∷ []) → IfOk r (λ file. file.shop.version ≡ 1) → IfOk r (λ file. o ≡ Some file.tables)
+pub readable : (db : Database) (rows : List Row) (o : Option TableRows) (r : Result FileTables OpenError) → ShowsBy of_shop.select_text db rows → IfOk r (λ file. rows ≡ shop_row file.shop ∷ []) → IfOk r (λ file. file.shop.version ≡ this_version) → IfOk r (λ file. o ≡ Some file.tables)
     → IfOk r IsFitFile → HasTables db.schema → (db.schema ≡ schema → IfSome o (HoldsRows db.trees)) → OnOk r (IsReadable db)
 readable db rows o (Ok file) shows is first some fit has held = record {
   shop = (rows, shows, (file.shop, fit.shop, fit.ids, first, is));

@@ -22,6 +22,7 @@ use Rattle.bo_sound.specs.Limits.{IsValue, IsLimitedItem, IsLimitedVariation, Is
 use Rattle.bo_sound.specs.Range.{IsNextId, AllNextIds}
 use Rattle.bo_sound.specs.Sound.{IsSound}
 use Rattle.bo_kept.specs.declared.kept.Kept.{Kept}
+use Rattle.bo_schema.specs.Tables.{this_version}
 use Rattle.bo_columns.specs.declared.rows.ShopRow.{ShopRow}
 use Rattle.bo_columns.specs.declared.rows.QuotaRow.{QuotaRow}
 use Rattle.bo_columns.specs.declared.rows.VoucherRow.{VoucherRow}
@@ -90,7 +91,7 @@ voucher_fits w h utf8 = record {
 
 -- ---- the tables
 
-pub sound_fits : (shop : ShopRow) (t : Tables) (state : State) (answers : List Kept) → shop.version ≡ 1 → IsSlug shop.organizer → IsSlug shop.event → IsNextId last_id shop.next_token → Stand shop t state answers → IsSound state → AreTyped t → AreFit t
+pub sound_fits : (shop : ShopRow) (t : Tables) (state : State) (answers : List Kept) → shop.version ≡ this_version → IsSlug shop.organizer → IsSlug shop.event → IsNextId last_id shop.next_token → Stand shop t state answers → IsSound state → AreTyped t → AreFit t
 sound_fits shop t state answers first organizer event token stand sound typed =
     let lists = state.lists in
     let limited = sound.limits in

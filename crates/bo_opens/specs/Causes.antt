@@ -8,7 +8,7 @@ use Rattle.sqlite_resolve.specs.declared.compiled.Compiled.{Compiled}
 use Rattle.sqlite.specs.Clock.{timed}
 use Rattle.sqlite.specs.Effect.{Database, Reads}
 use Rattle.sqlite.specs.Listing.{understood, reads_listing, IsSourceOf}
-use Rattle.bo_schema.specs.Tables.{schema}
+use Rattle.bo_schema.specs.Tables.{schema, this_version}
 use Rattle.bo_schema.specs.Parts.{shown}
 use Rattle.bo_catalogue.specs.Limits.{last_id}
 use Rattle.bo_sound.specs.Range.{IsNextId, AllNextIds}
@@ -129,22 +129,22 @@ pub record IsFitFile (file : FileTables) : Type 0 where
 abbrev pub ShowsBy : List ℕ → Database → List Row → Type 0
 ShowsBy sql db rows = (c : Compiled) × (understood db.schema sql ≡ Ok c) × (source : Database) × IsSourceOf (reads_listing db.schema sql) db source × (now : ℕ) × Reads c.command source (timed [] c.formats now) rows
 
--- there is one row, whose version is this number, and not 1
+-- there is one row, whose version is this number, and not that of this program
 abbrev pub HasOtherVersion : ℤ → List Row → Type 0
-HasOtherVersion version rows = (row : Row) × (rows ≡ row ∷ []) × (column row 1 ≡ Int version) × (version ≢ pos 1)
+HasOtherVersion version rows = (row : Row) × (rows ≡ row ∷ []) × (column row 1 ≡ Int version) × (version ≢ pos this_version)
 
 abbrev pub HasNoOtherVersion : List Row → Type 0
 HasNoOtherVersion rows = (version : ℤ) → HasOtherVersion version rows → ⊥
 
--- there is one row, which is that of a shop of version 1 within its limits, whose next ids are in range
+-- there is one row, which is that of a shop of this version within its limits, whose next ids are in range
 abbrev pub IsOneShop : List Row → Type 0
-IsOneShop rows = (shop : ShopRow) × IsFitShop shop × HasNextIds shop × (shop.version ≡ 1) × (rows ≡ shop_row shop ∷ [])
+IsOneShop rows = (shop : ShopRow) × IsFitShop shop × HasNextIds shop × (shop.version ≡ this_version) × (rows ≡ shop_row shop ∷ [])
 
 -- the file has the table `shop`, and of the rows that are shown of it this holds
 abbrev pub OfTheShop : Database → (List Row → Type 0) → Type 0
 OfTheShop db holds = (rows : List Row) × ShowsBy shop_text db rows × holds rows
 
--- None of 60, 61 and 62 by the first two rules has its cause: no table lacks, there is one shop of version 1 within its limits, and so is
+-- None of 60, 61 and 62 by the first two rules has its cause: no table lacks, there is one shop of this version within its limits, and so is
 -- each value of the other tables, where these are declared as ours.
 pub record IsReadable (db : Database) : Type 0 where
   pub shop : OfTheShop db IsOneShop

@@ -1,5 +1,6 @@
 -- Tables that a shop has written.
 use Rattle.std.specs.Prelude.{◌≡◌, [], ◌∷◌, All}
+use Rattle.bo_schema.specs.Tables.{this_version}
 use Rattle.bo_columns.specs.declared.rows.ShopRow.{ShopRow}
 use Rattle.bo_columns.specs.Tables.{Tables}
 use Rattle.bo_columns.specs.Fit.{IsFitShop, IsFitItem, IsFitVariation, IsFitQuota, IsFitVoucher, IsFitCart, IsFitOrder, IsFitPosition, IsFitWaiting, IsFitList, IsFitCheckin, IsFitToken, IsFitKept}
@@ -7,11 +8,11 @@ use Rattle.bo_opens.specs.Causes.{HasNextIds}
 use Rattle.bo_opens.specs.declared.error.OpenError.{OpenError}
 use Rattle.bo_opens.specs.declared.error.OpenError.TheVariants.{Memory, NotAShop, Version, Damaged, Store}
 
--- all values are within their limits, and there is one shop, of version 1; the tables that aren't named have no limits
+-- all values are within their limits, and there is one shop, of this version; the tables that aren't named have no limits
 pub record AreFit (t : Tables) : Type 0 where
   pub shop : ShopRow
   pub alone : t.shop ≡ shop ∷ []
-  pub first : shop.version ≡ 1
+  pub first : shop.version ≡ this_version
   pub shop_fits : IsFitShop shop
   pub ids : HasNextIds shop
   pub items : All IsFitItem t.items

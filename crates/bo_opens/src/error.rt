@@ -11,7 +11,7 @@ pub enum OpenError {
     Memory,
     /// 60: a table of a shop, or a column of it, isn't there.
     NotAShop,
-    /// 61: the tables are of this version, and not of version 1.
+    /// 61: the tables are of this version, and not of the one that this program reads.
     Version(i64),
     /// 62: the least rule that the rows break.
     Damaged(Rule),

@@ -5,7 +5,7 @@ ghost use Rattle.sqlite.specs.Effect.{Database};
 ghost use Rattle.sqlite.specs.Held.{state};
 ghost use Rattle.sqlite.specs.State.{HasCleanDisk, Survives, IsUnchanged};
 ghost use Rattle.bo_schema.specs.declared.error.RowError.TheVariants.{Damaged, Store};
-ghost use Rattle.bo_schema.specs.Tables.{schema};
+ghost use Rattle.bo_schema.specs.Tables.{schema, this_version};
 ghost use Rattle.bo_columns.specs.Rows.{shop_row};
 ghost use Rattle.bo_columns.specs.Tables.{Holds};
 ghost use Rattle.bo_loads.specs.Damage.{HasNoMeaning, IsFor};
@@ -124,7 +124,7 @@ fn whole_file(
     tables: Option<TableRows>,
 ) -> Result<FileTables, OpenError>
     ensures shop { IfOk result (λ file. rows.now ≡ shop_row file.shop ∷ []) }
-    ensures version { IfOk result (λ file. file.shop.version ≡ 1) }
+    ensures version { IfOk result (λ file. file.shop.version ≡ this_version) }
     ensures tables { IfOk result (λ file. tables ≡ Some file.tables) }
     ensures limits { IfSome tables AreFitTables → IfOk result IsFitFile }
     ensures cause { (db : Database) → ShowsBy shop_text db rows.now → HasNoOtherVersion rows.now → HasTables db.schema → (tables ≡ None → db.schema ≡ schema → HasDamage db.trees) → IfErr result (IsCause db) }
@@ -148,7 +148,7 @@ pub fn read_file<S: Alter, P: Progress>(
 ) -> Result<FileTables, OpenError>
     requires { conn.old.in_transaction ≡ false }
     ensures held { HasCleanDisk (state S.Store conn.new) → (db : Database) → IsOpenAt db (state S.Store conn.old) → db.schema ≡ schema → IfOk result (λ file. Holds db.trees (tables_of file)) }
-    ensures version { IfOk result (λ file. file.shop.version ≡ 1) }
+    ensures version { IfOk result (λ file. file.shop.version ≡ this_version) }
     ensures limits { IfOk result IsFitFile }
     ensures found { HasCleanDisk (state S.Store conn.new) → (db : Database) → IsOpenAt db (state S.Store conn.old) → OnOk result (IsReadable db) }
     ensures cause { HasCleanDisk (state S.Store conn.new) → (db : Database) → IsOpenAt db (state S.Store conn.old) → IfErr result (IsCause db) }

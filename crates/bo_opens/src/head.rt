@@ -6,7 +6,7 @@ ghost use Rattle.sqlite_value.specs.Order.{column};
 ghost use Rattle.sqlite.specs.Effect.{Database};
 ghost use Rattle.sqlite.specs.Held.{state};
 ghost use Rattle.sqlite.specs.State.{HasCleanDisk, Survives, IsUnchanged};
-ghost use Rattle.bo_schema.specs.Tables.{schema};
+ghost use Rattle.bo_schema.specs.Tables.{schema, this_version};
 ghost use Rattle.bo_columns.specs.Rows.{shop_row};
 ghost use Rattle.bo_columns.specs.Fit.{IsFitShop};
 ghost use Rattle.bo_columns.specs.Unread.{IsUnread};
@@ -21,15 +21,12 @@ use crate::ids::has_next_ids;
 use bo_columns::ShopRow;
 use bo_loads::Loaded;
 use bo_rules::Rule;
-use bo_schema::RowError;
+use bo_schema::{RowError, VERSION};
 use sqlite::{Alter, Connection, Row};
 use std::alloc::Global;
 
-/// The version of a shop's tables that this program reads and writes.
-pub const VERSION: u64 = 1;
-
-// The same version, as it is shown.
-const SHOWN_VERSION: i64 = 1;
+// The version of this program, as it is shown.
+const SHOWN_VERSION: i64 = VERSION as i64;
 
 /// The rows of the table `shop`, as they are shown, whatever their version and their values are. The connection stays as it is.
 /// Refusals: 6, 60 where the file has no such table with these columns, 63.
@@ -81,7 +78,7 @@ pub(crate) fn test_version(rows: &[Row]) -> Result<(), OpenError>
 /// The shop's row. Refusals: 6, and 62 where there isn't one row, or a value or a next id of it is out of range.
 pub(crate) fn read_shop(alloc: Global, rows: &[Row]) -> Result<ShopRow, OpenError>
     ensures row { IfOk result (λ shop. rows.now ≡ shop_row shop ∷ []) }
-    ensures version { IfOk result (λ shop. shop.version ≡ 1) }
+    ensures version { IfOk result (λ shop. shop.version ≡ this_version) }
     ensures limits { IfOk result IsFitShop }
     ensures ids { IfOk result HasNextIds }
     ensures cause { (db : Database) → ShowsBy shop_text db rows.now → HasNoOtherVersion rows.now → HasTables db.schema → IfErr result (IsCause db) }

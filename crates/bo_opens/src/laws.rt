@@ -2,7 +2,7 @@
 
 ghost use Rattle.std.specs.Prelude.{◌≡◌, ◌≢◌, ℤ, pos, List, [], ◌∷◌};
 ghost use Rattle.sqlite.specs.Effect.{Database};
-ghost use Rattle.bo_schema.specs.Tables.{schema};
+ghost use Rattle.bo_schema.specs.Tables.{schema, this_version};
 ghost use Rattle.bo_lists.specs.Lists.{State};
 ghost use Rattle.bo_base.specs.Slugs.{IsSlug};
 ghost use Rattle.bo_catalogue.specs.Limits.{last_id};
@@ -18,7 +18,7 @@ ghost use Rattle.bo_opens.specs.declared.error.OpenError.TheVariants.{Version};
 ghost use Rattle.bo_opens.specs.Causes.{IsReadable, IsCause};
 ghost use Rattle.bo_opens.specs.Lawful.{AreFit, IsOfMachine};
 
-/// A file whose tables hold one shop of version 1, and values within their limits, is refused for want of memory or because the
+/// A file whose tables hold one shop of this version, and values within their limits, is refused for want of memory or because the
 /// store fails, and never with 60, 61 or 62.
 pub fn fit_tables_are_no_fault()
     ensures { (t : Tables) (db : Database) → db.schema ≡ schema → Holds db.trees t → AreFit t → (e : OpenError) → IsCause db e → IsOfMachine e }
@@ -29,12 +29,12 @@ pub fn readable_files_are_no_fault()
     ensures { (db : Database) → db.schema ≡ schema → IsReadable db → (e : OpenError) → IsCause db e → IsOfMachine e }
 {}
 
-/// A version that is told is that of the shop's row, and not 1.
+/// A version that is told is that of the shop's row, and not that of this program.
 pub fn a_version_is_told_of_the_shop()
-    ensures { (t : Tables) (db : Database) → db.schema ≡ schema → Holds db.trees t → (shop : ShopRow) → t.shop ≡ shop ∷ [] → (version : ℤ) → IsCause db (Version version) → (pos shop.version ≡ version) × (version ≢ pos 1) }
+    ensures { (t : Tables) (db : Database) → db.schema ≡ schema → Holds db.trees t → (shop : ShopRow) → t.shop ≡ shop ∷ [] → (version : ℤ) → IsCause db (Version version) → (pos shop.version ≡ version) × (version ≢ pos this_version) }
 {}
 
 /// The values of tables that hold a sound box office are within their limits, where their types keep what they promise.
 pub fn a_sound_office_is_fit()
-    ensures { (shop : ShopRow) (t : Tables) (state : State) (answers : List Kept) → shop.version ≡ 1 → IsSlug shop.organizer → IsSlug shop.event → IsNextId last_id shop.next_token → Stand shop t state answers → IsSound state → AreTyped t → AreFit t }
+    ensures { (shop : ShopRow) (t : Tables) (state : State) (answers : List Kept) → shop.version ≡ this_version → IsSlug shop.organizer → IsSlug shop.event → IsNextId last_id shop.next_token → Stand shop t state answers → IsSound state → AreTyped t → AreFit t }
 {}

@@ -7,6 +7,8 @@ pub mod Writes
 pub mod Casts
 pub mod Parts
 pub mod Inside
+pub mod Grown
+pub mod Standing
 pub mod Creating
 pub mod Makes
 pub mod WholeLemmas

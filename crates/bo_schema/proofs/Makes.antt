@@ -1,7 +1,6 @@
--- What each CREATE TABLE makes, and the one CREATE INDEX.
-use Rattle.std.proofs.Common.{◌≡◌, ◌<◌, ◌≤◌, ◌++◌, ℕ, zero, suc, List, [], ◌∷◌, length, map, get_or, false, Ok, refl, sym, subst, arith}
+-- What each CREATE TABLE makes beside the tables that stand, and the one CREATE INDEX.
+use Rattle.std.proofs.Common.{◌≡◌, ◌<◌, ◌≤◌, ◌++◌, ℕ, zero, suc, List, [], ◌∷◌, length, map, get_or, false, Ok, refl, subst, arith}
 use Rattle.sqlite_tied.specs.Compute.{everything}
-use Rattle.sqlite_trees.specs.Tree.{Trees}
 use Rattle.sqlite_schema.specs.declared.schema.Schema.{Schema}
 use Rattle.sqlite_schema.specs.declared.schema.Table.{Table}
 use Rattle.sqlite_schema.specs.declared.command.Command.TheVariants.{CreateTable, CreateIndex}
@@ -12,16 +11,15 @@ use Rattle.sqlite.specs.Listing.{understood}
 use Rattle.sqlite.specs.State.{State, Executes, HasCleanDisk, Survives}
 use Rattle.sqlite.proofs.Callers.{IsPlain, command_of, statement_of}
 use Rattle.bo_schema.specs.Tables.{schema, schema_of, shop_text, shop_table, items_text, items_table, variations_text, variations_table, quotas_text, quotas_table, quota_items_text, quota_items_table, quota_variations_text, quota_variations_table, vouchers_text, vouchers_table, cart_positions_text, cart_positions_table, orders_text, orders_table, order_positions_text, order_positions_table, waiting_text, waiting_table, checkin_lists_text, checkin_lists_table, list_items_text, list_items_table, checkins_text, checkins_table, quota_count_text, quota_count_table, tokens_text, tokens_table, kept_text, kept_table, kept_by_moment, kept_by_moment_text}
-use Rattle.bo_schema.proofs.Creating.{AreEmpty, creates, indexes}
-use Rattle.bo_schema.specs.Blank.{IsEmptyOver, blank_schema, statement_texts}
+use Rattle.bo_schema.specs.Blank.{blank_schema}
+use Rattle.bo_schema.specs.Versions.{steps, stage, statement_texts, schema_after}
+use Rattle.bo_schema.specs.Grown.{IsInsideOver}
+use Rattle.bo_schema.proofs.Grown.{GrowsBy}
+use Rattle.bo_schema.proofs.Creating.{creates, indexes}
 
--- over the first schema, with no row, the statement makes the next one, with no row
+-- over the first schema the statement makes the next one, beside the rows that stand
 abbrev pub Makes : Schema → List ℕ → Schema → Type 1
-Makes first sql next = (old new : State) → IsEmptyOver first old → (count : ℕ) → Executes sql [] old new (Ok count) → IsEmptyOver next new
-
-one_more : (db : Trees) (tables : List Table) (t : Table) → AreEmpty db tables → db t.tree ≡ [] → AreEmpty db (tables ++ t ∷ [])
-one_more db [] t all new = (new, tt)
-one_more db (s ∷ tables) t all new = (all.0, one_more db tables t all.1 new)
+Makes first sql next = (old new : State) → IsInsideOver first old → (count : ℕ) → Executes sql [] old new (Ok count) → (more : List Table) × GrowsBy more first next old new
 
 -- over a schema the text defines the table
 abbrev IsCreate : Schema → List ℕ → Table → Type 0
@@ -31,13 +29,17 @@ IsCreate before sql table = (command_of (understood before sql) ≡ CreateTable)
 makes_table : (first next : Schema) (sql : List ℕ) (table : Table) → IsCreate first sql table → created first (record table { tree = 0 }) ≡ next → lacks_sequence next ≡ false → next.tables ≡ first.tables ++ table ∷ [] → next_tree first ≡ table.tree
     → Makes first sql next
 makes_table first next sql table is makes counted tables tree old new at count h =
-    let it = creates first next sql (record table { tree = 0 }) is.0 is.1 is.2 is.3 makes counted old new at.known at.inside at.empty count h in
-    record {
-      known = it.0;
-      inside = it.3;
-      empty = subst (AreEmpty new.now.trees) (sym tables) (one_more new.now.trees first.tables table it.2 (subst (λ n. new.now.trees n ≡ []) tree it.1));
-      listed = it.5;
-    }
+    let it = creates first next sql (record table { tree = 0 }) is.0 is.1 is.2 is.3 makes counted old new at.known at.inside count h in (
+      table ∷ [],
+      record {
+        tables = tables;
+        known = it.0;
+        inside = it.3;
+        kept = it.2;
+        empty = (subst (λ n. new.now.trees n ≡ []) tree it.1, tt);
+        listed = it.5;
+      },
+    )
 
 pub before : (old new : State) → Survives old new (λ _. ⊥) → HasCleanDisk new → HasCleanDisk old
 before old new s clean = omega (arith, s.clean)
@@ -252,8 +254,8 @@ kept_by_moment_plain = (refl, refl)
 
 indexes_kept : Makes (schema_of 17 9) kept_by_moment_text (schema_of 17 10)
 indexes_kept old new at count h =
-    let it = indexes (schema_of 17 9) (schema_of 17 10) kept_by_moment_text 16 kept_table (record kept_by_moment { tree = 0 }) kept_by_moment_command kept_by_moment_text_is refl kept_by_moment_defined kept_by_moment_plain kept_by_moment_next old new at.known at.inside at.empty count h in
-    record { known = it.0; empty = it.1; inside = it.2; listed = it.3 }
+    let it = indexes (schema_of 17 9) (schema_of 17 10) kept_by_moment_text 16 kept_table (record kept_by_moment { tree = 0 }) kept_by_moment_command kept_by_moment_text_is refl kept_by_moment_defined kept_by_moment_plain kept_by_moment_next old new at.known at.inside count h in
+    ([], record { tables = refl; known = it.0; inside = it.2; kept = it.1; empty = tt; listed = it.3 })
 
 -- ---- all of them, one after another
 
@@ -261,12 +263,6 @@ indexes_kept old new at count h =
 abbrev Leads : Schema → List (List ℕ × Schema) → Type 1
 Leads first [] = Unit {1}
 Leads first (it ∷ steps) = Makes first it.0 it.1 × Leads it.1 steps
-
--- the schema after so many of them
-abbrev stage : ℕ → Schema → List (List ℕ × Schema) → Schema
-stage zero first steps = first
-stage (suc i) first [] = first
-stage (suc i) first (it ∷ steps) = stage i it.1 steps
 
 leads_at : (i : ℕ) (first : Schema) (steps : List (List ℕ × Schema)) → Leads first steps → i < length steps → Makes (stage i first steps) (get_or (map (λ it. it.0) steps) i []) (stage (suc i) first steps)
 leads_at i first [] all within = absurd (omega (arith, within))
@@ -284,14 +280,8 @@ past (suc i) first [] all = refl
 past zero first (it ∷ steps) all = absurd (omega (arith, all))
 past (suc i) first (it ∷ steps) all = past i it.1 steps (omega (arith, all))
 
-abbrev steps : List (List ℕ × Schema)
-steps = (shop_text, schema_of 1 0) ∷ (items_text, schema_of 2 0) ∷ (variations_text, schema_of 3 0) ∷ (quotas_text, schema_of 4 0) ∷ (quota_items_text, schema_of 5 1) ∷ (quota_variations_text, schema_of 6 2) ∷ (vouchers_text, schema_of 7 3) ∷ (cart_positions_text, schema_of 8 3) ∷ (orders_text, schema_of 9 3) ∷ (order_positions_text, schema_of 10 5) ∷ (waiting_text, schema_of 11 5) ∷ (checkin_lists_text, schema_of 12 5) ∷ (list_items_text, schema_of 13 6) ∷ (checkins_text, schema_of 14 7) ∷ (quota_count_text, schema_of 15 7) ∷ (tokens_text, schema_of 16 8) ∷ (kept_text, schema_of 17 9) ∷ (kept_by_moment_text, schema_of 17 10) ∷ []
-
-abbrev pub after : ℕ → Schema
-after i = stage i blank_schema steps
-
-pub each : (i : ℕ) → i < 18 → Makes (after i) (get_or statement_texts i []) (after (suc i))
+pub each : (i : ℕ) → i < 18 → Makes (schema_after i) (get_or statement_texts i []) (schema_after (suc i))
 each i = leads_at i blank_schema steps (makes_shop, (makes_items, (makes_variations, (makes_quotas, (makes_quota_items, (makes_quota_variations, (makes_vouchers, (makes_cart_positions, (makes_orders, (makes_order_positions, (makes_waiting, (makes_checkin_lists, (makes_list_items, (makes_checkins, (makes_quota_count, (makes_tokens, (makes_kept, (indexes_kept, tt))))))))))))))))))
 
-pub all_made : (i : ℕ) → 18 ≤ i → after i ≡ schema
+pub all_made : (i : ℕ) → 18 ≤ i → schema_after i ≡ schema
 all_made i all = past i blank_schema steps all

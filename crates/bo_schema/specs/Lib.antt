@@ -5,4 +5,6 @@ pub mod Writes
 pub mod Parts
 pub mod Failures
 pub mod Blank
+pub mod Versions
+pub mod Grown
 pub mod Whole

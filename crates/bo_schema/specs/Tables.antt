@@ -326,5 +326,9 @@ all_indexes =
 abbrev pub schema_of : ℕ → ℕ → Schema
 schema_of tables indexes = record { tables = take tables all_tables; indexes = take indexes all_indexes; views = [] }
 
+-- the version of the tables that this program reads and writes
+abbrev pub this_version : ℕ
+this_version = 1
+
 abbrev pub schema : Schema
 schema = record { tables = all_tables; indexes = all_indexes; views = [] }

@@ -9,6 +9,6 @@ pub mod writing;
 
 pub use error::RowError;
 pub use lookup::{Lookup, look_up};
-pub use make::make_tables;
+pub use make::{VERSION, add_tables};
 pub use statement::run;
 pub use writing::{Writing, schema_known, write_whole};

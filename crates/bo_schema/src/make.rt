@@ -4,10 +4,14 @@ ghost use Rattle.std.specs.Prelude.{◌≡◌, map, OnOk};
 ghost use Rattle.sqlite.specs.Held.{state};
 ghost use Rattle.sqlite.specs.State.{HasCleanDisk, Survives, KeepsCommit};
 ghost use Rattle.bo_schema.specs.Tables.{schema};
-ghost use Rattle.bo_schema.specs.Blank.{IsEmptyOver, blank_schema, statement_texts};
+ghost use Rattle.bo_schema.specs.Grown.{Grows, IsInsideOver};
+ghost use Rattle.bo_schema.specs.Versions.{schema_after, schema_of_version, statement_texts, statements_of};
 
 use crate::{RowError, run};
 use sqlite::{Alter, Transaction};
+
+/// The version of a shop's tables that this program reads and writes.
+pub const VERSION: u64 = 1;
 
 // What makes the tables of a shop, each behind those to which it refers.
 const STATEMENTS: [&str; 18] = [
@@ -49,28 +53,42 @@ const STATEMENTS: [&str; 18] = [
     "CREATE INDEX kept_by_moment ON kept (first_moment)",
 ];
 
-// Runs these statements one after another, over a file with no table at all.
-fn run_each<S: Alter>(tx: &mut Transaction<'_, S>, statements: &[&str]) -> Result<(), RowError>
+// How many of these make the tables of a version; of 0 there is none.
+fn statements_of(version: u64) -> usize
+    ensures { result ≡ statements_of version }
+{
+    match version {
+        0 => 0,
+        _ => STATEMENTS.len(),
+    }
+}
+
+// Runs the statements from one on, over the schema that those before it make, whose tables keep their rows.
+fn run_from<S: Alter>(
+    tx: &mut Transaction<'_, S>,
+    statements: &[&str],
+    from: usize,
+) -> Result<(), RowError>
     requires { map (λ s. s.now) statements.now ≡ statement_texts }
     ensures same { tx.new.conn.ghost_name ≡ tx.old.conn.ghost_name }
-    ensures made { HasCleanDisk (state S.Store tx.new.conn.now) → IsEmptyOver blank_schema (state S.Store tx.old.conn.now) → OnOk result (IsEmptyOver schema (state S.Store tx.new.conn.now)) }
+    ensures grown { HasCleanDisk (state S.Store tx.new.conn.now) → IsInsideOver (schema_after from) (state S.Store tx.old.conn.now) → OnOk result (Grows (schema_after from) schema (state S.Store tx.old.conn.now) (state S.Store tx.new.conn.now)) }
     ensures kept { HasCleanDisk (state S.Store tx.new.conn.now) → KeepsCommit (state S.Store tx.old.conn.now) (state S.Store tx.new.conn.now) }
     ensures crash { Survives (state S.Store tx.old.conn.now) (state S.Store tx.new.conn.now) (λ _. ⊥) }
 {
-    'statements: for sql in statements {
-        run(tx, sql, &[])?;
+    'statements: for at in from..statements.len() {
+        run(tx, statements[at], &[])?;
     }
     Ok(())
 }
 
-/// Makes the tables of a shop, each behind those to which it refers, inside a transaction over a file with no table at all.
-/// They hold no row. Refusals: 6, 63 where the store refuses a statement.
-pub fn make_tables<S: Alter>(tx: &mut Transaction<'_, S>) -> Result<(), RowError>
+/// Makes the tables that this version has and an earlier one hasn't, inside a transaction over those of the earlier one; 0 has none. The
+/// tables that stood keep their rows, and the new ones have none. Refusals: 6, 63 where the store refuses a statement.
+pub fn add_tables<S: Alter>(tx: &mut Transaction<'_, S>, from: u64) -> Result<(), RowError>
     ensures same { tx.new.conn.ghost_name ≡ tx.old.conn.ghost_name }
-    ensures made { HasCleanDisk (state S.Store tx.new.conn.now) → IsEmptyOver blank_schema (state S.Store tx.old.conn.now) → OnOk result (IsEmptyOver schema (state S.Store tx.new.conn.now)) }
+    ensures grown { HasCleanDisk (state S.Store tx.new.conn.now) → IsInsideOver (schema_of_version from) (state S.Store tx.old.conn.now) → OnOk result (Grows (schema_of_version from) schema (state S.Store tx.old.conn.now) (state S.Store tx.new.conn.now)) }
     ensures kept { HasCleanDisk (state S.Store tx.new.conn.now) → KeepsCommit (state S.Store tx.old.conn.now) (state S.Store tx.new.conn.now) }
     ensures crash { Survives (state S.Store tx.old.conn.now) (state S.Store tx.new.conn.now) (λ _. ⊥) }
 {
     let statements: [&str; 18] = STATEMENTS;
-    run_each(tx, statements.as_slice())
+    run_from(tx, statements.as_slice(), statements_of(from))
 }

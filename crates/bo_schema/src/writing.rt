@@ -13,7 +13,7 @@ use sqlite::{Alter, Connection, Transaction};
 /// What is written in one transaction, and what that answers.
 pub trait Writing<T> {
     // the schema over which it is written
-    ghost over: { Schema };
+    ghost over: { Self → Schema };
 
     // what it makes of a database over that schema
     ghost turns: { Self → T → Database → Database → Type 0 };
@@ -21,7 +21,7 @@ pub trait Writing<T> {
     /// Writes it, inside a transaction. The trees list the schema, as they did.
     fn write<S: Alter>(&self, tx: &mut Transaction<'_, S>) -> Result<T, RowError>
         ensures same { tx.new.conn.ghost_name ≡ tx.old.conn.ghost_name }
-        ensures written { HasCleanDisk (state S.Store tx.new.conn.now) → (state S.Store tx.old.conn.now).in_transaction ≡ true → (state S.Store tx.old.conn.now).now.schema ≡ over → IsDatabase (state S.Store tx.old.conn.now).now
+        ensures written { HasCleanDisk (state S.Store tx.new.conn.now) → (state S.Store tx.old.conn.now).in_transaction ≡ true → (state S.Store tx.old.conn.now).now.schema ≡ over self.now → IsDatabase (state S.Store tx.old.conn.now).now
             → IfOk result (λ answer. ((state S.Store tx.new.conn.now).in_transaction ≡ true) × turns self.now answer (state S.Store tx.old.conn.now).now (state S.Store tx.new.conn.now).now × IsDatabase (state S.Store tx.new.conn.now).now) }
         ensures kept { HasCleanDisk (state S.Store tx.new.conn.now) → KeepsCommit (state S.Store tx.old.conn.now) (state S.Store tx.new.conn.now) }
         ensures crash { Survives (state S.Store tx.old.conn.now) (state S.Store tx.new.conn.now) (λ _. ⊥) };
@@ -53,7 +53,7 @@ fn write_open<S: Alter, T: Drop, W: Writing<T>>(
     what: &W,
 ) -> Result<T, RowError>
     ensures same { tx.new.conn.ghost_name ≡ tx.old.conn.ghost_name }
-    ensures written { HasCleanDisk (state S.Store tx.new.conn.now) → (state S.Store tx.old.conn.now).in_transaction ≡ true → (state S.Store tx.old.conn.now).now.schema ≡ W.over → IsDatabase (state S.Store tx.old.conn.now).now
+    ensures written { HasCleanDisk (state S.Store tx.new.conn.now) → (state S.Store tx.old.conn.now).in_transaction ≡ true → (state S.Store tx.old.conn.now).now.schema ≡ W.over what.now → IsDatabase (state S.Store tx.old.conn.now).now
         → IfOk result (λ answer. ((state S.Store tx.new.conn.now).in_transaction ≡ true) × W.turns what.now answer (state S.Store tx.old.conn.now).now (state S.Store tx.new.conn.now).now × IsDatabase (state S.Store tx.new.conn.now).now) }
     ensures open { HasCleanDisk (state S.Store tx.new.conn.now) → OnOk result (IsTrue (state S.Store tx.old.conn.now).is_open) }
     ensures kept { HasCleanDisk (state S.Store tx.new.conn.now) → KeepsCommit (state S.Store tx.old.conn.now) (state S.Store tx.new.conn.now) }
@@ -69,9 +69,9 @@ pub fn write_whole<S: Alter, T: Drop, W: Writing<T>>(
     connection: &mut Connection<S>,
     what: &W,
 ) -> Result<T, RowError>
-    ensures all { HasCleanDisk (state S.Store connection.new) → IsOver W.over (state S.Store connection.old) → IfOk result (λ answer. IsWritten (W.turns what.now answer) (state S.Store connection.old) (state S.Store connection.new)) }
-    ensures none { HasCleanDisk (state S.Store connection.new) → IsOver W.over (state S.Store connection.old) → OnErr result (IsStill (state S.Store connection.old) (state S.Store connection.new)) }
-    ensures crash { Survives (state S.Store connection.old) (state S.Store connection.new) (MayBeWritten W.over (W.turns what.now) (state S.Store connection.old)) }
+    ensures all { HasCleanDisk (state S.Store connection.new) → IsOver (W.over what.now) (state S.Store connection.old) → IfOk result (λ answer. IsWritten (W.turns what.now answer) (state S.Store connection.old) (state S.Store connection.new)) }
+    ensures none { HasCleanDisk (state S.Store connection.new) → IsOver (W.over what.now) (state S.Store connection.old) → OnErr result (IsStill (state S.Store connection.old) (state S.Store connection.new)) }
+    ensures crash { Survives (state S.Store connection.old) (state S.Store connection.new) (MayBeWritten (W.over what.now) (W.turns what.now) (state S.Store connection.old)) }
 {
     if !connection.is_autocommit() {
         return Err(RowError::Store);

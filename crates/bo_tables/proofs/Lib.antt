@@ -2,6 +2,7 @@ pub mod Asked
 pub mod Told
 pub mod ShopLemmas
 pub mod Begins
+pub mod Upgrades
 pub mod Steps
 pub mod RowLemmas
 pub mod MemberLemmas

@@ -1,11 +1,11 @@
--- A shop before its first change, and what a new token makes of its tables.
-use Rattle.std.specs.Prelude.{◌≡◌}
+-- A shop before its first change, and what a new version and a new token make of its tables.
+use Rattle.std.specs.Prelude.{◌≡◌, ℕ}
 use Rattle.sqlite.specs.Effect.{Database}
-use Rattle.bo_schema.specs.Tables.{schema}
+use Rattle.bo_schema.specs.Tables.{schema, this_version}
 use Rattle.bo_columns.specs.declared.rows.ShopRow.{ShopRow}
 use Rattle.bo_columns.specs.declared.rows.Token.{Token}
 use Rattle.bo_columns.specs.Changes.{with_shop, without_shop, with_token}
-use Rattle.bo_columns.specs.Tables.{Tables, Holds, no_rows}
+use Rattle.bo_columns.specs.Tables.{Tables, Holds, HoldsAt, no_rows}
 
 -- no row but the shop's own
 abbrev pub first_tables : ShopRow → Tables
@@ -16,9 +16,22 @@ pub record IsBegun (shop : ShopRow) (db : Database) : Type 0 where
   pub known : db.schema ≡ schema
   pub held : Holds db.trees (first_tables shop)
 
+-- the shop's row of an earlier version, once its tables are of this one
+abbrev pub of_this_version : ShopRow → ShopRow
+of_this_version head = record head { version = this_version }
+
+-- the shop's row is this one, and all else as it was
+abbrev pub with_head : ShopRow → Tables → Tables
+with_head shop t = with_shop shop (without_shop 1 t)
+
+-- what becomes of a database of that version which is brought to this one
+pub record IsUpgraded (shop : ShopRow) (from : ℕ) (db after : Database) : Type 0 where
+  pub known : after.schema ≡ schema
+  pub holds : (t : Tables) → HoldsAt from db.trees t → Holds after.trees (with_head shop t)
+
 -- one token more, and the shop's row is this one
 abbrev pub token_added : ShopRow → Token → Tables → Tables
-token_added shop token t = with_token token (with_shop shop (without_shop 1 t))
+token_added shop token t = with_token token (with_head shop t)
 
 -- what a new token makes of a database over the schema
 pub record HasToken (shop : ShopRow) (token : Token) (db after : Database) : Type 0 where

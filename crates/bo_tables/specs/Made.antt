@@ -1,7 +1,7 @@
 -- A shop's file that was just made.
 use Rattle.std.specs.Prelude.{◌≡◌, ℕ, List, [], IsTrue}
 use Rattle.sqlite.specs.State.{State as Connected}
-use Rattle.bo_schema.specs.Tables.{schema}
+use Rattle.bo_schema.specs.Tables.{schema, this_version}
 use Rattle.bo_lists.specs.Lists.{empty, first_ids}
 use Rattle.bo_columns.specs.declared.rows.ShopRow.{ShopRow}
 use Rattle.bo_columns.specs.Tables.{Holds}
@@ -9,9 +9,9 @@ use Rattle.bo_tables.specs.Begun.{first_tables}
 use Rattle.bo_kept.specs.ShopView.{ShopView, IsSame}
 use Rattle.bo_tables.specs.Shops.{HoldsWhileOpen, IsOfHouse, Leaves, house_of_rows}
 
--- the shop's row before its first change: version 1, moment 0, and each id begins with 1
+-- the shop's row before its first change: this version, moment 0, and each id begins with 1
 abbrev pub first_shop : List ℕ → List ℕ → ShopRow
-first_shop organizer event = record { version = 1; organizer = organizer; event = event; moment = 0; next = first_ids; next_token = 1 }
+first_shop organizer event = record { version = this_version; organizer = organizer; event = event; moment = 0; next = first_ids; next_token = 1 }
 
 -- a shop that has no rows and keeps no answers
 abbrev pub nothing_yet : ShopView

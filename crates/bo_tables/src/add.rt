@@ -20,7 +20,7 @@ struct NewToken<'a> {
 }
 
 impl Writing<()> for NewToken<'_> {
-    ghost over = { schema };
+    ghost over = { λ _. schema };
 
     ghost turns = { λ what _ db after. HasToken what.shop.now what.token.now db after };
 

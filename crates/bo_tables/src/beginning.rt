@@ -5,47 +5,31 @@ ghost use Rattle.sqlite.specs.Held.{state};
 ghost use Rattle.sqlite.specs.State.{HasCleanDisk, Survives};
 ghost use Rattle.bo_lists.specs.Lists.{first_ids};
 ghost use Rattle.bo_schema.specs.Blank.{blank_schema};
+ghost use Rattle.bo_schema.specs.Tables.{this_version};
 ghost use Rattle.bo_schema.specs.Whole.{IsStill, IsWritten, MayBeWritten};
 ghost use Rattle.bo_tables.specs.Begun.{IsBegun};
 ghost use Rattle.bo_tables.specs.declared.error.CreateError.TheVariants.{NotBlank};
 
 use crate::error::CreateError;
+use crate::upgrading::upgrade;
 use bo_base::{Moment, Slug};
 use bo_columns::ShopRow;
 use bo_lists::NextIds;
-use bo_rows::Stored;
-use bo_schema::{RowError, Writing, make_tables, write_whole};
-use sqlite::{Alter, Connection, Transaction};
+use bo_schema::VERSION;
+use sqlite::{Alter, Connection};
 use sqlite_schema::schema::Schema;
 
-/// The row of a shop before its first change: version 1 of its tables, moment 0, and each id begins with 1.
+/// The row of a shop before its first change: this version of its tables, moment 0, and each id begins with 1.
 pub(crate) fn first_row(organizer: Slug, event: Slug) -> ShopRow
-    ensures { result ≡ record { version = 1; organizer = organizer; event = event; moment = 0; next = first_ids; next_token = 1 } }
+    ensures { result ≡ record { version = this_version; organizer = organizer; event = event; moment = 0; next = first_ids; next_token = 1 } }
 {
     ShopRow {
-        version: 1,
+        version: VERSION,
         organizer,
         event,
         moment: Moment::new(0),
         next: NextIds::first(),
         next_token: 1,
-    }
-}
-
-// The tables of a shop with its row alone.
-#[derive(Drop)]
-struct NewShop<'a> {
-    shop: &'a ShopRow,
-}
-
-impl Writing<()> for NewShop<'_> {
-    ghost over = { blank_schema };
-
-    ghost turns = { λ what _ db after. IsBegun what.shop.now after };
-
-    fn write<S: Alter>(&self, tx: &mut Transaction<'_, S>) -> Result<(), RowError> {
-        make_tables(tx)?;
-        self.shop.insert(tx)
     }
 }
 
@@ -57,7 +41,7 @@ pub(crate) fn is_blank(schema: &Schema) -> bool
     schema.tables.is_empty() && schema.indexes.is_empty() && schema.views.is_empty()
 }
 
-/// Makes the tables of a shop in a database that has none, and puts the shop's row, all of it or nothing. Refusals: 60 where the
+/// Brings a database that has no table to this version, so that it has those of a shop, with the shop's row alone; all of it or nothing. Refusals: 60 where the
 /// database has a table already, and only there, 6, and 63 where a transaction is open, the connection is shut or the store fails.
 pub(crate) fn begin<S: Alter>(
     connection: &mut Connection<S>,
@@ -72,7 +56,7 @@ pub(crate) fn begin<S: Alter>(
     if !is_blank(connection.schema()) {
         return Err(CreateError::NotBlank);
     }
-    match write_whole(connection, &NewShop { shop }) {
+    match upgrade(connection, shop, 0) {
         Ok(()) => Ok(()),
         Err(error) => Err(CreateError::of(error)),
     }

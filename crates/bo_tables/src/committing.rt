@@ -29,7 +29,7 @@ pub(crate) struct Commit<'a> {
 }
 
 impl Writing<u64> for Commit<'_> {
-    ghost over = { schema };
+    ghost over = { λ _. schema };
 
     ghost turns = { λ what free before after. (free ≡ next_after what.changes.now what.from + 1) × Turns what.from (done what.shop.now what.changes.now what.counts.now what.from (listed what.kept) what.at) before after };
 

@@ -11,9 +11,11 @@ pub mod error;
 pub mod laws;
 pub mod sql;
 mod tokens;
+pub mod upgrading;
 mod writes;
 
 pub use adding::add_token;
 pub use creating::create;
 pub use error::{CreateError, HandedBack, TokenError};
 pub use sql::SqlTables;
+pub use upgrading::upgrade;

@@ -20,6 +20,7 @@ use Rattle.bo_lists.specs.CountRows.{CountRows}
 use Rattle.bo_kept.specs.declared.kept.Kept.{Kept}
 use Rattle.bo_kept.specs.KeptAnswers.{lasts}
 use Rattle.bo_sound.specs.Range.{IsNextId}
+use Rattle.bo_schema.specs.Tables.{this_version}
 use Rattle.bo_columns.specs.declared.rows.ShopRow.{ShopRow}
 use Rattle.bo_columns.specs.declared.rows.QuotaRow.{QuotaRow}
 use Rattle.bo_columns.specs.declared.rows.VoucherRow.{VoucherRow}
@@ -125,7 +126,7 @@ module _ (old shop : ShopRow) (changes : List Change) (counts : CountRows) (from
 
 -- ---- a shop that begins, and a token
 
-pub first_typed : (shop : ShopRow) → shop.version ≡ 1 → IsSlug shop.organizer → IsSlug shop.event → IsNextId last_id shop.next_token → IsTypedShop shop (with_shop shop no_rows)
+pub first_typed : (shop : ShopRow) → shop.version ≡ this_version → IsSlug shop.organizer → IsSlug shop.event → IsNextId last_id shop.next_token → IsTypedShop shop (with_shop shop no_rows)
 first_typed shop first organizer event token = record {
   first = first;
   organizer = organizer;

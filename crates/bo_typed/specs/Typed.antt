@@ -18,6 +18,7 @@ use Rattle.bo_lists.specs.declared.rows.Waiting.{Waiting}
 use Rattle.bo_lists.specs.declared.rows.Checkin.{Checkin}
 use Rattle.bo_kept.specs.declared.kept.Kept.{Kept}
 use Rattle.bo_sound.specs.Range.{IsNextId}
+use Rattle.bo_schema.specs.Tables.{this_version}
 use Rattle.bo_columns.specs.declared.rows.ShopRow.{ShopRow}
 use Rattle.bo_columns.specs.declared.rows.Token.{Token}
 use Rattle.bo_columns.specs.Fit.{IsStatus, IsFitToken, IsFitKept}
@@ -105,9 +106,9 @@ AreTyped t =
 abbrev pub AreBelowNext : ShopRow → List Token → Type 0
 AreBelowNext shop tokens = AllByRecursion (λ w. w.id < shop.next_token) tokens
 
--- so it is of a shop's row, which is of version 1, and of the rows of its tables
+-- so it is of a shop's row, which is of this version, and of the rows of its tables
 pub record IsTypedShop (head : ShopRow) (tables : Tables) : Type 0 where
-  pub first : head.version ≡ 1
+  pub first : head.version ≡ this_version
   pub organizer : IsSlug head.organizer
   pub event : IsSlug head.event
   pub token : IsNextId last_id head.next_token

@@ -2,6 +2,7 @@ use Rattle.std.proofs.Common.{◌≡◌, inl, inr, sym, subst}
 use Rattle.sqlite.specs.Effect.{IsDatabase}
 use Rattle.sqlite.specs.Held.{state}
 use Rattle.bo_base.specs.Slugs.{IsSlug}
+use Rattle.bo_schema.specs.Tables.{this_version}
 use Rattle.bo_columns.specs.declared.rows.ShopRow.{ShopRow}
 use Rattle.bo_opens.specs.Read.{tables_of}
 use Rattle.bo_opens.proofs.FitLemmas.{of_readable}
@@ -29,7 +30,7 @@ returns-in-Ok-clause-opened g c clean db at known =
     (λ u also. (of u (file_of db.trees u c.in-Ok.file also held)).1) (of t (file_of db.trees t c.in-Ok.file held held)).2 (subst (λ (h : ShopRow). IsTypedShop h t) (sym is) (typed_read c.in-Ok.file c.in-Ok.ensures.version c.in-Ok.ensures.limits numbered)))
 
 pub returns-in-Ok-clause-version : goal.returns-in-Ok-clause-version
-returns-in-Ok-clause-version g c = if_ok c.open_rows.result _ _ c.open_rows.ensures.head (λ it is. subst (λ (h : ShopRow). h.version ≡ 1) (sym is) c.in-Ok.ensures.version)
+returns-in-Ok-clause-version g c = if_ok c.open_rows.result _ _ c.open_rows.ensures.head (λ it is. subst (λ (h : ShopRow). h.version ≡ this_version) (sym is) c.in-Ok.ensures.version)
 
 pub returns-in-Ok-clause-found : goal.returns-in-Ok-clause-found
 returns-in-Ok-clause-found g c clean db at = on_ok c.open_rows.result _ _ c.open_rows.ensures.head (λ it is. c.in-Ok.ensures.found clean db at)

@@ -30,8 +30,8 @@ returns-in-Ok-clause-crash g c =
     let written = rw c.transaction-tx.ensures.begun at c.in_ok-answer.ensures.written in
     let opened = rw c.transaction-tx.ensures.begun at c.in_ok-answer.ensures.open in
     let first = rw c.transaction-tx.ensures.begun at c.in_ok-answer.ensures.crash in
-    let whole = crashes g.S.Store g.W.Writing.over turns c.in_ok-answer.answer old mid end (λ clean. written (omega (arith, c.commit.ensures.survives.clean)) refl) (λ clean. opened (omega (arith, c.commit.ensures.survives.clean))) c.schema_known.ensures first c.commit.ensures.survives in
-    subst (λ h. Survives (state g.S.Store old) (state g.S.Store h) (MayBeWritten g.W.Writing.over turns (state g.S.Store old))) same whole
+    let whole = crashes g.S.Store (g.W.Writing.over c.args.what.now) turns c.in_ok-answer.answer old mid end (λ clean. written (omega (arith, c.commit.ensures.survives.clean)) refl) (λ clean. opened (omega (arith, c.commit.ensures.survives.clean))) c.schema_known.ensures first c.commit.ensures.survives in
+    subst (λ h. Survives (state g.S.Store old) (state g.S.Store h) (MayBeWritten (g.W.Writing.over c.args.what.now) turns (state g.S.Store old))) same whole
 
 pub returns-in-Err-clause-crash : goal.returns-in-Err-clause-crash
 returns-in-Err-clause-crash g c =
@@ -43,8 +43,8 @@ returns-in-Err-clause-crash g c =
     let written = rw c.transaction-tx.ensures.begun at c.in_ok-answer.ensures.written in
     let opened = rw c.transaction-tx.ensures.begun at c.in_ok-answer.ensures.open in
     let first = rw c.transaction-tx.ensures.begun at c.in_ok-answer.ensures.crash in
-    let whole = crashes g.S.Store g.W.Writing.over turns c.in_ok-answer.answer old mid end (λ clean. written (omega (arith, c.commit.ensures.survives.clean)) refl) (λ clean. opened (omega (arith, c.commit.ensures.survives.clean))) c.schema_known.ensures first c.commit.ensures.survives in
-    subst (λ h. Survives (state g.S.Store old) (state g.S.Store h) (MayBeWritten g.W.Writing.over turns (state g.S.Store old))) same whole
+    let whole = crashes g.S.Store (g.W.Writing.over c.args.what.now) turns c.in_ok-answer.answer old mid end (λ clean. written (omega (arith, c.commit.ensures.survives.clean)) refl) (λ clean. opened (omega (arith, c.commit.ensures.survives.clean))) c.schema_known.ensures first c.commit.ensures.survives in
+    subst (λ h. Survives (state g.S.Store old) (state g.S.Store h) (MayBeWritten (g.W.Writing.over c.args.what.now) turns (state g.S.Store old))) same whole
 
 pub returns-in-Err-clause-none : goal.returns-in-Err-clause-none
 returns-in-Err-clause-none g c clean over =

@@ -1,0 +1,39 @@
+-- A shop's file of an earlier version, and what is opened of it once it was brought to this one.
+use Rattle.std.specs.Prelude.{◌≡◌, ℕ, List, IsTrue, map}
+use Rattle.sqlite.specs.Effect.{Database}
+use Rattle.sqlite.specs.State.{State as Connected}
+use Rattle.bo_schema.specs.Tables.{schema}
+use Rattle.bo_schema.specs.Versions.{schema_of_version}
+use Rattle.bo_lists.specs.Lists.{State}
+use Rattle.bo_sound.specs.Sound.{IsSound}
+use Rattle.bo_kept.specs.declared.kept.Kept.{Kept}
+use Rattle.bo_kept.specs.ShopView.{IsSame}
+use Rattle.bo_columns.specs.declared.rows.ShopRow.{ShopRow}
+use Rattle.bo_columns.specs.Tables.{Tables, HoldsAt}
+use Rattle.bo_stand.specs.Stands.{Stand}
+use Rattle.bo_typed.specs.Typed.{IsTypedShop}
+use Rattle.bo_opens.specs.declared.error.OpenError.{OpenError}
+use Rattle.bo_opens.specs.Lawful.{IsOfMachine}
+use Rattle.bo_tables.specs.Begun.{of_this_version}
+use Rattle.bo_tables.specs.Shops.{IsOfHouse, house_of_rows}
+use Rattle.bo_file.specs.Opened.{IsOpened, IsReason}
+
+-- An open connection shows what was committed, in tables of that version, which hold this sound box office with these answers. All values
+-- but the version are what their types promise.
+pub record HoldsShopAt (version : ℕ) (head : ShopRow) (t : Tables) (s : State) (answers : List Kept) (c : Connected) : Type 0 where
+  pub is_open : IsTrue c.is_open
+  pub settled : c.now ≡ c.committed
+  pub known : c.now.schema ≡ schema_of_version version
+  pub held : HoldsAt version c.now.trees t
+  pub stand : Stand head t s answers
+  pub typed : IsTypedShop (of_this_version head) t
+  pub sound : IsSound s
+
+-- The tables are declared as ours, and the file is refused for want of memory or because the store fails, and never with 60, 61 or 62.
+-- What it is opened as is that shop, of this version: its row, its box office, its answers, and its house with the numbers of its tokens.
+pub record IsOpenedAsBefore (head : ShopRow) (t : Tables) (s : State) (answers : List Kept) (db : Database) (opened : Connected) : Type 0 where
+  pub known : db.schema ≡ schema
+  pub no_fault : (error : OpenError) → IsReason db error → IsOfMachine error
+  pub same : (shop : ShopRow) (next : ℕ) (z : State) (o : IsOpened db.trees shop next z opened)
+      → (shop ≡ of_this_version head) × IsSame (record { state = z; kept = map (λ r. r.kept) o.tables.kept }) (record { state = s; kept = answers })
+  pub house : (shop : ShopRow) (next : ℕ) (z : State) → IsOpened db.trees shop next z opened → IsOfHouse shop next opened (house_of_rows head t.tokens)
