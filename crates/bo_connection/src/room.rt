@@ -17,8 +17,8 @@ pub struct Room {
     ghost size: { length piece.items ≡ 65536 },
 }
 
-// So many bytes.
-fn blank(alloc: Global, size: usize) -> Result<Vec<u8>, AllocError>
+/// So many bytes of 0, as room for what a read gives.
+pub fn blank(alloc: Global, size: usize) -> Result<Vec<u8>, AllocError>
     ensures { IfOk result (λ v. length v.items ≡ size) }
 {
     vec![in alloc; 0u8; size]

@@ -27,6 +27,7 @@ pub struct Aside {
 
 /// Fills a book that is empty with rows whose ids rise and are below the next ones. What stands beside them is given back.
 /// Refused where memory is; the book then has some of the rows.
+/// A book that keeps counts counts all again behind each table, so those with many rows that count come last.
 pub fn fill<B: Book>(alloc: Global, book: &mut B, rows: FileRows) -> Result<Aside, AllocError>
     requires empty { (B.state book.old).lists ≡ no_rows }
     requires moment { (B.state book.old).moment ≤ rows.moment }
@@ -40,13 +41,13 @@ pub fn fill<B: Book>(alloc: Global, book: &mut B, rows: FileRows) -> Result<Asid
     put_rows::<B, Item>(alloc, book, rows.items, next, at)?;
     put_rows::<B, Variation>(alloc, book, rows.variations, next, at)?;
     put_rows::<B, Quota>(alloc, book, rows.quotas, next, at)?;
-    put_rows::<B, Voucher>(alloc, book, rows.vouchers, next, at)?;
-    put_rows::<B, CartPos>(alloc, book, rows.carts, next, at)?;
     put_rows::<B, Order>(alloc, book, rows.orders, next, at)?;
-    put_rows::<B, OrderPos>(alloc, book, rows.positions, next, at)?;
-    put_rows::<B, Waiting>(alloc, book, rows.waiting, next, at)?;
     put_rows::<B, CheckinList>(alloc, book, rows.checkin_lists, next, at)?;
     put_rows::<B, Checkin>(alloc, book, rows.checkins, next, at)?;
+    put_rows::<B, Waiting>(alloc, book, rows.waiting, next, at)?;
+    put_rows::<B, CartPos>(alloc, book, rows.carts, next, at)?;
+    put_rows::<B, Voucher>(alloc, book, rows.vouchers, next, at)?;
+    put_rows::<B, OrderPos>(alloc, book, rows.positions, next, at)?;
     Ok(Aside {
         organizer: rows.organizer,
         event: rows.event,

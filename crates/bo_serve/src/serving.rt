@@ -12,12 +12,12 @@ use crate::house::{DOOR, House};
 use crate::log::Log;
 use crate::noted::Attended;
 use bo_base::Steps;
-use bo_connection::Desk;
+use bo_connection::{Desk, blank};
 use bo_devices::{Device, Ticks};
 use bo_line::{Console, RunFault};
 use mio::net::TcpListener as Listener;
 use mio::{Events, Interest, Poll, Registry};
-use std::alloc::{AllocError, Global};
+use std::alloc::Global;
 use std::marker::Brand;
 use std::net::{Net, TcpListener};
 use std::sync::ledger::{Blank, Ledger};
@@ -183,13 +183,6 @@ fn serve_house<R: Clock + System + Console, L: Ledger, M: Ledger, T: Ticks, D: D
         ticks,
         desk,
     )
-}
-
-// So many bytes.
-fn blank(alloc: Global, size: usize) -> Result<Vec<u8>, AllocError>
-    ensures { IfOk result (λ v. length v.items ≡ size) }
-{
-    vec![in alloc; 0u8; size]
 }
 
 // The same with a ledger for each count of the page.

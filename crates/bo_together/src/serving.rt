@@ -1,27 +1,20 @@
 //! Callers at a desk.
 
-ghost use Rattle.std.specs.Prelude.{◌≡◌, ◌<◌, ◌≤◌, length, IfOk};
+ghost use Rattle.std.specs.Prelude.{◌≡◌, ◌<◌, ◌≤◌, length};
 
 use crate::error::TogetherError;
 use crate::floor::Floor;
 use crate::party::Party;
 use bo_base::Steps;
-use bo_connection::Desk;
+use bo_connection::{Desk, blank};
 use bo_devices::{Device, Ticks};
 use bo_turns::Next;
-use std::alloc::{AllocError, Global};
+use std::alloc::Global;
 use std::marker::Brand;
 use std::sync::ledger::{Blank, Ledger};
 
 /// The most bytes that one read gives.
 const PIECE: usize = 4096;
-
-// So many bytes.
-fn blank(alloc: Global, size: usize) -> Result<Vec<u8>, AllocError>
-    ensures { IfOk result (λ v. length v.items ≡ size) }
-{
-    vec![in alloc; 0u8; size]
-}
 
 // All that happens, one after another.
 fn go_on<L: Ledger, M: Ledger, T: Ticks, D: Desk>(

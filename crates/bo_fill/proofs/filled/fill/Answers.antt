@@ -18,25 +18,25 @@ returns-clause-state g c =
     let l3 : Lists = record l2 { catalogue = record l2.catalogue { quotas = rows.quotas.items } } in
     let h3 : g.B.Book.state c.put_rows-3.new.book ≡ record { lists = l3; next = rows.next; moment = rows.moment } =
     after (map PutQuota rows.quotas.items) rows.next rows.moment (g.B.Book.state c.put_rows-2.new.book) (g.B.Book.state c.put_rows-3.new.book) l2 l3 c.in_ok-put_rows-3.ensures.done (ap (λ (s : State). s.lists) h2) (quotas_put rows.quotas.items l2 refl c.requires.ids.quotas.in_order) in
-    let l4 : Lists = record l3 { vouchers = rows.vouchers.items } in
+    let l4 : Lists = record l3 { orders = rows.orders.items } in
     let h4 : g.B.Book.state c.put_rows-4.new.book ≡ record { lists = l4; next = rows.next; moment = rows.moment } =
-    after (map PutVoucher rows.vouchers.items) rows.next rows.moment (g.B.Book.state c.put_rows-3.new.book) (g.B.Book.state c.put_rows-4.new.book) l3 l4 c.in_ok-put_rows-4.ensures.done (ap (λ (s : State). s.lists) h3) (vouchers_put rows.vouchers.items l3 refl c.requires.ids.vouchers.in_order) in
-    let l5 : Lists = record l4 { carts = rows.carts.items } in
+    after (map PutOrder rows.orders.items) rows.next rows.moment (g.B.Book.state c.put_rows-3.new.book) (g.B.Book.state c.put_rows-4.new.book) l3 l4 c.in_ok-put_rows-4.ensures.done (ap (λ (s : State). s.lists) h3) (orders_put rows.orders.items l3 refl c.requires.ids.orders.in_order) in
+    let l5 : Lists = record l4 { checkin_lists = rows.checkin_lists.items } in
     let h5 : g.B.Book.state c.put_rows-5.new.book ≡ record { lists = l5; next = rows.next; moment = rows.moment } =
-    after (map PutCart rows.carts.items) rows.next rows.moment (g.B.Book.state c.put_rows-4.new.book) (g.B.Book.state c.put_rows-5.new.book) l4 l5 c.in_ok-put_rows-5.ensures.done (ap (λ (s : State). s.lists) h4) (carts_put rows.carts.items l4 refl c.requires.ids.carts.in_order) in
-    let l6 : Lists = record l5 { orders = rows.orders.items } in
+    after (map PutCheckinList rows.checkin_lists.items) rows.next rows.moment (g.B.Book.state c.put_rows-4.new.book) (g.B.Book.state c.put_rows-5.new.book) l4 l5 c.in_ok-put_rows-5.ensures.done (ap (λ (s : State). s.lists) h4) (checkin_lists_put rows.checkin_lists.items l4 refl c.requires.ids.checkin_lists.in_order) in
+    let l6 : Lists = record l5 { checkins = rows.checkins.items } in
     let h6 : g.B.Book.state c.put_rows-6.new.book ≡ record { lists = l6; next = rows.next; moment = rows.moment } =
-    after (map PutOrder rows.orders.items) rows.next rows.moment (g.B.Book.state c.put_rows-5.new.book) (g.B.Book.state c.put_rows-6.new.book) l5 l6 c.in_ok-put_rows-6.ensures.done (ap (λ (s : State). s.lists) h5) (orders_put rows.orders.items l5 refl c.requires.ids.orders.in_order) in
-    let l7 : Lists = record l6 { positions = rows.positions.items } in
+    after (map PutCheckin rows.checkins.items) rows.next rows.moment (g.B.Book.state c.put_rows-5.new.book) (g.B.Book.state c.put_rows-6.new.book) l5 l6 c.in_ok-put_rows-6.ensures.done (ap (λ (s : State). s.lists) h5) (checkins_put rows.checkins.items l5 refl c.requires.ids.checkins.in_order) in
+    let l7 : Lists = record l6 { waiting = rows.waiting.items } in
     let h7 : g.B.Book.state c.put_rows-7.new.book ≡ record { lists = l7; next = rows.next; moment = rows.moment } =
-    after (map PutPosition rows.positions.items) rows.next rows.moment (g.B.Book.state c.put_rows-6.new.book) (g.B.Book.state c.put_rows-7.new.book) l6 l7 c.in_ok-put_rows-7.ensures.done (ap (λ (s : State). s.lists) h6) (positions_put rows.positions.items l6 refl c.requires.ids.positions.in_order) in
-    let l8 : Lists = record l7 { waiting = rows.waiting.items } in
+    after (map PutWaiting rows.waiting.items) rows.next rows.moment (g.B.Book.state c.put_rows-6.new.book) (g.B.Book.state c.put_rows-7.new.book) l6 l7 c.in_ok-put_rows-7.ensures.done (ap (λ (s : State). s.lists) h6) (waiting_put rows.waiting.items l6 refl c.requires.ids.waiting.in_order) in
+    let l8 : Lists = record l7 { carts = rows.carts.items } in
     let h8 : g.B.Book.state c.put_rows-8.new.book ≡ record { lists = l8; next = rows.next; moment = rows.moment } =
-    after (map PutWaiting rows.waiting.items) rows.next rows.moment (g.B.Book.state c.put_rows-7.new.book) (g.B.Book.state c.put_rows-8.new.book) l7 l8 c.in_ok-put_rows-8.ensures.done (ap (λ (s : State). s.lists) h7) (waiting_put rows.waiting.items l7 refl c.requires.ids.waiting.in_order) in
-    let l9 : Lists = record l8 { checkin_lists = rows.checkin_lists.items } in
+    after (map PutCart rows.carts.items) rows.next rows.moment (g.B.Book.state c.put_rows-7.new.book) (g.B.Book.state c.put_rows-8.new.book) l7 l8 c.in_ok-put_rows-8.ensures.done (ap (λ (s : State). s.lists) h7) (carts_put rows.carts.items l7 refl c.requires.ids.carts.in_order) in
+    let l9 : Lists = record l8 { vouchers = rows.vouchers.items } in
     let h9 : g.B.Book.state c.put_rows-9.new.book ≡ record { lists = l9; next = rows.next; moment = rows.moment } =
-    after (map PutCheckinList rows.checkin_lists.items) rows.next rows.moment (g.B.Book.state c.put_rows-8.new.book) (g.B.Book.state c.put_rows-9.new.book) l8 l9 c.in_ok-put_rows-9.ensures.done (ap (λ (s : State). s.lists) h8) (checkin_lists_put rows.checkin_lists.items l8 refl c.requires.ids.checkin_lists.in_order) in
-    let l10 : Lists = record l9 { checkins = rows.checkins.items } in
+    after (map PutVoucher rows.vouchers.items) rows.next rows.moment (g.B.Book.state c.put_rows-8.new.book) (g.B.Book.state c.put_rows-9.new.book) l8 l9 c.in_ok-put_rows-9.ensures.done (ap (λ (s : State). s.lists) h8) (vouchers_put rows.vouchers.items l8 refl c.requires.ids.vouchers.in_order) in
+    let l10 : Lists = record l9 { positions = rows.positions.items } in
     let h10 : g.B.Book.state c.put_rows-10.new.book ≡ record { lists = l10; next = rows.next; moment = rows.moment } =
-    after (map PutCheckin rows.checkins.items) rows.next rows.moment (g.B.Book.state c.put_rows-9.new.book) (g.B.Book.state c.put_rows-10.new.book) l9 l10 c.in_ok-put_rows-10.ensures.done (ap (λ (s : State). s.lists) h9) (checkins_put rows.checkins.items l9 refl c.requires.ids.checkins.in_order) in
+    after (map PutPosition rows.positions.items) rows.next rows.moment (g.B.Book.state c.put_rows-9.new.book) (g.B.Book.state c.put_rows-10.new.book) l9 l10 c.in_ok-put_rows-10.ensures.done (ap (λ (s : State). s.lists) h9) (positions_put rows.positions.items l9 refl c.requires.ids.positions.in_order) in
     h10
