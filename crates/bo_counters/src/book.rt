@@ -9,7 +9,8 @@ use crate::counters::Counters;
 use bo_base::{List, Moment, Steps, Text};
 use bo_catalogue::{Product, Quota};
 use bo_lists::{
-    CartPos, Changes, Checkin, CheckinList, NextIds, Order, OrderPos, Usage, Voucher, Waiting,
+    CartPos, Changes, Checkin, CheckinList, NextIds, Order, OrderPos, Passage, Usage, Voucher,
+    Waiting,
 };
 use bo_sparse::Sparse;
 use bo_usage::{Book, Catalogue, LookUps, PositionTest};
@@ -100,6 +101,10 @@ impl Book for Counters {
         position: u64,
     ) -> Result<List<Checkin>, AllocError> {
         self.store().checkins_of(alloc, list, position)
+    }
+
+    fn last_at(&self, position: u64) -> Option<Passage> {
+        self.store().last_at(position)
     }
 
     fn waiters(&self, alloc: Global) -> Result<Vec<u64>, AllocError> {

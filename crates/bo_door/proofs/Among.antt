@@ -8,7 +8,8 @@ use Rattle.bo_lists.specs.declared.rows.OrderPos.{OrderPos}
 use Rattle.bo_lists.specs.Lists.{Lists, checkins_by}
 use Rattle.bo_sound.specs.Checkins.{same_nonce}
 use Rattle.bo_commands.specs.declared.doors.Scan.{Scan}
-use Rattle.bo_door.specs.Last.{is_entry, is_exit, is_of, checkins_of, has_entry, last_after, last_of, is_exit_if}
+use Rattle.bo_lists.specs.Passages.{is_entry, is_exit, last_after, is_exit_if}
+use Rattle.bo_door.specs.Last.{is_of, checkins_of, has_entry, last_of}
 use Rattle.bo_commands.specs.declared.doors.DoorRefusal.TheVariants.{AlreadyRedeemed}
 use Rattle.bo_door.specs.declared.verdict.Admission.TheVariants.{Again, New}
 use Rattle.bo_door.specs.Valid.{IsValid}

@@ -4,8 +4,9 @@ use Rattle.std.specs.Prelude.{Any, if◌then◌else◌}
 use Rattle.std.specs.List.{AllByRecursion}
 use Rattle.std.proofs.lemmas.Bool.Decides.{nat_tests}
 use Rattle.bo_lists.specs.declared.rows.Checkin.{Checkin}
-use Rattle.bo_door.specs.declared.passages.Passage.{Passage}
-use Rattle.bo_door.specs.Last.{passage, is_later, later, last_after, last_of, checkins_of, IsLast}
+use Rattle.bo_lists.specs.declared.passages.Passage.{Passage}
+use Rattle.bo_lists.specs.Passages.{passage, is_later, later, last_after}
+use Rattle.bo_door.specs.Last.{last_of, checkins_of, IsLast}
 
 not_after_itself : (p : Passage) → is_later p p ≡ false
 not_after_itself p = grind (arith, nat_tests)

@@ -11,9 +11,10 @@ use Rattle.bo_lists.specs.declared.rows.OrderPos.{OrderPos}
 use Rattle.bo_lists.specs.declared.rows.CheckinList.{CheckinList}
 use Rattle.bo_lists.specs.declared.rows.Checkin.{Checkin}
 use Rattle.bo_lists.specs.Lists.{Lists}
+use Rattle.bo_lists.specs.Passages.{is_entry, passage, later, last_after}
 use Rattle.bo_commands.specs.declared.doors.DoorStatus.{DoorStatus}
 use Rattle.bo_door.specs.declared.stays.Stay.{Stay}
-use Rattle.bo_door.specs.Last.{is_entry, is_of, checkins_of, has_entry, passage, later, last_after}
+use Rattle.bo_door.specs.Last.{is_of, checkins_of, has_entry}
 use Rattle.bo_door.specs.Stays.{no_stay, noted, noted_all, stays_inside, counts_of}
 use Rattle.bo_door.specs.Belongs.{belongs, belonging}
 use Rattle.bo_door.specs.Status.{has_entered, is_inside, status_of}

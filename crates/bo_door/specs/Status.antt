@@ -7,7 +7,8 @@ use Rattle.bo_lists.specs.Lists.{Lists}
 use Rattle.bo_commands.specs.declared.doors.DoorStatus.{DoorStatus}
 use Rattle.bo_commands.specs.declared.doors.ListedTicket.{ListedTicket}
 use Rattle.bo_door.specs.Belongs.{belonging}
-use Rattle.bo_door.specs.Last.{has_entry, checkins_of, last_of, is_entry_if}
+use Rattle.bo_lists.specs.Passages.{is_entry_if}
+use Rattle.bo_door.specs.Last.{has_entry, checkins_of, last_of}
 
 -- an entry of the position is stored
 abbrev pub has_entered : ℕ → List Checkin → OrderPos → Bool

@@ -2,9 +2,10 @@
 use Rattle.std.specs.Prelude.{ℕ, Bool, false, ◌||◌, List, [], ◌∷◌, length, count_by, Some, None, if◌then◌else◌}
 use Rattle.bo_lists.specs.declared.rows.OrderPos.{OrderPos}
 use Rattle.bo_lists.specs.declared.rows.Checkin.{Checkin}
+use Rattle.bo_lists.specs.Passages.{is_entry, is_entry_if, passage, later}
 use Rattle.bo_commands.specs.declared.doors.DoorStatus.{DoorStatus}
 use Rattle.bo_door.specs.declared.stays.Stay.{Stay}
-use Rattle.bo_door.specs.Last.{is_entry, is_entry_if, is_of, passage, later}
+use Rattle.bo_door.specs.Last.{is_of}
 
 -- nothing yet
 abbrev pub no_stay : OrderPos → Stay

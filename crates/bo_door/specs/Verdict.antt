@@ -18,7 +18,8 @@ use Rattle.bo_commands.specs.declared.doors.DoorRefusal.TheVariants.{NoList, Inv
 use Rattle.bo_door.specs.declared.verdict.Admission.{Admission}
 use Rattle.bo_door.specs.declared.verdict.Admission.TheVariants.{Again, New}
 use Rattle.bo_door.specs.Belongs.{is_for}
-use Rattle.bo_door.specs.Last.{is_exit, has_entry, last_of, is_exit_if}
+use Rattle.bo_lists.specs.Passages.{is_exit, is_exit_if}
+use Rattle.bo_door.specs.Last.{has_entry, last_of}
 
 -- the position that a ticket shows, by its id or by its secret
 abbrev pub shown_by : Ticket → Lists → Option OrderPos

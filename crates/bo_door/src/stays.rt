@@ -7,9 +7,10 @@ ghost use Rattle.bo_door.specs.Stays.{no_stay, noted, noted_all, stays_inside, c
 ghost use Rattle.bo_door.specs.Status.{status_of};
 
 use crate::listing::belongs;
-use crate::passages::{Passage, is_entry, is_of, later};
+use crate::passages::is_of;
 use bo_commands::DoorStatus;
-use bo_lists::{Checkin, CheckinList, OrderPos};
+use bo_lists::passages::{is_entry, is_entry_if, later};
+use bo_lists::{Checkin, CheckinList, OrderPos, Passage};
 use bo_sorted::{Row, place_of};
 use bo_usage::Book;
 use std::alloc::{AllocError, Global};
@@ -60,10 +61,7 @@ fn counted(stays: &[Stay]) -> DoorStatus
 fn is_inside(stay: &Stay) -> bool
     ensures { result ≡ stays_inside stay.now }
 {
-    match &stay.last {
-        None => false,
-        Some(last) => is_entry(last.kind),
-    }
+    is_entry_if(stay.last)
 }
 
 // The positions that belong to the list, by id, before any check-in.

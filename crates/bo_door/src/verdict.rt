@@ -5,7 +5,6 @@ ghost use Rattle.std.specs.Option.{option_copied};
 ghost use Rattle.bo_draft.specs.DraftState.{now};
 ghost use Rattle.bo_lists.specs.Lists.{order_at};
 ghost use Rattle.bo_sound.specs.Checkins.{same_nonce};
-ghost use Rattle.bo_door.specs.Last.{is_exit, is_exit_if, last_of};
 ghost use Rattle.bo_door.specs.Verdict.{shown_by, is_in_force_if, is_unpaid, is_unpaid_if, is_stored, may_pass, verdict};
 ghost use Rattle.bo_door.specs.Scanned.{verdict_of};
 
@@ -14,7 +13,8 @@ use crate::passages::{has_entry, last_of};
 use bo_base::Text;
 use bo_commands::{DoorRefusal, Scan, Ticket};
 use bo_draft::Draft;
-use bo_lists::{Checkin, CheckinKind, CheckinList, OrderPos, Status};
+use bo_lists::passages::{is_exit, is_exit_if};
+use bo_lists::{Checkin, CheckinList, OrderPos, Status};
 use bo_usage::{Book, LookUps};
 use std::alloc::Global;
 
@@ -153,22 +153,5 @@ fn may_pass(checkins: &[Checkin], list: &CheckinList, position: u64, scan: &Scan
         || scan.force
         || list.allow_multiple_entries
         || !has_entry(checkins, list.id, position)
-        || (list.allow_entry_after_exit && is_out(checkins, list.id, position))
-}
-
-// Whether a ticket went out.
-fn is_exit(kind: CheckinKind) -> bool
-    ensures { result ≡ is_exit kind }
-{
-    matches!(kind, CheckinKind::Exit)
-}
-
-// Whether the last check-in of a position by a list is an exit.
-fn is_out(checkins: &[Checkin], list: u64, position: u64) -> bool
-    ensures { result ≡ is_exit_if (last_of list position checkins.now) }
-{
-    match last_of(checkins, list, position) {
-        None => false,
-        Some(last) => is_exit(last.kind),
-    }
+        || (list.allow_entry_after_exit && is_exit_if(last_of(checkins, list.id, position)))
 }

@@ -195,9 +195,9 @@ module _ {T : Type 0} (keys : T → Keys) where
   until_if None = refl
   until_if (Some r) = refl
 
-  voucher_if : (o : Option T) → (keys_if keys o).voucher ≡ key_if (λ r. (keys r).voucher) o
-  voucher_if None = refl
-  voucher_if (Some r) = refl
+  named_if : (o : Option T) → (keys_if keys o).named ≡ key_if (λ r. (keys r).named) o
+  named_if None = refl
+  named_if (Some r) = refl
 
   text_if : (o : Option T) → (keys_if keys o).text ≡ key_if (λ r. (keys r).text) o
   text_if None = refl
@@ -207,21 +207,21 @@ module _ {T : Type 0} (keys : T → Keys) where
   group_if None = refl
   group_if (Some r) = refl
 
-module _ {T : Type 0} (id : T → ℕ) (keys : T → Keys) (rows : List T) (until voucher text group : List ℕ) (order : AreInOrder id rows) (indexed : AreIndexed id keys rows until voucher text group) (i : ℕ) (old : Keys) (small : i < 18446744073709551616) (was : old ≡ keys_if keys (row_at id i rows)) (rows_now : List T) (until_now voucher_now text_now group_now : List ℕ) (in_until : AreInOrder (λ n. n) until) (in_voucher : AreInOrder (λ n. n) voucher) (in_text : AreInOrder (λ n. n) text) (in_group : AreInOrder (λ n. n) group) where
+module _ {T : Type 0} (id : T → ℕ) (keys : T → Keys) (rows : List T) (until named text group : List ℕ) (order : AreInOrder id rows) (indexed : AreIndexed id keys rows until named text group) (i : ℕ) (old : Keys) (small : i < 18446744073709551616) (was : old ≡ keys_if keys (row_at id i rows)) (rows_now : List T) (until_now named_now text_now group_now : List ℕ) (in_until : AreInOrder (λ n. n) until) (in_named : AreInOrder (λ n. n) named) (in_text : AreInOrder (λ n. n) text) (in_group : AreInOrder (λ n. n) group) where
   -- a row was put, and each index has its new key for its old one
-  pub indexed_put : (row : T) (new : Keys) → i ≡ id row → new ≡ keys row → rows_now ≡ with_row id row rows → until_now ≡ with_entry i new.until (without_entry i old.until until) → voucher_now ≡ with_entry i new.voucher (without_entry i old.voucher voucher) → text_now ≡ with_entry i new.text (without_entry i old.text text) → group_now ≡ with_entry i new.group (without_entry i old.group group) → AreIndexed id keys rows_now until_now voucher_now text_now group_now
+  pub indexed_put : (row : T) (new : Keys) → i ≡ id row → new ≡ keys row → rows_now ≡ with_row id row rows → until_now ≡ with_entry i new.until (without_entry i old.until until) → named_now ≡ with_entry i new.named (without_entry i old.named named) → text_now ≡ with_entry i new.text (without_entry i old.text text) → group_now ≡ with_entry i new.group (without_entry i old.group group) → AreIndexed id keys rows_now until_now named_now text_now group_now
   indexed_put row new own is put e v t g = record {
     by_until = put_mirrors id (λ r. (keys r).until) rows until order in_until indexed.by_until row i old.until new.until until_now rows_now small own (ap (λ (k : Keys). k.until) was ∙ until_if keys (row_at id i rows)) (ap (λ (k : Keys). k.until) is) e put;
-    by_voucher = put_mirrors id (λ r. (keys r).voucher) rows voucher order in_voucher indexed.by_voucher row i old.voucher new.voucher voucher_now rows_now small own (ap (λ (k : Keys). k.voucher) was ∙ voucher_if keys (row_at id i rows)) (ap (λ (k : Keys). k.voucher) is) v put;
+    by_named = put_mirrors id (λ r. (keys r).named) rows named order in_named indexed.by_named row i old.named new.named named_now rows_now small own (ap (λ (k : Keys). k.named) was ∙ named_if keys (row_at id i rows)) (ap (λ (k : Keys). k.named) is) v put;
     by_text = put_mirrors id (λ r. (keys r).text) rows text order in_text indexed.by_text row i old.text new.text text_now rows_now small own (ap (λ (k : Keys). k.text) was ∙ text_if keys (row_at id i rows)) (ap (λ (k : Keys). k.text) is) t put;
     by_group = put_mirrors id (λ r. (keys r).group) rows group order in_group indexed.by_group row i old.group new.group group_now rows_now small own (ap (λ (k : Keys). k.group) was ∙ group_if keys (row_at id i rows)) (ap (λ (k : Keys). k.group) is) g put;
   }
 
   -- a row is gone, and its keys are
-  pub indexed_drop : rows_now ≡ without_row id i rows → until_now ≡ without_entry i old.until until → voucher_now ≡ without_entry i old.voucher voucher → text_now ≡ without_entry i old.text text → group_now ≡ without_entry i old.group group → AreIndexed id keys rows_now until_now voucher_now text_now group_now
+  pub indexed_drop : rows_now ≡ without_row id i rows → until_now ≡ without_entry i old.until until → named_now ≡ without_entry i old.named named → text_now ≡ without_entry i old.text text → group_now ≡ without_entry i old.group group → AreIndexed id keys rows_now until_now named_now text_now group_now
   indexed_drop gone e v t g = record {
     by_until = drop_mirrors id (λ r. (keys r).until) rows until order in_until indexed.by_until i old.until until_now rows_now small (ap (λ (k : Keys). k.until) was ∙ until_if keys (row_at id i rows)) e gone;
-    by_voucher = drop_mirrors id (λ r. (keys r).voucher) rows voucher order in_voucher indexed.by_voucher i old.voucher voucher_now rows_now small (ap (λ (k : Keys). k.voucher) was ∙ voucher_if keys (row_at id i rows)) v gone;
+    by_named = drop_mirrors id (λ r. (keys r).named) rows named order in_named indexed.by_named i old.named named_now rows_now small (ap (λ (k : Keys). k.named) was ∙ named_if keys (row_at id i rows)) v gone;
     by_text = drop_mirrors id (λ r. (keys r).text) rows text order in_text indexed.by_text i old.text text_now rows_now small (ap (λ (k : Keys). k.text) was ∙ text_if keys (row_at id i rows)) t gone;
     by_group = drop_mirrors id (λ r. (keys r).group) rows group order in_group indexed.by_group i old.group group_now rows_now small (ap (λ (k : Keys). k.group) was ∙ group_if keys (row_at id i rows)) g gone;
   }

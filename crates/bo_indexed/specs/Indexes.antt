@@ -15,9 +15,9 @@ abbrev pub Mirrors : {T : Type 0} → (T → ℕ) → (T → Option ℕ) → Lis
 Mirrors id key rows entries = (f : ℕ → ℕ → ℕ) → sum_by (λ e. f (key_of e) (id_of e)) entries ≡ sum_by (λ r. share f (id r) (key r)) rows
 
 -- an index for each key
-pub record AreIndexed {T : Type 0} (id : T → ℕ) (keys : T → Keys) (rows : List T) (until voucher text group : List ℕ) : Type 0 where
+pub record AreIndexed {T : Type 0} (id : T → ℕ) (keys : T → Keys) (rows : List T) (until named text group : List ℕ) : Type 0 where
   pub by_until : Mirrors id (λ r. (keys r).until) rows until
-  pub by_voucher : Mirrors id (λ r. (keys r).voucher) rows voucher
+  pub by_named : Mirrors id (λ r. (keys r).named) rows named
   pub by_text : Mirrors id (λ r. (keys r).text) rows text
   pub by_group : Mirrors id (λ r. (keys r).group) rows group
 

@@ -24,7 +24,7 @@ pub struct Indexed<T: Keyed + Drop, R: OrderedRows<T> = Rows<T>> {
     rows: R,
     row: PhantomData<T>,
     by_until: Index,
-    by_voucher: Index,
+    by_named: Index,
     by_text: Index,
     by_group: Index,
 }
@@ -36,9 +36,9 @@ impl<T: Keyed + Drop, R: OrderedRows<T>> Model for Indexed<T, R> {
 
     ghost Value = { Table T };
 
-    ghost view = { λ t. record { rows = (R.table t.rows).rows; room = min (R.table t.rows).room (min (min t.by_until.room t.by_voucher.room) (min t.by_text.room t.by_group.room)) } };
+    ghost view = { λ t. record { rows = (R.table t.rows).rows; room = min (R.table t.rows).room (min (min t.by_until.room t.by_named.room) (min t.by_text.room t.by_group.room)) } };
 
-    ghost invariant = { λ t. AreIndexed T.key T.keys (R.table t.rows).rows t.by_until.rows t.by_voucher.rows t.by_text.rows t.by_group.rows };
+    ghost invariant = { λ t. AreIndexed T.key T.keys (R.table t.rows).rows t.by_until.rows t.by_named.rows t.by_text.rows t.by_group.rows };
 }
 
 impl<T: Keyed + Drop, R: OrderedRows<T>> Indexed<T, R> {
@@ -50,7 +50,7 @@ impl<T: Keyed + Drop, R: OrderedRows<T>> Indexed<T, R> {
             rows: R::new(alloc),
             row: PhantomData,
             by_until: Index::new(alloc),
-            by_voucher: Index::new(alloc),
+            by_named: Index::new(alloc),
             by_text: Index::new(alloc),
             by_group: Index::new(alloc),
         }
@@ -89,15 +89,15 @@ impl<T: Keyed + Drop, R: OrderedRows<T>> Indexed<T, R> {
         self.by_until.between(from, to)
     }
 
-    /// The ids of the rows that name this voucher, rising.
-    pub fn naming(&self, voucher: u64) -> Found<'_>
-        ensures finds { Finds T.key (λ r. names voucher (T.keys r).voucher) self.now.rows result }
-        ensures all { result ≡ map T.key (filter (λ r. names voucher (T.keys r).voucher) self.now.rows) }
+    /// The ids of the rows that name this one, rising.
+    pub fn naming(&self, named: u64) -> Found<'_>
+        ensures finds { Finds T.key (λ r. names named (T.keys r).named) self.now.rows result }
+        ensures all { result ≡ map T.key (filter (λ r. names named (T.keys r).named) self.now.rows) }
         ensures few { length result ≤ 4294967296 }
     {
         self.rows.known();
-        self.by_voucher.known();
-        self.by_voucher.of_key(voucher)
+        self.by_named.known();
+        self.by_named.of_key(named)
     }
 
     /// The ids of the rows whose text has this digest, rising.
@@ -130,7 +130,7 @@ impl<T: Keyed + Drop, R: OrderedRows<T>> Indexed<T, R> {
     {
         self.rows.reserve(count)?;
         self.by_until.reserve(count)?;
-        self.by_voucher.reserve(count)?;
+        self.by_named.reserve(count)?;
         self.by_text.reserve(count)?;
         self.by_group.reserve(count)
     }
@@ -139,7 +139,7 @@ impl<T: Keyed + Drop, R: OrderedRows<T>> Indexed<T, R> {
     pub fn room(&self) -> usize
         ensures { result ≡ self.now.room }
     {
-        let times = self.by_until.room().min(self.by_voucher.room());
+        let times = self.by_until.room().min(self.by_named.room());
         let others = self.by_text.room().min(self.by_group.room());
         self.rows.room().min(times.min(others))
     }
@@ -168,7 +168,7 @@ impl<T: Keyed + Drop, R: OrderedRows<T>> Indexed<T, R> {
         let old = self.keys_of(id);
         self.rows.known();
         replace(&mut self.by_until, id, old.until, new.until);
-        replace(&mut self.by_voucher, id, old.voucher, new.voucher);
+        replace(&mut self.by_named, id, old.named, new.named);
         replace(&mut self.by_text, id, old.text, new.text);
         replace(&mut self.by_group, id, old.group, new.group);
         self.rows.put(row);
@@ -182,7 +182,7 @@ impl<T: Keyed + Drop, R: OrderedRows<T>> Indexed<T, R> {
         let old = self.keys_of(id);
         self.rows.known();
         remove(&mut self.by_until, id, old.until);
-        remove(&mut self.by_voucher, id, old.voucher);
+        remove(&mut self.by_named, id, old.named);
         remove(&mut self.by_text, id, old.text);
         remove(&mut self.by_group, id, old.group);
         self.rows.delete(id);

@@ -39,7 +39,7 @@ impl Keyed for CartPos {
     fn keys(&self) -> Keys {
         Keys {
             until: Some(self.expires.get()),
-            voucher: self.voucher,
+            named: self.voucher,
             text: Some(digest(self.cart_id.as_str())),
             group: None,
         }
@@ -65,7 +65,7 @@ impl Keyed for OrderPos {
     fn keys(&self) -> Keys {
         Keys {
             until: None,
-            voucher: self.voucher,
+            named: self.voucher,
             text: Some(digest(self.secret.as_str())),
             group: Some(self.order),
         }
@@ -79,12 +79,12 @@ impl Keyed for Waiting {
     fn keys(&self) -> Keys {
         match self.voucher {
             Some(voucher) => Keys {
-                voucher: Some(voucher),
+                named: Some(voucher),
                 ..Keys::none()
             },
             None => Keys {
                 until: None,
-                voucher: None,
+                named: None,
                 text: Some(digest(self.email.as_str())),
                 group: Some(0),
             },
@@ -92,12 +92,13 @@ impl Keyed for Waiting {
     }
 }
 
-/// A check-in is found by its list and its position together.
+/// A check-in is found by its position, and by its list and its position together.
 impl Keyed for Checkin {
     ghost keys = { checkin_keys };
 
     fn keys(&self) -> Keys {
         Keys {
+            named: Some(self.position),
             group: Some(pair(self.list, self.position)),
             ..Keys::none()
         }

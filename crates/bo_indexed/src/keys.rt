@@ -8,8 +8,8 @@ ghost use Rattle.bo_indexed.specs.Keys.{no_keys};
 pub struct Keys {
     /// The moment at which it ends, in seconds since 1970.
     pub until: Option<u64>,
-    /// The voucher that it names.
-    pub voucher: Option<u64>,
+    /// The id of the row that it names: a voucher, or a check-in's position.
+    pub named: Option<u64>,
     /// The digest of its text.
     pub text: Option<u64>,
     /// What it belongs to: an order, a queue, a ticket at a door.
@@ -23,7 +23,7 @@ impl Keys {
     {
         Keys {
             until: None,
-            voucher: None,
+            named: None,
             text: None,
             group: None,
         }

@@ -1,4 +1,4 @@
-//! Tables of rows that are found by keys, too: by the moment at which they end, by the voucher that they name, by a text,
+//! Tables of rows that are found by keys, too: by the moment at which they end, by the row that they name, by a text,
 //! and by what they belong to.
 #![tactic(auto)]
 

@@ -8,3 +8,4 @@ pub mod Lowers
 pub mod Orders
 pub mod LastPlaces
 pub mod LikeUsage
+pub mod LastPassages

@@ -1,5 +1,6 @@
 pub mod Conditions
 pub mod Lists
+pub mod Passages
 pub mod Usage
 pub mod Total
 pub mod Available

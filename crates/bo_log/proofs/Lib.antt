@@ -4,3 +4,4 @@ pub mod Indexes
 pub mod EarlierPlaces
 pub mod KeyIndexes
 pub mod RowSteps
+pub mod LastCheckins

@@ -1,3 +1,4 @@
 pub mod Places
 pub mod Keys
 pub mod Puts
+pub mod NewCheckins

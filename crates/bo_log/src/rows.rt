@@ -4,12 +4,15 @@ ghost use Rattle.std.specs.Prelude.{◌≡◌, ◌≤◌, length, take};
 ghost use Rattle.std.specs.Option.{option_copied};
 ghost use Rattle.bo_catalogue.specs.CatalogueLists.{quota_at};
 ghost use Rattle.bo_lists.specs.Change.{after_all};
+ghost use Rattle.bo_lists.specs.Passages.{last_at};
 ghost use Rattle.bo_lists.specs.Lists.{Lists, voucher_at, cart_at, order_at, position_at, waiting_at, checkin_list_at, checkin_at};
+ghost use Rattle.bo_log.specs.NewCheckins.{AreNewCheckins, last_with, last_with_all};
 ghost use Rattle.bo_log.specs.Puts.{quota_put, voucher_put, cart_put, order_put, position_put, waiting_put, checkin_list_put, checkin_put};
 
 use crate::change_log::{ChangeLog, Table};
 use bo_catalogue::Quota;
-use bo_lists::{CartPos, Change, Checkin, CheckinList, Order, OrderPos, Voucher, Waiting};
+use bo_lists::passages::later;
+use bo_lists::{CartPos, Change, Checkin, CheckinList, Order, OrderPos, Passage, Voucher, Waiting};
 
 /// The quota of an id with all changes, where this one stands before them.
 pub fn quota_in<'l>(log: &'l ChangeLog, id: u64, before: Option<&'l Quota>) -> Option<&'l Quota>
@@ -108,6 +111,40 @@ pub fn checkin_in<'l>(
     match log.last(Table::Checkins, id) {
         None => before,
         Some(place) => checkin_put(log.get(place)),
+    }
+}
+
+/// The last check-in of a position with all changes, where this one is it before them, and each check-in that they put
+/// is a new one. It goes over the changes where they put any.
+pub fn last_checkin_in(log: &ChangeLog, position: u64, before: Option<Passage>) -> Option<Passage>
+    ensures { (lists : Lists) → AreNewCheckins log.now lists → before ≡ last_at position lists.checkins → result ≡ last_at position (after_all log.now lists).checkins }
+{
+    if !log.touches(Table::Checkins) {
+        return before;
+    }
+    last_with_all(log.as_slice(), position, before)
+}
+
+// The last check-in of a position, change by change.
+fn last_with_all(changes: &[Change], position: u64, before: Option<Passage>) -> Option<Passage>
+    ensures { result ≡ last_with_all position changes.now before }
+{
+    let mut last = before;
+    for change in changes {
+        last = last_with(last, position, change);
+    }
+    last
+}
+
+// The last check-in of a position, where a change may put one more.
+fn last_with(last: Option<Passage>, position: u64, change: &Change) -> Option<Passage>
+    ensures { result ≡ last_with position change.now last }
+{
+    match change {
+        Change::PutCheckin(row) if row.position == position => {
+            Some(later(last, Passage::of(row)))
+        }
+        _ => last,
     }
 }
 

@@ -10,14 +10,15 @@ ghost use Rattle.bo_lists.specs.Weight.{change_weight, weight};
 
 use bo_base::{List, Moment, Steps, Text};
 use bo_catalogue::{Product, Quota};
+use bo_lists::passages::{is_exit_if, later};
 use bo_lists::{
-    CartPos, Change, Changes, Checkin, CheckinList, NextIds, Order, OrderPos, Usage, Voucher,
-    Waiting,
+    CartPos, Change, Changes, Checkin, CheckinList, NextIds, Order, OrderPos, Passage, Usage,
+    Voucher, Waiting,
 };
 use bo_sorted::Rows;
 use bo_sparse::Sparse;
 use bo_usage::rules::{cart_counts, is_paid_in, is_pending_in, left_of, uses};
-use bo_usage::{Book, Catalogue, LookUps, PositionTest};
+use bo_usage::{Book, Catalogue, Exits, LookUps, PositionTest};
 use std::alloc::{AllocError, Global};
 use std::marker::Model;
 use std::sync::ledger::Ledger;
@@ -229,6 +230,13 @@ impl LookUps for Recount {
     }
 }
 
+impl Exits for Recount {
+    #[tactic(auto, unfolding(bo_lists::specs::Passages::is_out))]
+    fn is_out(&self, position: u64) -> bool {
+        is_exit_if(self.last_at(position))
+    }
+}
+
 impl Book for Recount {
     ghost state = { λ b. b.state };
 
@@ -343,6 +351,16 @@ impl Book for Recount {
             }
         }
         Ok(List::new(rows))
+    }
+
+    fn last_at(&self, position: u64) -> Option<Passage> {
+        let mut last = None;
+        for row in self.checkins.as_slice() {
+            if row.position == position {
+                last = Some(later(last, Passage::of(row)));
+            }
+        }
+        last
     }
 
     fn waiters(&self, alloc: Global) -> Result<Vec<u64>, AllocError> {

@@ -12,7 +12,8 @@ use Rattle.bo_lists.specs.declared.rows.CheckinList.{CheckinList}
 use Rattle.bo_lists.specs.declared.rows.OrderPos.{OrderPos}
 use Rattle.bo_lists.specs.Lists.{Lists}
 use Rattle.bo_door.specs.Belongs.{belongs}
-use Rattle.bo_door.specs.Last.{checkins_of, has_entry, is_entry, is_of}
+use Rattle.bo_lists.specs.Passages.{is_entry}
+use Rattle.bo_door.specs.Last.{checkins_of, has_entry, is_of}
 use Rattle.bo_door.specs.Status.{has_entered, is_inside}
 use Rattle.bo_reports.specs.declared.entries.Entries.{Entries}
 use Rattle.bo_reports.specs.declared.entries.ItemEntries.{ItemEntries}

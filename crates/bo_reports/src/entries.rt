@@ -4,7 +4,6 @@ ghost use Rattle.std.specs.Prelude.{◌≡◌, ◌≤◌, IfOk, OnOk, filter, le
 ghost use Rattle.bo_sorted.specs.Tables.{AreInOrder};
 ghost use Rattle.bo_sound.specs.Sound.{IsSound};
 ghost use Rattle.bo_door.specs.Belongs.{belongs, is_for};
-ghost use Rattle.bo_door.specs.Last.{is_entry_if};
 ghost use Rattle.bo_door.specs.Status.{has_entered, is_inside};
 ghost use Rattle.bo_reports.specs.Entered.{all_entries, items_on};
 ghost use Rattle.bo_reports.specs.Counted.{AllAtMost, AreAtMost, counted, counted_all, counted_where, unvisited, with_ticket};
@@ -12,7 +11,8 @@ ghost use Rattle.bo_reports.specs.Counted.{AllAtMost, AreAtMost, counted, counte
 use bo_catalogue::Item;
 use bo_door::belongs;
 use bo_door::listing::is_for;
-use bo_door::passages::{Passage, has_entry, is_entry, last_of};
+use bo_door::passages::{has_entry, last_of};
+use bo_lists::passages::is_entry_if;
 use bo_lists::{CheckinList, OrderPos};
 use bo_sorted::{Row, place_of};
 use bo_usage::Book;
@@ -139,16 +139,6 @@ fn came<B: Book>(
         has_entry(checkins, list.id, position.id),
         is_entry_if(last_of(checkins, list.id, position.id)),
     ))
-}
-
-// Whether the last check-in is an entry.
-fn is_entry_if(last: Option<Passage>) -> bool
-    ensures { result ≡ is_entry_if last }
-{
-    match last {
-        None => false,
-        Some(last) => is_entry(last.kind),
-    }
 }
 
 // Counts a position of an item, where that is among these.

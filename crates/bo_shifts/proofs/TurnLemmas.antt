@@ -1,13 +1,13 @@
 -- Uses of vouchers that come and go.
-use Rattle.std.proofs.Common.{◌≡◌, ℕ, zero, suc, ◌+◌, ◌-◌, ◌<◌, ◌≤◌, Bool, true, false, eqb, List, [], ◌∷◌, ◌++◌, length, get_or, set, take, map, Option, Some, None, refl, sym, ap, ◌∙◌, add-one, sum_by, arith}
+use Rattle.std.proofs.Common.{◌≡◌, ℕ, zero, suc, ◌+◌, ◌-◌, ◌<◌, ◌≤◌, Bool, true, false, eqb, List, [], ◌∷◌, ◌++◌, length, get_or, set, take, map, Option, Some, refl, sym, ap, ◌∙◌, add-one, sum_by, arith}
 use Rattle.std.specs.Prelude.{if◌then◌else◌}
 use Rattle.std.specs.List.{AllByRecursion}
 use Rattle.std.proofs.lemmas.Bool.Decides.{nat_tests}
 use Rattle.std.proofs.lemmas.List.Sums.{sum_by-cons}
 use Rattle.std.proofs.lemmas.Grind.{common_steps}
-use Rattle.bo_sorted.specs.Tables.{row_at, InOrderFrom, AreInOrder, IsPlace, IsGap}
-use Rattle.bo_sorted.proofs.Places.{row_at_gap, at_least}
-use Rattle.bo_sorted.proofs.Edits.{row_at_above}
+use Rattle.bo_sorted.specs.Tables.{AreInOrder, IsPlace, IsGap}
+use Rattle.bo_sorted.proofs.Places.{row_at_gap}
+use Rattle.bo_sorted.proofs.OneId.{map_none, map_one}
 use Rattle.bo_catalogue.specs.declared.rows.Quota.{Quota}
 use Rattle.bo_lists.specs.declared.rows.Voucher.{Voucher}
 use Rattle.bo_lists.specs.declared.rows.Usage.{Usage}
@@ -16,27 +16,6 @@ use Rattle.bo_lists.specs.Lists.{Lists}
 use Rattle.bo_lists.specs.Kept.{IsKept}
 use Rattle.bo_shifts.specs.Turns.{turned, turn, turn_each}
 use Rattle.bo_indexed.proofs.EntryLemmas.{kept_at}
-
--- functions that differ at one id alone
-module _ {T U : Type 0} (key : T → ℕ) (f g : T → U) (id : ℕ) (other : (r : T) → eqb (key r) id ≡ false → g r ≡ f r) where
-  map_none : (rows : List T) → row_at key id rows ≡ None → map g rows ≡ map f rows
-  map_none [] e = refl
-  map_none (r ∷ rs) e = by_id (eqb (key r) id) refl (map_none rs)
-    where
-      by_id : (b : Bool) → eqb (key r) id ≡ b → (row_at key id rs ≡ None → map g rs ≡ map f rs) → map g (r ∷ rs) ≡ map f (r ∷ rs)
-      by_id true t more = absurd (cc (sym (ap (λ b. if b then Some r else row_at key id rs) t) ∙ e))
-      by_id false t more =
-          let rest : row_at key id rs ≡ None = sym (ap (λ b. if b then Some r else row_at key id rs) t) ∙ e in
-          λ i. other r t i ∷ more rest i
-
-  map_one : (n : ℕ) (rows : List T) (i : ℕ) (d : T) → InOrderFrom key n rows → IsPlace key rows id i → set (map f rows) i (g (get_or rows i d)) ≡ map g rows
-  map_one n [] i d h p = absurd (omega (arith, p.in_range))
-  map_one n (r ∷ rs) zero d h p = ap (λ l. g r ∷ l) (sym (map_none rs (row_at_above key (key r + 1) id rs (omega (arith, p.has_id r)) h.1)))
-  map_one n (r ∷ rs) (suc i) d h p =
-      let q : IsPlace key rs id i = record { in_range = omega (arith, p.in_range); has_id = p.has_id } in
-      let above = at_least key (key r + 1) rs h.1 i d q.in_range in
-      let differ : eqb (key r) id ≡ false = grind (arith, nat_tests, above, q.has_id d) in
-      ap (λ (x : U). x ∷ set (map f rs) i (g (get_or rs i d))) (sym (other r differ)) ∙ ap (λ l. g r ∷ l) (map_one (key r + 1) rs i d h.1 q)
 
 turn_other : (up : Bool) (id : ℕ) (spent : ℕ → ℕ) (x : ℕ) → eqb x id ≡ false → turn up (Some id) spent x ≡ spent x
 turn_other up id spent x e = by_test (eqb id x) (flip e)

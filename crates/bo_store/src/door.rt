@@ -2,12 +2,15 @@
 
 ghost use Rattle.std.specs.Prelude.{◌≡◌, ◌==◌, ◌&&◌, ◌++◌, filter, IfOk};
 ghost use Rattle.bo_lists.specs.Lists.{checkin_at, checkins_by};
+ghost use Rattle.bo_lists.specs.Passages.{last_after, last_at};
 ghost use Rattle.bo_store.specs.Walks.{listed};
 
 use crate::store::Store;
 use bo_base::List;
 use bo_indexed::pair;
-use bo_lists::Checkin;
+use bo_lists::passages::{is_exit_if, later};
+use bo_lists::{Checkin, Passage};
+use bo_usage::Exits;
 use std::alloc::{AllocError, Global};
 
 impl Store {
@@ -29,6 +32,29 @@ impl Store {
         Ok(List::new(rows))
     }
 
+    /// The last check-in of a position, by whatever list: a walk over its check-ins.
+    pub fn last_at(&self, position: u64) -> Option<Passage>
+        ensures { result ≡ last_at position self.now.state.lists.checkins }
+    {
+        self.known();
+        let mut last = None;
+        let ids = self.checkins().naming(position);
+        for place in 0..ids.len() {
+            last = self.later_of(last, ids.at(place));
+        }
+        last
+    }
+
+    // The later of the last one and the check-in of an id, if there is one.
+    fn later_of(&self, last: Option<Passage>, id: u64) -> Option<Passage>
+        ensures { result ≡ last_after last (listed (checkin_at id self.now.state.lists)) }
+    {
+        match self.checkin(id) {
+            None => last,
+            Some(row) => Some(later(last, Passage::of(row))),
+        }
+    }
+
     // Adds a copy of the check-in of an id, if there is one, and it is of this position by this list.
     fn push_checkin(
         &self,
@@ -46,5 +72,12 @@ impl Store {
             }
         }
         Ok(())
+    }
+}
+
+impl Exits for Store {
+    #[tactic(auto, unfolding(bo_lists::specs::Passages::is_out))]
+    fn is_out(&self, position: u64) -> bool {
+        is_exit_if(self.last_at(position))
     }
 }

@@ -5,6 +5,7 @@ ghost use Rattle.bo_catalogue.specs.CatalogueLists.{quota_at};
 ghost use Rattle.std.specs.Option.{option_copied};
 ghost use Rattle.bo_lists.specs.declared.rows.OrderPos.{OrderPos};
 ghost use Rattle.bo_lists.specs.Lists.{State, voucher_at, cart_at, order_at, position_at, positions_of, waiting_at, checkin_list_at, checkin_at, checkins_by};
+ghost use Rattle.bo_lists.specs.Passages.{last_at};
 ghost use Rattle.bo_lists.specs.Usage.{redeemed, usage_of};
 ghost use Rattle.bo_lists.specs.Change.{applied};
 ghost use Rattle.bo_lists.specs.Weight.{weight};
@@ -20,7 +21,8 @@ ghost use Rattle.bo_lists.specs.Consumed.{consumed};
 use bo_base::{List, Moment, Steps, Text};
 use bo_catalogue::{Product, Quota};
 use bo_lists::{
-    CartPos, Changes, Checkin, CheckinList, NextIds, Order, OrderPos, Usage, Voucher, Waiting,
+    CartPos, Changes, Checkin, CheckinList, NextIds, Order, OrderPos, Passage, Usage, Voucher,
+    Waiting,
 };
 use bo_sparse::Sparse;
 use bo_stock::Catalogue;
@@ -127,6 +129,10 @@ pub trait Book {
         position: u64,
     ) -> Result<List<Checkin>, AllocError>
         ensures { IfOk result (λ rows. rows ≡ checkins_by list position (state self.now).lists) };
+
+    /// The last check-in of a position, by whatever list: by its moment, and then by its id.
+    fn last_at(&self, position: u64) -> Option<Passage>
+        ensures { result ≡ last_at position (state self.now).lists.checkins };
 
     /// The ids of the waiting entries without voucher, in order.
     fn waiters(&self, alloc: Global) -> Result<Vec<u64>, AllocError>

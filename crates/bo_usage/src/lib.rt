@@ -9,4 +9,4 @@ pub mod rules;
 pub use available::{availability, usage_of};
 pub use bo_stock::Catalogue;
 pub use book::{Book, PositionTest};
-pub use look_ups::LookUps;
+pub use look_ups::{Exits, LookUps};

@@ -3,6 +3,7 @@
 ghost use Rattle.std.specs.Prelude.{◌≡◌};
 ghost use Rattle.std.specs.Option.{option_copied};
 ghost use Rattle.bo_lists.specs.Lists.{Lists, voucher_at, cart_at, order_at, position_at, waiting_at};
+ghost use Rattle.bo_lists.specs.Passages.{is_out};
 
 use bo_lists::{CartPos, Order, OrderPos, Voucher, Waiting};
 
@@ -30,4 +31,11 @@ pub trait LookUps {
     /// The waiting entry of an id.
     fn entry(&self, id: u64) -> Option<&Waiting>
         ensures { option_copied result ≡ waiting_at id (rows self.now) };
+}
+
+/// Tells which tickets have gone out.
+pub trait Exits: LookUps {
+    /// Whether a position has gone out: its last check-in, by whatever list, is an exit.
+    fn is_out(&self, position: u64) -> bool
+        ensures { result ≡ is_out position (Self.rows self.now).checkins };
 }

@@ -1,5 +1,6 @@
 use Rattle.std.proofs.Common.{◌≡◌, drop}
-use Rattle.bo_door.specs.Last.{checkins_of, last_after, last_of}
+use Rattle.bo_lists.specs.Passages.{last_after}
+use Rattle.bo_door.specs.Last.{checkins_of, last_of}
 use Rattle.bo_door.proofs.passages.last_of.Given as goal
 
 -- what is left goes on from the last one so far

@@ -1,5 +1,5 @@
 use Rattle.std.proofs.Common.{refl}
-use Rattle.bo_door.specs.Last.{later}
+use Rattle.bo_lists.specs.Passages.{later}
 use Rattle.bo_door.specs.Verdict.{verdict}
 use Rattle.bo_door.specs.Scanned.{scanned}
 use Rattle.bo_door.proofs.worked.a_ticket_enters_once.Goals as goal

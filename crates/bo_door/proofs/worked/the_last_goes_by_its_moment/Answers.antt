@@ -1,5 +1,5 @@
 use Rattle.std.proofs.Common.{refl}
-use Rattle.bo_door.specs.Last.{later}
+use Rattle.bo_lists.specs.Passages.{later}
 use Rattle.bo_door.specs.Belongs.{belongs}
 use Rattle.bo_door.specs.Status.{status_of, ticket_of}
 use Rattle.bo_door.proofs.worked.the_last_goes_by_its_moment.Goals as goal

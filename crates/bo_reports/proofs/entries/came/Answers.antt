@@ -1,5 +1,6 @@
 use Rattle.std.proofs.Common.{◌≡◌, ◌∙◌, None, ap}
-use Rattle.bo_door.specs.Last.{checkins_of, has_entry, is_entry_if, last_after, last_of}
+use Rattle.bo_lists.specs.Passages.{is_entry_if, last_after}
+use Rattle.bo_door.specs.Last.{checkins_of, has_entry, last_of}
 use Rattle.bo_reports.proofs.Entering.{own_checkins, own_entry}
 use Rattle.bo_reports.proofs.entries.came.Goals as goal
 
