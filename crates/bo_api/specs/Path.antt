@@ -111,7 +111,7 @@ target_of organizer event target = do
   route ← route_of path
   target_by (segment 2 path) route
 
--- the text that stands in the place of a ticket, the third of the names in a path, in the shop of those slugs
+-- the text behind `positions/`, the fourth name in the path, in the shop of those slugs
 unfoldable pub ticket_named : List ℕ → List ℕ → List ℕ → Option (List ℕ)
 ticket_named organizer event target = within organizer event (path_of target) >>= segment 4
 

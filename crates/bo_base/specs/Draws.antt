@@ -1,4 +1,4 @@
--- Draws.
+-- Draws: sixteen random bytes, one draw for each request.
 use Rattle.std.specs.Prelude.{◌≡◌, length}
 use Rattle.hex.specs.Hex.{IsBytes}
 use Rattle.bo_base.specs.declared.draw.Draw.{Draw}

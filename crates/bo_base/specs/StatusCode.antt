@@ -1,4 +1,4 @@
--- Statuses of HTTP.
+-- Statuses of HTTP: numbers of three digits.
 use Rattle.std.specs.Prelude.{ℕ, ◌≤◌, ◌<◌}
 
 -- a number of three digits

@@ -1,4 +1,4 @@
-//! What every layer speaks of: money, moments, draws, texts and answers.
+//! What are a price, a moment, a code, a draw, a text and an answer?
 #![tactic(auto)]
 
 pub mod answer;

@@ -1,4 +1,4 @@
-//! Many callers at once, at the desk of a shop.
+//! What do many callers at once make of a shop?
 #![tactic(auto)]
 
 pub mod laws;

@@ -1,4 +1,6 @@
-//! Items, variations and quotas: what is for sale, as rows and as lists.
+//! What is for sale, as rows and as lists?
+//!
+//! Items, variations and quotas.
 #![tactic(auto)]
 
 pub mod limits;

@@ -1,4 +1,4 @@
--- What an order starts as.
+-- What an order starts as: pending or paid.
 use Rattle.bo_lists.specs.declared.rows.Status.{Status}
 use Rattle.bo_lists.specs.declared.rows.Status.TheVariants.{Pending, Paid}
 use Rattle.bo_commands.specs.declared.orders.Start.{Start}

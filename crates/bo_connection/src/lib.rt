@@ -1,4 +1,4 @@
-//! A connection: bytes to bytes, over whoever answers its messages.
+//! What is written for the bytes of a connection, whoever answers its messages?
 #![tactic(auto)]
 
 pub mod desk;

@@ -1,4 +1,4 @@
--- What a book keeps beside its rows.
+-- What a book keeps beside its rows: the counts of its lists at its moment.
 use Rattle.std.specs.Prelude.{ℕ, List}
 use Rattle.bo_lists.specs.declared.rows.Usage.{Usage}
 use Rattle.bo_lists.specs.Lists.{Lists}

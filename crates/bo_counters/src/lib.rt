@@ -1,4 +1,4 @@
-//! A book that keeps its counts.
+//! How does a book keep its counts, and answer by them?
 #![tactic(auto)]
 
 pub mod book;

@@ -1,12 +1,6 @@
-pub mod Shifted
 pub mod Picked
-pub mod FiveCounts
-pub mod UsedNames
-pub mod TurnedUses
-pub mod Untouched
+pub mod Absent
 pub mod Ordered
-pub mod Usages
-pub mod HasNone
 pub mod Undue
 pub mod ToldRows
-pub mod Unreached
+pub mod WalkedRows

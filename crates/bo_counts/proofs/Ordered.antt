@@ -2,21 +2,18 @@
 use Rattle.std.proofs.Common.{List, [], ◌∷◌, arith}
 use Rattle.bo_sorted.proofs.Places.{with_row_in_order, without_row_in_order}
 use Rattle.bo_lists.specs.declared.changes.Change.{Change}
-use Rattle.bo_lists.specs.declared.changes.Change.TheVariants.{PutQuota, PutVoucher, PutCart, PutPosition, PutWaiting, DropVoucher, DropCart, DropWaiting}
+use Rattle.bo_lists.specs.declared.changes.Change.TheVariants.{PutQuota, PutVoucher, PutCart, DropVoucher, DropCart}
 use Rattle.bo_lists.specs.Change.{after_change, after_all}
 use Rattle.bo_lists.specs.Lists.{Lists}
-use Rattle.bo_counts.specs.Touched.{AreOrdered}
+use Rattle.bo_counts.specs.Told.{AreOrdered}
 
 ordered_step : (change : Change) (lists : Lists) → AreOrdered lists → AreOrdered (after_change change lists)
-ordered_step (PutQuota row) lists h = record { quotas = with_row_in_order (λ r. r.id) 0 row lists.catalogue.quotas (omega arith) h.quotas; positions = h.positions; vouchers = h.vouchers; carts = h.carts; waiting = h.waiting }
-ordered_step (PutVoucher row) lists h = record { quotas = h.quotas; positions = h.positions; vouchers = with_row_in_order (λ r. r.id) 0 row lists.vouchers (omega arith) h.vouchers; carts = h.carts; waiting = h.waiting }
-ordered_step (DropVoucher id) lists h = record { quotas = h.quotas; positions = h.positions; vouchers = without_row_in_order (λ r. r.id) 0 id lists.vouchers h.vouchers; carts = h.carts; waiting = h.waiting }
-ordered_step (PutCart row) lists h = record { quotas = h.quotas; positions = h.positions; vouchers = h.vouchers; carts = with_row_in_order (λ r. r.id) 0 row lists.carts (omega arith) h.carts; waiting = h.waiting }
-ordered_step (DropCart id) lists h = record { quotas = h.quotas; positions = h.positions; vouchers = h.vouchers; carts = without_row_in_order (λ r. r.id) 0 id lists.carts h.carts; waiting = h.waiting }
-ordered_step (PutPosition row) lists h = record { quotas = h.quotas; positions = with_row_in_order (λ r. r.id) 0 row lists.positions (omega arith) h.positions; vouchers = h.vouchers; carts = h.carts; waiting = h.waiting }
-ordered_step (PutWaiting row) lists h = record { quotas = h.quotas; positions = h.positions; vouchers = h.vouchers; carts = h.carts; waiting = with_row_in_order (λ r. r.id) 0 row lists.waiting (omega arith) h.waiting }
-ordered_step (DropWaiting id) lists h = record { quotas = h.quotas; positions = h.positions; vouchers = h.vouchers; carts = h.carts; waiting = without_row_in_order (λ r. r.id) 0 id lists.waiting h.waiting }
-ordered_step _ lists h = record { quotas = h.quotas; positions = h.positions; vouchers = h.vouchers; carts = h.carts; waiting = h.waiting }
+ordered_step (PutQuota row) lists h = record { quotas = with_row_in_order (λ r. r.id) 0 row lists.catalogue.quotas (omega arith) h.quotas; vouchers = h.vouchers; carts = h.carts }
+ordered_step (PutVoucher row) lists h = record { quotas = h.quotas; vouchers = with_row_in_order (λ r. r.id) 0 row lists.vouchers (omega arith) h.vouchers; carts = h.carts }
+ordered_step (DropVoucher id) lists h = record { quotas = h.quotas; vouchers = without_row_in_order (λ r. r.id) 0 id lists.vouchers h.vouchers; carts = h.carts }
+ordered_step (PutCart row) lists h = record { quotas = h.quotas; vouchers = h.vouchers; carts = with_row_in_order (λ r. r.id) 0 row lists.carts (omega arith) h.carts }
+ordered_step (DropCart id) lists h = record { quotas = h.quotas; vouchers = h.vouchers; carts = without_row_in_order (λ r. r.id) 0 id lists.carts h.carts }
+ordered_step _ lists h = record { quotas = h.quotas; vouchers = h.vouchers; carts = h.carts }
 
 pub ordered_after : (changes : List Change) (lists : Lists) → AreOrdered lists → AreOrdered (after_all changes lists)
 ordered_after [] lists h = h

@@ -3,12 +3,23 @@ use Rattle.std.proofs.Common.{◌≡◌, ◌≢◌, ℕ, suc, ◌+◌, ◌<◌, 
 use Rattle.std.specs.Prelude.{◌||◌, if◌then◌else◌, flat_map, nat_lt}
 use Rattle.std.specs.List.{AllByRecursion, list_any}
 use Rattle.std.proofs.lemmas.Bool.Decides.{nat_tests, eqb_tells, leb_tells}
-use Rattle.bo_sorted.specs.Tables.{has, row_at, InOrderFrom}
+use Rattle.bo_sorted.specs.Tables.{has, row_at, InOrderFrom, AreInOrder}
 use Rattle.bo_sorted.proofs.Edits.{row_at_above}
 use Rattle.bo_sorted.proofs.Places.{order_weaker}
 use Rattle.bo_lists.proofs.EachRow.{all_weaker}
+use Rattle.bo_lists.proofs.Found.{each_found}
 use Rattle.bo_counts.specs.Told.{told_if}
-use Rattle.bo_counts.proofs.Shifted.{absent_below, other_id}
+
+pub own_id : (k : ℕ) → eqb k k ≡ true
+own_id k = grind (arith, nat_tests)
+
+other_id : (j k : ℕ) → j < k → eqb j k ≡ false
+other_id j k lt = grind (arith, nat_tests)
+
+-- an id that is below all others isn't among them
+absent_below : (k n : ℕ) (ids : List ℕ) → k < n → InOrderFrom (λ n. n) n ids → has k ids ≡ false
+absent_below k n [] lt h = refl
+absent_below k n (x ∷ xs) lt h = grind (arith, nat_tests, h.0, absent_below k (x + 1) xs (omega (arith, h.0)) h.1)
 
 -- a list of what passes
 pub filter_is : {A B : Type 0} (p : B → Bool) (g : A → B) (rows : List A) → filter p (map g rows) ≡ flat_map (λ r. if p (g r) then g r ∷ [] else []) rows
@@ -76,13 +87,23 @@ module _ {T U : Type 0} (key : T → ℕ) (h : T → List U) where
   none_of [] all = refl
   none_of (r ∷ rs) all = ap₂ (λ (a b : List U). a ++ b) (all.0 refl) (none_of rs all.1)
 
-  pub picked : (ids : List ℕ) (n m : ℕ) (rows : List T) → InOrderFrom (λ n. n) n ids → InOrderFrom key m rows → AllByRecursion (λ r. has (key r) ids ≡ false → h r ≡ []) rows → flat_map h rows ≡ flat_map (λ id. told_if h (row_at key id rows)) ids
+  picked : (ids : List ℕ) (n m : ℕ) (rows : List T) → InOrderFrom (λ n. n) n ids → InOrderFrom key m rows → AllByRecursion (λ r. has (key r) ids ≡ false → h r ≡ []) rows → flat_map h rows ≡ flat_map (λ id. told_if h (row_at key id rows)) ids
   picked [] n m rows i o all = none_of rows all
   picked (t ∷ ts) n m rows i o all =
       split_at t m rows o (all_weaker (λ r. has (key r) (t ∷ ts) ≡ false → h r ≡ []) (λ r. key r < t → h r ≡ []) (λ r none lt. none (absent_below (key r) t (t ∷ ts) lt (omega arith, i.1))) rows all)
       ∙ ap (λ l. told_if h (row_at key t rows) ++ l) (
       picked ts (t + 1) m (above t rows) i.1 (above_in_order t m rows o) (kept_above t (λ r. has (key r) (t ∷ ts) ≡ false → h r ≡ []) (λ r. has (key r) ts ≡ false → h r ≡ []) rows (λ r lt none absent. none (ap (λ b. b || has (key r) ts) (other_id t (key r) lt) ∙ absent)) all)
       ∙ same_found (above t rows) rows (t + 1) ts i.1 (λ id le. found_above t id rows (omega (arith, le))))
+
+-- what is told of the rows of some ids, in order, is what is told of all, where nothing is told of any other
+module _ {T C : Type 0} (key : T → ℕ) (g : T → C) (passes : C → Bool) where
+  abbrev told : T → List C
+  told r = if passes (g r) then g r ∷ [] else []
+
+  pub chosen : (rows : List T) (ids : List ℕ) → AreInOrder (λ n. n) ids → AreInOrder key rows → ((r : T) → row_at key (key r) rows ≡ Some r → has (key r) ids ≡ false → told r ≡ []) → flat_map (λ id. told_if told (row_at key id rows)) ids ≡ filter passes (map g rows)
+  chosen rows ids rise order others =
+      sym (filter_is passes g rows
+      ∙ picked key told ids 0 0 rows rise order (all_weaker (λ r. row_at key (key r) rows ≡ Some r) (λ r. has (key r) ids ≡ false → told r ≡ []) others rows (each_found key 0 rows order)))
 
 -- one of the rows has the id and passes, where the one of that id does
 abbrev pub passes_if : {T : Type 0} → (T → Bool) → Option T → Bool

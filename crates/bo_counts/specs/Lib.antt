@@ -1,6 +1,3 @@
-pub mod Touched
-pub mod Due
-pub mod Shares
-pub mod Turned
 pub mod Told
-pub mod Reached
+pub mod Due
+pub mod Walked

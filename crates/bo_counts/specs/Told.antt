@@ -1,19 +1,19 @@
 -- Which counts of an office are told where it comes after another one.
-use Rattle.std.specs.Prelude.{◌≡◌, ◌≤◌, ℕ, Bool, not, List, [], ◌∷◌, map, if◌then◌else◌, is_none, Option, Some, None}
+use Rattle.std.specs.Prelude.{Bool, not, ℕ, List, [], ◌∷◌, if◌then◌else◌, is_none, Option, Some, None}
 use Rattle.std.specs.List.{list_any}
+use Rattle.bo_sorted.specs.Tables.{AreInOrder}
 use Rattle.bo_catalogue.specs.declared.rows.Quota.{Quota}
 use Rattle.bo_lists.specs.declared.rows.Voucher.{Voucher}
 use Rattle.bo_lists.specs.declared.count_rows.QuotaCount.{QuotaCount}
 use Rattle.bo_lists.specs.declared.count_rows.VoucherCount.{VoucherCount}
 use Rattle.bo_lists.specs.Lists.{Lists, State, voucher_at}
-use Rattle.bo_lists.specs.Usage.{redeemed}
 use Rattle.bo_lists.specs.CountRows.{quota_count, quota_counts, same_quota_count, voucher_count, voucher_counts, same_voucher_count}
-use Rattle.bo_counts.specs.declared.touched.TouchedRows.{TouchedRows}
-use Rattle.bo_counts.specs.Touched.{AreTouched, AreOrdered}
 
--- how often the vouchers of these ids are redeemed, whether they stand or not
-abbrev pub redeemed_each : Lists → List ℕ → List VoucherCount
-redeemed_each lists ids = map (λ id. record { voucher = id; redeemed = redeemed id lists }) ids
+-- ids rise in the tables of quotas, vouchers and cart positions
+pub record AreOrdered (lists : Lists) : Type 0 where
+  pub quotas : AreInOrder (λ r. r.id) lists.catalogue.quotas
+  pub vouchers : AreInOrder (λ r. r.id) lists.vouchers
+  pub carts : AreInOrder (λ r. r.id) lists.carts
 
 -- an office before changes and after them
 pub record Passage : Type 0 where
@@ -35,7 +35,7 @@ told_unless known row = if not known then row ∷ [] else []
 abbrev pub quota_told : Passage → Quota → List QuotaCount
 quota_told both quota = told_unless (has_count both.before (quota_count both.after quota)) (quota_count both.after quota)
 
--- the count of a voucher that stands afterwards, unless it was the same before
+-- how often a voucher is redeemed that stands afterwards, unless it was the same before
 abbrev pub voucher_told : Passage → Voucher → List VoucherCount
 voucher_told both voucher = told_unless (has_voucher both.before (voucher_count both.after voucher)) (voucher_count both.after voucher)
 
@@ -47,16 +47,3 @@ gone_told both voucher = if is_none (voucher_at voucher.id both.after.lists) the
 abbrev pub told_if : {T U : Type 0} → (T → List U) → Option T → List U
 told_if told None = []
 told_if told (Some row) = told row
-
--- the same of the voucher of an id that is redeemed so often
-abbrev pub voucher_told_as : Passage → VoucherCount → List VoucherCount
-voucher_told_as both count = told_if (λ v. told_unless (has_voucher both.before count) count) (voucher_at count.voucher both.after.lists)
-
--- what is known of an office before changes and after them
-pub record IsPassage (both : Passage) (rows : TouchedRows) (olds news : List VoucherCount) : Type 0 where
-  pub past : both.before.moment ≤ both.after.moment
-  pub touched : AreTouched both.before.lists both.after.lists rows
-  pub ordered_before : AreOrdered both.before.lists
-  pub ordered_after : AreOrdered both.after.lists
-  pub was : olds ≡ redeemed_each both.before.lists rows.vouchers
-  pub now : news ≡ redeemed_each both.after.lists rows.vouchers

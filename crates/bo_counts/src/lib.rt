@@ -1,14 +1,12 @@
-//! The counts of quotas and vouchers that changes change.
+//! Which counts of quotas and vouchers differ after changes, by what these shift?
 #![tactic(auto)]
 
+mod compared;
 mod counts;
 mod due;
-mod reached;
-mod shares;
-mod sides;
+mod recounts;
 mod told;
-mod touched;
-mod turned;
-mod view;
+mod walk;
 
-pub use counts::counts_after;
+pub use compared::counts_between;
+pub use counts::counts_by_shifts;

@@ -1,158 +1,84 @@
-//! The counts that differ after changes.
+//! Counts that are shifted, and whether a book has them.
 
-ghost use Rattle.std.specs.Prelude.{◌≡◌, ◌++◌, IfOk, OnOk, flat_map};
-ghost use Rattle.bo_catalogue.specs.CatalogueLists.{quota_at};
-ghost use Rattle.bo_lists.specs.Lists.{voucher_at};
-ghost use Rattle.bo_lists.specs.CountRows.{same_usage, counts_after};
-ghost use Rattle.bo_counts.specs.Reached.{AreAsked};
-ghost use Rattle.bo_counts.specs.Told.{has_count, has_voucher, quota_told, voucher_told_as, gone_told, told_if, told_unless};
+ghost use Rattle.std.specs.Prelude.{◌≡◌, ◌+◌, ◌-◌, ◌++◌, IfOk, OnOk, Some};
+ghost use Rattle.std.specs.Option.{option_copied};
+ghost use Rattle.bo_lists.specs.CountRows.{same_usage};
+ghost use Rattle.bo_counts.specs.Told.{has_count, has_voucher, told_unless};
+ghost use Rattle.bo_counts.specs.Walked.{shifted, same_as};
 
-use crate::sides::Sides;
 use bo_lists::{QuotaCount, Usage, VoucherCount};
-use bo_usage::{Book, LookUps, usage_of};
-use std::alloc::{AllocError, Global};
+use bo_tally::QuotaShift;
+use bo_usage::{Book, usage_of};
+use std::alloc::AllocError;
 
-impl<'s, B: Book> Sides<'s, B> {
-    /// The counts of the quotas that are new, or whose counts differ, where all of them are among these.
-    pub fn quotas(&self, alloc: Global, ids: &[u64]) -> Result<Vec<QuotaCount>, AllocError>
-        requires { AreAsked self.now ids.now }
-        ensures { IfOk result (λ rows. rows.items ≡ (counts_after self.now.before self.now.after).quotas) }
-    {
-        self.in_order();
-        let rows = self.quotas_of(alloc, ids)?;
-        Ok(rows)
-    }
-
-    // Those of the quotas of these ids.
-    fn quotas_of(&self, alloc: Global, ids: &[u64]) -> Result<Vec<QuotaCount>, AllocError>
-        ensures { IfOk result (λ rows. rows.items ≡ flat_map (λ id. told_if (quota_told self.now) (quota_at id self.now.after.lists.catalogue)) ids.now) }
-    {
-        let mut rows = Vec::new(alloc);
-        for id in ids {
-            self.add_quota(alloc, *id, &mut rows)?;
-        }
-        Ok(rows)
-    }
-
-    // Adds the count of a quota, if it stands and its count differs.
-    fn add_quota(
-        &self,
-        alloc: Global,
-        id: u64,
-        rows: &mut Vec<QuotaCount>,
-    ) -> Result<(), AllocError>
-        ensures { OnOk result (rows.new.items ≡ rows.old.items ++ told_if (quota_told self.now) (quota_at id self.now.after.lists.catalogue)) }
-    {
-        match self.after.quota(id) {
-            None => Ok(()),
-            Some(quota) => {
-                let usage = self.usage(alloc, quota)?;
-                let count = QuotaCount {
-                    quota: quota.id,
-                    usage,
-                };
-                self.add_count(count, rows)
-            }
-        }
-    }
-
-    // Adds the count, if it wasn't the same before.
-    fn add_count(&self, count: QuotaCount, rows: &mut Vec<QuotaCount>) -> Result<(), AllocError>
-        ensures { OnOk result (rows.new.items ≡ rows.old.items ++ told_unless (has_count self.now.before count) count) }
-    {
-        if self.had_count(count) {
-            Ok(())
-        } else {
-            Ok(rows.push(count)?)
-        }
-    }
-
-    // Whether it was the same before.
-    fn had_count(&self, count: QuotaCount) -> bool
-        ensures { result ≡ has_count self.now.before count }
-    {
-        has_count(self.book, count)
-    }
-
-    /// How often the vouchers are redeemed that are new, or that were redeemed less or more often.
-    pub fn vouchers(&self, alloc: Global) -> Result<Vec<VoucherCount>, AllocError>
-        ensures { IfOk result (λ rows. rows.items ≡ (counts_after self.now.before self.now.after).vouchers) }
-    {
-        let counts = self.redeemed_after.as_slice();
-        let rows = self.vouchers_of(alloc, counts)?;
-        Ok(rows)
-    }
-
-    // Those of these that weren't the same before.
-    fn vouchers_of(
-        &self,
-        alloc: Global,
-        counts: &[VoucherCount],
-    ) -> Result<Vec<VoucherCount>, AllocError>
-        ensures { IfOk result (λ rows. rows.items ≡ flat_map (voucher_told_as self.now) counts.now) }
-    {
-        let mut rows = Vec::new(alloc);
-        for count in counts {
-            self.add_voucher(*count, &mut rows)?;
-        }
-        Ok(rows)
-    }
-
-    // Adds how often a voucher is redeemed, if it stands and that wasn't the same before.
-    fn add_voucher(
-        &self,
-        count: VoucherCount,
-        rows: &mut Vec<VoucherCount>,
-    ) -> Result<(), AllocError>
-        ensures { OnOk result (rows.new.items ≡ rows.old.items ++ voucher_told_as self.now count) }
-    {
-        if self.after.voucher(count.voucher).is_none() || self.had_voucher(count) {
-            Ok(())
-        } else {
-            Ok(rows.push(count)?)
-        }
-    }
-
-    // Whether it was redeemed as often before.
-    fn had_voucher(&self, count: VoucherCount) -> bool
-        ensures { result ≡ has_voucher self.now.before count }
-    {
-        has_voucher(self.book, count)
-    }
-
-    /// The ids of the vouchers that are gone.
-    pub fn gone(&self, alloc: Global) -> Result<Vec<u64>, AllocError>
-        ensures { IfOk result (λ ids. ids.items ≡ (counts_after self.now.before self.now.after).gone) }
-    {
-        let touched = self.touched.vouchers.as_slice();
-        let gone = self.gone_of(alloc, touched)?;
-        Ok(gone)
-    }
-
-    // Those of these that are.
-    fn gone_of(&self, alloc: Global, ids: &[u64]) -> Result<Vec<u64>, AllocError>
-        ensures { IfOk result (λ gone. gone.items ≡ flat_map (λ id. told_if (gone_told self.now) (voucher_at id self.now.before.lists)) ids.now) }
-    {
-        let mut gone = Vec::new(alloc);
-        for id in ids {
-            self.add_gone(*id, &mut gone)?;
-        }
-        Ok(gone)
-    }
-
-    // Adds the id of a voucher that stood, if it is gone.
-    fn add_gone(&self, id: u64, gone: &mut Vec<u64>) -> Result<(), AllocError>
-        ensures { OnOk result (gone.new.items ≡ gone.old.items ++ told_if (gone_told self.now) (voucher_at id self.now.before.lists)) }
-    {
-        match self.before.voucher(id) {
-            Some(voucher) if self.after.voucher(voucher.id).is_none() => Ok(gone.push(voucher.id)?),
-            _ => Ok(()),
-        }
+/// A count that gains something and loses something. It is refused where it doesn't fit in 64 bits.
+pub fn moved(count: u64, come: u64, gone: u64) -> Result<u64, AllocError>
+    ensures { IfOk result (λ n. n ≡ (count + come) - gone) }
+{
+    let more = add(count, come)?;
+    match more.checked_sub(gone) {
+        None => Err(AllocError),
+        Some(left) => Ok(left),
     }
 }
 
-// Whether the book has this very count of a quota.
-fn has_count<B: Book>(book: &B, count: QuotaCount) -> bool
+// The sum. It is refused where it doesn't fit in 64 bits.
+fn add(a: u64, b: u64) -> Result<u64, AllocError>
+    ensures { IfOk result (λ n. n ≡ a + b) }
+{
+    match a.checked_add(b) {
+        None => Err(AllocError),
+        Some(sum) => Ok(sum),
+    }
+}
+
+/// A usage, with what came by a shift and without what went, if there is one.
+pub fn shifted(usage: Usage, shift: Option<&QuotaShift>) -> Result<Usage, AllocError>
+    ensures { IfOk result (λ new. new ≡ shifted usage (option_copied shift.entry)) }
+{
+    match shift {
+        None => Ok(usage),
+        Some(shift) => shifted_by(usage, shift),
+    }
+}
+
+fn shifted_by(usage: Usage, shift: &QuotaShift) -> Result<Usage, AllocError>
+    ensures { IfOk result (λ new. new ≡ shifted usage (Some shift.now)) }
+{
+    let come = &shift.come;
+    let gone = &shift.gone;
+    Ok(Usage {
+        paid: moved(usage.paid, come.paid, gone.paid)?,
+        pending: moved(usage.pending, come.pending, gone.pending)?,
+        blocked: moved(usage.blocked, come.blocked, gone.blocked)?,
+        carts: moved(usage.carts, come.carts, gone.carts)?,
+        waiting: moved(usage.waiting, come.waiting, gone.waiting)?,
+    })
+}
+
+/// Whether it is a usage that was known.
+pub fn same_as(usage: Usage, known: Option<Usage>) -> bool
+    ensures { result ≡ same_as usage known }
+{
+    match known {
+        None => false,
+        Some(known) => same_usage(usage, known),
+    }
+}
+
+// Whether all counts are the same.
+fn same_usage(a: Usage, b: Usage) -> bool
+    ensures { result ≡ same_usage a b }
+{
+    a.paid == b.paid
+        && a.pending == b.pending
+        && a.blocked == b.blocked
+        && a.carts == b.carts
+        && a.waiting == b.waiting
+}
+
+/// Whether the book has this very count of a quota.
+pub fn has_count<B: Book>(book: &B, count: QuotaCount) -> bool
     ensures { result ≡ has_count (B.state book.now) count }
 {
     let catalogue = book.catalogue();
@@ -166,8 +92,8 @@ fn has_count<B: Book>(book: &B, count: QuotaCount) -> bool
     }
 }
 
-// Whether the book has this very count of a voucher.
-fn has_voucher<B: Book>(book: &B, count: VoucherCount) -> bool
+/// Whether the book has this very count of a voucher.
+pub fn has_voucher<B: Book>(book: &B, count: VoucherCount) -> bool
     ensures { result ≡ has_voucher (B.state book.now) count }
 {
     book.known();
@@ -177,13 +103,9 @@ fn has_voucher<B: Book>(book: &B, count: VoucherCount) -> bool
     }
 }
 
-// Whether all five counts are the same.
-fn same_usage(a: Usage, b: Usage) -> bool
-    ensures { result ≡ same_usage a b }
+/// Adds a row, unless it is known.
+pub fn add_unless<T: Copy>(known: bool, row: T, rows: &mut Vec<T>) -> Result<(), AllocError>
+    ensures { OnOk result (rows.new.items ≡ rows.old.items ++ told_unless known row) }
 {
-    a.paid == b.paid
-        && a.pending == b.pending
-        && a.blocked == b.blocked
-        && a.carts == b.carts
-        && a.waiting == b.waiting
+    if known { Ok(()) } else { Ok(rows.push(row)?) }
 }

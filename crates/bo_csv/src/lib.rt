@@ -1,4 +1,4 @@
-//! The CSV files of a house: its order positions, line by line, and vouchers that are to be added.
+//! What do the CSV files of a house say: its order positions, and vouchers to add?
 #![tactic(auto)]
 
 mod columns;

@@ -1,4 +1,4 @@
--- A shop with its kept answers: one arrival after another.
+-- A shop with its kept answers, after one arrival and after many; when it has what a list of arrivals leads to.
 use Rattle.std.specs.Prelude.{◌≡◌, ℕ, Bool, not, ◌&&◌, is_some, ⊤, List, [], ◌∷◌, Option, Some, None, if◌then◌else◌}
 use Rattle.bo_base.specs.declared.answer.Answer.{Answer}
 use Rattle.bo_base.specs.declared.answer.Answer.TheVariants.{Decided, Unavailable}

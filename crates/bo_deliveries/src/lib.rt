@@ -1,4 +1,6 @@
-//! Which requests are carried out, what each is told, and what is kept: definitions over lists of arrivals, and their laws.
+//! Which of many requests are carried out, what is each answered, and what is kept?
+//!
+//! Definitions over lists of arrivals, and their laws.
 #![tactic(auto)]
 
 pub mod arrival;

@@ -1,4 +1,4 @@
-//! The desk of a shop: each message of a connection is carried out once.
+//! How does a shop answer each message of a connection once?
 #![tactic(auto)]
 
 pub mod desk;

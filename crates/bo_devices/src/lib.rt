@@ -1,4 +1,4 @@
-//! What a reader, a writer and a clock tell of what passed through them.
+//! What do a reader, a writer and a clock report of what passed through them?
 #![tactic(auto)]
 
 pub mod device;

@@ -1,4 +1,4 @@
-//! Whether a door admits a ticket, and who came in.
+//! Does a door admit a ticket, and who came in?
 #![tactic(auto)]
 
 pub mod laws;

@@ -1,13 +1,10 @@
 pub mod CanCome
-pub mod Parts
 pub mod Shifts
-pub mod VoucherShifts
-pub mod OrderShifts
 pub mod Asked
 pub mod Found
 pub mod Overs
 pub mod Still
-pub mod Known
 pub mod Extensions
 pub mod Standing
+pub mod HandedLemmas
 pub mod Reaches

@@ -11,20 +11,22 @@ use Rattle.bo_lists.specs.Kept.{IsKept}
 use Rattle.bo_lists.specs.Lists.{Lists, State}
 use Rattle.bo_shares.specs.Logs.{Log, rows_of}
 use Rattle.bo_shares.proofs.Logs.{after_all-push}
+use Rattle.bo_lists.specs.declared.rows.Usage.{Usage}
+use Rattle.bo_tally.specs.declared.amount.Uses.{Uses}
 use Rattle.bo_tally.specs.declared.tally.Count.{Count}
 use Rattle.bo_tally.specs.Counts.{GoesOn}
 use Rattle.bo_tally.proofs.Newest.{on_longer, on_front}
 use Rattle.bo_shares.specs.declared.tallies.Reach.{Reach}
 use Rattle.bo_shares.specs.declared.tallies.Standing.{Standing}
 use Rattle.bo_shares.specs.Tallied.{Tallied, reach_now, reach_at, tallied_at, IsNext}
-use Rattle.bo_shares.specs.Uses.{AreKept}
 use Rattle.bo_draft.specs.declared.bases.Base.{Base}
 use Rattle.bo_draft.specs.Used.{AreBases}
 use Rattle.bo_draft.specs.CanCome.{CanCome}
 use Rattle.bo_draft.specs.DraftState.{log_at, IsTallied, IsBelow, IsDraft}
-use Rattle.bo_draft.proofs.CanCome.{headroom_after}
-use Rattle.bo_draft.proofs.Still.{counted_more}
-use Rattle.bo_draft.proofs.Known.{known_more}
+use Rattle.bo_draft.proofs.CanCome.{headroom_after, can_sell}
+use Rattle.bo_draft.specs.Handed.{vouchers_by, AreNoted}
+use Rattle.bo_draft.proofs.HandedLemmas.{noted_more, noted_front}
+use Rattle.bo_draft.proofs.Still.{counted_more, kept_more}
 
 -- ---- lists
 before_last : {T : Type 0} (xs : List T) (x d : T) (n : ℕ) → n ≤ length xs → get_or (xs ++ x ∷ []) n d ≡ get_or xs n x
@@ -41,12 +43,12 @@ of_front (x ∷ xs) (suc n) zero d le within = refl
 of_front (x ∷ xs) (suc n) (suc count) d le within = of_front xs n count d (omega (arith, le)) (omega (arith, within))
 
 -- ---- what is counted, by its parts
-abbrev parts : List Count → List Count → Standing → List Reach → Tallied
+abbrev parts : List (Count Usage) → List (Count Uses) → Standing → List Reach → Tallied
 parts counts uses here reached = record { counts = counts; uses = uses; here = here; reached = reached }
 
-same_parts : (counts counts' uses uses' : List Count) (here here' : Standing) (reached reached' : List Reach) → counts ≡ counts' → uses ≡ uses' → here ≡ here' → reached ≡ reached' → parts counts uses here reached ≡ parts counts' uses' here' reached'
+same_parts : (counts counts' : List (Count Usage)) (uses uses' : List (Count Uses)) (here here' : Standing) (reached reached' : List Reach) → counts ≡ counts' → uses ≡ uses' → here ≡ here' → reached ≡ reached' → parts counts uses here reached ≡ parts counts' uses' here' reached'
 same_parts counts counts' uses uses' here here' reached reached' a b c d =
-    ap (λ (l : List Count). parts l uses here reached) a ∙ ap (λ (l : List Count). parts counts' l here reached) b ∙ ap (λ (s : Standing). parts counts' uses' s reached) c ∙ ap (λ (l : List Reach). parts counts' uses' here' l) d
+    ap (λ (l : List (Count Usage)). parts l uses here reached) a ∙ ap (λ (l : List (Count Uses)). parts counts' l here reached) b ∙ ap (λ (s : Standing). parts counts' uses' s reached) c ∙ ap (λ (l : List Reach). parts counts' uses' here' l) d
 
 pub log_whole : (log : Log) → log_at (length log.changes) log ≡ log
 log_whole log = ap (λ (l : List Change). record log { changes = l }) (take-length log.changes)
@@ -86,13 +88,12 @@ tallied_more at log change old new {limit} kept can is next =
       carts = next.carts ∙ sym (ap (λ (lists : Lists). length lists.carts) rows);
       vouchers = next.vouchers ∙ sym (ap (λ (lists : Lists). length lists.vouchers) rows);
       headroom = subst (λ (lists : Lists). AllHaveHeadroom at lists) (sym rows) (headroom_after at log change can);
-      kept = subst (λ (lists : Lists). AreKept at log.base lists new.uses new.here.known) (sym rows) (next.kept log.base is.kept);
-      known = known_more log.changes log.base change old.here.known new.here.known is.known next.forgets;
+      kept = kept_more at log change old.uses new.uses limit kept (can_sell at log change can) is.kept next.uses;
       each = omega (arith, ap (λ (l : List Reach). length l) next.reached, length-append old.reached (reach_now old ∷ []), length-append log.changes (change ∷ []), is.each);
     }
 
 -- ---- a draft
-module _ (book : State) (log : Log) (at : ℕ) (t : Tallied) (bases : List Base) (is : IsDraft book log at t bases) where
+module _ (book : State) (log : Log) (at : ℕ) (t : Tallied) (bases : List Base) (noted : List ℕ) (is : IsDraft book log at t bases noted) where
   -- after so many changes, or after all of them
   pub tallied_upto : (count : ℕ) → count ≤ length log.changes → IsTallied at (log_at count log) (tallied_at count t)
   tallied_upto count le = elim (cases_lt count (length log.changes)) [
@@ -113,8 +114,9 @@ module _ (book : State) (log : Log) (at : ℕ) (t : Tallied) (bases : List Base)
   uses_within count le = omega (arith, (is.rising count (length log.changes) le (omega arith)).uses, ap (λ (r : Reach). r.uses) reach_last)
 
   -- with one more change
-  pub draft_more : (change : Change) (new : Tallied) (asked : List Base) → IsTallied at (record log { changes = log.changes ++ change ∷ [] }) new → GoesOn t.counts new.counts → GoesOn t.uses new.uses → new.reached ≡ t.reached ++ reach_now t ∷ [] → AreInOrder (λ (b : Base). b.place) asked → AreBases book.lists at book.lists.catalogue.quotas asked → IsDraft book (record log { changes = log.changes ++ change ∷ [] }) at new asked
-  draft_more change new asked now counts uses reached order known = record {
+  pub draft_more : (change : Change) (new : Tallied) (asked : List Base) (more : List ℕ) → more ≡ noted ++ vouchers_by change → IsTallied at (record log { changes = log.changes ++ change ∷ [] }) new → GoesOn t.counts new.counts → GoesOn t.uses new.uses → new.reached ≡ t.reached ++ reach_now t ∷ [] → AreInOrder (λ (b : Base). b.place) asked → AreBases book.lists at book.lists.catalogue.quotas asked → IsDraft book (record log { changes = log.changes ++ change ∷ [] }) at new asked more
+  draft_more change new asked more more_is now counts uses reached order known = record {
+    each_noted = noted_more log.changes noted change more more_is is.each_noted;
     base = is.base;
     past = is.past;
     asked_order = order;
@@ -157,8 +159,13 @@ module _ (book : State) (log : Log) (at : ℕ) (t : Tallied) (bases : List Base)
               }))
 
   -- gone back
-  pub draft_back : (n : ℕ) → n ≤ length log.changes → IsDraft book (log_at n log) at (tallied_at n t) bases
+  -- with more that is noted
+  pub draft_noted : (more : List ℕ) → AreNoted log.changes more → IsDraft book log at t bases more
+  draft_noted more are = record { base = is.base; past = is.past; asked_order = is.asked_order; asked = is.asked; now = is.now; before = is.before; each_noted = are; rising = is.rising }
+
+  pub draft_back : (n : ℕ) → n ≤ length log.changes → IsDraft book (log_at n log) at (tallied_at n t) bases noted
   draft_back n within = record {
+    each_noted = noted_front log.changes noted n is.each_noted;
     base = is.base;
     past = is.past;
     asked_order = is.asked_order;

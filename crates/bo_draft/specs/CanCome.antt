@@ -1,4 +1,4 @@
--- Which changes a draft can make.
+-- Which changes a draft can make: none of what is for sale, and all others with headroom.
 use Rattle.std.specs.Prelude.{◌≡◌, ℕ, None}
 use Rattle.bo_lists.specs.declared.changes.Change.{Change}
 use Rattle.bo_lists.specs.declared.changes.Change.TheVariants.{PutItem, PutVariation, PutQuota, PutPosition}

@@ -1,19 +1,24 @@
--- A draft: a box office as it stands in the book, and changes that aren't applied yet.
-use Rattle.std.specs.Prelude.{◌≡◌, ℕ, ◌≤◌, ◌<◌, ◌+◌, ◌⊎◌, Bool, false, List, [], ◌∷◌, ◌++◌, length, take}
+-- A draft: a box office in a book, and changes that aren't applied yet. A mark is a place among them. Its vouchers have headroom after each change.
+use Rattle.std.specs.Prelude.{◌≡◌, ℕ, ◌≤◌, ◌<◌, ◌+◌, List, [], ◌∷◌, ◌++◌, length, take}
 use Rattle.bo_sorted.specs.Tables.{AreInOrder}
 use Rattle.bo_lists.specs.declared.rows.NextIds.{NextIds}
 use Rattle.bo_lists.specs.declared.changes.Change.{Change}
-use Rattle.bo_lists.specs.Change.{after_change}
+use Rattle.bo_lists.specs.declared.rows.Usage.{Usage}
 use Rattle.bo_lists.specs.Lists.{Lists, State}
 use Rattle.bo_lists.specs.Headroom.{AllHaveHeadroom}
+use Rattle.bo_lists.specs.Total.{total}
+use Rattle.bo_lists.specs.Usage.{usage_of}
 use Rattle.bo_shares.specs.Logs.{Log, rows_of}
+use Rattle.bo_tally.specs.declared.amount.Uses.{Uses}
 use Rattle.bo_tally.specs.declared.tally.Count.{Count}
+use Rattle.bo_tally.specs.Amounts.{nothing, plus, no_uses, plus_uses}
 use Rattle.bo_tally.specs.Counts.{came, went}
 use Rattle.bo_shares.specs.declared.tallies.Reach.{Reach}
 use Rattle.bo_shares.specs.Counts.{value_at}
 use Rattle.bo_shares.specs.Tallied.{Tallied, reach_at, tallied_at}
-use Rattle.bo_shares.specs.Uses.{AreKept, TurnsUses}
+use Rattle.bo_shares.specs.Uses.{uses_of}
 use Rattle.bo_draft.specs.declared.bases.Base.{Base}
+use Rattle.bo_draft.specs.Handed.{AreNoted}
 use Rattle.bo_draft.specs.Used.{used, AreBases}
 
 -- a draft, which contracts see as its log, the next ids and its moment
@@ -43,28 +48,27 @@ pub record MarkState : Type 0 where
 abbrev pub back : MarkState → DraftState → DraftState
 back mark draft = record draft { log = log_at mark.count draft.log; next = mark.next }
 
--- the counts by quota, each by its place among all quotas: with what came and without what went, the book's usage is the one now
-abbrev pub IsCounted : ℕ → Log → List Count → Type 0
-IsCounted at log counts = (place : ℕ) → value_at (used (rows_of log) at) log.base.catalogue.quotas place + went place counts ≡ value_at (used log.base at) log.base.catalogue.quotas place + came place counts
+-- the counts by quota, each by its place among all quotas: with what came and without what went, each of the five counts of the book is
+-- the one now
+abbrev pub IsCounted : ℕ → Log → List (Count Usage) → Type 0
+IsCounted at log counts = (place : ℕ) → plus (value_at nothing (usage_of (rows_of log) at) log.base.catalogue.quotas place) (went nothing place counts) ≡ plus (value_at nothing (usage_of log.base at) log.base.catalogue.quotas place) (came nothing place counts)
 
--- one of these changes, each after those before it, turns the uses of a whole order
-abbrev pub SomeTurns : List Change → Lists → Type 0
-SomeTurns [] lists = ⊥
-SomeTurns (change ∷ changes) lists = TurnsUses change lists ⊎ SomeTurns changes (after_change change lists)
+-- the same of all that is used of a quota
+abbrev pub IsTotalled : ℕ → Log → List (Count Usage) → Type 0
+IsTotalled at log counts = (place : ℕ) → value_at 0 (used (rows_of log) at) log.base.catalogue.quotas place + total (went nothing place counts) ≡ value_at 0 (used log.base at) log.base.catalogue.quotas place + total (came nothing place counts)
 
--- the uses of vouchers are known but where a change turned those of a whole order
-abbrev pub AreKnown : List Change → Lists → Bool → Type 0
-AreKnown changes base known = known ≡ false → SomeTurns changes base
+-- the same of the uses of each voucher
+abbrev pub AreKept : ℕ → Log → List (Count Uses) → Type 0
+AreKept at log uses = (voucher : ℕ) → plus_uses (uses_of at (rows_of log) voucher) (went no_uses voucher uses) ≡ plus_uses (uses_of at log.base voucher) (came no_uses voucher uses)
 
 -- the counts by quota, the numbers of cart positions and of vouchers and the uses of vouchers are what counting afresh gives, and
--- no voucher is used too often; uses are forgotten only where an order turned
+-- no voucher is used too often
 pub record IsTallied (at : ℕ) (log : Log) (tallied : Tallied) : Type 0 where
   pub counted : IsCounted at log tallied.counts
   pub carts : tallied.here.carts ≡ length (rows_of log).carts
   pub vouchers : tallied.here.vouchers ≡ length (rows_of log).vouchers
   pub headroom : AllHaveHeadroom at (rows_of log)
-  pub kept : AreKept at log.base (rows_of log) tallied.uses tallied.here.known
-  pub known : AreKnown log.changes log.base tallied.here.known
+  pub kept : AreKept at log tallied.uses
   pub each : length tallied.reached ≡ length log.changes
 
 -- one reaches no further than the other
@@ -73,14 +77,16 @@ pub record IsBelow (reach other : Reach) : Type 0 where
   pub uses : reach.uses ≤ other.uses
 
 -- what a draft keeps beside its log: it stands on a book, at a moment that isn't before the book's; what it knows of the book's
--- usage is that usage; and what it counts now, and counted before each of its changes, is right
-pub record IsDraft (book : State) (log : Log) (at : ℕ) (tallied : Tallied) (bases : List Base) : Type 0 where
+-- usage is that usage; what it counts now, and counted before each of its changes, is right; and it notes each voucher that was put
+-- or dropped
+pub record IsDraft (book : State) (log : Log) (at : ℕ) (tallied : Tallied) (bases : List Base) (noted : List ℕ) : Type 0 where
   pub base : log.base ≡ book.lists
   pub past : book.moment ≤ at
   pub asked_order : AreInOrder (λ b. b.place) bases
   pub asked : AreBases book.lists at book.lists.catalogue.quotas bases
   pub now : IsTallied at log tallied
   pub before : (count : ℕ) → count < length log.changes → IsTallied at (log_at count log) (tallied_at count tallied)
+  pub each_noted : AreNoted log.changes noted
   pub rising : (count more : ℕ) → count ≤ more → more ≤ length log.changes → IsBelow (reach_at count tallied) (reach_at more tallied)
 
 -- the mark is one of this draft

@@ -1,4 +1,5 @@
 pub mod Used
 pub mod CanCome
 pub mod Least
+pub mod Handed
 pub mod DraftState

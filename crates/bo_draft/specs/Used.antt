@@ -14,7 +14,7 @@ used lists at quota = total (usage_of lists at quota)
 
 -- what is kept of a quota: how much the lists use of it
 pub record IsBase (lists : Lists) (at : ℕ) (quotas : List Quota) (place : ℕ) (base : Base) : Type 0 where
-  pub value : base.total ≡ value_at (used lists at) quotas place
+  pub value : base.total ≡ value_at 0 (used lists at) quotas place
   pub few : base.total ≤ 92233720368547758080
 
 -- all that is kept of quotas

@@ -8,6 +8,7 @@ ghost use Rattle.bo_draft.specs.Used.{used, AreBases};
 
 use bo_base::Moment;
 use bo_catalogue::Quota;
+use bo_lists::Usage;
 use bo_sorted::{Row, place_of};
 use bo_tally::Tally;
 use bo_usage::{Book, usage_of};
@@ -35,7 +36,7 @@ pub fn ask_bases<B: Book>(
     at: Moment,
     quotas: &[Quota],
     wanted: bool,
-    counts: &Tally,
+    counts: &Tally<Usage>,
     mark: usize,
     bases: &mut Vec<Base>,
 )
@@ -50,7 +51,7 @@ pub fn ask_bases<B: Book>(
         return;
     }
     for i in mark..counts.len() {
-        let _ = ask_base(book, at, quotas, counts.get(i).id, bases);
+        let _ = ask_base(book, at, quotas, counts.key(i), bases);
     }
 }
 

@@ -11,11 +11,13 @@ ghost use Rattle.bo_lists.specs.Change.{changed};
 ghost use Rattle.bo_draft.specs.DraftState.{DraftState, MarkState, IsMarkOf, Extends, now, back, with_change};
 ghost use Rattle.bo_shares.specs.Logs.{rows_of};
 ghost use Rattle.bo_draft.specs.CanCome.{CanCome};
+ghost use Rattle.bo_tally.specs.Shifts.{AreShifts};
 ghost use Rattle.bo_lists.specs.Usage.{redeemed, usage_of, waits_for};
 ghost use Rattle.bo_lists.specs.Total.{total};
 ghost use Rattle.bo_catalogue.specs.CatalogueLists.{quota_at};
 
 use crate::bases::{Base, ask_bases};
+use crate::finish::{note_voucher, shifts_of};
 use crate::over::{first_over, used_now};
 use bo_base::Moment;
 use bo_base::codes::LAST_ORDER;
@@ -24,6 +26,7 @@ use bo_lists::{
     CartPos, Change, Changes, Checkin, CheckinList, NextIds, Order, OrderPos, Own, Voucher, Waiting,
 };
 use bo_shares::{Overlay, Tallies};
+use bo_tally::Drafted;
 use bo_usage::{Book, LookUps, usage_of};
 use std::alloc::{AllocError, Global};
 use std::marker::Model;
@@ -54,6 +57,7 @@ pub struct Draft<'a, B: Book> {
     moment: Moment,
     tallies: Tallies,
     bases: Vec<Base>,
+    noted: Vec<u64>,
     again: bool,
 }
 
@@ -66,7 +70,7 @@ impl<'a, B: Book> Model for Draft<'a, B> {
 
     // What is counted, now and before each change, is what counting afresh gives, and no voucher is used more often than it may
     // be.
-    ghost invariant = { λ d. IsDraft (B.state d.book.now) d.overlay d.moment d.tallies d.bases.items };
+    ghost invariant = { λ d. IsDraft (B.state d.book.now) d.overlay d.moment d.tallies d.bases.items d.noted.items };
 }
 
 impl<'a, B: Book> Draft<'a, B> {
@@ -88,6 +92,7 @@ impl<'a, B: Book> Draft<'a, B> {
             moment,
             tallies: Tallies::new(alloc, book.carts().len(), book.vouchers().len()),
             bases: Vec::new(alloc),
+            noted: Vec::new(alloc),
             again: false,
         })
     }
@@ -131,13 +136,11 @@ impl<'a, B: Book> Draft<'a, B> {
         ensures few { result ≤ 17179869184 }
     {
         self.overlay.known();
-        if !self.tallies.here().known {
-            let used = self.overlay.redeemed(voucher) + self.overlay.held(voucher, self.moment);
-            return u128::from(used);
-        }
         let before = self.overlay.uses_before(voucher, self.moment);
-        let since = self.tallies.uses_of(voucher);
-        (u128::from(before) + u128::from(since.come)).saturating_sub(u128::from(since.gone))
+        let since = self.tallies.uses().of(voucher);
+        let come = u128::from(since.come.used) + u128::from(since.come.held);
+        let gone = u128::from(since.gone.used) + u128::from(since.gone.held);
+        (u128::from(before) + come).saturating_sub(gone)
     }
 
     /// All that is used of a quota that stands: its five counts together.
@@ -508,6 +511,7 @@ impl<'a, B: Book> Draft<'a, B> {
         let count = self.overlay.len();
         let mark = self.tallies.counts().len();
         let catalogue = self.book.catalogue();
+        note_voucher(&mut self.noted, &change)?;
         self.tallies
             .count(&self.overlay, alloc, self.moment, catalogue, &change)?;
         if self.overlay.push(change).is_err() {
@@ -580,20 +584,29 @@ impl<'a, B: Book> Draft<'a, B> {
         self.next = mark.next;
     }
 
-    /// The changes, with the next ids that stand afterwards.
-    pub fn finish(self) -> Changes
-        ensures list { result.list ≡ self.entry.log.changes }
-        ensures next { result.next ≡ self.entry.next }
+    /// The changes, with the next ids that stand afterwards, and with what they shift of the counts. `Err` where there is no
+    /// memory to tell that.
+    pub fn finish(self, alloc: Global) -> Result<Drafted, AllocError>
+        ensures list { IfOk result (λ d. d.changes.list ≡ self.entry.log.changes) }
+        ensures next { IfOk result (λ d. d.changes.next ≡ self.entry.next) }
+        ensures shifts { IfOk result (λ d. AreShifts self.entry.log.base (rows_of self.entry.log) self.entry.moment d.shifts) }
     {
         let Draft {
-            book: _,
+            book,
             overlay,
             next,
-            moment: _,
-            tallies: _,
+            moment,
+            tallies,
             bases: _,
+            noted,
             again: _,
         } = self;
-        Changes::new(overlay.into_log(), next)
+        match shifts_of(book, &overlay, alloc, moment, &tallies, &noted) {
+            Err(refused) => Err(refused),
+            Ok(shifts) => Ok(Drafted {
+                changes: Changes::new(overlay.into_log(), next),
+                shifts,
+            }),
+        }
     }
 }

@@ -1,8 +1,9 @@
-//! A book with changes that aren't applied yet, and what they take of each quota.
+//! What do changes that aren't applied yet take of each quota, and is it too much?
 #![tactic(auto)]
 
 mod bases;
 pub mod draft;
+mod finish;
 mod over;
 mod weighed;
 

@@ -5,10 +5,11 @@ ghost use Rattle.std.specs.Option.{IfSome};
 ghost use Rattle.bo_catalogue.specs.CatalogueLists.{quota_at};
 ghost use Rattle.bo_sorted.specs.Tables.{AreInOrder};
 ghost use Rattle.bo_lists.specs.Over.{first_over, is_over};
+ghost use Rattle.bo_lists.specs.Total.{total};
 ghost use Rattle.bo_shares.specs.Logs.{rows_of, rows_at};
 ghost use Rattle.bo_shares.specs.Counts.{value_at};
 ghost use Rattle.bo_draft.specs.Least.{found_at, IsLeast};
-ghost use Rattle.bo_draft.specs.DraftState.{log_at, IsCounted};
+ghost use Rattle.bo_draft.specs.DraftState.{log_at, IsTotalled};
 ghost use Rattle.bo_catalogue.specs.declared.rows.Quota.{Quota};
 ghost use Rattle.bo_draft.specs.Used.{used, AreBases};
 ghost use Rattle.bo_tally.specs.Counts.{newest};
@@ -17,7 +18,7 @@ use crate::bases::{Base, base_of};
 use crate::weighed::is_too_much;
 use bo_base::Moment;
 use bo_catalogue::Quota;
-use bo_lists::Own;
+use bo_lists::{Own, Usage};
 use bo_shares::Overlay;
 use bo_sorted::place_of;
 use bo_tally::{Count, Tally};
@@ -32,7 +33,7 @@ pub fn first_over<B: Book>(
     own: &[Own],
     bases: &[Base],
     count: usize,
-    counts: &Tally,
+    counts: &Tally<Usage>,
     mark: usize,
 ) -> Option<u64>
     requires order_bases { AreInOrder (λ r. r.place) bases.now }
@@ -40,8 +41,8 @@ pub fn first_over<B: Book>(
     requires base { overlay.now.base ≡ (B.state book.now).lists }
     requires past { (B.state book.now).moment ≤ at }
     requires within { mark ≤ length counts.now }
-    requires counted { IsCounted at overlay.now counts.now }
-    requires counted_before { IsCounted at (log_at count overlay.now) (take mark counts.now) }
+    requires counted { IsTotalled at overlay.now counts.now }
+    requires counted_before { IsTotalled at (log_at count overlay.now) (take mark counts.now) }
     ensures { result ≡ first_over (rows_at count overlay.now) (rows_of overlay.now) at own.now }
 {
     overlay.known();
@@ -61,7 +62,7 @@ fn least_over<B: Book>(
     bases: &[Base],
     count: usize,
     quotas: &[Quota],
-    counts: &Tally,
+    counts: &Tally<Usage>,
     mark: usize,
 ) -> Option<u64>
     requires sold { quotas.now ≡ (B.state book.now).lists.catalogue.quotas }
@@ -70,8 +71,8 @@ fn least_over<B: Book>(
     requires base { overlay.now.base ≡ (B.state book.now).lists }
     requires past { (B.state book.now).moment ≤ at }
     requires within { mark ≤ length counts.now }
-    requires counted { IsCounted at overlay.now counts.now }
-    requires counted_before { IsCounted at (log_at count overlay.now) (take mark counts.now) }
+    requires counted { IsTotalled at overlay.now counts.now }
+    requires counted_before { IsTotalled at (log_at count overlay.now) (take mark counts.now) }
     ensures least { IsLeast (found_at (λ q. q.id) (is_over (rows_at count overlay.now) (rows_of overlay.now) at own.now) quotas.now) counts.now (length counts.now) result }
     ensures within { IfSome result (λ place. place < length quotas.now) }
 {
@@ -94,7 +95,7 @@ fn lesser_over<B: Book>(
     bases: &[Base],
     count: usize,
     quotas: &[Quota],
-    counts: &Tally,
+    counts: &Tally<Usage>,
     mark: usize,
     place: usize,
     least: Option<u64>,
@@ -106,12 +107,12 @@ fn lesser_over<B: Book>(
     requires past { (B.state book.now).moment ≤ at }
     requires within { mark ≤ length counts.now }
     requires place { place < length counts.now }
-    requires counted { IsCounted at overlay.now counts.now }
-    requires counted_before { IsCounted at (log_at count overlay.now) (take mark counts.now) }
+    requires counted { IsTotalled at overlay.now counts.now }
+    requires counted_before { IsTotalled at (log_at count overlay.now) (take mark counts.now) }
     requires least { IsLeast (found_at (λ q. q.id) (is_over (rows_at count overlay.now) (rows_of overlay.now) at own.now) quotas.now) counts.now place least }
     ensures { IsLeast (found_at (λ q. q.id) (is_over (rows_at count overlay.now) (rows_of overlay.now) at own.now) quotas.now) counts.now (place + 1) result }
 {
-    let key = counts.get(place).id;
+    let key = counts.key(place);
     if !is_next(counts, key, place, least) {
         return least;
     }
@@ -124,7 +125,7 @@ fn lesser_over<B: Book>(
 }
 
 // Whether the addition at a place is to be looked at: it is the newest one to its key, which is less than what was found.
-fn is_next(counts: &Tally, key: u64, place: usize, least: Option<u64>) -> bool
+fn is_next(counts: &Tally<Usage>, key: u64, place: usize, least: Option<u64>) -> bool
     ensures yes { result ≡ true → IfSome least (λ l. key < l) }
     ensures no { result ≡ false → newest key counts.now ≡ Some place → IfSome least (λ l. key < l) → ⊥ }
 {
@@ -132,7 +133,7 @@ fn is_next(counts: &Tally, key: u64, place: usize, least: Option<u64>) -> bool
 }
 
 // Whether the newest addition to a key is at this place.
-fn is_newest(counts: &Tally, key: u64, place: usize) -> bool
+fn is_newest(counts: &Tally<Usage>, key: u64, place: usize) -> bool
     ensures { result ≡ false → newest key counts.now ≡ Some place → ⊥ }
 {
     match counts.newest(key) {
@@ -159,13 +160,13 @@ pub fn used_now<B: Book>(
     at: Moment,
     quota: &Quota,
     bases: &[Base],
-    counts: &Tally,
+    counts: &Tally<Usage>,
 ) -> u128
     requires order_bases { AreInOrder (λ r. r.place) bases.now }
     requires bases { AreBases (B.state book.now).lists at (B.state book.now).lists.catalogue.quotas bases.now }
     requires base { overlay.now.base ≡ (B.state book.now).lists }
     requires past { (B.state book.now).moment ≤ at }
-    requires counted { IsCounted at overlay.now counts.now }
+    requires counted { IsTotalled at overlay.now counts.now }
     requires stands { quota_at quota.now.id (B.state book.now).lists.catalogue ≡ Some quota.now }
     ensures { result ≡ used (rows_of overlay.now) at quota.now }
 {
@@ -192,16 +193,16 @@ fn over_at<B: Book>(
     bases: &[Base],
     count: usize,
     quotas: &[Quota],
-    before: Count,
-    after: Count,
+    before: Count<Usage>,
+    after: Count<Usage>,
 ) -> Option<u64>
     requires sold { quotas.now ≡ (B.state book.now).lists.catalogue.quotas }
     requires order_bases { AreInOrder (λ r. r.place) bases.now }
     requires bases { AreBases (B.state book.now).lists at quotas.now bases.now }
     requires base { overlay.now.base ≡ (B.state book.now).lists }
     requires past { (B.state book.now).moment ≤ at }
-    requires counted { value_at (used (rows_of overlay.now) at) quotas.now after.id + after.gone ≡ value_at (used overlay.now.base at) quotas.now after.id + after.come }
-    requires counted_before { value_at (used (rows_at count overlay.now) at) quotas.now after.id + before.gone ≡ value_at (used overlay.now.base at) quotas.now after.id + before.come }
+    requires counted { value_at 0 (used (rows_of overlay.now) at) quotas.now after.id + total after.gone ≡ value_at 0 (used overlay.now.base at) quotas.now after.id + total after.come }
+    requires counted_before { value_at 0 (used (rows_at count overlay.now) at) quotas.now after.id + total before.gone ≡ value_at 0 (used overlay.now.base at) quotas.now after.id + total before.come }
     ensures { result ≡ found_at (λ q. q.id) (is_over (rows_at count overlay.now) (rows_of overlay.now) at own.now) quotas.now after.id }
 {
     let place = after.id as usize;
@@ -228,8 +229,8 @@ fn is_over<B: Book>(
     count: usize,
     quotas: &[Quota],
     place: usize,
-    before: Count,
-    after: Count,
+    before: Count<Usage>,
+    after: Count<Usage>,
 ) -> bool
     requires place { place < length quotas.now }
     requires sold { quotas.now ≡ (B.state book.now).lists.catalogue.quotas }
@@ -237,8 +238,8 @@ fn is_over<B: Book>(
     requires bases { AreBases (B.state book.now).lists at quotas.now bases.now }
     requires base { overlay.now.base ≡ (B.state book.now).lists }
     requires past { (B.state book.now).moment ≤ at }
-    requires counted { (d : Quota) → used (rows_of overlay.now) at (slice_index_or quotas.now place d) + after.gone ≡ used overlay.now.base at (slice_index_or quotas.now place d) + after.come }
-    requires counted_before { (d : Quota) → used (rows_at count overlay.now) at (slice_index_or quotas.now place d) + before.gone ≡ used overlay.now.base at (slice_index_or quotas.now place d) + before.come }
+    requires counted { (d : Quota) → used (rows_of overlay.now) at (slice_index_or quotas.now place d) + total after.gone ≡ used overlay.now.base at (slice_index_or quotas.now place d) + total after.come }
+    requires counted_before { (d : Quota) → used (rows_at count overlay.now) at (slice_index_or quotas.now place d) + total before.gone ≡ used overlay.now.base at (slice_index_or quotas.now place d) + total before.come }
     ensures { (d : Quota) → result ≡ is_over (rows_at count overlay.now) (rows_of overlay.now) at own.now (slice_index_or quotas.now place d) }
 {
     let _ = count;
@@ -246,8 +247,8 @@ fn is_over<B: Book>(
     if quota.size.is_none() {
         return false;
     }
-    let more = u128::from(after.come) + u128::from(before.gone);
-    let less = u128::from(before.come) + u128::from(after.gone);
+    let more = all_of(after.come) + all_of(before.gone);
+    let less = all_of(before.come) + all_of(after.gone);
     if more <= less {
         return false;
     }
@@ -257,10 +258,18 @@ fn is_over<B: Book>(
     is_too_much(overlay, at, quota, own, was, used)
 }
 
-// What is used, by what was used in the book, and what came and went since.
-fn moved(base: u128, count: Count) -> u128
-    requires { base ≤ 92233720368547758080 }
-    ensures { result ≡ base + count.come - count.gone }
+// All places of a usage.
+fn all_of(usage: Usage) -> u128
+    ensures value { result ≡ total usage }
+    ensures few { result ≤ 92233720368547758080 }
 {
-    (base + u128::from(count.come)).saturating_sub(u128::from(count.gone))
+    usage.total()
+}
+
+// What is used, by what was used in the book, and what came and went since.
+fn moved(base: u128, count: Count<Usage>) -> u128
+    requires { base ≤ 92233720368547758080 }
+    ensures { result ≡ base + total count.come - total count.gone }
+{
+    (base + all_of(count.come)).saturating_sub(all_of(count.gone))
 }

@@ -1,4 +1,4 @@
-//! What came due of a book since its moment.
+//! Which rows of a book ended since its moment, and how does it take over known counts?
 #![tactic(auto)]
 
 pub mod dues;

@@ -1,4 +1,4 @@
--- What a read that doesn't wait gives.
+-- What a read that doesn't wait gives: some bytes, the end, or nothing yet.
 use Rattle.std.specs.Prelude.{ℕ, ◌<◌, ◌≤◌, List, [], length, take, Option, Result, Ok, Err}
 use Rattle.std.specs.Io.KnownBytes.{IsAtEnd}
 use Rattle.bo_devices.specs.Told.{Gives}

@@ -1,4 +1,4 @@
--- How a connection over memory goes.
+-- A connection over memory, whose reads give and whose writes take as many bytes as a list says.
 use Rattle.std.specs.Prelude.{ℕ, zero, suc, List, [], ◌∷◌, min}
 use Rattle.bo_ends.specs.declared.ends.Came.{Came}
 use Rattle.bo_ends.specs.declared.ends.Came.TheVariants as cames

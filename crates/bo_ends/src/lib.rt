@@ -1,4 +1,4 @@
-//! The two directions of a connection, neither of which waits.
+//! What do the two directions of a connection give, if neither waits?
 #![tactic(auto)]
 
 pub mod ends;

@@ -1,4 +1,4 @@
-//! The lines of an export of order positions, and what takes them one after another.
+//! Which rows does an export of order positions have, and what takes them one by one?
 #![tactic(auto)]
 
 pub mod row;

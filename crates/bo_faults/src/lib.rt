@@ -1,4 +1,4 @@
-//! The fields of requests, and what may be wrong with one.
+//! What are the fields of requests called, and what may be wrong with one?
 #![tactic(auto)]
 
 pub mod fields;

@@ -1,5 +1,7 @@
-//! What a command line comes to: `feed`, raw requests from a reader that a box office answers whose tables are in SQLite's memory; and the
-//! commands on a shop's file.
+//! What does each command line do, and how does the program answer requests in memory?
+//!
+//! `feed` answers raw requests from a reader, with a box office whose tables are in SQLite's memory. The other commands
+//! work on a shop's file.
 #![tactic(auto)]
 
 pub mod feeding;

@@ -1,4 +1,4 @@
-//! How each field of a request's body is read, and which one is the first that is wrong.
+//! What does each field of a body say, and which one is the first that is wrong?
 #![tactic(auto)]
 
 pub mod error;

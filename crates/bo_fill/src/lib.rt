@@ -1,4 +1,4 @@
-//! A book is filled with the rows of a file.
+//! How does a book get the rows of a file?
 #![tactic(auto)]
 
 mod book;

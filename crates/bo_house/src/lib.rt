@@ -1,5 +1,7 @@
-//! What becomes of a shop's database when a command makes a shop in it, adds a token, serves it, does its
-//! periodic work, adds the vouchers of a file, exports its order positions, or asks for a report on it.
+//! What does each command do with a shop's file?
+//!
+//! A command makes a shop in a file, adds a token, serves it, does its periodic work, adds the vouchers of a CSV file,
+//! exports its order positions, or asks for a report on it.
 #![tactic(auto)]
 
 mod acting;

@@ -1,4 +1,4 @@
--- A list in blocks that stand in order.
+-- A list in blocks, in order: how many numbers are before each, how a full one is split into two halves, how many numbers the spare ones take.
 use Rattle.std.specs.Prelude.{◌≡◌, ℕ, ◌+◌, ◌-◌, ◌*◌, ◌<◌, ◌≤◌, List, [], ◌∷◌, length, take, drop, slice_index_or, slice_set}
 use Rattle.std.specs.List.{concat, insert}
 

@@ -1,4 +1,4 @@
-//! Indexes: which ids have a key.
+//! Which ids have a key?
 #![tactic(auto)]
 
 pub mod block;

@@ -1,4 +1,4 @@
--- Indexes of rows by their keys, and what is found by them.
+-- Indexes of rows by their keys, and what is found by them: what is added up over the rows is what adds up over the entries.
 use Rattle.std.specs.Prelude.{◌≡◌, ℕ, Bool, List, Option, Some, None, sum_by, if◌then◌else◌}
 use Rattle.bo_sorted.specs.Tables.{with_row, without_row, row_at}
 use Rattle.bo_index.specs.Entries.{entry, key_of, id_of}

@@ -1,4 +1,4 @@
--- The keys of each row.
+-- The keys by which a row is found: when it ends, the row that it names, the digest of its text, what it belongs to.
 use Rattle.std.specs.Prelude.{ℕ, List, Option, Some, None, if◌then◌else◌}
 use Rattle.bo_lists.specs.declared.rows.Voucher.{Voucher}
 use Rattle.bo_lists.specs.declared.rows.CartPos.{CartPos}

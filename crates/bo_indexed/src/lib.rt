@@ -1,5 +1,4 @@
-//! Tables of rows that are found by keys, too: by the moment at which they end, by the row that they name, by a text,
-//! and by what they belong to.
+//! How are rows found by their end, the row that they name, their text, and what they belong to?
 #![tactic(auto)]
 
 pub mod digests;

@@ -1,5 +1,6 @@
-//! May an item, a variation or a quota be added or changed, and what becomes of its row? Do the items and variations that a quota lists
-//! stand and fit together, and does what a voucher names stand?
+//! May an item, a variation or a quota be added or changed, and does what a row names fit?
+//!
+//! Do the items and variations that a quota lists exist and fit together, and does what a voucher names?
 #![tactic(auto)]
 
 pub mod items;

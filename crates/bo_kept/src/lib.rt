@@ -1,4 +1,4 @@
-//! Answers that are kept under keys, and the tables that keep them.
+//! Which answers are kept under keys, and what do tables that keep them promise?
 #![tactic(auto)]
 
 pub mod kept;

@@ -1,5 +1,6 @@
-//! What a command line asks for, when the requests of its run come, what it says, and how it ends; and what the commands on a shop's file
-//! ask of whoever has the files.
+//! What does a command line ask for, when do its requests come, and how does it end?
+//!
+//! It also says what the commands on a shop's file ask of whoever has the files.
 #![tactic(auto)]
 
 pub mod advice;

@@ -1,4 +1,4 @@
--- What has ended between two moments.
+-- What has ended between two moments, and the cart positions that name a voucher which did.
 use Rattle.std.specs.Prelude.{ℕ, ◌+◌, ◌&&◌, Bool, false, nat_le, nat_lt, List, Option, Some, None, count_by}
 use Rattle.bo_sorted.specs.Tables.{row_at}
 use Rattle.bo_lists.specs.declared.rows.CartPos.{CartPos}

@@ -1,4 +1,4 @@
--- What changes do to the lists.
+-- What changes do to the lists: each puts or drops one row; next ids and the moment are set at the end.
 use Rattle.std.specs.Prelude.{ℕ, List, [], ◌∷◌, map}
 use Rattle.bo_sorted.specs.Tables.{with_row, without_row}
 use Rattle.bo_lists.specs.declared.rows.NextIds.{NextIds}

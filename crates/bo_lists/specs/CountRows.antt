@@ -1,4 +1,5 @@
--- The counts of an office, one row for each quota and each voucher, and which of them a change changes.
+-- The counts of an office, a row for each quota and voucher, and which are written where one office follows another: new ones, those that differ, and
+-- vouchers that are gone.
 use Rattle.std.specs.Prelude.{ℕ, Bool, not, ◌&&◌, ◌==◌, is_none, List, map, filter}
 use Rattle.std.specs.List.{list_any}
 use Rattle.bo_sorted.specs.Tables.{row_at}

@@ -1,4 +1,4 @@
--- The rows whose time has passed.
+-- The rows whose time has passed at a moment: pending orders that ended before it, and dead cart positions.
 use Rattle.std.specs.Prelude.{ℕ, Bool, ◌&&◌, not, nat_lt, List, filter, map}
 use Rattle.bo_lists.specs.declared.rows.Order.{Order}
 use Rattle.bo_lists.specs.Conditions.{is_pending, is_live_cart}

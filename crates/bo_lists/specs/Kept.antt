@@ -1,4 +1,4 @@
--- What is known of the lists of every book.
+-- What is known of the lists of every book: ids rise, and none is too long to be counted.
 use Rattle.std.specs.Prelude.{ℕ}
 use Rattle.bo_sorted.specs.Tables.{AreKept}
 use Rattle.bo_lists.specs.Lists.{Lists}

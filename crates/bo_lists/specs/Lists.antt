@@ -1,4 +1,4 @@
--- The box office as lists of rows in order of id.
+-- The box office: lists of rows in order of id, next ids, and its moment.
 use Rattle.std.specs.Prelude.{ℕ, ◌==◌, ◌&&◌, List, [], Option, filter}
 use Rattle.bo_sorted.specs.Tables.{row_at}
 use Rattle.bo_catalogue.specs.CatalogueLists.{CatalogueLists}

@@ -1,4 +1,4 @@
--- Order positions and their orders.
+-- Order positions and their orders: each one's order exists.
 use Rattle.std.specs.Prelude.{◌≡◌, true, is_some}
 use Rattle.std.specs.List.{AllByRecursion}
 use Rattle.bo_lists.specs.Lists.{Lists, order_at}

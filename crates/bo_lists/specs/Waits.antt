@@ -1,4 +1,4 @@
--- Who waits.
+-- Who waits for a product by an email, without a voucher.
 use Rattle.std.specs.Prelude.{ℕ, Bool, ◌&&◌, ◌==◌, List, filter, map}
 use Rattle.std.specs.List.{list_any}
 use Rattle.bo_base.specs.Texts.{same_text}

@@ -1,4 +1,4 @@
--- How much room changes need in a book.
+-- How much room changes need in a book: one each, and for a put quota one more for each of its members.
 use Rattle.std.specs.Prelude.{ℕ, ◌+◌, List, [], ◌∷◌}
 use Rattle.bo_catalogue.specs.Member.{quota_weight}
 use Rattle.bo_lists.specs.declared.changes.Change.{Change}

@@ -1,4 +1,4 @@
-//! The rows of the box office, what they mean as lists, and how much of each quota they use.
+//! What are the rows of a box office, and how much of each quota do they use?
 #![tactic(auto)]
 
 mod available;

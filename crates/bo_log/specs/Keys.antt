@@ -1,4 +1,4 @@
--- The places of keys in a list of them, and the keys of changes.
+-- The places of keys in a list of them, and the keys of changes: the digests of codes.
 use Rattle.std.specs.Prelude.{◌≡◌, ℕ, ◌+◌, ◌*◌, ◌%◌, ◌<◌, ◌==◌, List, [], ◌∷◌, length, take, map, Option, None, slice_index_or}
 use Rattle.bo_lists.specs.declared.changes.Change.{Change}
 use Rattle.bo_lists.specs.declared.changes.Change.TheVariants.{PutVoucher}

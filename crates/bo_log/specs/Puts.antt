@@ -1,4 +1,4 @@
--- The row that a change puts.
+-- The row that a change puts, if it puts one of that table.
 use Rattle.std.specs.Prelude.{Bool, false, Option, Some, None}
 use Rattle.bo_catalogue.specs.declared.rows.Quota.{Quota}
 use Rattle.bo_lists.specs.declared.rows.Voucher.{Voucher}

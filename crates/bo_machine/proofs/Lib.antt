@@ -1,3 +1,4 @@
 pub mod Members
 pub mod Catalogue
 pub mod SoundSteps
+pub mod ForSale

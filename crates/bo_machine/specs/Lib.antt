@@ -4,3 +4,4 @@ pub mod Step
 pub mod Answer
 pub mod Changes
 pub mod Drafts
+pub mod IsStep

@@ -1,9 +1,11 @@
 //! How a command begins, how it ends or is refused, and how a voucher is shown.
 
-ghost use Rattle.std.specs.Prelude.{◌≡◌, ◌≤◌, [], Ok, IfOk};
+ghost use Rattle.std.specs.Prelude.{◌≡◌, ℕ, [], Ok, IfOk};
 ghost use Rattle.bo_commands.specs.declared.replies.Reply.{Reply};
 ghost use Rattle.bo_machine.specs.Drafts.{now};
+ghost use Rattle.bo_lists.specs.Lists.{Lists};
 ghost use Rattle.bo_sound.specs.Sound.{IsSound};
+ghost use Rattle.bo_machine.specs.IsStep.{AreOfCatalogue, CanBegin, HasShifts, IsClosed};
 ghost use Rattle.bo_machine.specs.ShownRows.{show_voucher};
 ghost use Rattle.bo_machine.specs.Step.{no_change};
 
@@ -11,12 +13,12 @@ use bo_base::Moment;
 use bo_commands::{Kind, Refusal, Reply, Shown};
 use bo_lists::{Changes, Voucher};
 use bo_orders::{Book, Draft};
+use bo_tally::Drafted;
 use std::alloc::{AllocError, Global};
 
 /// A draft of the book at a moment.
 pub fn open<B: Book>(book: &B, alloc: Global, at: Moment) -> Result<Draft<'_, B>, AllocError>
-    requires moment { (B.state book.now).moment ≤ at }
-    requires sound { IsSound (B.state book.now) }
+    requires { CanBegin at (B.state book.now) }
     ensures draft { IfOk result (λ d. d ≡ record {
       log = record { base = (B.state book.now).lists; changes = [] };
       next = (B.state book.now).next;
@@ -27,29 +29,46 @@ pub fn open<B: Book>(book: &B, alloc: Global, at: Moment) -> Result<Draft<'_, B>
     Draft::new(alloc, book, at)
 }
 
-/// The changes of a draft, with what is answered, unless there was no memory for it.
+/// The changes of a draft of the book, and what they shift of the counts, with what is answered, unless there was no
+/// memory for it.
 pub fn close<B: Book>(
+    book: &B,
+    alloc: Global,
+    at: Moment,
     draft: Draft<'_, B>,
     reply: Result<Reply, AllocError>,
-) -> Result<(Changes, Reply), AllocError>
-    ensures reply { IfOk result (λ r. reply ≡ Ok r.1) }
-    ensures list { IfOk result (λ r. r.0.list ≡ draft.entry.log.changes) }
-    ensures next { IfOk result (λ r. r.0.next ≡ draft.entry.next) }
+) -> Result<(Drafted, Reply), AllocError>
+    requires base { draft.log.base ≡ (B.state book.now).lists }
+    requires moment { draft.moment ≡ at }
+    ensures { IfOk result (IsClosed at (B.state book.now).lists draft.entry reply) }
 {
     match reply {
-        Ok(reply) => Ok((draft.finish(), reply)),
+        Ok(reply) => Ok((draft.finish(alloc)?, reply)),
         Err(error) => Err(error),
     }
 }
 
 /// No change, and a refusal.
-pub fn refused<B: Book>(book: &B, alloc: Global, kind: Kind, refusal: Refusal) -> (Changes, Reply)
-    ensures { result ≡ (no_change (B.state book.now), Reply.Refused kind refusal) }
+pub fn refused<B: Book>(book: &B, alloc: Global, kind: Kind, refusal: Refusal) -> (Drafted, Reply)
+    ensures changes { result.0.changes ≡ no_change (B.state book.now) }
+    ensures reply { result.1 ≡ Reply.Refused kind refusal }
+    ensures shifts { (at : ℕ) → HasShifts at (B.state book.now).lists result.0 }
 {
+    let changes = Changes::new(Vec::new(alloc), book.next_ids());
     (
-        Changes::new(Vec::new(alloc), book.next_ids()),
+        Drafted::plain(alloc, changes),
         Reply::Refused(kind, refusal),
     )
+}
+
+/// Changes of what is for sale, which shift no count, with what is answered.
+pub fn offered(alloc: Global, changes: Changes, reply: Reply) -> (Drafted, Reply)
+    requires { AreOfCatalogue changes.list }
+    ensures changes { result.0.changes ≡ changes }
+    ensures reply { result.1 ≡ reply }
+    ensures shifts { (at : ℕ) (lists : Lists) → HasShifts at lists result.0 }
+{
+    (Drafted::plain(alloc, changes), reply)
 }
 
 /// A voucher as it is shown.

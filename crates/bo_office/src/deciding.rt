@@ -1,15 +1,12 @@
 //! What is done with each command.
 
-ghost use Rattle.std.specs.Prelude.{◌≡◌, ◌≤◌, IfOk};
-ghost use Rattle.bo_lists.specs.Change.{applied};
-ghost use Rattle.bo_sound.specs.Sound.{IsSound};
-ghost use Rattle.bo_service.specs.Machine.{RefusesWithoutChange, step, changes_of};
+ghost use Rattle.std.specs.Prelude.{IfOk};
+ghost use Rattle.bo_service.specs.Machine.{CanBegin, IsStep};
 
 use bo_base::{Draw, Moment};
 use bo_commands::{Command, Reply};
-use bo_lists::Changes;
 use bo_sales::sales;
-use bo_service::{catalogue, doors, waiting};
+use bo_service::{Drafted, catalogue, doors, waiting};
 use bo_usage::Book;
 use std::alloc::{AllocError, Global};
 
@@ -20,12 +17,9 @@ pub(crate) fn decide_over<B: Book>(
     at: Moment,
     draw: Draw,
     command: &Command,
-) -> Result<(Changes, Reply), AllocError>
-    requires moment { (B.state book.now).moment ≤ at }
-    requires sound { IsSound (B.state book.now) }
-    ensures step { IfOk result (λ r. (applied r.0 at (B.state book.now), r.1) ≡ step command.now at draw (B.state book.now)) }
-    ensures changes { IfOk result (λ r. r.0.list ≡ changes_of command.now draw (record (B.state book.now) { moment = at }) r.1) }
-    ensures refused { IfOk result (RefusesWithoutChange (B.state book.now)) }
+) -> Result<(Drafted, Reply), AllocError>
+    requires { CanBegin at (B.state book.now) }
+    ensures { IfOk result (IsStep command.now at draw (B.state book.now)) }
 {
     match command {
         Command::AddItem(new) => catalogue::add_item(book, alloc, new),

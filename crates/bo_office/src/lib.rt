@@ -1,4 +1,4 @@
-//! The box office: what each command does, and what each query is answered.
+//! What does the box office do with each command, and answer to each query?
 #![tactic(auto)]
 
 mod deciding;

@@ -1,18 +1,18 @@
 //! One box office over a book.
 
 ghost use Rattle.std.specs.Prelude.{◌≡◌, ◌≤◌, ℕ, IfOk, OnOk};
-ghost use Rattle.bo_base.specs.declared.draw.Draw.{Draw};
 ghost use Rattle.bo_lists.specs.Change.{applied};
 ghost use Rattle.bo_lists.specs.CountRows.{counts_after};
 ghost use Rattle.bo_lists.specs.Weight.{weight};
 ghost use Rattle.bo_sound.specs.Sound.{IsSound};
-ghost use Rattle.bo_service.specs.Machine.{RefusesWithoutChange, step, answer, changes_of};
+ghost use Rattle.bo_service.specs.Machine.{IsStep, answer};
 
 use crate::deciding::decide_over;
 use bo_base::{Draw, Known, Moment, Slug};
 use bo_commands::{Command, Query, Reply};
 use bo_dues::Dues;
 use bo_lists::{Changes, CountRows};
+use bo_service::Drafted;
 use bo_usage::Book;
 use std::alloc::{AllocError, Global};
 use std::marker::Model;
@@ -101,12 +101,10 @@ impl<B: Book> Office<B> {
         at: Moment,
         draw: Draw,
         command: &Command,
-    ) -> Result<(Changes, Reply), AllocError>
+    ) -> Result<(Drafted, Reply), AllocError>
         requires { self.now.state.moment ≤ at }
-        ensures step { IfOk result (λ r. (applied r.0 at self.now.state, r.1) ≡ step command.now at draw self.now.state) }
-        ensures changes { IfOk result (λ r. r.0.list ≡ changes_of command.now draw (record self.now.state { moment = at }) r.1) }
-        ensures sound { IfOk result (λ r. IsSound (applied r.0 at self.now.state)) }
-        ensures refused { IfOk result (RefusesWithoutChange self.now.state) }
+        ensures step { IfOk result (IsStep command.now at draw self.now.state) }
+        ensures sound { IfOk result (λ r. IsSound (applied r.0.changes at self.now.state)) }
     {
         let book = self.book();
         command.known();

@@ -9,9 +9,12 @@ use Rattle.bo_lists.specs.declared.changes.Change.{Change}
 use Rattle.bo_lists.specs.declared.rows.NextIds.{NextIds}
 use Rattle.bo_lists.specs.Change.{Changed, after_all, applied}
 use Rattle.bo_lists.specs.CountRows.{CountRows, counts_after}
-use Rattle.bo_lists.specs.Lists.{State}
+use Rattle.bo_lists.specs.Lists.{Lists, State}
 use Rattle.bo_sound.specs.Sound.{IsSound}
 use Rattle.bo_sound.proofs.Sound.{sound_later}
+use Rattle.bo_tally.specs.declared.shifts.Drafted.{Drafted}
+use Rattle.bo_tally.proofs.Unshifted.{unchanged}
+use Rattle.bo_machine.specs.IsStep.{HasShifts}
 use Rattle.bo_commands.specs.declared.requests.Command.{Command}
 use Rattle.bo_commands.specs.declared.replies.Reply.{Reply}
 use Rattle.bo_deliveries.specs.declared.arrival.Arrival.{Arrival}
@@ -44,6 +47,10 @@ passed changes at state list next =
 
 pub passed-sound : (changes : Changed) (at : ℕ) (state : State) → changes.list ≡ [] → changes.next ≡ state.next → state.moment ≤ at → at ≤ last_moment → IsSound state → IsSound (applied changes at state)
 passed-sound changes at state list next later last sound = subst IsSound (sym (passed changes at state list next)) (sound_later state at later last sound)
+
+-- time alone shifts no count
+pub passed-shifts : (lists : Lists) (at : ℕ) (drafted : Drafted) → drafted.changes.list ≡ [] → drafted.shifts.quotas.items ≡ [] → drafted.shifts.vouchers.items ≡ [] → HasShifts at lists drafted
+passed-shifts lists at drafted list none gone = rw list (unchanged lists at drafted.shifts none gone)
 
 -- ---- what is executed
 

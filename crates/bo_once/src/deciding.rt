@@ -4,17 +4,19 @@ ghost use Rattle.std.specs.Prelude.{◌≡◌, ◌≤◌, IfOk, true};
 ghost use Rattle.bo_lists.specs.Change.{applied};
 ghost use Rattle.bo_lists.specs.CountRows.{counts_after};
 ghost use Rattle.bo_sound.specs.Sound.{IsSound};
+ghost use Rattle.bo_machine.specs.IsStep.{HasShifts};
 ghost use Rattle.bo_deliveries.specs.declared.arrival.Request.TheVariants.{Write};
 ghost use Rattle.bo_deliveries.specs.Deliveries.{is_write, done};
 
 use crate::shop::Shop;
 use bo_base::{Draw, Moment, Response};
 use bo_commands::Command;
-use bo_counts::counts_after;
+use bo_counts::counts_by_shifts;
 use bo_deliveries::{Request, Wording, worded};
 use bo_dues::Dues;
 use bo_kept::Tables;
 use bo_lists::{Changes, CountRows};
+use bo_machine::Drafted;
 use std::alloc::{AllocError, Global};
 
 impl<T: Tables, B: Dues, W: Wording> Shop<T, B, W> {
@@ -25,24 +27,26 @@ impl<T: Tables, B: Dues, W: Wording> Shop<T, B, W> {
         at: Moment,
         draw: Draw,
         command: &Command,
-    ) -> Result<(Changes, Response), AllocError>
+    ) -> Result<(Drafted, Response), AllocError>
         requires { self.now.state.moment ≤ at }
-        ensures done { IfOk result (λ r. (applied r.0 at self.now.state, r.1) ≡ done (W.words self.now.wording) (Write command.now) at draw self.now.state) }
-        ensures sound { IfOk result (λ r. IsSound (applied r.0 at self.now.state)) }
+        ensures done { IfOk result (λ r. (applied r.0.changes at self.now.state, r.1) ≡ done (W.words self.now.wording) (Write command.now) at draw self.now.state) }
+        ensures sound { IfOk result (λ r. IsSound (applied r.0.changes at self.now.state)) }
+        ensures shifts { IfOk result (λ r. HasShifts at self.now.state.lists r.0) }
     {
-        let (changes, reply) = self.office.decide(alloc, at, draw, command)?;
+        let (drafted, reply) = self.office.decide(alloc, at, draw, command)?;
         let response = worded(&self.wording, alloc, reply)?;
-        Ok((changes, response))
+        Ok((drafted, response))
     }
 
     // What a write changes that was refused before it was a command: its moment alone.
-    fn pass(&self, alloc: Global, at: Moment) -> Changes
+    fn pass(&self, alloc: Global, at: Moment) -> Drafted
         requires { self.now.state.moment ≤ at }
-        ensures passed { applied result at self.now.state ≡ record self.now.state { moment = at } }
-        ensures sound { IsSound (applied result at self.now.state) }
+        ensures passed { applied result.changes at self.now.state ≡ record self.now.state { moment = at } }
+        ensures sound { IsSound (applied result.changes at self.now.state) }
+        ensures shifts { HasShifts at self.now.state.lists result }
     {
         let next = self.office.book().next_ids();
-        Changes::new(Vec::new(alloc), next)
+        Drafted::plain(alloc, Changes::new(Vec::new(alloc), next))
     }
 
     // What a write changes at a moment, and what is told.
@@ -52,11 +56,12 @@ impl<T: Tables, B: Dues, W: Wording> Shop<T, B, W> {
         at: Moment,
         draw: Draw,
         request: Request,
-    ) -> Result<(Changes, Response), AllocError>
+    ) -> Result<(Drafted, Response), AllocError>
         requires write { is_write request ≡ true }
         requires later { self.now.state.moment ≤ at }
-        ensures done { IfOk result (λ r. (applied r.0 at self.now.state, r.1) ≡ done (W.words self.now.wording) request at draw self.now.state) }
-        ensures sound { IfOk result (λ r. IsSound (applied r.0 at self.now.state)) }
+        ensures done { IfOk result (λ r. (applied r.0.changes at self.now.state, r.1) ≡ done (W.words self.now.wording) request at draw self.now.state) }
+        ensures sound { IfOk result (λ r. IsSound (applied r.0.changes at self.now.state)) }
+        ensures shifts { IfOk result (λ r. HasShifts at self.now.state.lists r.0) }
     {
         match request {
             // The command is let go by name, as a whole: part by part is a way of the proof for each of its kinds.
@@ -66,8 +71,8 @@ impl<T: Tables, B: Dues, W: Wording> Shop<T, B, W> {
                 decided
             }
             Request::WriteRefused(response) => {
-                let changes = self.pass(alloc, at);
-                Ok((changes, response))
+                let drafted = self.pass(alloc, at);
+                Ok((drafted, response))
             }
             Request::Read(_) => unreachable!(),
             Request::ReadRefused(_) => unreachable!(),
@@ -88,8 +93,9 @@ impl<T: Tables, B: Dues, W: Wording> Shop<T, B, W> {
         ensures sound { IfOk result (λ r. IsSound (applied r.0 at self.now.state)) }
         ensures counts { IfOk result (λ r. r.1 ≡ counts_after self.now.state (applied r.0 at self.now.state)) }
     {
-        let (decided, response) = self.decide(alloc, at, draw, request)?;
-        let (changes, counts) = counts_after(self.office.book(), alloc, decided, at)?;
+        let (drafted, response) = self.decide(alloc, at, draw, request)?;
+        let Drafted { changes, shifts } = drafted;
+        let counts = counts_by_shifts(self.office.book(), alloc, &changes, &shifts, at)?;
         Ok((changes, counts, response))
     }
 }

@@ -1,4 +1,6 @@
-//! A shop that carries each request out once: an office, the tables that hold its rows and its answers, and its wording.
+//! How does a shop carry each request out once, and keep its answer?
+//!
+//! A shop is an office, the tables that have its rows and its answers, and its wording.
 #![tactic(auto)]
 
 mod deciding;

@@ -1,4 +1,4 @@
--- Whether there are places for what was put.
+-- Whether there are places for what was put: no quota is over (28), and then the tables have room (16).
 use Rattle.std.specs.Prelude.{ℕ, Bool, Option, Result}
 use Rattle.bo_base.specs.Deciding.{◌>>◌, check, refuse_some}
 use Rattle.bo_catalogue.specs.declared.refusal.CatalogueRefusal.TheVariants.{Full}

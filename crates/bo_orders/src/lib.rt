@@ -1,4 +1,4 @@
-//! Decisions on carts and orders.
+//! What may be done with carts and orders, and what changes?
 #![tactic(auto)]
 
 pub mod bulk;

@@ -1,4 +1,4 @@
--- The vouchers of a code: those that changes put, and those of the book that no change touches.
+-- The vouchers of a code: those that changes put, and those of the book that no change touches. The first is that of the least id.
 use Rattle.std.specs.Prelude.{◌≡◌, ℕ, ◌<◌, ◌≤◌, Bool, true, false, ◌&&◌, ◌==◌, List, Option, Some, None, min, if◌then◌else◌}
 use Rattle.bo_base.specs.Texts.{same_text}
 use Rattle.bo_lists.specs.declared.changes.Change.{Change}

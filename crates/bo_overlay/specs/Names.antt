@@ -1,4 +1,4 @@
--- The vouchers that changed rows name.
+-- The voucher that a put row names, and the one that the row before it named.
 use Rattle.std.specs.Prelude.{ℕ, Option, Some, None}
 use Rattle.bo_lists.specs.declared.rows.CartPos.{CartPos}
 use Rattle.bo_lists.specs.declared.rows.Waiting.{Waiting}

@@ -1,4 +1,4 @@
--- The purchases of an order.
+-- The purchases of an order: what its positions are for, and the vouchers that they name.
 use Rattle.std.specs.Prelude.{◌≡◌, ℕ, Bool, List, count_by}
 use Rattle.bo_lists.specs.declared.rows.OrderPos.{OrderPos}
 use Rattle.bo_lists.specs.Lists.{Lists}

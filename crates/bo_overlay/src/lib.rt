@@ -1,4 +1,4 @@
-//! The rows of a book with changes laid over it: look-ups and counts.
+//! Which rows does a book have with changes laid over it, and how many pass a test?
 #![tactic(auto)]
 
 mod cart_conditions;

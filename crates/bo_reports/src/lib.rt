@@ -1,4 +1,4 @@
-//! How a person reads what was sold: reports as texts.
+//! How does a person read what was sold, and who came in?
 #![tactic(auto)]
 
 mod columns;

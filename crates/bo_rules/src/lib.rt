@@ -1,4 +1,4 @@
-//! The rules that the rows of a file keep.
+//! When is a file damaged, and by which rule?
 #![tactic(auto)]
 
 pub mod file_rows;

@@ -1,4 +1,4 @@
--- That nothing is taken too much, of a step and of a list of arrivals.
+-- When a step, or a list of arrivals, takes too much of nothing: the laws of takings, of new ids and of sound say so of it.
 use Rattle.std.specs.Prelude.{ℕ, List, [], ◌∷◌, ◌++◌}
 use Rattle.bo_base.specs.declared.answer.Response.{Response}
 use Rattle.bo_base.specs.declared.draw.Draw.{Draw}

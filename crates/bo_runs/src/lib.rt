@@ -1,4 +1,4 @@
-//! Runs of the small box office: what holds of every step, whatever commands come.
+//! What is true of every run of commands, whatever commands come?
 #![tactic(auto)]
 
 pub mod laws;

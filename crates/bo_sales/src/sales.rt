@@ -2,12 +2,8 @@
 //! `delete` and `import` of bo_vouchers, and `add_position`, `add_many`, `create`, `move_order` and `drop_position` of bo_orders. The error
 //! is want of memory alone.
 
-ghost use Rattle.std.specs.Prelude.{◌≡◌, ◌≤◌, IfOk};
-ghost use Rattle.bo_base.specs.declared.draw.Draw.{Draw};
-ghost use Rattle.bo_lists.specs.Change.{applied};
-ghost use Rattle.bo_sound.specs.Sound.{IsSound};
-ghost use Rattle.bo_machine.specs.Changes.{changes_of};
-ghost use Rattle.bo_machine.specs.Step.{RefusesWithoutChange, step};
+ghost use Rattle.std.specs.Prelude.{IfOk};
+ghost use Rattle.bo_machine.specs.IsStep.{CanBegin, IsStep, IsUndrawnStep};
 ghost use Rattle.bo_commands.specs.declared.requests.Command.{Command};
 
 use bo_base::{Draw, Moment};
@@ -15,8 +11,7 @@ use bo_commands::{
     Entry, Kind, Move, NewCart, NewOrder, NewVoucher, OrderRefusal, Refusal, Reply, Shown,
     VoucherPatch, VoucherRefusal,
 };
-use bo_lists::Changes;
-use bo_machine::{Book, close, open, show_voucher};
+use bo_machine::{Book, Drafted, close, open, show_voucher};
 use bo_orders::{add_many, add_position, create, drop_position};
 use bo_vouchers::decide_voucher;
 use bo_vouchers::importing::import;
@@ -29,12 +24,9 @@ pub fn add_voucher<B: Book>(
     at: Moment,
     draw: Draw,
     new: &NewVoucher,
-) -> Result<(Changes, Reply), AllocError>
-    requires moment { (B.state book.now).moment ≤ at }
-    requires sound { IsSound (B.state book.now) }
-    ensures step { IfOk result (λ r. (applied r.0 at (B.state book.now), r.1) ≡ step (Command.AddVoucher new.now) at draw (B.state book.now)) }
-    ensures changes { IfOk result (λ r. r.0.list ≡ changes_of (Command.AddVoucher new.now) draw (record (B.state book.now) { moment = at }) r.1) }
-    ensures refused { IfOk result (RefusesWithoutChange (B.state book.now)) }
+) -> Result<(Drafted, Reply), AllocError>
+    requires { CanBegin at (B.state book.now) }
+    ensures { IfOk result (IsStep (Command.AddVoucher new.now) at draw (B.state book.now)) }
 {
     let mut draft = open(book, alloc, at)?;
     let reply = match decide_voucher::make(&mut draft, alloc, draw, new) {
@@ -42,7 +34,7 @@ pub fn add_voucher<B: Book>(
         Err(VoucherRefusal::Memory) => Err(AllocError),
         Err(refusal) => Ok(Reply::Refused(Kind::AddVoucher, Refusal::Voucher(refusal))),
     };
-    close(draft, reply)
+    close(book, alloc, at, draft, reply)
 }
 
 /// Changes a voucher, with whatever draw.
@@ -52,12 +44,9 @@ pub fn change_voucher<B: Book>(
     at: Moment,
     id: u64,
     patch: &VoucherPatch,
-) -> Result<(Changes, Reply), AllocError>
-    requires moment { (B.state book.now).moment ≤ at }
-    requires sound { IsSound (B.state book.now) }
-    ensures step { IfOk result (λ r. (draw : Draw) → (applied r.0 at (B.state book.now), r.1) ≡ step (Command.ChangeVoucher id patch.now) at draw (B.state book.now)) }
-    ensures changes { IfOk result (λ r. (draw : Draw) → r.0.list ≡ changes_of (Command.ChangeVoucher id patch.now) draw (record (B.state book.now) { moment = at }) r.1) }
-    ensures refused { IfOk result (RefusesWithoutChange (B.state book.now)) }
+) -> Result<(Drafted, Reply), AllocError>
+    requires { CanBegin at (B.state book.now) }
+    ensures { IfOk result (IsUndrawnStep (Command.ChangeVoucher id patch.now) at (B.state book.now)) }
 {
     let mut draft = open(book, alloc, at)?;
     let reply = match decide_voucher::patch(&mut draft, alloc, id, patch) {
@@ -65,7 +54,7 @@ pub fn change_voucher<B: Book>(
         Err(VoucherRefusal::Memory) => Err(AllocError),
         Err(refusal) => Ok(Reply::Refused(Kind::ChangeVoucher, Refusal::Voucher(refusal))),
     };
-    close(draft, reply)
+    close(book, alloc, at, draft, reply)
 }
 
 /// Deletes a voucher, with whatever draw.
@@ -74,12 +63,9 @@ pub fn drop_voucher<B: Book>(
     alloc: Global,
     at: Moment,
     id: u64,
-) -> Result<(Changes, Reply), AllocError>
-    requires moment { (B.state book.now).moment ≤ at }
-    requires sound { IsSound (B.state book.now) }
-    ensures step { IfOk result (λ r. (draw : Draw) → (applied r.0 at (B.state book.now), r.1) ≡ step (Command.DropVoucher id) at draw (B.state book.now)) }
-    ensures changes { IfOk result (λ r. (draw : Draw) → r.0.list ≡ changes_of (Command.DropVoucher id) draw (record (B.state book.now) { moment = at }) r.1) }
-    ensures refused { IfOk result (RefusesWithoutChange (B.state book.now)) }
+) -> Result<(Drafted, Reply), AllocError>
+    requires { CanBegin at (B.state book.now) }
+    ensures { IfOk result (IsUndrawnStep (Command.DropVoucher id) at (B.state book.now)) }
 {
     let mut draft = open(book, alloc, at)?;
     let reply = match decide_voucher::delete(&mut draft, alloc, id) {
@@ -87,7 +73,7 @@ pub fn drop_voucher<B: Book>(
         Err(VoucherRefusal::Memory) => Err(AllocError),
         Err(refusal) => Ok(Reply::Refused(Kind::DropVoucher, Refusal::Voucher(refusal))),
     };
-    close(draft, reply)
+    close(book, alloc, at, draft, reply)
 }
 
 /// Adds the vouchers of a file.
@@ -97,19 +83,16 @@ pub fn import_vouchers<B: Book>(
     at: Moment,
     draw: Draw,
     rows: &[NewVoucher],
-) -> Result<(Changes, Reply), AllocError>
-    requires moment { (B.state book.now).moment ≤ at }
-    requires sound { IsSound (B.state book.now) }
-    ensures step { IfOk result (λ r. (applied r.0 at (B.state book.now), r.1) ≡ step (Command.ImportVouchers rows.now) at draw (B.state book.now)) }
-    ensures changes { IfOk result (λ r. r.0.list ≡ changes_of (Command.ImportVouchers rows.now) draw (record (B.state book.now) { moment = at }) r.1) }
-    ensures refused { IfOk result (RefusesWithoutChange (B.state book.now)) }
+) -> Result<(Drafted, Reply), AllocError>
+    requires { CanBegin at (B.state book.now) }
+    ensures { IfOk result (IsStep (Command.ImportVouchers rows.now) at draw (B.state book.now)) }
 {
     let mut draft = open(book, alloc, at)?;
     let reply = match import(&mut draft, alloc, draw, rows) {
         Ok(verdicts) => Ok(Reply::Imported(verdicts)),
         Err(error) => Err(error),
     };
-    close(draft, reply)
+    close(book, alloc, at, draft, reply)
 }
 
 /// Adds a cart position.
@@ -119,12 +102,9 @@ pub fn add_cart<B: Book>(
     at: Moment,
     draw: Draw,
     new: &NewCart,
-) -> Result<(Changes, Reply), AllocError>
-    requires moment { (B.state book.now).moment ≤ at }
-    requires sound { IsSound (B.state book.now) }
-    ensures step { IfOk result (λ r. (applied r.0 at (B.state book.now), r.1) ≡ step (Command.AddCart new.now) at draw (B.state book.now)) }
-    ensures changes { IfOk result (λ r. r.0.list ≡ changes_of (Command.AddCart new.now) draw (record (B.state book.now) { moment = at }) r.1) }
-    ensures refused { IfOk result (RefusesWithoutChange (B.state book.now)) }
+) -> Result<(Drafted, Reply), AllocError>
+    requires { CanBegin at (B.state book.now) }
+    ensures { IfOk result (IsStep (Command.AddCart new.now) at draw (B.state book.now)) }
 {
     let mut draft = open(book, alloc, at)?;
     let reply = match add_position(&mut draft, alloc, draw, new) {
@@ -132,7 +112,7 @@ pub fn add_cart<B: Book>(
         Err(OrderRefusal::Memory) => Err(AllocError),
         Err(refusal) => Ok(Reply::Refused(Kind::AddCart, Refusal::Order(refusal))),
     };
-    close(draft, reply)
+    close(book, alloc, at, draft, reply)
 }
 
 /// Adds a cart position for each entry.
@@ -142,12 +122,9 @@ pub fn add_carts<B: Book>(
     at: Moment,
     draw: Draw,
     entries: &[Entry],
-) -> Result<(Changes, Reply), AllocError>
-    requires moment { (B.state book.now).moment ≤ at }
-    requires sound { IsSound (B.state book.now) }
-    ensures step { IfOk result (λ r. (applied r.0 at (B.state book.now), r.1) ≡ step (Command.AddCarts entries.now) at draw (B.state book.now)) }
-    ensures changes { IfOk result (λ r. r.0.list ≡ changes_of (Command.AddCarts entries.now) draw (record (B.state book.now) { moment = at }) r.1) }
-    ensures refused { IfOk result (RefusesWithoutChange (B.state book.now)) }
+) -> Result<(Drafted, Reply), AllocError>
+    requires { CanBegin at (B.state book.now) }
+    ensures { IfOk result (IsStep (Command.AddCarts entries.now) at draw (B.state book.now)) }
 {
     let mut draft = open(book, alloc, at)?;
     let reply = match add_many(&mut draft, alloc, draw, entries) {
@@ -155,7 +132,7 @@ pub fn add_carts<B: Book>(
         Err(OrderRefusal::Memory) => Err(AllocError),
         Err(refusal) => Ok(Reply::Refused(Kind::AddCarts, Refusal::Order(refusal))),
     };
-    close(draft, reply)
+    close(book, alloc, at, draft, reply)
 }
 
 /// Makes an order.
@@ -165,12 +142,9 @@ pub fn add_order<B: Book>(
     at: Moment,
     draw: Draw,
     new: &NewOrder,
-) -> Result<(Changes, Reply), AllocError>
-    requires moment { (B.state book.now).moment ≤ at }
-    requires sound { IsSound (B.state book.now) }
-    ensures step { IfOk result (λ r. (applied r.0 at (B.state book.now), r.1) ≡ step (Command.AddOrder new.now) at draw (B.state book.now)) }
-    ensures changes { IfOk result (λ r. r.0.list ≡ changes_of (Command.AddOrder new.now) draw (record (B.state book.now) { moment = at }) r.1) }
-    ensures refused { IfOk result (RefusesWithoutChange (B.state book.now)) }
+) -> Result<(Drafted, Reply), AllocError>
+    requires { CanBegin at (B.state book.now) }
+    ensures { IfOk result (IsStep (Command.AddOrder new.now) at draw (B.state book.now)) }
 {
     let mut draft = open(book, alloc, at)?;
     let reply = match create(&mut draft, alloc, draw, new) {
@@ -178,7 +152,7 @@ pub fn add_order<B: Book>(
         Err(OrderRefusal::Memory) => Err(AllocError),
         Err(refusal) => Ok(Reply::Refused(Kind::AddOrder, Refusal::Order(refusal))),
     };
-    close(draft, reply)
+    close(book, alloc, at, draft, reply)
 }
 
 /// Moves an order, with whatever draw.
@@ -188,12 +162,9 @@ pub fn move_order<B: Book>(
     at: Moment,
     number: u64,
     change: Move,
-) -> Result<(Changes, Reply), AllocError>
-    requires moment { (B.state book.now).moment ≤ at }
-    requires sound { IsSound (B.state book.now) }
-    ensures step { IfOk result (λ r. (draw : Draw) → (applied r.0 at (B.state book.now), r.1) ≡ step (Command.MoveOrder number change) at draw (B.state book.now)) }
-    ensures changes { IfOk result (λ r. (draw : Draw) → r.0.list ≡ changes_of (Command.MoveOrder number change) draw (record (B.state book.now) { moment = at }) r.1) }
-    ensures refused { IfOk result (RefusesWithoutChange (B.state book.now)) }
+) -> Result<(Drafted, Reply), AllocError>
+    requires { CanBegin at (B.state book.now) }
+    ensures { IfOk result (IsUndrawnStep (Command.MoveOrder number change) at (B.state book.now)) }
 {
     let mut draft = open(book, alloc, at)?;
     let reply = match bo_orders::move_order(&mut draft, alloc, number, change) {
@@ -201,7 +172,7 @@ pub fn move_order<B: Book>(
         Err(OrderRefusal::Memory) => Err(AllocError),
         Err(refusal) => Ok(Reply::Refused(Kind::MoveOrder, Refusal::Order(refusal))),
     };
-    close(draft, reply)
+    close(book, alloc, at, draft, reply)
 }
 
 /// Deletes a cart position, with whatever draw.
@@ -210,12 +181,9 @@ pub fn drop_cart<B: Book>(
     alloc: Global,
     at: Moment,
     id: u64,
-) -> Result<(Changes, Reply), AllocError>
-    requires moment { (B.state book.now).moment ≤ at }
-    requires sound { IsSound (B.state book.now) }
-    ensures step { IfOk result (λ r. (draw : Draw) → (applied r.0 at (B.state book.now), r.1) ≡ step (Command.DropCart id) at draw (B.state book.now)) }
-    ensures changes { IfOk result (λ r. (draw : Draw) → r.0.list ≡ changes_of (Command.DropCart id) draw (record (B.state book.now) { moment = at }) r.1) }
-    ensures refused { IfOk result (RefusesWithoutChange (B.state book.now)) }
+) -> Result<(Drafted, Reply), AllocError>
+    requires { CanBegin at (B.state book.now) }
+    ensures { IfOk result (IsUndrawnStep (Command.DropCart id) at (B.state book.now)) }
 {
     let mut draft = open(book, alloc, at)?;
     let reply = match drop_position(&mut draft, alloc, id) {
@@ -223,5 +191,5 @@ pub fn drop_cart<B: Book>(
         Err(OrderRefusal::Memory) => Err(AllocError),
         Err(refusal) => Ok(Reply::Refused(Kind::DropCart, Refusal::Order(refusal))),
     };
-    close(draft, reply)
+    close(book, alloc, at, draft, reply)
 }

@@ -1,4 +1,4 @@
-//! Callers over the network: many of them at once, in one thread, at one desk.
+//! How does one thread serve many callers over the network, at one desk?
 #![tactic(auto)]
 
 pub mod clock;

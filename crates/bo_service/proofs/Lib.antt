@@ -1,1 +1,2 @@
 pub mod Machine
+mod Steps

@@ -1,19 +1,14 @@
 //! Commands of the doors. None of them depends on its draw. A refusal is a reply, with the number that `add_list` or `redeem` of
 //! bo_door gives it; the error is want of memory alone.
 
-ghost use Rattle.std.specs.Prelude.{◌≡◌, ◌≤◌, IfOk};
-ghost use Rattle.bo_base.specs.declared.draw.Draw.{Draw};
-ghost use Rattle.bo_lists.specs.Change.{applied};
-ghost use Rattle.bo_sound.specs.Sound.{IsSound};
-ghost use Rattle.bo_machine.specs.Changes.{changes_of};
-ghost use Rattle.bo_machine.specs.Step.{RefusesWithoutChange, step};
+ghost use Rattle.std.specs.Prelude.{IfOk};
+ghost use Rattle.bo_machine.specs.IsStep.{CanBegin, IsUndrawnStep};
 ghost use Rattle.bo_commands.specs.declared.requests.Command.{Command};
 
 use bo_base::Moment;
 use bo_commands::{DoorRefusal, Kind, NewCheckinList, Refusal, Reply, Scan, Shown, Ticket};
 use bo_door::add_list;
-use bo_lists::Changes;
-use bo_machine::{Book, close, open};
+use bo_machine::{Book, Drafted, close, open};
 use std::alloc::{AllocError, Global};
 
 /// Adds a check-in list.
@@ -22,12 +17,9 @@ pub fn add_checkin_list<B: Book>(
     alloc: Global,
     at: Moment,
     new: &NewCheckinList,
-) -> Result<(Changes, Reply), AllocError>
-    requires moment { (B.state book.now).moment ≤ at }
-    requires sound { IsSound (B.state book.now) }
-    ensures step { IfOk result (λ r. (draw : Draw) → (applied r.0 at (B.state book.now), r.1) ≡ step (Command.AddCheckinList new.now) at draw (B.state book.now)) }
-    ensures changes { IfOk result (λ r. (draw : Draw) → r.0.list ≡ changes_of (Command.AddCheckinList new.now) draw (record (B.state book.now) { moment = at }) r.1) }
-    ensures refused { IfOk result (RefusesWithoutChange (B.state book.now)) }
+) -> Result<(Drafted, Reply), AllocError>
+    requires { CanBegin at (B.state book.now) }
+    ensures { IfOk result (IsUndrawnStep (Command.AddCheckinList new.now) at (B.state book.now)) }
 {
     let mut draft = open(book, alloc, at)?;
     let reply = match add_list(&mut draft, alloc, new) {
@@ -35,7 +27,7 @@ pub fn add_checkin_list<B: Book>(
         Err(DoorRefusal::Memory) => Err(AllocError),
         Err(refusal) => Ok(Reply::Refused(Kind::AddCheckinList, Refusal::Door(refusal))),
     };
-    close(draft, reply)
+    close(book, alloc, at, draft, reply)
 }
 
 /// Checks a ticket in or out.
@@ -46,12 +38,9 @@ pub fn redeem<B: Book>(
     list: u64,
     ticket: &Ticket,
     scan: &Scan,
-) -> Result<(Changes, Reply), AllocError>
-    requires moment { (B.state book.now).moment ≤ at }
-    requires sound { IsSound (B.state book.now) }
-    ensures step { IfOk result (λ r. (draw : Draw) → (applied r.0 at (B.state book.now), r.1) ≡ step (Command.Redeem list ticket.now scan.now) at draw (B.state book.now)) }
-    ensures changes { IfOk result (λ r. (draw : Draw) → r.0.list ≡ changes_of (Command.Redeem list ticket.now scan.now) draw (record (B.state book.now) { moment = at }) r.1) }
-    ensures refused { IfOk result (RefusesWithoutChange (B.state book.now)) }
+) -> Result<(Drafted, Reply), AllocError>
+    requires { CanBegin at (B.state book.now) }
+    ensures { IfOk result (IsUndrawnStep (Command.Redeem list ticket.now scan.now) at (B.state book.now)) }
 {
     let mut draft = open(book, alloc, at)?;
     let reply = match bo_door::redeem(&mut draft, alloc, list, ticket, scan) {
@@ -59,5 +48,5 @@ pub fn redeem<B: Book>(
         Err(DoorRefusal::Memory) => Err(AllocError),
         Err(refusal) => Ok(Reply::Refused(Kind::Redeem, Refusal::Door(refusal))),
     };
-    close(draft, reply)
+    close(book, alloc, at, draft, reply)
 }

@@ -1,8 +1,8 @@
-//! What is done with a command on the catalogue, the waiting list or the doors, over a book that is sound?
+//! What is done with a command on the catalogue, waiting list or doors, over a sound book?
 #![tactic(auto)]
 
 pub mod catalogue;
 pub mod doors;
 pub mod waiting;
 
-pub use bo_machine::show_voucher;
+pub use bo_machine::{Drafted, show_voucher};

@@ -1,22 +1,18 @@
 //! Commands on the waiting list, and periodic work. A refusal is a reply, with the number that `join`, `change`, `leave` or `send` of
 //! bo_waiting gives it; the error is want of memory alone. Periodic work is never refused.
 
-ghost use Rattle.std.specs.Prelude.{◌≡◌, ◌≤◌, [], IfOk, OnOk};
-ghost use Rattle.bo_base.specs.declared.draw.Draw.{Draw};
+ghost use Rattle.std.specs.Prelude.{◌≡◌, [], IfOk, OnOk};
 ghost use Rattle.bo_machine.specs.Drafts.{now, Extends};
-ghost use Rattle.bo_lists.specs.Change.{applied};
 ghost use Rattle.bo_sound.specs.Sound.{IsSound};
+ghost use Rattle.bo_machine.specs.IsStep.{CanBegin, IsStep, IsUndrawnStep};
 ghost use Rattle.bo_machine.specs.PeriodicWork.{periodic_done, periodic_changes};
-ghost use Rattle.bo_machine.specs.Changes.{changes_of};
-ghost use Rattle.bo_machine.specs.Step.{RefusesWithoutChange, step};
 ghost use Rattle.bo_commands.specs.declared.requests.Command.{Command};
 
 use bo_base::{Draw, Moment};
 use bo_commands::{
     Kind, NewWaiting, PeriodicCounts, Refusal, Reply, Shown, WaitingPatch, WaitingRefusal,
 };
-use bo_lists::Changes;
-use bo_machine::{Book, Draft, close, open};
+use bo_machine::{Book, Draft, Drafted, close, open};
 use bo_orders::{drop_dead_carts, expire_orders};
 use bo_waiting::{change, join, leave, send, serve_all};
 use std::alloc::{AllocError, Global};
@@ -27,12 +23,9 @@ pub fn add_waiting<B: Book>(
     alloc: Global,
     at: Moment,
     new: &NewWaiting,
-) -> Result<(Changes, Reply), AllocError>
-    requires moment { (B.state book.now).moment ≤ at }
-    requires sound { IsSound (B.state book.now) }
-    ensures step { IfOk result (λ r. (draw : Draw) → (applied r.0 at (B.state book.now), r.1) ≡ step (Command.AddWaiting new.now) at draw (B.state book.now)) }
-    ensures changes { IfOk result (λ r. (draw : Draw) → r.0.list ≡ changes_of (Command.AddWaiting new.now) draw (record (B.state book.now) { moment = at }) r.1) }
-    ensures refused { IfOk result (RefusesWithoutChange (B.state book.now)) }
+) -> Result<(Drafted, Reply), AllocError>
+    requires { CanBegin at (B.state book.now) }
+    ensures { IfOk result (IsUndrawnStep (Command.AddWaiting new.now) at (B.state book.now)) }
 {
     let mut draft = open(book, alloc, at)?;
     let reply = match join(&mut draft, alloc, new) {
@@ -40,7 +33,7 @@ pub fn add_waiting<B: Book>(
         Err(WaitingRefusal::Memory) => Err(AllocError),
         Err(refusal) => Ok(Reply::Refused(Kind::AddWaiting, Refusal::Waiting(refusal))),
     };
-    close(draft, reply)
+    close(book, alloc, at, draft, reply)
 }
 
 /// Changes an entry of the waiting list, with whatever draw.
@@ -50,12 +43,9 @@ pub fn change_waiting<B: Book>(
     at: Moment,
     id: u64,
     patch: WaitingPatch,
-) -> Result<(Changes, Reply), AllocError>
-    requires moment { (B.state book.now).moment ≤ at }
-    requires sound { IsSound (B.state book.now) }
-    ensures step { IfOk result (λ r. (draw : Draw) → (applied r.0 at (B.state book.now), r.1) ≡ step (Command.ChangeWaiting id patch) at draw (B.state book.now)) }
-    ensures changes { IfOk result (λ r. (draw : Draw) → r.0.list ≡ changes_of (Command.ChangeWaiting id patch) draw (record (B.state book.now) { moment = at }) r.1) }
-    ensures refused { IfOk result (RefusesWithoutChange (B.state book.now)) }
+) -> Result<(Drafted, Reply), AllocError>
+    requires { CanBegin at (B.state book.now) }
+    ensures { IfOk result (IsUndrawnStep (Command.ChangeWaiting id patch) at (B.state book.now)) }
 {
     let mut draft = open(book, alloc, at)?;
     let reply = match change(&mut draft, alloc, id, patch) {
@@ -63,7 +53,7 @@ pub fn change_waiting<B: Book>(
         Err(WaitingRefusal::Memory) => Err(AllocError),
         Err(refusal) => Ok(Reply::Refused(Kind::ChangeWaiting, Refusal::Waiting(refusal))),
     };
-    close(draft, reply)
+    close(book, alloc, at, draft, reply)
 }
 
 /// Deletes an entry of the waiting list, with whatever draw.
@@ -72,12 +62,9 @@ pub fn drop_waiting<B: Book>(
     alloc: Global,
     at: Moment,
     id: u64,
-) -> Result<(Changes, Reply), AllocError>
-    requires moment { (B.state book.now).moment ≤ at }
-    requires sound { IsSound (B.state book.now) }
-    ensures step { IfOk result (λ r. (draw : Draw) → (applied r.0 at (B.state book.now), r.1) ≡ step (Command.DropWaiting id) at draw (B.state book.now)) }
-    ensures changes { IfOk result (λ r. (draw : Draw) → r.0.list ≡ changes_of (Command.DropWaiting id) draw (record (B.state book.now) { moment = at }) r.1) }
-    ensures refused { IfOk result (RefusesWithoutChange (B.state book.now)) }
+) -> Result<(Drafted, Reply), AllocError>
+    requires { CanBegin at (B.state book.now) }
+    ensures { IfOk result (IsUndrawnStep (Command.DropWaiting id) at (B.state book.now)) }
 {
     let mut draft = open(book, alloc, at)?;
     let reply = match leave(&mut draft, alloc, id) {
@@ -85,7 +72,7 @@ pub fn drop_waiting<B: Book>(
         Err(WaitingRefusal::Memory) => Err(AllocError),
         Err(refusal) => Ok(Reply::Refused(Kind::DropWaiting, Refusal::Waiting(refusal))),
     };
-    close(draft, reply)
+    close(book, alloc, at, draft, reply)
 }
 
 /// Sends a voucher to an entry of the waiting list.
@@ -95,12 +82,9 @@ pub fn send_voucher<B: Book>(
     at: Moment,
     draw: Draw,
     id: u64,
-) -> Result<(Changes, Reply), AllocError>
-    requires moment { (B.state book.now).moment ≤ at }
-    requires sound { IsSound (B.state book.now) }
-    ensures step { IfOk result (λ r. (applied r.0 at (B.state book.now), r.1) ≡ step (Command.SendVoucher id) at draw (B.state book.now)) }
-    ensures changes { IfOk result (λ r. r.0.list ≡ changes_of (Command.SendVoucher id) draw (record (B.state book.now) { moment = at }) r.1) }
-    ensures refused { IfOk result (RefusesWithoutChange (B.state book.now)) }
+) -> Result<(Drafted, Reply), AllocError>
+    requires { CanBegin at (B.state book.now) }
+    ensures { IfOk result (IsStep (Command.SendVoucher id) at draw (B.state book.now)) }
 {
     let mut draft = open(book, alloc, at)?;
     let reply = match send(&mut draft, alloc, draw, id) {
@@ -108,7 +92,7 @@ pub fn send_voucher<B: Book>(
         Err(WaitingRefusal::Memory) => Err(AllocError),
         Err(refusal) => Ok(Reply::Refused(Kind::SendVoucher, Refusal::Waiting(refusal))),
     };
-    close(draft, reply)
+    close(book, alloc, at, draft, reply)
 }
 
 /// Ends what is overdue, then serves the waiting list.
@@ -117,19 +101,16 @@ pub fn work<B: Book>(
     alloc: Global,
     at: Moment,
     draw: Draw,
-) -> Result<(Changes, Reply), AllocError>
-    requires moment { (B.state book.now).moment ≤ at }
-    requires sound { IsSound (B.state book.now) }
-    ensures step { IfOk result (λ r. (applied r.0 at (B.state book.now), r.1) ≡ step Command.Periodic at draw (B.state book.now)) }
-    ensures changes { IfOk result (λ r. r.0.list ≡ changes_of Command.Periodic draw (record (B.state book.now) { moment = at }) r.1) }
-    ensures refused { IfOk result (RefusesWithoutChange (B.state book.now)) }
+) -> Result<(Drafted, Reply), AllocError>
+    requires { CanBegin at (B.state book.now) }
+    ensures { IfOk result (IsStep Command.Periodic at draw (B.state book.now)) }
 {
     let mut draft = open(book, alloc, at)?;
     let reply = match work_in(&mut draft, alloc, draw) {
         Ok(counts) => Ok(Reply::Periodic(counts)),
         Err(error) => Err(error),
     };
-    close(draft, reply)
+    close(book, alloc, at, draft, reply)
 }
 
 // Expires orders, deletes dead cart positions, then serves. Without memory some of it is done.

@@ -1,4 +1,4 @@
--- Changes that drop no voucher that is redeemed.
+-- Changes that drop no voucher that is redeemed; a voucher that is put where there was none is a new one.
 use Rattle.std.specs.Prelude.{Bool, true, ◌==◌}
 use Rattle.bo_lists.specs.declared.changes.Change.{Change}
 use Rattle.bo_lists.specs.declared.changes.Change.TheVariants.{DropVoucher}

@@ -1,4 +1,4 @@
-//! A book takes over the counts that were written with its changes.
+//! How does a book take over the counts that were written with its changes?
 #![tactic(auto)]
 
 pub mod again;

@@ -1,8 +1,8 @@
 pub mod Values
+mod Sums
 mod RowCounts
 mod Reached
-mod UseShifts
+pub mod UseShifts
 mod UseCounts
-mod Turned
 mod Unsold
 pub mod Logs

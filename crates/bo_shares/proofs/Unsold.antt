@@ -9,12 +9,13 @@ use Rattle.bo_lists.specs.declared.rows.Waiting.{Waiting}
 use Rattle.bo_lists.specs.declared.changes.Change.{Change}
 use Rattle.bo_lists.specs.declared.changes.Change.TheVariants.{PutItem, PutVariation, PutQuota, PutVoucher, PutCart, PutOrder, PutPosition, PutWaiting, DropVoucher, DropCart, DropWaiting, PutCheckinList, PutCheckin}
 use Rattle.bo_lists.specs.Lists.{Lists}
+use Rattle.bo_lists.specs.declared.rows.Usage.{Usage}
 use Rattle.bo_tally.specs.declared.tally.Count.{Count}
 use Rattle.bo_shares.specs.Counts.{IsMore}
 use Rattle.bo_shares.specs.Shift.{come_of, gone_of}
 use Rattle.bo_shares.proofs.Values.{none_more}
 
-module _ (lists : Lists) (at : ℕ) (quotas : List Quota) (counts : List Count) where
+module _ (lists : Lists) (at : ℕ) (quotas : List Quota) (counts : List (Count Usage)) where
   pub unsold : (change : Change) → ((row : Voucher) → change ≡ PutVoucher row → ⊥) → ((row : CartPos) → change ≡ PutCart row → ⊥) → ((row : Order) → change ≡ PutOrder row → ⊥) → ((row : OrderPos) → change ≡ PutPosition row → ⊥) → ((row : Waiting) → change ≡ PutWaiting row → ⊥) → ((id : ℕ) → change ≡ DropVoucher id → ⊥) → ((id : ℕ) → change ≡ DropCart id → ⊥) → ((id : ℕ) → change ≡ DropWaiting id → ⊥) → IsMore (come_of lists at change) (gone_of lists at change) quotas counts counts
   unsold (PutItem row) a b c d e f g h = none_more quotas counts
   unsold (PutVariation row) a b c d e f g h = none_more quotas counts

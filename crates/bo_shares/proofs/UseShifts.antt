@@ -1,23 +1,31 @@
--- What a change shifts of the uses of vouchers.
+-- The uses of a voucher after one change.
 use mathlib.Core.Bool.{beq}
-use Rattle.std.proofs.Common.{◌≡◌, ℕ, ◌≤◌, length, not, Bool, true, false, ◌&&◌, eqb, List, [], ◌∷◌, Option, None, Some, refl, ap, count_by, arith}
-use Rattle.std.proofs.lemmas.List.Sums.{sum_by-cons}
-use Rattle.std.specs.Prelude.{if◌then◌else◌}
+use Rattle.std.proofs.Common.{◌≡◌, ℕ, ◌+◌, Bool, true, false, ◌&&◌, Option, None, Some, refl, sym, ap, ◌∙◌, arith}
+use Rattle.std.specs.Prelude.{if◌then◌else◌, not}
 use Rattle.bo_sorted.specs.Tables.{sum_at, AreInOrder}
 use Rattle.bo_sorted.proofs.Edits.{sum_by-with_row, sum_by-without_row}
 use Rattle.bo_lists.specs.declared.rows.CartPos.{CartPos}
 use Rattle.bo_lists.specs.declared.rows.Order.{Order}
 use Rattle.bo_lists.specs.declared.rows.OrderPos.{OrderPos}
-use Rattle.bo_lists.specs.declared.changes.Change.TheVariants.{PutCart, PutOrder, PutPosition, DropCart}
+use Rattle.bo_lists.specs.declared.rows.Status.{Status}
+use Rattle.bo_lists.specs.declared.rows.Status.TheVariants.{Pending, Paid, Expired, Cancelled}
+use Rattle.bo_lists.specs.declared.changes.Change.{Change}
+use Rattle.bo_lists.specs.declared.changes.Change.TheVariants.{PutItem, PutVariation, PutQuota, PutVoucher, PutCart, PutOrder, PutPosition, PutWaiting, DropVoucher, DropCart, DropWaiting, PutCheckinList, PutCheckin}
 use Rattle.bo_lists.specs.Change.{after_change}
+use Rattle.bo_lists.specs.Kept.{IsKept}
 use Rattle.bo_lists.specs.Lists.{Lists, cart_at, order_at, position_at}
-use Rattle.bo_lists.specs.Conditions.{is_in_force, is_live_cart, names, holds}
+use Rattle.bo_lists.specs.Conditions.{is_paid, is_pending, is_in_force, is_live_cart, names, holds}
 use Rattle.bo_lists.specs.Usage.{redeemed, stands_as, uses}
+use Rattle.bo_lists.specs.Headroom.{held}
 use Rattle.bo_lists.proofs.Time.{one}
-use Rattle.bo_usage.specs.OfOrder.{count_ordered, if_stands}
+use Rattle.bo_overlay.specs.Logs.{IsSale}
+use Rattle.bo_usage.specs.OfOrder.{count_ordered}
 use Rattle.bo_usage.specs.Shares.{held_name, used_name}
 use Rattle.bo_usage.proofs.Redeemed.{named, redeemed_order, redeemed_position}
-use Rattle.bo_shares.specs.Uses.{one_use, IsShift}
+use Rattle.bo_tally.specs.Amounts.{plus_uses}
+use Rattle.bo_tally.proofs.AmountLemmas.{same_uses}
+use Rattle.bo_shares.specs.Shift.{keeps_status}
+use Rattle.bo_shares.specs.Uses.{uses_of, one_use, use_come, use_gone}
 
 held_is : (at v : ℕ) (cart : Option CartPos) → sum_at (λ c. if holds at v c then 1 else 0) cart ≡ one_use v (held_name at cart)
 held_is at v None = refl
@@ -36,59 +44,74 @@ used_is v lists p = by_force (names v p.voucher) (stands_as is_in_force (order_a
     by_force false true is = rw is refl
     by_force false false is = refl
 
--- a test of two truth values
+-- an order that is in force as the one before it turns no uses
+turned : (r r' n : ℕ) (old new : Bool) → r' + (if old then n else 0) ≡ r + (if new then n else 0) → r' + (if old && not new then n else 0) ≡ r + (if new && not old then n else 0)
+turned r r' n true true e = omega (arith, e)
+turned r r' n true false e = omega (arith, e)
+turned r r' n false true e = omega (arith, e)
+turned r r' n false false e = omega (arith, e)
+
+-- with each change that can come the uses of each voucher are what they were, with those that come and without those that go
+pub use_step : (lists : Lists) (at limit : ℕ) → IsKept limit lists → (change : Change) → IsSale change lists → (v : ℕ) → plus_uses (uses_of at (after_change change lists) v) (use_gone lists at change v) ≡ plus_uses (uses_of at lists v) (use_come lists at change v)
+use_step lists at limit kept (PutItem row) sale v = refl
+use_step lists at limit kept (PutVariation row) sale v = refl
+use_step lists at limit kept (PutQuota row) sale v = refl
+use_step lists at limit kept (PutVoucher row) sale v = refl
+use_step lists at limit kept (DropVoucher id) sale v = refl
+use_step lists at limit kept (PutCart row) sale v =
+    same_uses (plus_uses (uses_of at (after_change (PutCart row) lists) v) (use_gone lists at (PutCart row) v)) (plus_uses (uses_of at lists v) (use_come lists at (PutCart row) v)) refl
+    (omega (arith, sum_by-with_row (λ r. r.id) (λ c. if holds at v c then 1 else 0) 0 row lists.carts kept.carts.in_order, held_is at v (cart_at row.id lists), held_is at v (Some row)))
+use_step lists at limit kept (DropCart id) sale v =
+    same_uses (plus_uses (uses_of at (after_change (DropCart id) lists) v) (use_gone lists at (DropCart id) v)) (plus_uses (uses_of at lists v) (use_come lists at (DropCart id) v)) refl
+    (omega (arith, sum_by-without_row (λ r. r.id) (λ c. if holds at v c then 1 else 0) 0 id lists.carts kept.carts.in_order, held_is at v (cart_at id lists)))
+use_step lists at limit kept (PutOrder row) sale v =
+    same_uses (plus_uses (uses_of at (after_change (PutOrder row) lists) v) (use_gone lists at (PutOrder row) v)) (plus_uses (uses_of at lists v) (use_come lists at (PutOrder row) v))
+    (turned (redeemed v lists) (redeemed v (after_change (PutOrder row) lists)) (count_ordered row.id (named v) lists) (stands_as is_in_force (order_at row.id lists)) (is_in_force row.status) (redeemed_order v row lists)) refl
+use_step lists at limit kept (PutPosition row) sale v =
+    same_uses (plus_uses (uses_of at (after_change (PutPosition row) lists) v) (use_gone lists at (PutPosition row) v)) (plus_uses (uses_of at lists v) (use_come lists at (PutPosition row) v))
+    (omega (arith, redeemed_position v row lists kept.positions.in_order sale, used_is v lists row)) refl
+use_step lists at limit kept (PutWaiting row) sale v = refl
+use_step lists at limit kept (DropWaiting id) sale v = refl
+use_step lists at limit kept (PutCheckinList row) sale v = refl
+use_step lists at limit kept (PutCheckin row) sale v = refl
+
+-- an order that counts the same is in force as it was
+pub force_kept : (row : Order) (old : Option Order) → keeps_status row old ≡ true → is_in_force row.status ≡ stands_as is_in_force old
+force_kept row None e = absurd (cc e)
+force_kept row (Some old) e = by_status row.status old.status e
+  where
+    by_status : (a b : Status) → (beq (is_paid a) (is_paid b) && beq (is_pending a) (is_pending b)) ≡ true → is_in_force a ≡ is_in_force b
+    by_status Pending Pending e = refl
+    by_status Pending Paid e = refl
+    by_status Pending Expired e = absurd (cc e)
+    by_status Pending Cancelled e = absurd (cc e)
+    by_status Paid Pending e = refl
+    by_status Paid Paid e = refl
+    by_status Paid Expired e = absurd (cc e)
+    by_status Paid Cancelled e = absurd (cc e)
+    by_status Expired Pending e = absurd (cc e)
+    by_status Expired Paid e = absurd (cc e)
+    by_status Expired Expired e = refl
+    by_status Expired Cancelled e = refl
+    by_status Cancelled Pending e = absurd (cc e)
+    by_status Cancelled Paid e = absurd (cc e)
+    by_status Cancelled Expired e = refl
+    by_status Cancelled Cancelled e = refl
+
+-- so one that is in force otherwise counts otherwise
+pub force_turns : (row : Order) (old : Option Order) → beq (is_in_force row.status) (stands_as is_in_force old) ≡ false → keeps_status row old ≡ false
+force_turns row old turns = by_test (keeps_status row old) refl
+  where
+    by_test : (b : Bool) → keeps_status row old ≡ b → b ≡ false
+    by_test true is = absurd (cc (sym (ap (beq (is_in_force row.status)) (sym (force_kept row old is)) ∙ same (is_in_force row.status)) ∙ turns))
+      where
+        same : (b : Bool) → beq b b ≡ true
+        same true = refl
+        same false = refl
+    by_test false is = refl
+
 pub equal : (a b : Bool) → beq a b ≡ true → a ≡ b
 equal true true h = refl
 equal true false h = absurd (cc h)
 equal false true h = absurd (cc h)
 equal false false h = refl
-
-pub unequal : (a b : Bool) → beq a b ≡ false → a ≡ not b
-unequal true true h = absurd (cc h)
-unequal true false h = refl
-unequal false true h = refl
-unequal false false h = absurd (cc h)
-
-pub all_pass : {T : Type 0} (rows : List T) → count_by (λ r. true) rows ≡ length rows
-all_pass [] = refl
-all_pass (r ∷ rs) = omega (arith, all_pass rs, sum_by-cons (λ s. 1) r rs)
-
-module _ (at : ℕ) (lists : Lists) where
-  pub shift_put_cart : (row : CartPos) → AreInOrder (λ r. r.id) lists.carts → IsShift at (PutCart row) lists (record { come = held_name at (Some row); gone = held_name at (cart_at row.id lists) })
-  shift_put_cart row order v = omega (arith, sum_by-with_row (λ r. r.id) (λ c. if holds at v c then 1 else 0) 0 row lists.carts order, held_is at v (cart_at row.id lists), held_is at v (Some row))
-
-  pub shift_drop_cart : (id : ℕ) → AreInOrder (λ r. r.id) lists.carts → IsShift at (DropCart id) lists (record { come = None; gone = held_name at (cart_at id lists) })
-  shift_drop_cart id order v = omega (arith, sum_by-without_row (λ r. r.id) (λ c. if holds at v c then 1 else 0) 0 id lists.carts order, held_is at v (cart_at id lists))
-
-  pub shift_put_position : (row : OrderPos) → AreInOrder (λ r. r.id) lists.positions → position_at row.id lists ≡ None → IsShift at (PutPosition row) lists (record { come = used_name lists (Some row); gone = None })
-  shift_put_position row order new v = omega (arith, redeemed_position v row lists order new, used_is v lists row)
-
-  pub shift_put_order : (row : Order) → ((v : ℕ) → redeemed v (after_change (PutOrder row) lists) ≡ redeemed v lists) → IsShift at (PutOrder row) lists (record { come = None; gone = None })
-  shift_put_order row same v = omega (arith, same v)
-
-module _ (lists : Lists) where
-  -- an order that is in force as before turns no uses
-  pub same_force : (row : Order) → is_in_force row.status ≡ stands_as is_in_force (order_at row.id lists) → (v : ℕ) → redeemed v (after_change (PutOrder row) lists) ≡ redeemed v lists
-  same_force row is v =
-      let n = count_ordered row.id (named v) lists in
-      let same : if_stands is_in_force (Some row) n ≡ if_stands is_in_force (order_at row.id lists) n = ap (λ (b : Bool). if b then n else 0) is in
-      omega (arith, redeemed_order v row lists, same)
-
-  -- nor does one without positions
-  pub no_positions : (row : Order) → count_ordered row.id (λ p. true) lists ≡ 0 → (v : ℕ) → redeemed v (after_change (PutOrder row) lists) ≡ redeemed v lists
-  no_positions row none v =
-      let few : count_ordered row.id (named v) lists ≤ count_ordered row.id (λ p. true) lists = fewer lists.positions in
-      omega (arith, redeemed_order v row lists, by_force (stands_as is_in_force (order_at row.id lists)) few, by_force (is_in_force row.status) few)
-    where
-      fewer : (ps : List OrderPos) → count_by (λ p. eqb row.id p.order && named v p) ps ≤ count_by (λ p. eqb row.id p.order && true) ps
-      fewer [] = omega arith
-      fewer (p ∷ ps) = omega (arith, fewer ps, less (eqb row.id p.order) (named v p), sum_by-cons (λ q. one (eqb row.id q.order && named v q)) p ps, sum_by-cons (λ q. one (eqb row.id q.order && true)) p ps)
-        where
-          less : (a b : Bool) → one (a && b) ≤ one (a && true)
-          less true true = omega arith
-          less true false = omega arith
-          less false b = omega arith
-
-      by_force : (b : Bool) → count_ordered row.id (named v) lists ≤ count_ordered row.id (λ p. true) lists → (if b then count_ordered row.id (named v) lists else 0) ≡ 0
-      by_force true few = omega (arith, few, none)
-      by_force false few = refl

@@ -1,6 +1,6 @@
--- What a change of one row does to all that is used of a quota.
+-- What a change of one row brings to each of a quota's counts, and what it takes.
 use mathlib.Core.Bool.{beq}
-use Rattle.std.specs.Prelude.{◌≡◌, ℕ, ◌-◌, Bool, false, ◌&&◌, not, List, Option, Some, None, if◌then◌else◌}
+use Rattle.std.specs.Prelude.{◌≡◌, ℕ, ◌-◌, Bool, true, false, ◌&&◌, not, List, Option, Some, None, if◌then◌else◌}
 use Rattle.bo_sorted.specs.Tables.{sum_at}
 use Rattle.bo_catalogue.specs.declared.rows.Quota.{Quota}
 use Rattle.bo_catalogue.specs.declared.rows.Product.{Product}
@@ -8,14 +8,16 @@ use Rattle.bo_catalogue.specs.Member.{is_in}
 use Rattle.bo_lists.specs.declared.rows.Voucher.{Voucher}
 use Rattle.bo_lists.specs.declared.rows.Order.{Order}
 use Rattle.bo_lists.specs.declared.rows.OrderPos.{OrderPos}
+use Rattle.bo_lists.specs.declared.rows.Usage.{Usage}
 use Rattle.bo_lists.specs.declared.changes.Change.{Change}
 use Rattle.bo_lists.specs.declared.changes.Change.TheVariants.{PutVoucher, PutCart, PutOrder, PutPosition, PutWaiting, DropVoucher, DropCart, DropWaiting}
-use Rattle.bo_lists.specs.Conditions.{is_in_force}
+use Rattle.bo_lists.specs.Conditions.{is_paid, is_pending, is_in_force}
 use Rattle.bo_lists.specs.Lists.{Lists, voucher_at, cart_at, order_at, waiting_at}
-use Rattle.bo_lists.specs.Usage.{redeemed, stands_as, position_counts, blocks_if, is_covered_by}
+use Rattle.bo_lists.specs.Usage.{redeemed, stands_as, blocks_if, is_covered_by}
 use Rattle.bo_lists.specs.Headroom.{held_in}
 use Rattle.bo_overlay.specs.declared.purchases.Purchase.{Purchase}
-use Rattle.bo_usage.specs.OfOrder.{count_ordered}
+use Rattle.bo_tally.specs.Amounts.{nothing}
+use Rattle.bo_usage.specs.OfOrder.{count_ordered, if_stands}
 use Rattle.bo_usage.specs.Shares.{cart_share, waiting_share}
 use Rattle.bo_overlay.specs.Purchases.{ArePurchasesOf}
 
@@ -39,62 +41,74 @@ ordered_covered lists at quota id = count_ordered id (λ p. is_covered_by lists 
 abbrev pub left_of : ℕ → Option Voucher → ℕ
 left_of redeemed voucher = sum_at (λ v. v.max_usages - redeemed) voucher
 
--- what comes with a voucher where another one goes: what it has left, where it blocks places, or else the live cart positions
--- that the other one covered
-abbrev pub turned_by : Bool → Bool → ℕ → ℕ → ℕ
-turned_by here other left held = if here then left else (if other then held else 0)
+-- so many places, of which cart positions take each or for which entries wait
+abbrev pub placed : Bool → ℕ → Usage
+placed waits count = if waits then record nothing { waiting = count } else record nothing { carts = count }
 
--- what comes to a quota with a voucher of this id, where another one or none goes
-abbrev pub turned_voucher : Lists → ℕ → Quota → ℕ → Option Voucher → Option Voucher → ℕ
-turned_voucher lists at quota id voucher other = turned_by (blocks_if at quota voucher) (blocks_if at quota other) (left_of (redeemed id lists) voucher) (held_in at quota id lists)
+-- what a voucher has left, where it blocks places; and the live cart positions that the other one covered, and it doesn't
+abbrev pub voucher_counts : Bool → Bool → ℕ → ℕ → Usage
+voucher_counts blocks other left held = record nothing { blocked = if blocks then left else 0; carts = if other && not blocks then held else 0 }
 
--- what comes with an order that comes into force, or with one that ends
-abbrev pub turned_order : Bool → ℕ → ℕ → ℕ
-turned_order comes here covered = if comes then here else covered
+-- what counts with a voucher of this id, where another one or none goes
+abbrev pub voucher_side : Lists → ℕ → Quota → ℕ → Option Voucher → Option Voucher → Usage
+voucher_side lists at quota id voucher other = voucher_counts (blocks_if at quota voucher) (blocks_if at quota other) (left_of (redeemed id lists) voucher) (held_in at quota id lists)
 
--- what comes with an order in the place of its id: its positions, or, where it ends, the places that their vouchers block again
-abbrev pub order_come : Lists → ℕ → Order → Quota → ℕ
-order_come lists at row quota =
-    if beq (is_in_force row.status) (stands_as is_in_force (order_at row.id lists)) then 0
-    else turned_order (is_in_force row.status) (ordered_in lists quota row.id) (ordered_covered lists at quota row.id)
+-- so many places of an order, by its status; and those that vouchers block again, where the other one was in force and it isn't
+abbrev pub order_counts : Option Order → Option Order → ℕ → ℕ → Usage
+order_counts order other here covered = record nothing {
+  paid = if_stands is_paid order here;
+  pending = if_stands is_pending order here;
+  blocked = if stands_as is_in_force other && not (stands_as is_in_force order) then covered else 0;
+}
 
--- what goes
-abbrev pub order_gone : Lists → ℕ → Order → Quota → ℕ
-order_gone lists at row quota =
-    if beq (is_in_force row.status) (stands_as is_in_force (order_at row.id lists)) then 0
-    else turned_order (is_in_force row.status) (ordered_covered lists at quota row.id) (ordered_in lists quota row.id)
+-- what counts with an order of this id, where another one or none goes
+abbrev pub order_side : Lists → ℕ → Quota → ℕ → Option Order → Option Order → Usage
+order_side lists at quota id order other = order_counts order other (ordered_in lists quota id) (ordered_covered lists at quota id)
 
--- the purchases are those of the order that a change brings into force or ends
+-- an order stands there that counts the same: paid as this one, and pending as this one
+abbrev pub keeps_status : Order → Option Order → Bool
+keeps_status row None = false
+keeps_status row (Some old) = beq (is_paid row.status) (is_paid old.status) && beq (is_pending row.status) (is_pending old.status)
+
+-- what comes or goes with an order, unless it counts the same
+abbrev pub unless_kept : Bool → Usage → Usage
+unless_kept keeps usage = if keeps then nothing else usage
+
+-- the purchases are those of the order that a change puts so that it counts otherwise
 abbrev pub AreTurned : Change → Lists → List Purchase → Type 0
-AreTurned (PutOrder row) lists purchases = beq (is_in_force row.status) (stands_as is_in_force (order_at row.id lists)) ≡ false → ArePurchasesOf row.id lists purchases
+AreTurned (PutOrder row) lists purchases = keeps_status row (order_at row.id lists) ≡ false → ArePurchasesOf row.id lists purchases
 AreTurned _ lists purchases = Unit {0}
 
--- a new order position takes a place, where its order is in force
-abbrev pub sale_come : Lists → OrderPos → Quota → ℕ
-sale_come lists row quota = once (position_counts is_in_force lists quota row)
+-- a place that is sold counts once, as paid or as pending
+abbrev pub sold_as : Bool → Bool → Bool → Usage
+sold_as paid pending here = record nothing { paid = once (paid && here); pending = once (pending && here) }
 
--- and gives one back that its voucher blocked
-abbrev pub sale_gone : Lists → ℕ → OrderPos → Quota → ℕ
-sale_gone lists at row quota = once (stands_as is_in_force (order_at row.order lists) && is_covered_by lists at quota row.voucher)
+-- a new order position counts by the status of its order
+abbrev pub sale_come : Lists → OrderPos → Quota → Usage
+sale_come lists row quota = sold_as (stands_as is_paid (order_at row.order lists)) (stands_as is_pending (order_at row.order lists)) (is_in quota row.product)
+
+-- and takes a place that its voucher blocked, where its order is in force
+abbrev pub sale_gone : Lists → ℕ → OrderPos → Quota → Usage
+sale_gone lists at row quota = record nothing { blocked = once (stands_as is_in_force (order_at row.order lists) && is_covered_by lists at quota row.voucher) }
 
 -- what comes to a quota with a change
-abbrev pub come_of : Lists → ℕ → Change → Quota → ℕ
-come_of lists at (PutVoucher row) quota = turned_voucher lists at quota row.id (Some row) (voucher_at row.id lists)
-come_of lists at (DropVoucher id) quota = turned_voucher lists at quota id None (voucher_at id lists)
-come_of lists at (PutCart row) quota = cart_share lists at quota (Some row)
-come_of lists at (PutOrder row) quota = order_come lists at row quota
+abbrev pub come_of : Lists → ℕ → Change → Quota → Usage
+come_of lists at (PutVoucher row) quota = voucher_side lists at quota row.id (Some row) (voucher_at row.id lists)
+come_of lists at (DropVoucher id) quota = voucher_side lists at quota id None (voucher_at id lists)
+come_of lists at (PutCart row) quota = placed false (cart_share lists at quota (Some row))
+come_of lists at (PutOrder row) quota = unless_kept (keeps_status row (order_at row.id lists)) (order_side lists at quota row.id (Some row) (order_at row.id lists))
 come_of lists at (PutPosition row) quota = sale_come lists row quota
-come_of lists at (PutWaiting row) quota = waiting_share quota (Some row)
-come_of lists at _ quota = 0
+come_of lists at (PutWaiting row) quota = placed true (waiting_share quota (Some row))
+come_of lists at _ quota = nothing
 
 -- what goes
-abbrev pub gone_of : Lists → ℕ → Change → Quota → ℕ
-gone_of lists at (PutVoucher row) quota = turned_voucher lists at quota row.id (voucher_at row.id lists) (Some row)
-gone_of lists at (DropVoucher id) quota = turned_voucher lists at quota id (voucher_at id lists) None
-gone_of lists at (PutCart row) quota = cart_share lists at quota (cart_at row.id lists)
-gone_of lists at (DropCart id) quota = cart_share lists at quota (cart_at id lists)
-gone_of lists at (PutOrder row) quota = order_gone lists at row quota
+abbrev pub gone_of : Lists → ℕ → Change → Quota → Usage
+gone_of lists at (PutVoucher row) quota = voucher_side lists at quota row.id (voucher_at row.id lists) (Some row)
+gone_of lists at (DropVoucher id) quota = voucher_side lists at quota id (voucher_at id lists) None
+gone_of lists at (PutCart row) quota = placed false (cart_share lists at quota (cart_at row.id lists))
+gone_of lists at (DropCart id) quota = placed false (cart_share lists at quota (cart_at id lists))
+gone_of lists at (PutOrder row) quota = unless_kept (keeps_status row (order_at row.id lists)) (order_side lists at quota row.id (order_at row.id lists) (Some row))
 gone_of lists at (PutPosition row) quota = sale_gone lists at row quota
-gone_of lists at (PutWaiting row) quota = waiting_share quota (waiting_at row.id lists)
-gone_of lists at (DropWaiting id) quota = waiting_share quota (waiting_at id lists)
-gone_of lists at _ quota = 0
+gone_of lists at (PutWaiting row) quota = placed true (waiting_share quota (waiting_at row.id lists))
+gone_of lists at (DropWaiting id) quota = placed true (waiting_share quota (waiting_at id lists))
+gone_of lists at _ quota = nothing

@@ -1,21 +1,22 @@
--- What is counted beside a log, now and before each of its changes.
-use Rattle.std.specs.Prelude.{◌≡◌, ℕ, true, false, List, [], ◌∷◌, ◌++◌, length, take, slice_index_or}
+-- What is counted beside a log, now and before each of its changes; going back to one of them; one change more.
+use Rattle.std.specs.Prelude.{◌≡◌, ℕ, List, [], ◌∷◌, ◌++◌, length, take, slice_index_or}
 use Rattle.bo_catalogue.specs.declared.rows.Quota.{Quota}
 use Rattle.bo_lists.specs.declared.changes.Change.{Change}
+use Rattle.bo_lists.specs.declared.rows.Usage.{Usage}
 use Rattle.bo_lists.specs.Lists.{Lists}
 use Rattle.bo_lists.specs.Change.{after_change}
 use Rattle.bo_shares.specs.declared.tallies.Reach.{Reach}
 use Rattle.bo_shares.specs.declared.tallies.Standing.{Standing}
-use Rattle.bo_shares.specs.Counts.{IsMore}
+use Rattle.bo_shares.specs.Counts.{IsMore, AreMoreUses}
 use Rattle.bo_shares.specs.Shift.{come_of, gone_of}
-use Rattle.bo_shares.specs.Uses.{AreKept, TurnsUses}
+use Rattle.bo_shares.specs.Uses.{use_come, use_gone}
+use Rattle.bo_tally.specs.declared.amount.Uses.{Uses}
 use Rattle.bo_tally.specs.declared.tally.Count.{Count}
-use Rattle.bo_tally.specs.Counts.{GoesOn}
 
 -- the counts by quota, the uses of vouchers, what stands now, and how far both reached before each of the changes
 pub record Tallied : Type 0 where
-  pub counts : List Count
-  pub uses : List Count
+  pub counts : List (Count Usage)
+  pub uses : List (Count Uses)
   pub here : Standing
   pub reached : List Reach
 
@@ -39,9 +40,7 @@ tallied_at count tallied = record {
 -- one more change is counted
 pub record IsNext (at : ℕ) (change : Change) (lists : Lists) (quotas : List Quota) (old new : Tallied) : Type 0 where
   pub counts : IsMore (come_of lists at change) (gone_of lists at change) quotas old.counts new.counts
-  pub uses : GoesOn old.uses new.uses
-  pub kept : (base : Lists) → AreKept at base lists old.uses old.here.known → AreKept at base (after_change change lists) new.uses new.here.known
-  pub forgets : new.here.known ≡ false → old.here.known ≡ true → TurnsUses change lists
+  pub uses : AreMoreUses (use_come lists at change) (use_gone lists at change) old.uses new.uses
   pub carts : new.here.carts ≡ length (after_change change lists).carts
   pub vouchers : new.here.vouchers ≡ length (after_change change lists).vouchers
   pub reached : new.reached ≡ old.reached ++ reach_now old ∷ []

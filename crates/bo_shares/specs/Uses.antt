@@ -1,45 +1,51 @@
--- The uses of vouchers, and how many of them came and went with changes.
-use Rattle.std.specs.Prelude.{◌≡◌, ℕ, ◌+◌, ◌<◌, Bool, true, not, List, Option, if◌then◌else◌}
+-- The uses of vouchers, and how many of them come and go with a change.
+use Rattle.std.specs.Prelude.{ℕ, Bool, ◌&&◌, not, Option, Some, None, if◌then◌else◌}
 use Rattle.bo_lists.specs.declared.changes.Change.{Change}
-use Rattle.bo_lists.specs.declared.changes.Change.TheVariants.{PutOrder}
+use Rattle.bo_lists.specs.declared.changes.Change.TheVariants.{PutCart, PutOrder, PutPosition, DropCart}
 use Rattle.bo_lists.specs.declared.rows.Order.{Order}
-use Rattle.bo_lists.specs.Change.{after_change}
 use Rattle.bo_lists.specs.Headroom.{held}
-use Rattle.bo_lists.specs.Lists.{Lists, order_at}
+use Rattle.bo_lists.specs.Lists.{Lists, cart_at, order_at}
 use Rattle.bo_lists.specs.Conditions.{is_in_force, names}
 use Rattle.bo_lists.specs.Usage.{redeemed, stands_as}
+use Rattle.bo_tally.specs.Amounts.{no_uses}
+use Rattle.bo_tally.specs.declared.amount.Uses.{Uses}
 use Rattle.bo_usage.specs.OfOrder.{count_ordered}
-use Rattle.bo_shares.specs.declared.use_shift.UseShift.{UseShift}
-use Rattle.bo_tally.specs.declared.tally.Count.{Count}
-use Rattle.bo_tally.specs.Counts.{came, went}
+use Rattle.bo_usage.specs.Shares.{held_name, used_name}
 
 -- the uses of a voucher: by the positions of orders in force, and by live cart positions
-abbrev pub uses_of : ℕ → Lists → ℕ → ℕ
-uses_of at lists voucher = redeemed voucher lists + held at voucher lists
+abbrev pub uses_of : ℕ → Lists → ℕ → Uses
+uses_of at lists voucher = record { used = redeemed voucher lists; held = held at voucher lists }
 
 -- one use, where the name is the voucher's
 abbrev pub one_use : ℕ → Option ℕ → ℕ
 one_use voucher name = if names voucher name then 1 else 0
 
--- with the change the uses of each voucher are more by one where a use comes, and less by one where one goes
-abbrev pub IsShift : ℕ → Change → Lists → UseShift → Type 0
-IsShift at change lists shift = (voucher : ℕ) → uses_of at (after_change change lists) voucher + one_use voucher shift.gone ≡ uses_of at lists voucher + one_use voucher shift.come
+-- a use in carts of the voucher of a name
+abbrev pub held_by : ℕ → Option ℕ → Uses
+held_by voucher name = record no_uses { held = one_use voucher name }
 
--- an order with positions comes into force, or is in force no more
-pub record Turns (row : Order) (lists : Lists) : Type 0 where
-  pub turns : is_in_force row.status ≡ not (stands_as is_in_force (order_at row.id lists))
-  pub some : 0 < count_ordered row.id (λ p. true) lists
+-- a use in orders
+abbrev pub used_by : ℕ → Option ℕ → Uses
+used_by voucher name = record no_uses { used = one_use voucher name }
 
--- a change that turns the uses of a whole order; no other one does
-abbrev pub TurnsUses : Change → Lists → Type 0
-TurnsUses (PutOrder row) lists = Turns row lists
-TurnsUses _ lists = ⊥
+-- as many uses in orders, where an order is in force, and wasn't before
+abbrev pub used_since : Bool → Bool → ℕ → Uses
+used_since force stood count = record no_uses { used = if force && not stood then count else 0 }
 
--- where they are known, the uses of each voucher are those of the book with what came and without what went
-abbrev pub AreKept : ℕ → Lists → Lists → List Count → Bool → Type 0
-AreKept at base lists uses known = known ≡ true → (voucher : ℕ) → uses_of at lists voucher + went voucher uses ≡ uses_of at base voucher + came voucher uses
+-- the positions of an order that use the voucher, where it is in force and the other one isn't
+abbrev pub order_uses : Lists → ℕ → Option Order → Option Order → ℕ → Uses
+order_uses lists id order other voucher = used_since (stands_as is_in_force order) (stands_as is_in_force other) (count_ordered id (λ p. names voucher p.voucher) lists)
 
--- the new counts have one use more of each name
-pub record CountsMore (come gone : Option ℕ) (old new : List Count) : Type 0 where
-  pub comes : (voucher : ℕ) → came voucher new ≡ came voucher old + one_use voucher come
-  pub goes : (voucher : ℕ) → went voucher new ≡ went voucher old + one_use voucher gone
+-- the uses of a voucher that come with a change
+abbrev pub use_come : Lists → ℕ → Change → ℕ → Uses
+use_come lists at (PutCart row) voucher = held_by voucher (held_name at (Some row))
+use_come lists at (PutOrder row) voucher = order_uses lists row.id (Some row) (order_at row.id lists) voucher
+use_come lists at (PutPosition row) voucher = used_by voucher (used_name lists (Some row))
+use_come lists at _ voucher = no_uses
+
+-- and those that go
+abbrev pub use_gone : Lists → ℕ → Change → ℕ → Uses
+use_gone lists at (PutCart row) voucher = held_by voucher (held_name at (cart_at row.id lists))
+use_gone lists at (DropCart id) voucher = held_by voucher (held_name at (cart_at id lists))
+use_gone lists at (PutOrder row) voucher = order_uses lists row.id (order_at row.id lists) (Some row) voucher
+use_gone lists at _ voucher = no_uses

@@ -1,11 +1,12 @@
-//! What one change brings to each quota and takes from it, and which vouchers' uses it turns, counted in journals.
+//! What does a change bring to each count of a quota and to a voucher's uses, and what does it take?
 #![tactic(auto)]
 
+mod numbers;
+mod orders;
 mod share;
 mod shift;
 mod tallies;
 mod touched;
-mod use_shift;
 mod uses;
 
 pub use bo_overlay::Overlay;

@@ -1,32 +1,35 @@
 //! What a change brings to each quota and takes from it, counted by the quota's place.
 
-ghost use Rattle.std.specs.Prelude.{◌≡◌, ℕ, ◌+◌, ◌==◌, OnOk, OnErr, if◌then◌else◌};
+ghost use Rattle.std.specs.Prelude.{◌≡◌, ℕ, ◌==◌, true, OnOk, OnErr, if◌then◌else◌};
 ghost use Rattle.bo_sorted.specs.Tables.{AreInOrder};
 ghost use Rattle.bo_catalogue.specs.declared.rows.Quota.{Quota};
+ghost use Rattle.bo_lists.specs.declared.rows.Usage.{Usage};
 ghost use Rattle.bo_shares.specs.Counts.{IsMore};
+ghost use Rattle.bo_tally.specs.Amounts.{nothing, plus};
 ghost use Rattle.bo_tally.specs.Counts.{came, went, GoesOn};
 ghost use Rattle.bo_shares.specs.Touched.{NoneElse, Keeps, among, at_id};
 
 use bo_catalogue::Quota;
+use bo_lists::Usage;
 use bo_sorted::{Ids, place_of};
 use bo_tally::Tally;
 use bo_usage::Catalogue;
 use std::alloc::{AllocError, Global};
 
-/// How much comes to a quota, and how much goes.
+/// How much comes to each count of a quota, and how much goes.
 #[derive(Clone, Copy)]
 pub struct Shares {
-    pub come: u64,
-    pub gone: u64,
+    pub come: Usage,
+    pub gone: Usage,
 }
 
 /// What a change brings to each quota and takes from it.
 pub trait Share {
     /// How much comes to a quota.
-    ghost come: { Self → Quota → ℕ };
+    ghost come: { Self → Quota → Usage };
 
     /// How much goes.
-    ghost gone: { Self → Quota → ℕ };
+    ghost gone: { Self → Quota → Usage };
 
     /// Both of them.
     fn shares(&self, quota: &Quota) -> Shares
@@ -40,14 +43,14 @@ pub trait Share {
         catalogue: &Catalogue,
         ids: &mut Vec<u64>,
     ) -> Result<(), AllocError>
-        ensures come { OnOk result (NoneElse ids.new.items catalogue.now.lists (come self.now)) }
-        ensures gone { OnOk result (NoneElse ids.new.items catalogue.now.lists (gone self.now)) };
+        ensures come { OnOk result (NoneElse nothing ids.new.items catalogue.now.lists (come self.now)) }
+        ensures gone { OnOk result (NoneElse nothing ids.new.items catalogue.now.lists (gone self.now)) };
 }
 
 /// Adds what a change brings to the quotas and takes from them to the counts by their places. Where there is no memory
 /// for it, they are as they were.
 pub fn count_each<S: Share>(
-    counts: &mut Tally,
+    counts: &mut Tally<Usage>,
     alloc: Global,
     catalogue: &Catalogue,
     share: &S,
@@ -64,7 +67,7 @@ pub fn count_each<S: Share>(
 
 // Adds what it brings to the quotas of these ids and takes from them.
 fn count_touched<S: Share>(
-    counts: &mut Tally,
+    counts: &mut Tally<Usage>,
     quotas: &[Quota],
     ids: &[u64],
     share: &S,
@@ -86,7 +89,7 @@ fn count_touched<S: Share>(
 
 // Adds what it brings to the quota of an id and takes from it, where it stands.
 fn count_id<S: Share>(
-    counts: &mut Tally,
+    counts: &mut Tally<Usage>,
     quotas: &[Quota],
     id: u64,
     share: &S,
@@ -102,14 +105,21 @@ fn count_id<S: Share>(
 }
 
 // Adds what comes and goes at one place, if it is anything.
-fn count_one(counts: &mut Tally, place: u64, shares: Shares) -> Result<(), AllocError>
-    ensures comes { OnOk result ((key : ℕ) → came key counts.new ≡ came key counts.old + (if place == key then shares.come else 0)) }
-    ensures goes { OnOk result ((key : ℕ) → went key counts.new ≡ went key counts.old + (if place == key then shares.gone else 0)) }
+fn count_one(counts: &mut Tally<Usage>, place: u64, shares: Shares) -> Result<(), AllocError>
+    ensures comes { OnOk result ((key : ℕ) → came nothing key counts.new ≡ plus (came nothing key counts.old) (if place == key then shares.come else nothing)) }
+    ensures goes { OnOk result ((key : ℕ) → went nothing key counts.new ≡ plus (went nothing key counts.old) (if place == key then shares.gone else nothing)) }
     ensures on { OnOk result (GoesOn counts.old counts.new) }
     ensures err { OnErr result (counts.new ≡ counts.old) }
 {
-    if shares.come == 0 && shares.gone == 0 {
+    if is_nothing(shares.come) && is_nothing(shares.gone) {
         return Ok(());
     }
     counts.add(place, shares.come, shares.gone)
+}
+
+// Whether it is no place at all.
+fn is_nothing(usage: Usage) -> bool
+    ensures { result ≡ true → usage ≡ nothing }
+{
+    usage.total() == 0
 }

@@ -1,31 +1,29 @@
 //! What is counted beside a log of changes: what came and went of each quota, the uses of vouchers, and the numbers of cart
 //! positions and of vouchers.
 
-ghost use Rattle.std.specs.Prelude.{◌≡◌, ◌&&◌, true, [], is_some, length, None, OnOk, OnErr};
-ghost use Rattle.std.specs.Option.{IfSome};
+ghost use Rattle.std.specs.Prelude.{◌≡◌, [], length, OnOk, OnErr};
 ghost use Rattle.bo_lists.specs.Change.{after_change};
 ghost use Rattle.bo_overlay.specs.Logs.{rows_of, IsSale};
-ghost use Rattle.bo_shares.specs.Counts.{IsMore};
+ghost use Rattle.bo_shares.specs.Counts.{IsMore, AreMoreUses};
 ghost use Rattle.bo_shares.specs.Shift.{come_of, gone_of, AreTurned};
 ghost use Rattle.bo_shares.specs.Tallied.{IsNext, reach_now, reach_at, tallied_at};
-ghost use Rattle.bo_shares.specs.Uses.{CountsMore};
-ghost use Rattle.bo_tally.specs.Counts.{came, went, GoesOn};
+ghost use Rattle.bo_shares.specs.Uses.{use_come, use_gone};
 
-use crate::shift::{carts_after, count_change, turned_purchases, vouchers_after};
-use crate::use_shift::{UseShift, use_shift};
+use crate::numbers::{carts_after, vouchers_after};
+use crate::orders::turned_purchases;
+use crate::shift::count_change;
 use crate::uses::count_uses;
 use bo_base::Moment;
-use bo_lists::Change;
+use bo_lists::{Change, Usage};
 use bo_overlay::{Overlay, Purchase};
-use bo_tally::{Count, Tally};
+use bo_tally::{Tally, Uses};
 use bo_usage::{Book, Catalogue};
 use std::alloc::{AllocError, Global};
 use std::marker::Model;
 
-/// Whether the uses of vouchers are known at one place of a log, and how many cart positions and vouchers there are.
+/// How many cart positions and vouchers there are at one place of a log.
 #[derive(Clone, Copy)]
 pub struct Standing {
-    pub known: bool,
     pub carts: usize,
     pub vouchers: usize,
 }
@@ -38,12 +36,11 @@ pub struct Reach {
     pub here: Standing,
 }
 
-/// The counts by quota and the uses of vouchers, now and before each change. Where a change turns the uses of a whole order,
-/// they aren't known any more.
+/// The counts by quota and the uses of vouchers, now and before each change.
 #[derive(Drop)]
 pub struct Tallies {
-    counts: Tally,
-    uses: Tally,
+    counts: Tally<Usage>,
+    uses: Tally<Uses>,
     here: Standing,
     reached: Vec<Reach>,
 }
@@ -59,22 +56,18 @@ impl Model for Tallies {
 impl Tallies {
     /// Nothing has changed, where so many cart positions and vouchers stand.
     pub fn new(alloc: Global, carts: usize, vouchers: usize) -> Self
-        ensures { result ≡ record { counts = []; uses = []; here = record { known = true; carts = carts; vouchers = vouchers }; reached = [] } }
+        ensures { result ≡ record { counts = []; uses = []; here = record { carts = carts; vouchers = vouchers }; reached = [] } }
     {
         Tallies {
             counts: Tally::new(alloc),
             uses: Tally::new(alloc),
-            here: Standing {
-                known: true,
-                carts,
-                vouchers,
-            },
+            here: Standing { carts, vouchers },
             reached: Vec::new(alloc),
         }
     }
 
     /// The counts by quota, each by its place among all quotas.
-    pub fn counts(&self) -> &Tally
+    pub fn counts(&self) -> &Tally<Usage>
         ensures { result.now ≡ self.now.counts }
     {
         &self.counts
@@ -87,12 +80,11 @@ impl Tallies {
         self.here
     }
 
-    /// The counts of a voucher's uses.
-    pub fn uses_of(&self, voucher: u64) -> Count
-        ensures come { result.come ≡ came voucher self.now.uses }
-        ensures gone { result.gone ≡ went voucher self.now.uses }
+    /// The counts of the uses of vouchers, by their ids.
+    pub fn uses(&self) -> &Tally<Uses>
+        ensures { result.now ≡ self.now.uses }
     {
-        self.uses.of(voucher)
+        &self.uses
     }
 
     // How far the counts reach now.
@@ -134,8 +126,6 @@ impl Tallies {
         let here = self.here;
         let reach = self.reach_now();
         let purchases = turned_purchases(overlay, alloc, change)?;
-        let shift = use_shift(overlay, at, change, &purchases);
-        let known = stay_known(here.known, &shift);
         let carts = carts_after(overlay, here.carts, change);
         let vouchers = vouchers_after(overlay, here.vouchers, change);
         self.reached.reserve(1)?;
@@ -148,14 +138,9 @@ impl Tallies {
             &mut self.uses,
             change,
             &purchases,
-            shift,
         )?;
         self.reached.push(reach)?;
-        self.here = Standing {
-            known,
-            carts,
-            vouchers,
-        };
+        self.here = Standing { carts, vouchers };
         Ok(())
     }
 
@@ -171,36 +156,26 @@ impl Tallies {
     }
 }
 
-// Whether the uses of vouchers are known after a change whose shift this is.
-fn stay_known(known: bool, shift: &Option<UseShift>) -> bool
-    ensures { result ≡ (known && is_some shift.now) }
-{
-    known && shift.is_some()
-}
-
-// Counts what a change brings to the quotas and takes from them, and what it shifts of the uses of vouchers.
+// Counts what a change brings to the quotas and takes from them, and the uses of vouchers that come and go with it.
 fn count_both<B: Book>(
     overlay: &Overlay<'_, B>,
     alloc: Global,
     at: Moment,
     catalogue: &Catalogue,
-    counts: &mut Tally,
-    uses: &mut Tally,
+    counts: &mut Tally<Usage>,
+    uses: &mut Tally<Uses>,
     change: &Change,
     purchases: &[Purchase],
-    shift: Option<UseShift>,
 ) -> Result<(), AllocError>
     requires turned { AreTurned change.now (rows_of overlay.now) purchases.now }
     ensures more { OnOk result (IsMore (come_of (rows_of overlay.now) at change.now) (gone_of (rows_of overlay.now) at change.now) catalogue.now.lists.quotas counts.old counts.new) }
-    ensures shifted { OnOk result (IfSome shift (λ s. CountsMore s.come s.gone uses.old uses.new)) }
-    ensures unknown { shift ≡ None → uses.new ≡ uses.old }
-    ensures on { OnOk result (GoesOn uses.old uses.new) }
+    ensures uses { OnOk result (AreMoreUses (use_come (rows_of overlay.now) at change.now) (use_gone (rows_of overlay.now) at change.now) uses.old uses.new) }
     ensures err { OnErr result (counts.new ≡ counts.old) }
     ensures err_uses { OnErr result (uses.new ≡ uses.old) }
 {
     let start = counts.len();
     count_change(overlay, alloc, at, catalogue, counts, change, purchases)?;
-    if count_uses(uses, shift).is_err() {
+    if count_uses(overlay, at, uses, change, purchases).is_err() {
         counts.truncate(start);
         return Err(AllocError);
     }

@@ -1,38 +1,123 @@
 //! The uses of vouchers that come and go with a change.
 
-ghost use Rattle.std.specs.Prelude.{◌≡◌, None, OnOk, OnErr};
-ghost use Rattle.std.specs.Option.{IfSome};
-ghost use Rattle.bo_shares.specs.Uses.{CountsMore};
-ghost use Rattle.bo_tally.specs.Counts.{GoesOn};
+ghost use Rattle.std.specs.Prelude.{◌≡◌, ℕ, count_by, OnOk, OnErr};
+ghost use Rattle.bo_lists.specs.Conditions.{names};
+ghost use Rattle.bo_lists.specs.declared.changes.Change.TheVariants.{PutOrder};
+ghost use Rattle.bo_overlay.specs.Logs.{rows_of};
+ghost use Rattle.bo_shares.specs.Counts.{AreMoreUses};
+ghost use Rattle.bo_shares.specs.Shift.{AreTurned};
+ghost use Rattle.bo_tally.specs.Amounts.{no_uses};
+ghost use Rattle.bo_shares.specs.Uses.{use_come, use_gone, held_by, used_by, used_since};
 
-use crate::use_shift::UseShift;
-use bo_tally::Tally;
+use bo_base::Moment;
+use bo_lists::{Change, Order};
+use bo_overlay::{Overlay, Purchase};
+use bo_tally::{Amount, Tally, Uses};
+use bo_usage::rules::{held_name, is_in_force, used_name};
+use bo_usage::{Book, LookUps};
 use std::alloc::AllocError;
 
-/// Counts what a change shifts, if it is known. Where there is no memory for it, the counts are as they were.
-pub fn count_uses(uses: &mut Tally, shift: Option<UseShift>) -> Result<(), AllocError>
-    ensures counts { OnOk result (IfSome shift (λ s. CountsMore s.come s.gone uses.old uses.new)) }
-    ensures unknown { shift ≡ None → uses.new ≡ uses.old }
-    ensures on { OnOk result (GoesOn uses.old uses.new) }
+/// Counts the uses that come and go with a change. Where there is no memory for it, the counts are as they were.
+pub fn count_uses<B: Book>(
+    overlay: &Overlay<'_, B>,
+    at: Moment,
+    uses: &mut Tally<Uses>,
+    change: &Change,
+    purchases: &[Purchase],
+) -> Result<(), AllocError>
+    requires turned { AreTurned change.now (rows_of overlay.now) purchases.now }
+    ensures more { OnOk result (AreMoreUses (use_come (rows_of overlay.now) at change.now) (use_gone (rows_of overlay.now) at change.now) uses.old uses.new) }
     ensures err { OnErr result (uses.new ≡ uses.old) }
 {
-    match shift {
-        None => Ok(()),
-        Some(shift) => count_shift(uses, shift.come, shift.gone),
+    match change {
+        Change::PutCart(row) => {
+            let gone = held_name(at, overlay.cart(row.id));
+            count_held(uses, held_name(at, Some(row)), gone)
+        }
+        Change::DropCart(id) => count_held(uses, None, held_name(at, overlay.cart(*id))),
+        Change::PutPosition(row) => count_used(uses, used_name(overlay, Some(row))),
+        Change::PutOrder(row) => count_turned(overlay, at, uses, row, purchases),
+        _ => Ok(()),
     }
 }
 
-// Counts the use that comes and the one that goes.
-fn count_shift(uses: &mut Tally, come: Option<u64>, gone: Option<u64>) -> Result<(), AllocError>
-    ensures counts { OnOk result (CountsMore come gone uses.old uses.new) }
-    ensures on { OnOk result (GoesOn uses.old uses.new) }
+// Counts the use in carts that comes, and the one that goes.
+fn count_held(
+    uses: &mut Tally<Uses>,
+    come: Option<u64>,
+    gone: Option<u64>,
+) -> Result<(), AllocError>
+    ensures more { OnOk result (AreMoreUses (λ v. held_by v come) (λ v. held_by v gone) uses.old uses.new) }
     ensures err { OnErr result (uses.new ≡ uses.old) }
 {
+    let one = Uses { used: 0, held: 1 };
     let start = uses.len();
-    uses.add_named(come, 1, 0)?;
-    if uses.add_named(gone, 0, 1).is_err() {
+    uses.add_named(come, one, Uses::none())?;
+    if uses.add_named(gone, Uses::none(), one).is_err() {
         uses.truncate(start);
         return Err(AllocError);
     }
     Ok(())
+}
+
+// Counts a use in orders that comes.
+fn count_used(uses: &mut Tally<Uses>, come: Option<u64>) -> Result<(), AllocError>
+    ensures more { OnOk result (AreMoreUses (λ v. used_by v come) (λ v. no_uses) uses.old uses.new) }
+    ensures err { OnErr result (uses.new ≡ uses.old) }
+{
+    uses.add_named(come, Uses { used: 1, held: 0 }, Uses::none())
+}
+
+// Counts the uses of an order's positions, where it comes into force or is so no more.
+fn count_turned<B: Book>(
+    overlay: &Overlay<'_, B>,
+    at: Moment,
+    uses: &mut Tally<Uses>,
+    row: &Order,
+    purchases: &[Purchase],
+) -> Result<(), AllocError>
+    requires turned { AreTurned (PutOrder row.now) (rows_of overlay.now) purchases.now }
+    ensures more { OnOk result (AreMoreUses (use_come (rows_of overlay.now) at (PutOrder row.now)) (use_gone (rows_of overlay.now) at (PutOrder row.now)) uses.old uses.new) }
+    ensures err { OnErr result (uses.new ≡ uses.old) }
+{
+    let _ = at;
+    let force = row.status.is_in_force();
+    let stood = is_in_force(overlay.order(row.id));
+    if force == stood {
+        return Ok(());
+    }
+    count_names(uses, force, stood, purchases)
+}
+
+// Counts a use of the voucher of each of these purchases: one that comes where their order is in force, and wasn't before,
+// and one that goes where it was, and isn't.
+fn count_names(
+    uses: &mut Tally<Uses>,
+    force: bool,
+    stood: bool,
+    purchases: &[Purchase],
+) -> Result<(), AllocError>
+    ensures more { OnOk result (AreMoreUses (λ v. used_since force stood (count_by (λ p. names v p.voucher) purchases.now)) (λ v. used_since stood force (count_by (λ p. names v p.voucher) purchases.now)) uses.old uses.new) }
+    ensures err { OnErr result (uses.new ≡ uses.old) }
+{
+    let start = uses.len();
+    let come = used_since(force, stood);
+    let gone = used_since(stood, force);
+    for i in 0..purchases.len() {
+        if uses.add_named(purchases[i].voucher, come, gone).is_err() {
+            uses.truncate(start);
+            return Err(AllocError);
+        }
+    }
+    Ok(())
+}
+
+// One use in orders, where an order is in force, and wasn't before.
+fn used_since(force: bool, stood: bool) -> Uses
+    ensures { result ≡ used_since force stood 1 }
+{
+    Uses {
+        used: u64::from(force && !stood),
+        held: 0,
+    }
 }

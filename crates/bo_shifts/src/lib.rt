@@ -1,4 +1,4 @@
-//! What a change of a row, or time that passes, shifts of the counts that a book keeps.
+//! Which kept counts change with a row, or as time passes?
 #![tactic(auto)]
 
 pub mod holds;

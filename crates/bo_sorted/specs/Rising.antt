@@ -1,4 +1,4 @@
--- Ids in rising order.
+-- Ids in rising order, each once.
 use Rattle.std.specs.Prelude.{ℕ, List, [], ◌∷◌}
 use Rattle.bo_sorted.specs.Tables.{with_row}
 

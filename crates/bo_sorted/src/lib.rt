@@ -1,4 +1,4 @@
-//! Rows in order of id, and ids that rise.
+//! What is a table of rows in order of id, and a list of ids that rise?
 #![tactic(auto)]
 
 pub mod ids;

@@ -26,7 +26,7 @@ AllNextIds next =
     (IsNextId last_id next.list)
     (IsNextId last_id next.checkin)
 
--- the moment is at most the last one, and so is each next id but for one
+-- the moment is at most the last one; each next id is at most one past the last id
 pub record AreInRange (at : ℕ) (next : NextIds) : Type 0 where
   pub moment : at ≤ last_moment
   pub next_ids : AllNextIds next

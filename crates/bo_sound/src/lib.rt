@@ -1,4 +1,4 @@
-//! What holds of every box office at its moment, and what keeps it so.
+//! What is true of every box office, and what keeps it true?
 #![tactic(auto)]
 
 pub mod laws;

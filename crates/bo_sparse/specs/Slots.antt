@@ -1,4 +1,4 @@
--- Tables with places from which the rows are gone.
+-- Tables from which rows often go: places, each with a row or with the id of one that is gone.
 use Rattle.std.specs.Prelude.{ℕ, Bool, true, false, List, Option, Some, None}
 use Rattle.std.specs.List.{filter_map}
 use Rattle.bo_sparse.specs.declared.slot.Slot.{Slot}

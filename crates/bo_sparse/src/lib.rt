@@ -1,4 +1,4 @@
-//! Rows in order of id, of which many come and go.
+//! How are rows kept in order of id where many of them come and go?
 #![tactic(auto)]
 
 pub mod iter;

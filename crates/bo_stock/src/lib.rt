@@ -1,4 +1,4 @@
-//! What is for sale, found by its keys: the tables of the catalogue, and which quotas have a product.
+//! What is for sale, and which quotas list a product, found by keys?
 #![tactic(auto)]
 
 pub mod catalogue;

@@ -1,4 +1,4 @@
-//! The rows of a box office, found by id and by key.
+//! How does a book find the rows of a box office, by id and by key?
 #![tactic(auto)]
 
 pub mod carts;

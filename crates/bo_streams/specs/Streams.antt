@@ -1,4 +1,5 @@
--- Messages one after another, as a shop and as a list of arrivals see them, and what they do to the rows.
+-- Messages one after another, as a shop, a list of arrivals and a history see them, and what they do to the rows: an executed command makes its step;
+-- a repeat, a read and a 503 change nothing; any other write at most the moment.
 use Rattle.std.specs.Prelude.{◌≡◌, ℕ, Bool, true, false, List, [], ◌∷◌, ◌++◌, Result, Ok, Err}
 use Rattle.bo_base.specs.declared.answer.Answer.{Answer}
 use Rattle.bo_base.specs.declared.answer.Answer.TheVariants.{Decided, Unavailable}

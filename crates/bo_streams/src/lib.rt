@@ -1,4 +1,4 @@
-//! Messages as arrivals at a shop, and what runs over streams of them lead to.
+//! Which arrivals are the messages of a stream, and what do they make of a shop?
 #![tactic(auto)]
 
 mod coming;

@@ -1,4 +1,4 @@
-//! What a file takes of a sound office.
+//! Does a file take whatever a sound office changes and counts?
 #![tactic(auto)]
 
 pub mod laws;

@@ -1,2 +1,4 @@
+pub mod AmountLemmas
 pub mod Newest
 pub mod Earlier
+pub mod Unshifted

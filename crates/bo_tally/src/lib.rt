@@ -1,6 +1,12 @@
-//! Counts by key that go back to an earlier place with no memory.
+//! How much came and went under a key, now and at an earlier place, and what changes shift?
+//!
+//! A tally goes back to an earlier place without memory.
 #![tactic(auto)]
 
+pub mod amount;
+pub mod shifts;
 pub mod tally;
 
+pub use amount::{Amount, Uses};
+pub use shifts::{Drafted, QuotaShift, Shifts, VoucherShift};
 pub use tally::{Count, Tally};

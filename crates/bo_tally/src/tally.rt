@@ -1,43 +1,45 @@
 //! Counts by key: how much came and how much went of each, now and at each earlier place.
 
-ghost use Rattle.std.specs.Prelude.{◌≡◌, ◌≤◌, ◌<◌, ◌+◌, ◌++◌, ◌==◌, [], ◌∷◌, ℕ, length, take, IfOk, OnOk, OnErr, slice_index_or, if◌then◌else◌};
+ghost use Rattle.std.specs.Prelude.{◌≡◌, ◌≤◌, ◌<◌, ◌++◌, ◌==◌, [], ◌∷◌, ℕ, length, take, OnOk, OnErr, slice_index_or, if◌then◌else◌};
 ghost use Rattle.std.specs.Option.{IfSome};
 ghost use Rattle.bo_lists.specs.Conditions.{names};
 ghost use Rattle.bo_tally.specs.Counts.{newest, part_at, came, went, GoesOn};
+ghost use Rattle.bo_tally.specs.declared.tally.Count.{Count};
 
+use crate::amount::Amount;
 use bo_log::KeyLog;
 use std::alloc::{AllocError, Global};
 use std::marker::Model;
 
 /// How much came and how much went of a key.
 #[derive(Clone, Copy)]
-pub struct Count {
+pub struct Count<A: Amount> {
     pub id: u64,
-    pub come: u64,
-    pub gone: u64,
+    pub come: A,
+    pub gone: A,
 }
 
 /// Counts by key. Contracts see the journal: for each addition its key, with all that had come and gone of it by then.
 ///
 /// A place in the journal is a mark: to go back to it needs no memory, and what came after it tells what was touched since.
 #[derive(Drop)]
-pub struct Tally {
+pub struct Tally<A: Amount> {
     keys: KeyLog,
-    counts: Vec<Count>,
+    counts: Vec<Count<A>>,
 }
 
-impl Model for Tally {
+impl<A: Amount> Model for Tally<A> {
     ghost use Rattle.std.specs.Prelude.{◌≡◌, List, map};
     ghost use Rattle.bo_tally.specs.declared.tally.Count.{Count};
 
-    ghost Value = { List Count };
+    ghost Value = { List (Count A) };
 
     ghost view = { λ t. t.counts.items };
 
     ghost invariant = { λ t. t.keys ≡ map (λ c. c.id) t.counts.items };
 }
 
-impl Tally {
+impl<A: Amount> Tally<A> {
     /// Nothing has come or gone.
     pub fn new(alloc: Global) -> Self
         ensures { result ≡ [] }
@@ -55,12 +57,12 @@ impl Tally {
         self.counts.len()
     }
 
-    /// The key of the addition at a place, with all that had come and gone of it by then.
-    pub fn get(&self, place: usize) -> Count
+    /// The key of the addition at a place.
+    pub fn key(&self, place: usize) -> u64
         requires { place < length self.now }
-        ensures { (d : Count) → result ≡ slice_index_or self.now place d }
+        ensures { (d : Count A) → result ≡ (slice_index_or self.now place d).id }
     {
-        self.counts[place]
+        self.counts[place].id
     }
 
     /// The place of the newest addition to a key.
@@ -72,35 +74,34 @@ impl Tally {
     }
 
     /// The counts of a key.
-    pub fn of(&self, key: u64) -> Count
+    pub fn of(&self, key: u64) -> Count<A>
         ensures id { result.id ≡ key }
-        ensures come { result.come ≡ came key self.now }
-        ensures gone { result.gone ≡ went key self.now }
+        ensures come { result.come ≡ came A.zero key self.now }
+        ensures gone { result.gone ≡ went A.zero key self.now }
     {
         self.counts_at(key, self.newest(key))
     }
 
     /// The counts of a key at a mark. It costs what was added to the key since.
-    pub fn at_mark(&self, mark: usize, key: u64) -> Count
+    pub fn at_mark(&self, mark: usize, key: u64) -> Count<A>
         requires { mark ≤ length self.now }
         ensures id { result.id ≡ key }
-        ensures come { result.come ≡ came key (take mark self.now) }
-        ensures gone { result.gone ≡ went key (take mark self.now) }
+        ensures come { result.come ≡ came A.zero key (take mark self.now) }
+        ensures gone { result.gone ≡ went A.zero key (take mark self.now) }
     {
         self.counts_at(key, self.newest_before(mark, key))
     }
 
     /// Adds to the counts of a key. `Err` where there is no memory; they are then as they were.
-    pub fn add(&mut self, key: u64, come: u64, gone: u64) -> Result<(), AllocError>
-        ensures ok { OnOk result (self.new ≡ self.old ++ record { id = key; come = came key self.old + come; gone = went key self.old + gone } ∷ []) }
-        ensures comes { OnOk result ((k : ℕ) → came k self.new ≡ came k self.old + (if key == k then come else 0)) }
-        ensures goes { OnOk result ((k : ℕ) → went k self.new ≡ went k self.old + (if key == k then gone else 0)) }
+    pub fn add(&mut self, key: u64, come: A, gone: A) -> Result<(), AllocError>
+        ensures comes { OnOk result ((k : ℕ) → came A.zero k self.new ≡ (if key == k then A.sum (came A.zero k self.old) come else came A.zero k self.old)) }
+        ensures goes { OnOk result ((k : ℕ) → went A.zero k self.new ≡ (if key == k then A.sum (went A.zero k self.old) gone else went A.zero k self.old)) }
         ensures on { OnOk result (GoesOn self.old self.new) }
         ensures err { OnErr result (self.new ≡ self.old) }
     {
         let old = self.of(key);
-        let come = more(old.come, come)?;
-        let gone = more(old.gone, gone)?;
+        let come = old.come.with(come)?;
+        let gone = old.gone.with(gone)?;
         self.counts.reserve(1)?;
         self.keys.push(key)?;
         Ok(
@@ -113,9 +114,9 @@ impl Tally {
     }
 
     /// Adds to the counts of a key, if one is named. `Err` where there is no memory; they are then as they were.
-    pub fn add_named(&mut self, key: Option<u64>, come: u64, gone: u64) -> Result<(), AllocError>
-        ensures comes { OnOk result ((k : ℕ) → came k self.new ≡ came k self.old + (if names k key then come else 0)) }
-        ensures goes { OnOk result ((k : ℕ) → went k self.new ≡ went k self.old + (if names k key then gone else 0)) }
+    pub fn add_named(&mut self, key: Option<u64>, come: A, gone: A) -> Result<(), AllocError>
+        ensures comes { OnOk result ((k : ℕ) → came A.zero k self.new ≡ (if names k key then A.sum (came A.zero k self.old) come else came A.zero k self.old)) }
+        ensures goes { OnOk result ((k : ℕ) → went A.zero k self.new ≡ (if names k key then A.sum (went A.zero k self.old) gone else went A.zero k self.old)) }
         ensures on { OnOk result (GoesOn self.old self.new) }
         ensures err { OnErr result (self.new ≡ self.old) }
     {
@@ -134,17 +135,17 @@ impl Tally {
     }
 
     // The counts that stand at a place of the key, or none.
-    fn counts_at(&self, key: u64, place: Option<usize>) -> Count
+    fn counts_at(&self, key: u64, place: Option<usize>) -> Count<A>
         requires { IfSome place (λ p. p < length self.now) }
         ensures id { result.id ≡ key }
-        ensures come { result.come ≡ part_at (λ c. c.come) self.now place }
-        ensures gone { result.gone ≡ part_at (λ c. c.gone) self.now place }
+        ensures come { result.come ≡ part_at A.zero (λ c. c.come) self.now place }
+        ensures gone { result.gone ≡ part_at A.zero (λ c. c.gone) self.now place }
     {
         match place {
             None => Count {
                 id: key,
-                come: 0,
-                gone: 0,
+                come: A::none(),
+                gone: A::none(),
             },
             Some(place) => Count {
                 id: key,
@@ -173,15 +174,8 @@ impl Tally {
     // The place of the addition before this one that is one to the same key.
     fn earlier(&self, place: usize) -> Option<usize>
         requires { place < length self.now }
-        ensures { (d : Count) → result ≡ newest (slice_index_or self.now place d).id (take place self.now) }
+        ensures { (d : Count A) → result ≡ newest (slice_index_or self.now place d).id (take place self.now) }
     {
         self.keys.before(place)
     }
-}
-
-// A count with some more. One of 2^64, which no book reaches, is refused as a want of memory.
-fn more(count: u64, come: u64) -> Result<u64, AllocError>
-    ensures { IfOk result (λ new. new ≡ count + come) }
-{
-    count.checked_add(come).ok_or(AllocError)
 }

@@ -1,4 +1,4 @@
-//! Moments and days as texts.
+//! Which moment or day does a text name, and how is one written?
 #![tactic(auto)]
 
 pub mod laws;

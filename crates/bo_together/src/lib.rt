@@ -1,4 +1,6 @@
-//! What callers are told who are there at once, over memory, in every order of what two of them do. Who answers them is up to whoever asks.
+//! What do callers at once get, over memory, in every order of what two of them do?
+//!
+//! Who answers them is up to whoever asks.
 #![tactic(auto)]
 
 pub mod error;

@@ -1,5 +1,6 @@
-//! What comes of what is done with a shop's files, over disks in memory: one deed after another, or a deed while calls of the files are
-//! refused, each in turn. What a deed does is up to whoever asks.
+//! What becomes of a shop's files in memory after each deed, and where calls are refused?
+//!
+//! What a deed does is up to whoever asks.
 #![tactic(auto)]
 
 pub mod deed;

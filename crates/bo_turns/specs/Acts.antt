@@ -1,4 +1,4 @@
--- What a desk did, message by message.
+-- What a desk did, message by message: a tick, the message, its answer.
 use Rattle.std.specs.Prelude.{◌≡◌, List, [], ◌∷◌, ◌++◌, map, Option}
 use Rattle.bo_base.specs.declared.answer.Answer.{Answer}
 use Rattle.bo_devices.specs.declared.device.Tick.{Tick}

@@ -1,4 +1,4 @@
-//! Many conversations at one desk, in any order of their turns.
+//! How do many conversations take turns at one desk, in any order?
 #![tactic(auto)]
 
 pub mod hall;

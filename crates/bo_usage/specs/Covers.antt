@@ -1,4 +1,5 @@
--- Which vouchers cover the same cart positions.
+-- When two vouchers cover the same cart positions: both block places or neither does, until the same moment, and they name the same quota, item and
+-- variation.
 use mathlib.Core.Bool.{beq}
 use Rattle.std.specs.Prelude.{Bool, ◌&&◌}
 use Rattle.bo_lists.specs.declared.rows.Voucher.{Voucher}

@@ -1,4 +1,4 @@
-//! The book that keeps the rows, when a row counts, and what is used of a quota at a moment.
+//! What is a book, when does a row count, and how much of a quota is used at a moment?
 #![tactic(auto)]
 
 pub mod available;

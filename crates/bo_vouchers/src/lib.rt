@@ -1,4 +1,4 @@
-//! What may be done with vouchers, and what changes.
+//! What may be done with vouchers, and what changes?
 #![tactic(auto)]
 
 pub mod codes;

@@ -1,4 +1,4 @@
-//! The words of replies, refusals and faults: their status, their allowed methods and their body.
+//! Which status, allowed methods and body does each reply, refusal and fault have?
 #![tactic(auto)]
 
 pub mod faults;

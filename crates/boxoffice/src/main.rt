@@ -1,4 +1,4 @@
-//! The box office as a program.
+//! Which streams and files of the machine does the program use?
 #![tactic(auto)]
 
 ghost use Rattle.std.specs.Prelude.{◌≡◌, ◌<◌};

@@ -2,7 +2,7 @@ use Rattle.std.proofs.Common.{◌≡◌, Some, sym, ap, ◌∙◌, subst}
 use Rattle.std.specs.Option.{option_copied}
 use Rattle.bo_catalogue.specs.CatalogueLists.{CatalogueLists, quota_at}
 use Rattle.bo_counts.proofs.ToldRows.{had_none, had_some}
-use Rattle.bo_counts.proofs.Usages.{found_stands}
+use Rattle.bo_counts.proofs.WalkedRows.{found_stands}
 use Rattle.bo_counts.proofs.told.has_count.Goals as goal
 
 pub returns-in-None : goal.returns-in-None

@@ -20,7 +20,7 @@ returns-in_ok-insert-in-Err-clause-known g c =
     let quotas = c.args.quotas.now in
     let quota = c.index-quotas-index.result in
     let new : Base = record { place = c.args.place; total = c.used_in_book-total.result } in
-    let value : new.total ≡ value_at (used lists c.args.at) quotas c.args.place = c.used_in_book-total.ensures.value ∙ ap (used lists c.args.at) c.index-quotas-index.is ∙ sym (value_here (used lists c.args.at) quotas c.args.place quota (omega arith)) in
+    let value : new.total ≡ value_at 0 (used lists c.args.at) quotas c.args.place = c.used_in_book-total.ensures.value ∙ ap (used lists c.args.at) c.index-quotas-index.is ∙ sym (value_here 0 (used lists c.args.at) quotas c.args.place quota (omega arith)) in
     let base : IsBase lists c.args.at quotas c.args.place new = record { value = value; few = c.used_in_book-total.ensures.few } in
     let is = c.in_ok-insert-in-Err.ensures.items ∙ insert_is_with_row (λ (b : Base). b.place) _ _ c.in-Err.gap (rw c.deref.ensures.value at c.in-Err.ensures.absent) in
     subst (λ (l : List Base). AreBases lists c.args.at quotas l) (sym is) (known_more lists c.args.at quotas c.args.bases.now.items new base c.requires.known)

@@ -11,7 +11,7 @@ returns-in-Ok-clause-value g c d =
     let lists = (g.B.Book.state c.args.book.now).lists in
     let base : Base = get_or c.args.bases.now c.in-Ok.found (record { place = 0; total = 0 }) in
     let is : IsBase lists c.args.at c.args.quotas.now c.args.place base = c.requires.known c.args.place base (row_at_place (λ (b : Base). b.place) 0 c.args.bases.now c.args.place c.in-Ok.found _ c.requires.order c.in-Ok.ensures.found) in
-    is.value ∙ value_here (used lists c.args.at) c.args.quotas.now c.args.place d c.requires.place
+    is.value ∙ value_here 0 (used lists c.args.at) c.args.quotas.now c.args.place d c.requires.place
 
 pub returns-in-Ok-clause-few : goal.returns-in-Ok-clause-few
 returns-in-Ok-clause-few g c =

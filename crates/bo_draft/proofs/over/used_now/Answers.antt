@@ -4,6 +4,7 @@ use Rattle.bo_sorted.proofs.Places.{row_at_place, row_at_gap}
 use Rattle.bo_catalogue.specs.declared.rows.Quota.{Quota}
 use Rattle.bo_catalogue.specs.CatalogueLists.{CatalogueLists}
 use Rattle.bo_lists.specs.Lists.{Lists}
+use Rattle.bo_lists.specs.Total.{total}
 use Rattle.bo_shares.specs.Logs.{rows_of}
 use Rattle.bo_shares.specs.Counts.{value_at}
 use Rattle.bo_draft.specs.Used.{used}
@@ -24,11 +25,11 @@ returns-in-Ok g c =
     sym (row_at_place (λ (q : Quota). q.id) 0 quotas quota.id place quota sorted c.in-Ok.ensures.found) ∙ ap (λ (l : List Quota). row_at (λ q. q.id) quota.id l) sold ∙ c.requires.stands in
     let here : get_or quotas place quota ≡ quota = cc found in
     let base : c.base_of.result ≡ used log.base at quota = c.base_of.ensures.value quota ∙ ap (used lists at) here ∙ ap (λ (l : Lists). used l at quota) (sym c.requires.base) in
-    let value : (l : Lists) → value_at (used l at) log.base.catalogue.quotas place ≡ used l at quota = λ l.
-    ap (λ (qs : List Quota). value_at (used l at) qs place) (ap (λ (k : Lists). k.catalogue.quotas) c.requires.base ∙ sym sold)
-    ∙ value_here (used l at) quotas place quota c.in-Ok.ensures.found.in_range
+    let value : (l : Lists) → value_at 0 (used l at) log.base.catalogue.quotas place ≡ used l at quota = λ l.
+    ap (λ (qs : List Quota). value_at 0 (used l at) qs place) (ap (λ (k : Lists). k.catalogue.quotas) c.requires.base ∙ sym sold)
+    ∙ value_here 0 (used l at) quotas place quota c.in-Ok.ensures.found.in_range
     ∙ ap (used l at) here in
-    omega (arith, c.requires.counted place, value (rows_of log), value log.base, base, c.moved.ensures, c.of-count.ensures.come, c.of-count.ensures.gone)
+    omega (arith, c.requires.counted place, value (rows_of log), value log.base, base, c.moved.ensures, ap total c.of-count.ensures.come, ap total c.of-count.ensures.gone)
 
 pub returns-in-Err : goal.returns-in-Err
 returns-in-Err g c =

@@ -1,33 +1,20 @@
-use Rattle.std.proofs.Common.{rules, ◌≡◌, [], ◌∷◌, ◌++◌, Ok, sym, ap, ◌∙◌}
-use Rattle.bo_lists.specs.Lists.{Lists, State}
-use Rattle.bo_lists.specs.declared.changes.Change.TheVariants.{PutVoucher}
-use Rattle.bo_lists.specs.Change.{applied}
-use Rattle.bo_machine.specs.Step.{voucher_made, step}
-use Rattle.bo_machine.specs.Drafts.{DraftState, now}
-use Rattle.bo_machine.specs.Changes.{changes_of}
+use Rattle.std.proofs.Common.{rules, Ok, ap, ◌∙◌}
+use Rattle.bo_lists.specs.Lists.{State}
+use Rattle.bo_machine.specs.IsStep.{IsStep}
 use Rattle.bo_machine.specs.ShownRows.{show_voucher}
 use Rattle.bo_commands.specs.declared.replies.Shown.{Shown}
 use Rattle.bo_commands.specs.declared.replies.Reply.TheVariants.{Made}
 use Rattle.bo_commands.specs.declared.requests.Command.TheVariants.{AddVoucher}
-use Rattle.bo_sales.proofs.Vouchers.{made_shown, made_step, finished, made_changes, closed_with}
+use Rattle.bo_sales.proofs.Vouchers.{made_step, closed_with}
 use Rattle.bo_sales.proofs.sales.add_voucher.Goals.{in-Ok, in-Err-Memory, in-Err}
 use Rattle.bo_sales.proofs.sales.add_voucher.Goals as goal
 
-pub returns-clause-step : goal.returns-clause-step
-returns-clause-step g c =
-    let state : State = g.B.Book.state c.args.book.now in
-    let before : (now c.in_ok-draft.draft).lists ≡ state.lists = ap (λ (d : DraftState). (now d).lists) c.in_ok-draft.ensures.draft in
-    elim c.match-make.branch [
-      | in-Ok w ↦ closed_with c.close.result c.match-make.reply (Made (show_voucher state.lists w.in-Ok.row)) c.make.new.draft (λ r. (applied r.0 c.args.at state, r.1) ≡ step (AddVoucher c.args.new.now) c.args.at c.args.draw state) c.close.ensures.reply c.close.ensures.list c.close.ensures.next (w.reply-is ∙ ap (λ (s : Shown). Ok (Made s)) w.show_voucher.ensures) (λ made list next. made_step c.args.new.now c.args.draw c.args.at state (now c.make.new.draft) w.in-Ok.row (applied made c.args.at state) (Made (show_voucher state.lists w.in-Ok.row)) (finished state c.args.at c.make.new.draft made list next (w.in-Ok.ensures.extends.base ∙ ap (λ (d : DraftState). d.log.base) c.in_ok-draft.ensures.draft) (w.in-Ok.ensures.extends.moment ∙ ap (λ (d : DraftState). d.moment) c.in_ok-draft.ensures.draft)) (ap (λ (s : Shown). Made s) (ap (λ (l : Lists). show_voucher l w.in-Ok.row) (sym before) ∙ made_shown _ _ _ _ _ w.in-Ok.ensures.done)) (ap (λ (d : DraftState). voucher_made c.args.new.now c.args.draw (now d)) (sym c.in_ok-draft.ensures.draft) ∙ w.in-Ok.ensures.done))
-      | in-Err-Memory w ↦ search rules
-      | in-Err w ↦ search rules
-    ]
-
-pub returns-clause-changes : goal.returns-clause-changes
-returns-clause-changes g c =
+pub returns : goal.returns
+returns g c =
     let state : State = g.B.Book.state c.args.book.now in
     elim c.match-make.branch [
-      | in-Ok w ↦ closed_with c.close.result c.match-make.reply (Made (show_voucher state.lists w.in-Ok.row)) c.make.new.draft (λ r. r.0.list ≡ changes_of (AddVoucher c.args.new.now) c.args.draw (record state { moment = c.args.at }) r.1) c.close.ensures.reply c.close.ensures.list c.close.ensures.next (w.reply-is ∙ ap (λ (s : Shown). Ok (Made s)) w.show_voucher.ensures) (λ made list next. list ∙ w.in-Ok.ensures.changes ∙ ap (λ (d : DraftState). d.log.changes ++ PutVoucher w.in-Ok.row ∷ []) c.in_ok-draft.ensures.draft ∙ sym (made_changes c.args.new.now c.args.draw (record state { moment = c.args.at }) state.lists w.in-Ok.row))
+      | in-Ok w ↦ closed_with c.args.at state.lists c.close.result c.match-make.reply (Made (show_voucher state.lists w.in-Ok.row)) c.make.new.draft (IsStep (AddVoucher c.args.new.now) c.args.at c.args.draw state) c.close.ensures (w.reply-is ∙ ap (λ (s : Shown). Ok (Made s)) w.show_voucher.ensures)
+          (λ made closed. made_step c.args.new.now c.args.draw c.args.at state c.in_ok-draft.draft c.make.new.draft w.in-Ok.row made c.in_ok-draft.ensures.draft w.in-Ok.ensures.extends w.in-Ok.ensures.done w.in-Ok.ensures.changes closed.list closed.next closed.shifts)
       | in-Err-Memory w ↦ search rules
       | in-Err w ↦ search rules
     ]

@@ -1,8 +1,11 @@
-use Rattle.std.proofs.Common.{sym, ap, ◌∙◌}
+use Rattle.std.proofs.Common.{List, sym, ap, ◌∙◌, subst}
 use Rattle.bo_catalogue.specs.CatalogueLists.{CatalogueLists, quota_at}
+use Rattle.bo_lists.specs.declared.rows.Usage.{Usage}
 use Rattle.bo_lists.specs.Lists.{Lists}
+use Rattle.bo_tally.specs.declared.tally.Count.{Count}
 use Rattle.bo_shares.proofs.Logs.{sales_catalogue}
-use Rattle.bo_draft.specs.DraftState.{DraftState, now}
+use Rattle.bo_draft.specs.DraftState.{DraftState, IsTotalled, now}
+use Rattle.bo_draft.proofs.Still.{totalled}
 use Rattle.bo_draft.specs.Used.{used}
 use Rattle.bo_draft.proofs.draft.Draft.used.Goals as goal
 
@@ -14,6 +17,11 @@ used_now-requires-clause-stands g c =
     ∙ ap (λ (k : CatalogueLists). quota_at id k) (sym (sales_catalogue log.changes log.base c.known.ensures.sales))
     ∙ ap (λ (d : DraftState). quota_at id (now d).lists.catalogue) c.self.view_is
     ∙ c.requires
+
+pub used_now-requires-clause-counted : goal.used_now-requires-clause-counted
+used_now-requires-clause-counted g c =
+    let inside = c.self.inside in
+    subst (λ (l : List (Count Usage)). IsTotalled inside.moment inside.overlay l) (sym c.counts.ensures) (totalled inside.moment inside.overlay inside.tallies.counts c.self.invariant.now.counted)
 
 pub returns : goal.returns
 unfolding used

@@ -5,26 +5,18 @@ use Rattle.bo_lists.specs.Lists.{State}
 use Rattle.bo_lists.specs.Change.{applied}
 use Rattle.bo_sound.specs.Sound.{IsSound}
 use Rattle.bo_commands.specs.declared.replies.Reply.{Reply}
-use Rattle.bo_service.specs.Machine.{RefusesWithoutChange, step, changes_of}
+use Rattle.bo_service.specs.Machine.{IsStep}
 use Rattle.bo_service.proofs.Machine.{step_sound}
 use Rattle.bo_office.proofs.office.Office.decide.Goals as goal
 
 pub returns-clause-step : goal.returns-clause-step
 returns-clause-step g c =
-    subst (λ (s : State). IfOk c.decide_over.result (λ r. (applied r.0 c.args.at s, r.1) ≡ step c.args.command.now c.args.at c.args.draw s)) c.book-book.ensures.state c.decide_over.ensures.step
-
-pub returns-clause-changes : goal.returns-clause-changes
-returns-clause-changes g c =
-    subst (λ (s : State). IfOk c.decide_over.result (λ r. r.0.list ≡ changes_of c.args.command.now c.args.draw (record s { moment = c.args.at }) r.1)) c.book-book.ensures.state c.decide_over.ensures.changes
+    subst (λ (s : State). IfOk c.decide_over.result (IsStep c.args.command.now c.args.at c.args.draw s)) c.book-book.ensures.state c.decide_over.ensures
 
 pub returns-clause-sound : goal.returns-clause-sound
 returns-clause-sound g c =
     let last : c.args.at ≤ last_moment = search rules in
     let state : State = g.B.Book.state c.book-book.result.now in
     let moment : state.moment ≤ c.args.at = subst (λ (s : State). s.moment ≤ c.args.at) (sym c.book-book.ensures.state) c.requires in
-    subst (λ (s : State). IfOk c.decide_over.result (λ r. IsSound (applied r.0 c.args.at s))) c.book-book.ensures.state
-    (IfOk-weaker c.decide_over.result _ _ (λ r h. subst IsSound (sym (ap (λ (x : State × Reply). x.0) h)) (step_sound c.args.command.now c.args.at c.args.draw state c.known.ensures c.known-2.ensures moment last c.book-book.ensures.sound)) c.decide_over.ensures.step)
-
-pub returns-clause-refused : goal.returns-clause-refused
-returns-clause-refused g c =
-    subst (λ (s : State). IfOk c.decide_over.result (RefusesWithoutChange s)) c.book-book.ensures.state c.decide_over.ensures.refused
+    subst (λ (s : State). IfOk c.decide_over.result (λ r. IsSound (applied r.0.changes c.args.at s))) c.book-book.ensures.state
+    (IfOk-weaker c.decide_over.result _ _ (λ r is. subst IsSound (sym (ap (λ (x : State × Reply). x.0) is.step)) (step_sound c.args.command.now c.args.at c.args.draw state c.known.ensures c.known-2.ensures moment last c.book-book.ensures.sound)) c.decide_over.ensures)

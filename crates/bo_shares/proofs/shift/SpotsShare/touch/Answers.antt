@@ -1,8 +1,15 @@
+use Rattle.std.proofs.Common.{ap, ◌∙◌}
+use Rattle.bo_shares.specs.Shift.{placed}
 use Rattle.bo_shares.proofs.Reached.{none_else_more}
+use Rattle.bo_shares.proofs.Sums.{none_placed}
 use Rattle.bo_shares.proofs.shift.SpotsShare.touch.Goals as goal
 
 pub returns-clause-come : goal.returns-clause-come
-returns-clause-come c = none_else_more c.touch_spot.new.ids.items c.touch_spot-2.new.ids.items c.args.catalogue.now.lists _ c.in_ok-touch_spot-2.ensures.keeps (c.in_ok-touch_spot.ensures.more c.args.self.now.at)
+returns-clause-come c q other =
+    let spots = c.args.self.now in
+    ap (placed spots.waits) (none_else_more 0 c.touch_spot.new.ids.items c.touch_spot-2.new.ids.items c.args.catalogue.now.lists _ c.in_ok-touch_spot-2.ensures.keeps (c.in_ok-touch_spot.ensures.more spots.at) q other) ∙ none_placed spots.waits
 
 pub returns-clause-gone : goal.returns-clause-gone
-returns-clause-gone c = c.in_ok-touch_spot-2.ensures.more c.args.self.now.at
+returns-clause-gone c q other =
+    let spots = c.args.self.now in
+    ap (placed spots.waits) (c.in_ok-touch_spot-2.ensures.more spots.at q other) ∙ none_placed spots.waits

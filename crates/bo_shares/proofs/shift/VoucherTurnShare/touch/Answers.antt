@@ -3,7 +3,7 @@ use Rattle.bo_catalogue.specs.declared.rows.Quota.{Quota}
 use Rattle.bo_lists.specs.Usage.{blocks_if}
 use Rattle.bo_lists.specs.Headroom.{held_in}
 use Rattle.bo_overlay.specs.Logs.{rows_of}
-use Rattle.bo_shares.specs.Shift.{turned_by, left_of}
+use Rattle.bo_shares.specs.Shift.{voucher_counts, left_of}
 use Rattle.bo_shares.proofs.Reached.{no_other_more}
 use Rattle.bo_shares.proofs.shift.VoucherTurnShare.touch.Goals as goal
 
@@ -11,10 +11,10 @@ pub returns-clause-come : goal.returns-clause-come
 returns-clause-come g c q other =
     let turn = c.args.self.now in
     let come = no_other_more c.touch_voucher.new.ids.items c.touch_voucher-2.new.ids.items c.args.catalogue.now.lists (λ (r : Quota). blocks_if turn.at r (option_copied turn.come)) c.in_ok-touch_voucher-2.ensures.keeps (c.in_ok-touch_voucher.ensures.more turn.at) q other in
-    ap₂ (λ (a b : Bool). turned_by a b (left_of turn.redeemed (option_copied turn.come)) (held_in turn.at q turn.id (rows_of turn.overlay.now))) come (c.in_ok-touch_voucher-2.ensures.more turn.at q other)
+    ap₂ (λ (a b : Bool). voucher_counts a b (left_of turn.redeemed (option_copied turn.come)) (held_in turn.at q turn.id (rows_of turn.overlay.now))) come (c.in_ok-touch_voucher-2.ensures.more turn.at q other)
 
 pub returns-clause-gone : goal.returns-clause-gone
 returns-clause-gone g c q other =
     let turn = c.args.self.now in
     let come = no_other_more c.touch_voucher.new.ids.items c.touch_voucher-2.new.ids.items c.args.catalogue.now.lists (λ (r : Quota). blocks_if turn.at r (option_copied turn.come)) c.in_ok-touch_voucher-2.ensures.keeps (c.in_ok-touch_voucher.ensures.more turn.at) q other in
-    ap₂ (λ (a b : Bool). turned_by a b (left_of turn.redeemed (option_copied turn.gone)) (held_in turn.at q turn.id (rows_of turn.overlay.now))) (c.in_ok-touch_voucher-2.ensures.more turn.at q other) come
+    ap₂ (λ (a b : Bool). voucher_counts a b (left_of turn.redeemed (option_copied turn.gone)) (held_in turn.at q turn.id (rows_of turn.overlay.now))) (c.in_ok-touch_voucher-2.ensures.more turn.at q other) come

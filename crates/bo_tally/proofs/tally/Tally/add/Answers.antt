@@ -1,21 +1,24 @@
-use Rattle.std.proofs.Common.{◌≡◌, ◌+◌, ◌++◌, [], ◌∷◌, List, ap, sym, ◌∙◌, arith}
+use Rattle.std.proofs.Common.{◌++◌, [], ◌∷◌, eqb, ap, sym, ◌∙◌}
+use Rattle.std.specs.Prelude.{if◌then◌else◌}
 use Rattle.bo_tally.specs.declared.tally.Count.{Count}
 use Rattle.bo_tally.specs.Counts.{came, went}
 use Rattle.bo_tally.proofs.Newest.{part_added}
 use Rattle.bo_tally.proofs.tally.Tally.add.Goals as goal
 
 pub returns-clause-comes : goal.returns-clause-comes
-returns-clause-comes c k =
+returns-clause-comes g c k =
+    let none = g.A.Amount.zero in
     let journal = c.self.inside.counts.items in
-    let new : Count = record { id = c.args.key; come = c.in_ok-come.come; gone = c.in_ok-gone.gone } in
-    let is : c.push-2.new.self.items ≡ journal ++ new ∷ [] = c.in_ok-push-2.ensures.items ∙ ap (λ (l : List Count). l ++ new ∷ []) c.reserve.ensures.items in
-    let more : new.come ≡ came new.id journal + c.args.come = omega (arith, c.in_ok-come.ensures, c.of-old.ensures.come, ap (came new.id) c.self.view_is) in
-    ap (came k) is ∙ part_added (λ r. r.come) journal new c.args.come k more ∙ omega (arith, ap (came k) c.self.view_is)
+    let new : Count g.row.A.Denot = record { id = c.args.key; come = c.in_ok-come.come; gone = c.in_ok-gone.gone } in
+    let is = c.in_ok-push-2.ensures.items ∙ ap (λ l. l ++ new ∷ []) c.reserve.ensures.items in
+    let more = c.in_ok-come.ensures ∙ ap (λ a. g.A.Amount.sum a c.args.come) (c.of-old.ensures.come ∙ ap (came none c.args.key) (sym c.self.view_is)) in
+    ap (came none k) is ∙ part_added none (λ r. r.come) journal g.A.Amount.sum new c.args.come k more ∙ ap (λ l. if eqb c.args.key k then g.A.Amount.sum (came none k l) c.args.come else came none k l) c.self.view_is
 
 pub returns-clause-goes : goal.returns-clause-goes
-returns-clause-goes c k =
+returns-clause-goes g c k =
+    let none = g.A.Amount.zero in
     let journal = c.self.inside.counts.items in
-    let new : Count = record { id = c.args.key; come = c.in_ok-come.come; gone = c.in_ok-gone.gone } in
-    let is : c.push-2.new.self.items ≡ journal ++ new ∷ [] = c.in_ok-push-2.ensures.items ∙ ap (λ (l : List Count). l ++ new ∷ []) c.reserve.ensures.items in
-    let more : new.gone ≡ went new.id journal + c.args.gone = omega (arith, c.in_ok-gone.ensures, c.of-old.ensures.gone, ap (went new.id) c.self.view_is) in
-    ap (went k) is ∙ part_added (λ r. r.gone) journal new c.args.gone k more ∙ omega (arith, ap (went k) c.self.view_is)
+    let new : Count g.row.A.Denot = record { id = c.args.key; come = c.in_ok-come.come; gone = c.in_ok-gone.gone } in
+    let is = c.in_ok-push-2.ensures.items ∙ ap (λ l. l ++ new ∷ []) c.reserve.ensures.items in
+    let more = c.in_ok-gone.ensures ∙ ap (λ a. g.A.Amount.sum a c.args.gone) (c.of-old.ensures.gone ∙ ap (went none c.args.key) (sym c.self.view_is)) in
+    ap (went none k) is ∙ part_added none (λ r. r.gone) journal g.A.Amount.sum new c.args.gone k more ∙ ap (λ l. if eqb c.args.key k then g.A.Amount.sum (went none k l) c.args.gone else went none k l) c.self.view_is

@@ -4,7 +4,7 @@ use Rattle.bo_tally.proofs.Newest.{keys_of, keys-take, keys-get_or, newest_keys}
 use Rattle.bo_tally.proofs.tally.Tally.earlier.Goals as goal
 
 pub returns : goal.returns
-returns c d =
+returns g c d =
     let journal = c.self.inside.counts.items in
     let place = c.args.place in
     rw (← c.self.view_is)

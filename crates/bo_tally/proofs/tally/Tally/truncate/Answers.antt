@@ -4,8 +4,8 @@ use Rattle.bo_tally.proofs.Newest.{keys_of, keys-take}
 use Rattle.bo_tally.proofs.tally.Tally.truncate.Goals as goal
 
 pub invariant_of-self : goal.invariant_of-self
-invariant_of-self c =
+invariant_of-self g c =
     c.truncate.ensures
     ∙ ap (λ (keys : List ℕ). take c.args.mark keys) c.self.invariant
     ∙ keys-take c.args.mark c.self.inside.counts.items
-    ∙ ap (λ (journal : List Count). keys_of journal) (sym c.truncate-2.ensures.items)
+    ∙ ap (λ journal. keys_of journal) (sym c.truncate-2.ensures.items)

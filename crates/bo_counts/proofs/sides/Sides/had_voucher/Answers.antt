@@ -1,9 +1,0 @@
-use Rattle.std.proofs.Common.{sym, ap, ◌∙◌}
-use Rattle.bo_lists.specs.Lists.{Lists, State}
-use Rattle.bo_counts.specs.Told.{has_voucher}
-use Rattle.bo_counts.proofs.sides.Sides.had_voucher.Goals as goal
-
-pub returns : goal.returns
-returns g c =
-    let state : State = g.B.Book.state c.self.inside.book.now in
-    rw (← c.self.view_is) (c.has_voucher.ensures ∙ ap (λ (l : Lists). has_voucher (record { lists = l; next = state.next; moment = state.moment }) c.args.count) (sym c.self.invariant.0))

@@ -1,0 +1,14 @@
+use Rattle.std.proofs.Common.{◌≡◌, ℕ, take, count_by}
+use Rattle.std.specs.Option.{option_copied}
+use Rattle.bo_catalogue.specs.declared.rows.Quota.{Quota}
+use Rattle.bo_catalogue.specs.Member.{is_in}
+use Rattle.bo_lists.specs.Usage.{is_covered_by, blocks_if}
+use Rattle.bo_overlay.specs.Logs.{rows_of}
+use Rattle.bo_shares.proofs.orders.spots_of.Given as goal
+
+-- the purchases that were reached have their places
+abbrev pub invariant-loop-purchase : goal.invariant-loop-purchase
+invariant-loop-purchase g l = record {
+  here : (q : Quota) → count_by (λ s. is_in q s.product) l.spots.items ≡ count_by (λ t. is_in q t.product) (take l.purchase-index l.purchases);
+  covered : (q : Quota) → (at : ℕ) → count_by (λ s. blocks_if at q (option_copied s.voucher)) l.spots.items ≡ count_by (λ t. is_covered_by (rows_of l.overlay) at q t.voucher) (take l.purchase-index l.purchases);
+}

@@ -1,0 +1,18 @@
+-- Amounts that come and go: what uses a quota, and how often a voucher is used.
+use Rattle.std.specs.Prelude.{◌+◌}
+use Rattle.bo_lists.specs.declared.rows.Usage.{Usage}
+use Rattle.bo_tally.specs.declared.amount.Uses.{Uses}
+
+abbrev pub nothing : Usage
+nothing = record { paid = 0; pending = 0; blocked = 0; carts = 0; waiting = 0 }
+
+-- both together, count by count
+abbrev pub plus : Usage → Usage → Usage
+plus a b = record { paid = a.paid + b.paid; pending = a.pending + b.pending; blocked = a.blocked + b.blocked; carts = a.carts + b.carts; waiting = a.waiting + b.waiting }
+
+abbrev pub no_uses : Uses
+no_uses = record { used = 0; held = 0 }
+
+-- both together
+abbrev pub plus_uses : Uses → Uses → Uses
+plus_uses a b = record { used = a.used + b.used; held = a.held + b.held }
