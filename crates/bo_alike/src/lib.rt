@@ -1,4 +1,4 @@
-//! Rows of which no two are alike: codes of vouchers, secrets of order positions, nonces of check-ins.
+//! Are two vouchers' codes, two positions' secrets or two check-ins' nonces alike?
 #![tactic(auto)]
 
 mod codes;

@@ -14,10 +14,12 @@ use Rattle.bo_columns.specs.declared.rows.ListRow.{ListRow}
 use Rattle.bo_columns.specs.declared.rows.QuotaItem.{QuotaItem}
 use Rattle.bo_columns.specs.declared.rows.QuotaRow.{QuotaRow}
 use Rattle.bo_columns.specs.declared.rows.QuotaVariation.{QuotaVariation}
-use Rattle.bo_columns.specs.Changes.{head_of_quota, head_of_list}
+use Rattle.bo_columns.specs.Changes.{head_of_quota, head_of_voucher, head_of_position, head_of_list}
 use Rattle.bo_columns.specs.declared.table_rows.TableRows.{TableRows}
 use Rattle.bo_stand.specs.Links.{Link, all_links}
+use Rattle.bo_stand.specs.Rows.{voucher_of, position_of}
 use Rattle.bo_stand.specs.Stands.{AreRowsOf}
+use Rattle.bo_stand.proofs.Told.{map_back}
 use Rattle.bo_arrange.specs.Arranged.{item_link, variation_link, list_link, quota_of, list_of, rows_in, told_by}
 use Rattle.bo_arrange.specs.Members.{told, members_of, links_of}
 use Rattle.bo_arrange.proofs.Offices.{quota_links, variation_links, list_links}
@@ -132,10 +134,10 @@ all_whole tables quotas lists q l =
             quotas = subst (IsPermutation rows.quotas) (sym (quota_heads rows.quota_items rows.quota_variations rows.quotas)) (IsPermutation-refl rows.quotas);
             quota_items = here.0;
             quota_variations = here.1;
-            vouchers = IsPermutation-refl rows.vouchers;
+            vouchers = subst (IsPermutation rows.vouchers) (sym (map_back voucher_of head_of_voucher (λ h. refl) rows.vouchers)) (IsPermutation-refl rows.vouchers);
             carts = IsPermutation-refl rows.carts;
             orders = IsPermutation-refl rows.orders;
-            positions = IsPermutation-refl rows.positions;
+            positions = subst (IsPermutation rows.positions) (sym (map_back position_of head_of_position (λ h. refl) rows.positions)) (IsPermutation-refl rows.positions);
             waiting = IsPermutation-refl rows.waiting;
             checkin_lists = subst (IsPermutation rows.checkin_lists) (sym (list_heads rows.list_items rows.checkin_lists)) (IsPermutation-refl rows.checkin_lists);
             list_items = subst (ListsWhole tables) l w.1;

@@ -1,6 +1,7 @@
 -- Rows in order are arranged as the box office whose rows they are.
 use Rattle.std.proofs.Common.{◌≡◌, ℕ, ◌+◌, ◌≤◌, List, [], ◌∷◌, ◌++◌, map, refl, ap, ap₂, subst, ◌∙◌}
 use Rattle.std.specs.List.{AllByRecursion}
+use Rattle.std.specs.List.Sorted.{IsPermutation}
 use Rattle.bo_sorted.specs.Tables.{InOrderFrom, AreInOrder}
 use Rattle.bo_sorted.proofs.RisingLemmas.{rising_in_order}
 use Rattle.bo_catalogue.specs.declared.rows.Quota.{Quota}
@@ -8,12 +9,12 @@ use Rattle.bo_lists.specs.declared.rows.CheckinList.{CheckinList}
 use Rattle.bo_lists.specs.Lists.{Lists}
 use Rattle.bo_columns.specs.declared.rows.QuotaRow.{QuotaRow}
 use Rattle.bo_columns.specs.declared.rows.ListRow.{ListRow}
-use Rattle.bo_columns.specs.Changes.{head_of_quota, head_of_list}
+use Rattle.bo_columns.specs.Changes.{head_of_quota, head_of_voucher, head_of_position, head_of_list}
 use Rattle.bo_stand.specs.Links.{Link, all_links}
-use Rattle.bo_stand.specs.Rows.{OfficeRows}
+use Rattle.bo_stand.specs.Rows.{OfficeRows, voucher_of, position_of}
 use Rattle.bo_stand.specs.Stands.{AreRowsOf, AreOrdered, MembersRise, ItemsRise}
 use Rattle.bo_stand.proofs.Order.{same_order}
-use Rattle.bo_stand.proofs.Told.{all_map, order_of_parts}
+use Rattle.bo_stand.proofs.Told.{all_map, order_of_parts, map_back}
 use Rattle.bo_arrange.specs.Arranged.{quota_of, list_of, told_by}
 use Rattle.bo_arrange.specs.Members.{told, members_of, links_to, links_of}
 use Rattle.bo_arrange.proofs.Parts.{members_back}
@@ -90,15 +91,22 @@ lists_told lists rows o p h =
     (order_of_parts (λ (l : CheckinList). l.id) head_of_list (λ (r : ListRow). r.id) (λ l. refl) 0 ls o.ids.checkin_lists) h.checkin_lists in
     ap (map (list_of i)) heads ∙ lists_back i ls (members_back (λ (l : CheckinList). l.id) (λ (l : CheckinList). l.limit_products) ls i o.ids.checkin_lists o.limits h.list_items)
 
+-- rows in order of which each is part of one that it tells
+wholes_told : {T U : Type 0} (key : T → ℕ) (part : T → U) (of : U → ℕ) → ((r : T) → of (part r) ≡ key r) → (whole : U → T) → ((u : U) → key (whole u) ≡ of u) → ((r : T) → whole (part r) ≡ r) → (xs : List U) (ys : List T) → AreInOrder key (map whole xs) → AreInOrder key ys
+    → IsPermutation xs (map part ys) → map whole xs ≡ ys
+wholes_told key part of is whole also back xs ys h k same =
+    let parts = same_order of xs (map part ys) (order_in_parts of whole key also 0 xs h) (order_of_parts key part of is 0 ys k) same in
+    ap (map whole) parts ∙ map_back part whole back ys
+
 pub office_told : (lists : Lists) (rows : OfficeRows) → AreOrdered lists → AreOrdered (told_by rows) → AreRowsOf lists rows → told_by rows ≡ lists
 office_told lists rows o p h =
     let items = same_order (λ r. r.id) rows.items lists.catalogue.items p.ids.items o.ids.items h.items in
     let variations = same_order (λ r. r.id) rows.variations lists.catalogue.variations p.ids.variations o.ids.variations h.variations in
     let quotas = quotas_told lists rows o p h in
-    let vouchers = same_order (λ r. r.id) rows.vouchers lists.vouchers p.ids.vouchers o.ids.vouchers h.vouchers in
+    let vouchers = wholes_told (λ v. v.id) head_of_voucher (λ w. w.id) (λ v. refl) voucher_of (λ w. refl) (λ v. refl) rows.vouchers lists.vouchers p.ids.vouchers o.ids.vouchers h.vouchers in
     let carts = same_order (λ r. r.id) rows.carts lists.carts p.ids.carts o.ids.carts h.carts in
     let orders = same_order (λ r. r.id) rows.orders lists.orders p.ids.orders o.ids.orders h.orders in
-    let positions = same_order (λ r. r.id) rows.positions lists.positions p.ids.positions o.ids.positions h.positions in
+    let positions = wholes_told (λ p. p.id) head_of_position (λ w. w.id) (λ p. refl) position_of (λ w. refl) (λ p. refl) rows.positions lists.positions p.ids.positions o.ids.positions h.positions in
     let waiting = same_order (λ r. r.id) rows.waiting lists.waiting p.ids.waiting o.ids.waiting h.waiting in
     let checkin_lists = lists_told lists rows o p h in
     let checkins = same_order (λ r. r.id) rows.checkins lists.checkins p.ids.checkins o.ids.checkins h.checkins in

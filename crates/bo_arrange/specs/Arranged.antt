@@ -15,7 +15,7 @@ use Rattle.bo_columns.specs.declared.rows.VoucherRow.{VoucherRow}
 use Rattle.bo_columns.specs.declared.table_rows.TableRows.{TableRows}
 use Rattle.bo_rules.specs.Rules.{File}
 use Rattle.bo_stand.specs.Links.{Link}
-use Rattle.bo_stand.specs.Rows.{OfficeRows}
+use Rattle.bo_stand.specs.Rows.{OfficeRows, voucher_of, position_of, usage_in}
 use Rattle.bo_stand.specs.Stands.{AreOrdered}
 use Rattle.bo_arrange.specs.Members.{members_of}
 
@@ -65,10 +65,10 @@ list_of items row = record { id = row.id; name = row.name; all_products = row.al
 abbrev pub told_by : OfficeRows → Lists
 told_by rows = record {
   catalogue = record { items = rows.items; variations = rows.variations; quotas = map (quota_of rows.quota_items rows.quota_variations) rows.quotas };
-  vouchers = rows.vouchers;
+  vouchers = map voucher_of rows.vouchers;
   carts = rows.carts;
   orders = rows.orders;
-  positions = rows.positions;
+  positions = map position_of rows.positions;
   waiting = rows.waiting;
   checkin_lists = map (list_of rows.list_items) rows.checkin_lists;
   checkins = rows.checkins;
@@ -80,7 +80,7 @@ arranged shop tables = record {
   organizer = shop.organizer;
   event = shop.event;
   state = record { lists = told_by (rows_in tables); next = shop.next; moment = shop.moment };
-  used = tables.others.counts.items;
+  used = map usage_in tables.others.counts.items;
   redeemed = map count_in tables.sales.vouchers.items;
 }
 

@@ -1,22 +1,22 @@
 //! The rows of a file, arranged as those of a box office.
 
-ghost use Rattle.std.specs.Prelude.{◌≡◌, ◌↔◌, IfOk, IfErr, OnOk, IsTrue, map};
-ghost use Rattle.bo_sorted.specs.Tables.{AreInOrder};
+ghost use Rattle.std.specs.Prelude.{◌≡◌, ◌↔◌, IfOk, IfErr, OnOk, IsTrue};
 ghost use Rattle.bo_rules.specs.Told.{file_of, lists_of};
 ghost use Rattle.bo_stand.specs.Stands.{AreRowsOf};
 ghost use Rattle.bo_arrange.specs.Arranged.{arranged, rows_in, told_by, IsInOrder, OthersRise};
 ghost use Rattle.bo_arrange.specs.declared.error.ArrangeError.TheVariants.{Order};
 
+use crate::counts::{counts_rise, used_in};
 use crate::error::ArrangeError;
 use crate::lists::doors_in;
 use crate::members::both;
+use crate::positions::positions_in;
 use crate::quotas::catalogue_in;
 use crate::vouchers::{redeemed_in, vouchers_in};
 use bo_alike::rising::rises;
 use bo_columns::{ShopRow, TableRows};
-use bo_lists::QuotaCount;
 use bo_rules::FileRows;
-use std::alloc::{AllocError, Global};
+use std::alloc::Global;
 
 /// The rows of a file, with members beside the rows that they are of and counts beside vouchers. They are whole where each link
 /// tells a member.
@@ -24,21 +24,6 @@ use std::alloc::{AllocError, Global};
 pub struct Arranged {
     pub rows: FileRows,
     pub whole: bool,
-}
-
-// The quotas of counts.
-fn quotas_counted(alloc: Global, counts: &[QuotaCount]) -> Result<Vec<u64>, AllocError>
-    ensures { IfOk result (λ ids. ids.items ≡ map (λ c. c.quota) counts.now) }
-{
-    counts.iter().map(|count| count.quota).collect(alloc)
-}
-
-// Whether the quotas of counts rise.
-fn counts_rise(alloc: Global, counts: &[QuotaCount]) -> Result<bool, AllocError>
-    ensures { IfOk result (λ told. IsTrue told ↔ AreInOrder (λ c. c.quota) counts.now) }
-{
-    let ids = quotas_counted(alloc, counts)?;
-    Ok(rises(ids.as_slice()))
 }
 
 // Whether ids rise in each table but those of quotas and check-in lists.
@@ -85,11 +70,11 @@ pub fn arrange(alloc: Global, shop: &ShopRow, tables: TableRows) -> Result<Arran
         vouchers: vouchers_in(alloc, sales.vouchers)?,
         carts: sales.carts,
         orders: sales.orders,
-        positions: sales.positions,
+        positions: positions_in(alloc, sales.positions)?,
         waiting: sales.waiting,
         checkin_lists: doors.lists,
         checkins: doors.checkins,
-        used: others.counts,
+        used: used_in(alloc, others.counts.as_slice())?,
         redeemed,
     };
     let counted = counts_rise(alloc, rows.used.as_slice())?;

@@ -1,12 +1,16 @@
-//! What was read of a file is arranged: members are put beside the rows that they are of, and counts beside vouchers.
+//! Which box office do the rows of a file make?
+//!
+//! Members are put beside the rows that they are of, and counts beside vouchers.
 #![tactic(auto)]
 
 pub mod arranging;
+pub mod counts;
 pub mod error;
 pub mod laws;
 pub mod links;
 pub mod lists;
 pub mod members;
+pub mod positions;
 pub mod quotas;
 pub mod vouchers;
 

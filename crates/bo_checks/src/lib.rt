@@ -1,4 +1,4 @@
-//! The rules of a file, tested: the least one that its rows break.
+//! Which rule do the rows of a file break first?
 #![tactic(auto)]
 
 mod counters;

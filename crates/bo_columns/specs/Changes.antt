@@ -12,12 +12,16 @@ use Rattle.bo_columns.specs.declared.rows.QuotaVariation.{QuotaVariation}
 use Rattle.bo_lists.specs.declared.rows.CartPos.{CartPos}
 use Rattle.bo_lists.specs.declared.rows.Order.{Order}
 use Rattle.bo_lists.specs.declared.rows.OrderPos.{OrderPos}
+use Rattle.bo_columns.specs.declared.rows.PositionRow.{PositionRow}
+use Rattle.bo_lists.specs.declared.rows.Voucher.{Voucher}
+use Rattle.bo_columns.specs.declared.rows.VoucherHead.{VoucherHead}
 use Rattle.bo_lists.specs.declared.rows.Waiting.{Waiting}
 use Rattle.bo_columns.specs.declared.rows.ListRow.{ListRow}
 use Rattle.bo_lists.specs.declared.rows.CheckinList.{CheckinList}
 use Rattle.bo_columns.specs.declared.rows.ListItem.{ListItem}
 use Rattle.bo_lists.specs.declared.rows.Checkin.{Checkin}
 use Rattle.bo_lists.specs.declared.count_rows.QuotaCount.{QuotaCount}
+use Rattle.bo_columns.specs.declared.rows.CountRow.{CountRow}
 use Rattle.bo_columns.specs.declared.rows.Token.{Token}
 use Rattle.bo_columns.specs.declared.rows.KeptRow.{KeptRow}
 use Rattle.bo_schema.specs.Tables.{schema}
@@ -86,6 +90,24 @@ with_quota_variation w t = record t { quota_variations = w ∷ t.quota_variation
 abbrev pub without_quota_variation : ℕ → Tables → Tables
 without_quota_variation id t = record t { quota_variations = filter (λ r. not (r.rowid == id)) t.quota_variations }
 
+-- a voucher as its row has it
+abbrev pub head_of_voucher : Voucher → VoucherHead
+head_of_voucher w = record {
+  id = w.id;
+  code = w.code;
+  max_usages = w.max_usages;
+  valid_until = w.valid_until;
+  block_quota = w.block_quota;
+  allow_ignore_quota = w.allow_ignore_quota;
+  price_mode = w.price_mode;
+  value = w.value;
+  item = w.item;
+  variation = w.variation;
+  quota = w.quota;
+  tag = w.tag;
+  comment = w.comment;
+}
+
 abbrev pub with_cart : CartPos → Tables → Tables
 with_cart w t = record t { carts = w ∷ t.carts }
 
@@ -98,8 +120,12 @@ with_order w t = record t { orders = w ∷ t.orders }
 abbrev pub without_order : ℕ → Tables → Tables
 without_order id t = record t { orders = filter (λ r. not (r.id == id)) t.orders }
 
+-- an order position as its row has it
+abbrev pub head_of_position : OrderPos → PositionRow
+head_of_position w = record { id = w.id; order = w.order; positionid = w.positionid; product = w.product; price = w.price; voucher = w.voucher; secret = w.secret }
+
 abbrev pub with_position : OrderPos → Tables → Tables
-with_position w t = record t { positions = w ∷ t.positions }
+with_position w t = record t { positions = head_of_position w ∷ t.positions }
 
 abbrev pub without_position : ℕ → Tables → Tables
 without_position id t = record t { positions = filter (λ r. not (r.id == id)) t.positions }
@@ -132,8 +158,12 @@ with_checkin w t = record t { checkins = w ∷ t.checkins }
 abbrev pub without_checkin : ℕ → Tables → Tables
 without_checkin id t = record t { checkins = filter (λ r. not (r.id == id)) t.checkins }
 
+-- a quota's usage as its row has it
+abbrev pub head_of_count : QuotaCount → CountRow
+head_of_count w = record { quota = w.quota; paid = w.usage.paid; pending = w.usage.pending; blocked = w.usage.blocked; carts = w.usage.carts; waiting = w.usage.waiting }
+
 abbrev pub with_count : QuotaCount → Tables → Tables
-with_count w t = record t { counts = w ∷ t.counts }
+with_count w t = record t { counts = head_of_count w ∷ t.counts }
 
 abbrev pub without_count : ℕ → Tables → Tables
 without_count id t = record t { counts = filter (λ r. not (r.quota == id)) t.counts }

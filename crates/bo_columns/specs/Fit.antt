@@ -10,7 +10,7 @@ use Rattle.bo_catalogue.specs.declared.rows.Item.{Item}
 use Rattle.bo_catalogue.specs.declared.rows.Variation.{Variation}
 use Rattle.bo_lists.specs.declared.rows.CartPos.{CartPos}
 use Rattle.bo_lists.specs.declared.rows.Order.{Order}
-use Rattle.bo_lists.specs.declared.rows.OrderPos.{OrderPos}
+use Rattle.bo_columns.specs.declared.rows.PositionRow.{PositionRow}
 use Rattle.bo_lists.specs.declared.rows.Waiting.{Waiting}
 use Rattle.bo_lists.specs.declared.rows.Checkin.{Checkin}
 use Rattle.bo_columns.specs.declared.rows.ShopRow.{ShopRow}
@@ -71,7 +71,7 @@ pub record IsFitOrder (w : Order) : Type 0 where
   pub made_at : IsMoment w.made_at
   pub expires : IsMoment w.expires
 
-pub record IsFitPosition (w : OrderPos) : Type 0 where
+pub record IsFitPosition (w : PositionRow) : Type 0 where
   pub positionid : w.positionid < 2 ^ 32
   pub price : IsMoney w.price
   pub secret : IsStored w.secret

@@ -12,12 +12,12 @@ use Rattle.bo_columns.specs.declared.rows.QuotaVariation.{QuotaVariation}
 use Rattle.bo_columns.specs.declared.rows.VoucherRow.{VoucherRow}
 use Rattle.bo_lists.specs.declared.rows.CartPos.{CartPos}
 use Rattle.bo_lists.specs.declared.rows.Order.{Order}
-use Rattle.bo_lists.specs.declared.rows.OrderPos.{OrderPos}
+use Rattle.bo_columns.specs.declared.rows.PositionRow.{PositionRow}
 use Rattle.bo_lists.specs.declared.rows.Waiting.{Waiting}
 use Rattle.bo_columns.specs.declared.rows.ListRow.{ListRow}
 use Rattle.bo_columns.specs.declared.rows.ListItem.{ListItem}
 use Rattle.bo_lists.specs.declared.rows.Checkin.{Checkin}
-use Rattle.bo_lists.specs.declared.count_rows.QuotaCount.{QuotaCount}
+use Rattle.bo_columns.specs.declared.rows.CountRow.{CountRow}
 use Rattle.bo_columns.specs.declared.rows.Token.{Token}
 use Rattle.bo_columns.specs.declared.rows.KeptRow.{KeptRow}
 use Rattle.bo_columns.specs.Cells.{number, truth, mode, status, kind, methods}
@@ -59,7 +59,7 @@ abbrev pub order_row : Order → Row
 order_row w = number w.id ∷ or_null Text w.email ∷ status w.status ∷ number w.made_at ∷ number w.expires ∷ []
 
 -- the tickets of orders
-abbrev pub position_row : OrderPos → Row
+abbrev pub position_row : PositionRow → Row
 position_row w = number w.id ∷ number w.order ∷ number w.positionid ∷ number w.product.item ∷ or_null number w.product.variation ∷ number w.price ∷ or_null number w.voucher ∷ Text w.secret ∷ []
 
 -- the waiting list
@@ -79,8 +79,8 @@ abbrev pub checkin_row : Checkin → Row
 checkin_row w = number w.id ∷ number w.list ∷ number w.position ∷ kind w.kind ∷ number w.datetime ∷ or_null Text w.nonce ∷ []
 
 -- what uses each quota
-abbrev pub count_row : QuotaCount → Row
-count_row w = number w.quota ∷ number w.usage.paid ∷ number w.usage.pending ∷ number w.usage.blocked ∷ number w.usage.carts ∷ number w.usage.waiting ∷ []
+abbrev pub count_row : CountRow → Row
+count_row w = number w.quota ∷ number w.paid ∷ number w.pending ∷ number w.blocked ∷ number w.carts ∷ number w.waiting ∷ []
 
 -- the digests of tokens
 abbrev pub token_row : Token → Row

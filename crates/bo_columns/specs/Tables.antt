@@ -12,12 +12,12 @@ use Rattle.bo_columns.specs.declared.rows.QuotaVariation.{QuotaVariation}
 use Rattle.bo_columns.specs.declared.rows.VoucherRow.{VoucherRow}
 use Rattle.bo_lists.specs.declared.rows.CartPos.{CartPos}
 use Rattle.bo_lists.specs.declared.rows.Order.{Order}
-use Rattle.bo_lists.specs.declared.rows.OrderPos.{OrderPos}
+use Rattle.bo_columns.specs.declared.rows.PositionRow.{PositionRow}
 use Rattle.bo_lists.specs.declared.rows.Waiting.{Waiting}
 use Rattle.bo_columns.specs.declared.rows.ListRow.{ListRow}
 use Rattle.bo_columns.specs.declared.rows.ListItem.{ListItem}
 use Rattle.bo_lists.specs.declared.rows.Checkin.{Checkin}
-use Rattle.bo_lists.specs.declared.count_rows.QuotaCount.{QuotaCount}
+use Rattle.bo_columns.specs.declared.rows.CountRow.{CountRow}
 use Rattle.bo_columns.specs.declared.rows.Token.{Token}
 use Rattle.bo_columns.specs.declared.rows.KeptRow.{KeptRow}
 use Rattle.bo_schema.specs.Tables.{schema}
@@ -36,12 +36,12 @@ pub record Tables : Type 0 where
   pub vouchers : List VoucherRow
   pub carts : List CartPos
   pub orders : List Order
-  pub positions : List OrderPos
+  pub positions : List PositionRow
   pub waiting : List Waiting
   pub checkin_lists : List ListRow
   pub list_items : List ListItem
   pub checkins : List Checkin
-  pub counts : List QuotaCount
+  pub counts : List CountRow
   pub tokens : List Token
   pub kept : List KeptRow
 

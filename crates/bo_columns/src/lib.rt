@@ -1,4 +1,4 @@
-//! What the columns of the file hold, and the rows of its tables.
+//! How is each row of the house written as values in the file, and read back?
 #![tactic(auto)]
 
 pub mod bytes;
@@ -13,6 +13,7 @@ pub mod words;
 pub use column::Column;
 pub use members::{Member, Numbered};
 pub use rows::{
-    KeptRow, ListItem, ListRow, QuotaItem, QuotaRow, QuotaVariation, ShopRow, Token, VoucherRow,
+    CountRow, KeptRow, ListItem, ListRow, PositionRow, QuotaItem, QuotaRow, QuotaVariation,
+    ShopRow, Token, VoucherHead, VoucherRow,
 };
 pub use table_rows::{CatalogueRows, DoorRows, OtherRows, SaleRows, TableRows};

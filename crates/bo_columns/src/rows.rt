@@ -1,8 +1,9 @@
 //! Rows of the file that are no rows of the box office.
 
-use bo_base::{Moment, Size, Slug, Text};
+use bo_base::{Cents, Moment, PriceMode, Size, Slug, Text, Uses};
+use bo_catalogue::Product;
 use bo_kept::Kept;
-use bo_lists::{NextIds, Voucher};
+use bo_lists::NextIds;
 
 /// The row of the shop itself: the version of its tables, whose it is, the moment up to which it has got, and the ids that
 /// the next rows get.
@@ -40,11 +41,53 @@ pub struct QuotaVariation {
     pub variation: u64,
 }
 
+/// What the table `quota_count` has of a quota's usage, in places.
+#[derive(Clone, Copy, PartialEq, Eq)]
+pub struct CountRow {
+    pub quota: u64,
+    pub paid: u64,
+    pub pending: u64,
+    pub blocked: u64,
+    pub carts: u64,
+    pub waiting: u64,
+}
+
+/// What the table `vouchers` has of a voucher. Its `value` is in cents, or in hundredths of a percent where the mode is
+/// percent.
+#[derive(Drop)]
+pub struct VoucherHead {
+    pub id: u64,
+    pub code: Text,
+    pub max_usages: Uses,
+    pub valid_until: Option<Moment>,
+    pub block_quota: bool,
+    pub allow_ignore_quota: bool,
+    pub price_mode: PriceMode,
+    pub value: Option<Cents>,
+    pub item: Option<u64>,
+    pub variation: Option<u64>,
+    pub quota: Option<u64>,
+    pub tag: Text,
+    pub comment: Text,
+}
+
 /// A voucher, and how often it is redeemed.
 #[derive(Drop)]
 pub struct VoucherRow {
-    pub voucher: Voucher,
+    pub voucher: VoucherHead,
     pub redeemed: u64,
+}
+
+/// What the table `order_positions` has of an order position.
+#[derive(Drop)]
+pub struct PositionRow {
+    pub id: u64,
+    pub order: u64,
+    pub positionid: u32,
+    pub product: Product,
+    pub price: Cents,
+    pub voucher: Option<u64>,
+    pub secret: Text,
 }
 
 /// A check-in list without its items.

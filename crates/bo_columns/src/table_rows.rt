@@ -1,10 +1,11 @@
 //! The rows of all tables together.
 
 use crate::rows::{
-    KeptRow, ListItem, ListRow, QuotaItem, QuotaRow, QuotaVariation, Token, VoucherRow,
+    CountRow, KeptRow, ListItem, ListRow, PositionRow, QuotaItem, QuotaRow, QuotaVariation, Token,
+    VoucherRow,
 };
 use bo_catalogue::{Item, Variation};
-use bo_lists::{CartPos, Checkin, Order, OrderPos, QuotaCount, Waiting};
+use bo_lists::{CartPos, Checkin, Order, Waiting};
 
 /// What is for sale, and the quotas.
 #[derive(Drop)]
@@ -22,7 +23,7 @@ pub struct SaleRows {
     pub vouchers: Vec<VoucherRow>,
     pub carts: Vec<CartPos>,
     pub orders: Vec<Order>,
-    pub positions: Vec<OrderPos>,
+    pub positions: Vec<PositionRow>,
     pub waiting: Vec<Waiting>,
 }
 
@@ -37,7 +38,7 @@ pub struct DoorRows {
 /// What stands beside the office.
 #[derive(Drop)]
 pub struct OtherRows {
-    pub counts: Vec<QuotaCount>,
+    pub counts: Vec<CountRow>,
     pub tokens: Vec<Token>,
     pub kept: Vec<KeptRow>,
 }

@@ -11,7 +11,7 @@ use Rattle.bo_columns.specs.Tables.{Tables}
 use Rattle.bo_typed.specs.Typed.{IsTypedItem, IsTypedVariation, IsTypedVoucher, IsTypedCart, IsTypedOrder, IsTypedPosition, IsTypedWaiting, IsTypedCheckin, AreTyped, AreBelowNext, IsTypedShop}
 use Rattle.bo_opens.specs.declared.file.FileTables.{FileTables}
 use Rattle.bo_opens.specs.Causes.{IsFitFile}
-use Rattle.bo_opens.specs.Lawful.{AreFit}
+use Rattle.bo_opens.specs.Lawful.{AreFitAt}
 use Rattle.bo_opens.specs.Read.{tables_of}
 use Rattle.bo_opens.proofs.FitLemmas.{fit_read}
 
@@ -23,7 +23,7 @@ some_utf8 : (o : Option (List ℕ)) → IfSome o IsStored → IfSome o IsUtf8
 some_utf8 None h = tt
 some_utf8 (Some t) h = h.utf8
 
-fit_typed : (t : Tables) → AreFit t → AreTyped t
+pub fit_typed : {own : ℕ} (t : Tables) → AreFitAt own t → AreTyped t
 fit_typed t fit = record {
   items = each IsFitItem IsTypedItem (λ w h. h.name.utf8) t.items fit.items;
   variations = each IsFitVariation IsTypedVariation (λ w h. h.name.utf8) t.variations fit.variations;

@@ -8,3 +8,4 @@ pub mod Again
 pub mod Damage
 pub mod Tokens
 pub mod Upgraded
+pub mod OfVersion

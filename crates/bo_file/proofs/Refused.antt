@@ -9,11 +9,13 @@ use Rattle.bo_schema.specs.Tables.{schema}
 use Rattle.bo_lists.specs.Lists.{State}
 use Rattle.bo_columns.specs.declared.rows.ShopRow.{ShopRow}
 use Rattle.bo_columns.specs.declared.rows.VoucherRow.{VoucherRow}
+use Rattle.bo_columns.specs.Changes.{head_of_count}
 use Rattle.bo_columns.specs.Tables.{Tables, Holds}
 use Rattle.bo_stand.specs.Free.{IsFree}
-use Rattle.bo_stand.specs.Rows.{rows_of, redeemed_in}
+use Rattle.bo_stand.specs.Rows.{rows_of, redeemed_in, usage_in}
 use Rattle.bo_stand.specs.Stands.{AreRowsOf, AreSameRows, Stand}
 use Rattle.bo_stand.proofs.Follow.{rows_along}
+use Rattle.bo_stand.proofs.Told.{map_back}
 use Rattle.bo_rules.specs.Rules.{File, IsCounted}
 use Rattle.bo_opens.specs.declared.file.FileTables.{FileTables}
 use Rattle.bo_columns.specs.declared.table_rows.TableRows.{TableRows}
@@ -51,7 +53,7 @@ stand_read t read of order whole counted = record {
   next = refl;
   rows = rows_along (told_by (rows_in read.tables)) (rows_of t) (rows_in read.tables) (same_rows t read.tables of.tables) whole;
   ordered = order.lists;
-  used = subst (IsPermutation t.counts) counted.used of.tables.others.counts;
+  used = subst (IsPermutation t.counts) (sym (map_back usage_in head_of_count (λ w. refl) read.tables.others.counts.items) ∙ ap (map head_of_count) counted.used) of.tables.others.counts;
   redeemed = subst (IsPermutation (redeemed_in t)) counted.redeemed (IsPermutation-map count_in _ _ of.tables.sales.vouchers);
   kept = IsPermutation-refl _;
 }

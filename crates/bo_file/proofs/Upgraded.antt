@@ -1,9 +1,9 @@
 -- A file that was brought to this version is opened as the shop that it held.
-use Rattle.std.proofs.Common.{◌≡◌, ◌⊎◌, ℕ, List, map, inl, inr, refl, sym, ap, subst, ◌∙◌}
+use Rattle.std.proofs.Common.{◌≡◌, ◌≢◌, ◌⊎◌, ℕ, pos, List, map, inl, inr, refl, sym, ap, subst, ◌∙◌}
 use Rattle.sqlite_trees.specs.Tree.{Trees}
 use Rattle.sqlite.specs.Effect.{Database, IsDatabase}
 use Rattle.sqlite.specs.State.{State as Connected, IsLive, Survives}
-use Rattle.bo_schema.specs.Tables.{schema}
+use Rattle.bo_schema.specs.Tables.{schema, this_version}
 use Rattle.bo_schema.specs.Versions.{schema_of_version}
 use Rattle.bo_schema.specs.Whole.{MayBeWritten}
 use Rattle.bo_schema.proofs.WholeLemmas.{one_schema}
@@ -11,12 +11,16 @@ use Rattle.bo_lists.specs.Lists.{State}
 use Rattle.bo_kept.specs.declared.kept.Kept.{Kept}
 use Rattle.bo_columns.specs.declared.rows.ShopRow.{ShopRow}
 use Rattle.bo_columns.specs.Tables.{Tables, Holds}
-use Rattle.bo_opens.proofs.FitLemmas.{of_machine}
+use Rattle.bo_opens.specs.declared.error.OpenError.{OpenError}
+use Rattle.bo_opens.specs.declared.error.OpenError.TheVariants.{Memory, NotAShop, Version, Damaged, Store}
+use Rattle.bo_opens.specs.Lawful.{IsOfMachine}
+use Rattle.bo_opens.proofs.FitLemmas.{of_machine, told_as, unreadable}
 use Rattle.bo_opens.proofs.LimitLemmas.{sound_fits}
 use Rattle.bo_tables.specs.Begun.{IsUpgraded, of_this_version, with_head}
 use Rattle.bo_tables.specs.Shops.{Tells, house_of_rows}
 use Rattle.bo_tables.proofs.Upgrades.{upgraded_stands}
 use Rattle.bo_file.specs.Found.{IsFound}
+use Rattle.bo_file.specs.Opened.{IsReason}
 use Rattle.bo_file.specs.Upgraded.{HoldsShopAt, IsOpenedAsBefore}
 use Rattle.bo_file.proofs.Least.{clear}
 use Rattle.bo_file.proofs.Tokens.{known_as}
@@ -44,6 +48,15 @@ module _ (from : ℕ) (head : ShopRow) (t : Tables) (s : State) (answers : List 
 
   pub upgraded_opens : (after : Database) → IsUpgraded row from old.now after → IsOpenedAsBefore head t s answers after opened
   upgraded_opens after h = as_before after h.known (h.holds t its.held)
+
+  -- as it is it isn't opened: its version is told, unless memory is refused or the store fails
+  pub told_as_it_is : (head.version ≢ this_version) → (error : OpenError) → IsReason old.now error → (error ≡ Version (pos head.version)) ⊎ IsOfMachine error
+  told_as_it_is other Memory h = inr tt
+  told_as_it_is other NotAShop h = told_as from t old.now its.known its.held head its.stand.shop_is other NotAShop h
+  told_as_it_is other (Version version) h = told_as from t old.now its.known its.held head its.stand.shop_is other (Version version) h
+  told_as_it_is other (Damaged rule) (inl h) = told_as from t old.now its.known its.held head its.stand.shop_is other (Damaged rule) h
+  told_as_it_is other (Damaged rule) (inr h) = absurd (unreadable from t old.now its.known its.held head its.stand.shop_is other h.0)
+  told_as_it_is other Store h = inr tt
 
   -- what may have been written is found as what it was turned into
   pub found_upgraded : (fresh : Connected) → IsDatabase fresh.now → MayBeWritten (schema_of_version from) (λ (_ : Unit {0}). IsUpgraded row from) old fresh.now.trees → IsOpenedAsBefore head t s answers fresh.now opened

@@ -1,4 +1,4 @@
--- What is found after a crash.
+-- What a new connection shows after a crash.
 use Rattle.sqlite.specs.State.{State as Connected, HasCleanDisk}
 use Rattle.bo_opens.specs.Rests.{IsOpenAt}
 

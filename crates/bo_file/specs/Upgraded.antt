@@ -29,6 +29,10 @@ pub record HoldsShopAt (version : ℕ) (head : ShopRow) (t : Tables) (s : State)
   pub typed : IsTypedShop (of_this_version head) t
   pub sound : IsSound s
 
+-- some tables of it, with the answers that stand in them
+abbrev pub HoldsAShopAt : ℕ → ShopRow → State → Connected → Type 0
+HoldsAShopAt version head s c = (t : Tables) × HoldsShopAt version head t s (map (λ r. r.kept) t.kept) c
+
 -- The tables are declared as ours, and the file is refused for want of memory or because the store fails, and never with 60, 61 or 62.
 -- What it is opened as is that shop, of this version: its row, its box office, its answers, and its house with the numbers of its tokens.
 pub record IsOpenedAsBefore (head : ShopRow) (t : Tables) (s : State) (answers : List Kept) (db : Database) (opened : Connected) : Type 0 where

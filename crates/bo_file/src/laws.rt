@@ -1,20 +1,23 @@
 //! Laws of a shop's file.
 
-ghost use Rattle.std.specs.Prelude.{◌≡◌, ℕ, List, map};
+ghost use Rattle.std.specs.Prelude.{◌≡◌, ◌≢◌, ◌⊎◌, ℕ, pos, List, map};
 ghost use Rattle.sqlite.specs.Held.{state};
-ghost use Rattle.bo_schema.specs.Tables.{schema};
+ghost use Rattle.bo_schema.specs.Tables.{schema, this_version};
 ghost use Rattle.bo_lists.specs.Lists.{State, empty};
 ghost use Rattle.bo_sound.specs.Sound.{IsSound};
 ghost use Rattle.bo_kept.specs.declared.kept.Kept.{Kept};
 ghost use Rattle.bo_kept.specs.ShopView.{IsSame};
 ghost use Rattle.bo_columns.specs.declared.rows.ShopRow.{ShopRow};
+ghost use Rattle.bo_columns.specs.Tables.{Tables};
 ghost use Rattle.bo_rules.specs.declared.rule.Rule.{Rule};
 ghost use Rattle.bo_opens.specs.declared.error.OpenError.{OpenError};
+ghost use Rattle.bo_opens.specs.declared.error.OpenError.TheVariants.{Version};
 ghost use Rattle.bo_opens.specs.Rests.{IsAt};
 ghost use Rattle.bo_opens.specs.Lawful.{IsOfMachine};
 ghost use Rattle.bo_tables.specs.Shops.{Keeps};
 ghost use Rattle.bo_tables.specs.Made.{first_shop, IsMade};
 ghost use Rattle.bo_file.specs.Opened.{IsDamagedBy, IsReason, IsOpened};
+ghost use Rattle.bo_file.specs.Upgraded.{HoldsShopAt};
 
 use sqlite::{Alter, Connection};
 
@@ -46,4 +49,13 @@ pub fn what_is_made_is_opened<S: Alter>(
     let _ = blank;
     let _ = made;
     let _ = opened;
+}
+
+/// A file of whatever version that holds a shop of another version than this program's is refused with 61, which tells the shop's version,
+/// or for want of memory or because the store fails, and never with 60 or 62. So it is of one that wasn't upgraded yet.
+pub fn another_version_is_told<S: Alter>(held: &Connection<S>)
+    ensures { (from : ℕ) (head : ShopRow) (t : Tables) (s : State) (ks : List Kept) → HoldsShopAt from head t s ks (state S.Store held.now) → head.version ≢ this_version
+        → (error : OpenError) → IsReason (state S.Store held.now).now error → (error ≡ Version (pos head.version)) ⊎ IsOfMachine error }
+{
+    let _ = held;
 }

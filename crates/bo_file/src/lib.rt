@@ -1,9 +1,11 @@
-//! A shop's file is opened, and after a crash opened again, so that its history goes on: an office with the rows that stand in it, the
-//! shop's row, and the number of its next row.
+//! How is a shop's file opened, and opened again after a crash?
+//!
+//! An opened file gives an office with its rows, the shop's row, and the number of its next row; its history goes on.
 #![tactic(auto)]
 
 mod book;
 pub mod crashes;
+mod earlier;
 pub mod laws;
 pub mod opening;
 mod reopening;

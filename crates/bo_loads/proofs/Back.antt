@@ -22,12 +22,12 @@ use Rattle.bo_columns.specs.declared.rows.QuotaVariation.{QuotaVariation}
 use Rattle.bo_columns.specs.declared.rows.VoucherRow.{VoucherRow}
 use Rattle.bo_lists.specs.declared.rows.CartPos.{CartPos}
 use Rattle.bo_lists.specs.declared.rows.Order.{Order}
-use Rattle.bo_lists.specs.declared.rows.OrderPos.{OrderPos}
+use Rattle.bo_columns.specs.declared.rows.PositionRow.{PositionRow}
 use Rattle.bo_lists.specs.declared.rows.Waiting.{Waiting}
 use Rattle.bo_columns.specs.declared.rows.ListRow.{ListRow}
 use Rattle.bo_columns.specs.declared.rows.ListItem.{ListItem}
 use Rattle.bo_lists.specs.declared.rows.Checkin.{Checkin}
-use Rattle.bo_lists.specs.declared.count_rows.QuotaCount.{QuotaCount}
+use Rattle.bo_columns.specs.declared.rows.CountRow.{CountRow}
 use Rattle.bo_columns.specs.declared.rows.Token.{Token}
 use Rattle.bo_columns.specs.declared.rows.KeptRow.{KeptRow}
 use Rattle.bo_columns.specs.Cells.{number, truth, mode, status, kind, methods, methods_text}
@@ -200,10 +200,10 @@ order_in r = record { id = number_in (column r 0); email = maybe text_in (column
 pub order_back : (w : Order) → order_in (order_row w) ≡ w
 order_back w = rw (maybe_text w.email, status_back w.status)
 
-abbrev pub position_in : Row → OrderPos
+abbrev pub position_in : Row → PositionRow
 position_in r = record { id = number_in (column r 0); order = number_in (column r 1); positionid = number_in (column r 2); product = record { item = number_in (column r 3); variation = maybe number_in (column r 4) }; price = number_in (column r 5); voucher = maybe number_in (column r 6); secret = text_in (column r 7) }
 
-pub position_back : (w : OrderPos) → position_in (position_row w) ≡ w
+pub position_back : (w : PositionRow) → position_in (position_row w) ≡ w
 position_back w = rw (maybe_number w.product.variation, maybe_number w.voucher)
 
 abbrev pub waiting_in : Row → Waiting
@@ -230,10 +230,10 @@ checkin_in r = record { id = number_in (column r 0); list = number_in (column r 
 pub checkin_back : (w : Checkin) → checkin_in (checkin_row w) ≡ w
 checkin_back w = rw (kind_back w.kind, maybe_text w.nonce)
 
-abbrev pub count_in : Row → QuotaCount
-count_in r = record { quota = number_in (column r 0); usage = record { paid = number_in (column r 1); pending = number_in (column r 2); blocked = number_in (column r 3); carts = number_in (column r 4); waiting = number_in (column r 5) } }
+abbrev pub count_in : Row → CountRow
+count_in r = record { quota = number_in (column r 0); paid = number_in (column r 1); pending = number_in (column r 2); blocked = number_in (column r 3); carts = number_in (column r 4); waiting = number_in (column r 5) }
 
-pub count_back : (w : QuotaCount) → count_in (count_row w) ≡ w
+pub count_back : (w : CountRow) → count_in (count_row w) ≡ w
 count_back w = refl
 
 abbrev pub token_in : Row → Token

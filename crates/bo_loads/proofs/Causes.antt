@@ -28,7 +28,7 @@ use Rattle.bo_schema.specs.Tables.{schema}
 use Rattle.bo_schema.specs.Parts.{shown}
 use Rattle.bo_columns.specs.Unread.{IsUnread}
 use Rattle.bo_loads.specs.Damage.{IsDamaged, IsFor, HasMeaning, HasNoMeaning, IsForReading}
-use Rattle.bo_loads.specs.Select.{IsSelect}
+use Rattle.bo_loads.specs.Select.{IsSelectIn}
 use Rattle.bo_schema.proofs.Answered.{passes}
 use Rattle.bo_loads.proofs.Loads.{stands, selects}
 
@@ -110,7 +110,7 @@ failed old new sql params e D reads (inr h) = told (HasNoMeaning old.now.schema 
 -- ---- a table of a shop
 
 -- its SELECTs have a meaning
-pub lacks_none : (sql : List ℕ) (tree : ℕ) (test : List Term) → IsSelect sql tree test → (s : Schema) → s ≡ schema → HasNoMeaning s sql → ⊥
+pub lacks_none : {of : Schema} (sql : List ℕ) (tree : ℕ) (test : List Term) → IsSelectIn of sql tree test → (s : Schema) → s ≡ of → HasNoMeaning s sql → ⊥
 lacks_none sql tree test is s known none = let meant = stands sql tree test is in none meant.0 (ap (λ k. understood k sql) known ∙ meant.1)
 
 -- what passes a test stood there before
@@ -132,7 +132,7 @@ still_there show test (x ∷ xs) r h =
     ] h
 
 -- rows that are shown are some of those that stand, so one of these is damaged
-pub refuses : {T : Type 0} (as_row : T → Row) (fits : T → Type 0) (sql : List ℕ) (tree : ℕ) (test : List Term) → IsSelect sql tree test → (params : Row) (old new : State) → old.now.schema ≡ schema → (e : RowError)
+pub refuses : {T : Type 0} (as_row : T → Row) (fits : T → Type 0) {s : Schema} (sql : List ℕ) (tree : ℕ) (test : List Term) → IsSelectIn s sql tree test → (params : Row) (old new : State) → old.now.schema ≡ s → (e : RowError)
     → IsFor (HasNoMeaning old.now.schema sql) ((rows : List Row) × Shown sql params old new rows × IsDamaged as_row fits rows) e
     → IsFor ⊥ (IsDamaged as_row fits (map (shown schema tree) (old.now.trees tree))) e
 refuses as_row fits sql tree test is params old new known e h =

@@ -1,6 +1,7 @@
 -- What a SELECT of all columns of `quota_count` shows.
 use Rattle.std.proofs.Common.{◌≡◌, ◌∷◌, ℕ, List, [], codes, true, false, refl}
 use Rattle.sqlite_schema.specs.declared.command.Command.TheVariants.{Select}
+use Rattle.sqlite_schema.specs.declared.schema.Schema.{Schema}
 use Rattle.sqlite_resolve.specs.Compile.{first}
 use Rattle.sqlite_tied.specs.Compute.{everything}
 use Rattle.sqlite.specs.Listing.{understood, reads_listing}
@@ -8,9 +9,11 @@ use Rattle.bo_schema.specs.Tables.{schema}
 use Rattle.bo_schema.specs.Shapes.{AsksFor, over, plainly, id_order}
 use Rattle.sqlite_sql.specs.Term.{Term, col}
 use Rattle.bo_loads.specs.Texts.{counts_text}
-use Rattle.bo_loads.specs.Alone.{RunsAlone}
-use Rattle.bo_loads.specs.Select.{IsSelect}
+use Rattle.bo_loads.specs.Damage.{IsForReading}
+use Rattle.bo_loads.specs.Alone.{RunsAlone, RunsAloneIn, RunsAloneSince}
+use Rattle.bo_loads.specs.Select.{IsSelect, IsSelectIn, IsSelectSince}
 use Rattle.bo_loads.proofs.Queries.{is_query, query_reads}
+use Rattle.bo_loads.proofs.SinceLemmas.{since_first}
 
 abbrev pub select_text : List ℕ
 select_text = counts_text
@@ -26,9 +29,19 @@ asks : is_query (first select_text) ≡ true
 unfolding everything
 asks = refl
 
+pub reads_only : (s : Schema) → IsForReading s select_text
+reads_only = query_reads select_text asks
+
 pub alone_is : RunsAlone select_text
 unfolding understood everything
 alone_is = refl
 
 pub select_is : IsSelect select_text 21 []
-select_is = record { project = project; order = id_order; names = codes "quota_id" ∷ codes "paid" ∷ codes "pending" ∷ codes "blocked" ∷ codes "carts" ∷ codes "waiting" ∷ []; asks = select_reads.0; unlisted = select_reads.1; shows = λ params r. refl; reads = query_reads select_text asks }
+select_is = record { project = project; order = id_order; names = codes "quota_id" ∷ codes "paid" ∷ codes "pending" ∷ codes "blocked" ∷ codes "carts" ∷ codes "waiting" ∷ []; asks = select_reads.0; unlisted = select_reads.1; shows = λ params r. refl; reads = reads_only }
+
+-- so it is over the tables of each version
+pub select_since : IsSelectSince 1 select_text 21 []
+select_since = since_first (λ s. IsSelectIn s select_text 21 []) select_is
+
+pub alone_since : RunsAloneSince 1 select_text
+alone_since = since_first (λ s. RunsAloneIn s select_text) alone_is

@@ -21,3 +21,4 @@ pub mod TokensLemmas
 pub mod KeptLemmas
 pub mod Back
 pub mod LookupLemmas
+pub mod SinceLemmas

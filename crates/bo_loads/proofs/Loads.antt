@@ -8,6 +8,7 @@ use Rattle.sqlite_sql.specs.Term.{Term, eval_all}
 use Rattle.sqlite_schema.specs.declared.command.Command.{Command}
 use Rattle.sqlite_schema.specs.declared.command.Command.TheVariants.{Select}
 use Rattle.sqlite_schema.specs.declared.command.Returning.{Returning}
+use Rattle.sqlite_schema.specs.declared.schema.Schema.{Schema}
 use Rattle.sqlite_resolve.specs.declared.compiled.Compiled.{Compiled}
 use Rattle.sqlite_resolve.specs.declared.error.CompileError.{CompileError}
 use Rattle.sqlite.specs.Effect.{Database, IsDatabase, Reads}
@@ -24,7 +25,7 @@ use Rattle.bo_schema.proofs.Generic.{asked}
 use Rattle.bo_columns.specs.Tables.{Holds}
 use Rattle.bo_columns.specs.Changes.{IsInside, Changes}
 use Rattle.bo_loads.specs.Damage.{HasMeaning, IsForReading}
-use Rattle.bo_loads.specs.Select.{IsSelect}
+use Rattle.bo_loads.specs.Select.{IsSelectIn}
 
 -- ---- a row that is read column by column
 
@@ -49,8 +50,8 @@ has_meaning : (r : Result Compiled CompileError) (k : Command) → command_in r 
 has_meaning (Ok c) k h = (c, refl)
 has_meaning (Err e) k h = absurd (cc)
 
-pub stands : (sql : List ℕ) (tree : ℕ) (test : List Term) → IsSelect sql tree test → HasMeaning schema sql
-stands sql tree test is = has_meaning (understood schema sql) (Select (plainly (over tree test is.project is.order)) is.names) is.asks.0
+pub stands : {s : Schema} (sql : List ℕ) (tree : ℕ) (test : List Term) → IsSelectIn s sql tree test → HasMeaning s sql
+stands {s} sql tree test is = has_meaning (understood s sql) (Select (plainly (over tree test is.project is.order)) is.names) is.asks.0
 
 keep_all : (rows : List Row) → filter (passes [] []) rows ≡ rows
 keep_all [] = refl
@@ -61,25 +62,25 @@ map_same f g same [] = refl
 map_same f g same (r ∷ rows) = rw (same r, map_same f g same rows)
 
 -- what it reads of a database is what the table shows of the rows that pass
-shows_those : (sql : List ℕ) (tree : ℕ) (test : List Term) (is : IsSelect sql tree test) (db : Database) (params : Row) (rows : List Row)
+shows_those : {s : Schema} (sql : List ℕ) (tree : ℕ) (test : List Term) (is : IsSelectIn s sql tree test) (db : Database) (params : Row) (rows : List Row)
     → Reads (Select (plainly (over tree test is.project is.order)) is.names) db params rows → IsPermutation (map (shown schema tree) (filter (passes test params) (db.trees tree))) rows
 shows_those sql tree test is db params rows read =
     let left = filter (passes test params) (db.trees tree) in
     subst (λ l. IsPermutation l rows) (map_same (λ (r : Row). eval_all is.project (params ∷ r ∷ [])) (shown schema tree) (is.shows params) left) (answered db tree test is.project is.order params rows read)
 
 -- where there is no test, it is all that the table shows
-pub shows_all : (sql : List ℕ) (tree : ℕ) (is : IsSelect sql tree []) (db : Database) (rows : List Row) → Reads (Select (plainly (over tree [] is.project is.order)) is.names) db [] rows → IsPermutation rows (map (shown schema tree) (db.trees tree))
+pub shows_all : {s : Schema} (sql : List ℕ) (tree : ℕ) (is : IsSelectIn s sql tree []) (db : Database) (rows : List Row) → Reads (Select (plainly (over tree [] is.project is.order)) is.names) db [] rows → IsPermutation rows (map (shown schema tree) (db.trees tree))
 shows_all sql tree is db rows read =
     IsPermutation-sym _ _ (subst (λ l. IsPermutation (map (shown schema tree) l) rows) (keep_all (db.trees tree)) (shows_those sql tree [] is db [] rows read))
 
-pub command_is : (sql : List ℕ) (tree : ℕ) (test : List Term) (is : IsSelect sql tree test) → command_of (understood schema sql) ≡ Select (plainly (over tree test is.project is.order)) is.names
-command_is sql tree test is = asked (understood schema sql) _ is.asks.0
+pub command_is : {s : Schema} (sql : List ℕ) (tree : ℕ) (test : List Term) (is : IsSelectIn s sql tree test) → command_of (understood s sql) ≡ Select (plainly (over tree test is.project is.order)) is.names
+command_is {s} sql tree test is = asked (understood s sql) _ is.asks.0
 
-pub selects : (sql : List ℕ) (tree : ℕ) (test : List Term) → IsSelect sql tree test → (params : Row) (old new : State) → old.now.schema ≡ schema → (rows : List Row) → Shown sql params old new rows
+pub selects : {s : Schema} (sql : List ℕ) (tree : ℕ) (test : List Term) → IsSelectIn s sql tree test → (params : Row) (old new : State) → old.now.schema ≡ s → (rows : List Row) → Shown sql params old new rows
     → IsPermutation (map (shown schema tree) (filter (passes test params) (old.now.trees tree))) rows
-selects sql tree test is params old new known rows h = shows_those sql tree test is old.now params rows (reads_as sql params old new schema known _ (command_is sql tree test is) is.asks.1 is.unlisted rows h)
+selects {s} sql tree test is params old new known rows h = shows_those sql tree test is old.now params rows (reads_as sql params old new s known _ (command_is sql tree test is) is.asks.1 is.unlisted rows h)
 
-pub loads : (sql : List ℕ) (tree : ℕ) → IsSelect sql tree [] → (old new : State) → old.now.schema ≡ schema → (rows : List Row) → Shown sql [] old new rows → IsPermutation rows (map (shown schema tree) (old.now.trees tree))
+pub loads : {s : Schema} (sql : List ℕ) (tree : ℕ) → IsSelectIn s sql tree [] → (old new : State) → old.now.schema ≡ s → (rows : List Row) → Shown sql [] old new rows → IsPermutation rows (map (shown schema tree) (old.now.trees tree))
 loads sql tree is old new known rows h =
     IsPermutation-sym _ _ (subst (λ l. IsPermutation (map (shown schema tree) l) rows) (keep_all (old.now.trees tree)) (selects sql tree [] is [] old new known rows h))
 

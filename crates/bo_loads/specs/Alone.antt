@@ -8,16 +8,26 @@ use Rattle.sqlite_resolve.specs.declared.compiled.Compiled.{Compiled}
 use Rattle.sqlite_resolve.specs.declared.error.CompileError.{CompileError}
 use Rattle.sqlite.specs.Listing.{understood}
 use Rattle.bo_schema.specs.Tables.{schema}
+use Rattle.sqlite_schema.specs.declared.schema.Schema.{Schema}
+use Rattle.bo_loads.specs.Since.{IsSince}
 
 -- a query that isn't refused for the types of what it reads
-abbrev pub is_accepted : Command → Bool
-is_accepted (Select q names) = accepts_program schema (lets_of q) q.body []
-is_accepted command = false
+abbrev pub is_accepted : Schema → Command → Bool
+is_accepted schema (Select q names) = accepts_program schema (lets_of q) q.body []
+is_accepted schema command = false
 
-abbrev pub is_alone : List ℕ → Result Compiled CompileError → Bool
-is_alone sql (Ok c) = nat_le (length sql) c.tail && ((length c.names == 0) && is_accepted c.command)
-is_alone sql (Err e) = false
+abbrev pub is_alone : Schema → List ℕ → Result Compiled CompileError → Bool
+is_alone schema sql (Ok c) = nat_le (length sql) c.tail && ((length c.names == 0) && is_accepted schema c.command)
+is_alone schema sql (Err e) = false
 
--- over a shop's tables it is one statement without parameters, a query that isn't refused for types
+-- over tables of this schema it is one statement without parameters, a query that isn't refused for types
+abbrev pub RunsAloneIn : Schema → List ℕ → Type 0
+RunsAloneIn s sql = is_alone s sql (understood s sql) ≡ true
+
+-- over a shop's tables
 abbrev pub RunsAlone : List ℕ → Type 0
-RunsAlone sql = is_alone sql (understood schema sql) ≡ true
+RunsAlone sql = RunsAloneIn schema sql
+
+-- over those of each version from this one on
+abbrev pub RunsAloneSince : ℕ → List ℕ → Type 0
+RunsAloneSince first sql = (s : Schema) → IsSince first s → RunsAloneIn s sql

@@ -3,3 +3,4 @@ pub mod Texts
 pub mod Alone
 pub mod Select
 pub mod Lookups
+pub mod Since

@@ -21,7 +21,9 @@ impl Loaded for CartPos {
 
     ghost tree = { 10 };
 
-    #[tactic(auto, using(crate::proofs::CartsLemmas::select_is, crate::proofs::CartsLemmas::alone_is))]
+    ghost since = { 1 };
+
+    #[tactic(auto, using(crate::proofs::CartsLemmas::select_since, crate::proofs::CartsLemmas::reads_only, crate::proofs::CartsLemmas::alone_since))]
     fn statement() -> &'static str {
         "SELECT id, cart_id, item_id, variation_id, price, made_at, expires, voucher_id FROM cart_positions ORDER BY id"
     }

@@ -20,7 +20,9 @@ impl Loaded for ListRow {
 
     ghost tree = { 16 };
 
-    #[tactic(auto, using(crate::proofs::CheckinListsLemmas::select_is, crate::proofs::CheckinListsLemmas::alone_is))]
+    ghost since = { 1 };
+
+    #[tactic(auto, using(crate::proofs::CheckinListsLemmas::select_since, crate::proofs::CheckinListsLemmas::reads_only, crate::proofs::CheckinListsLemmas::alone_since))]
     fn statement() -> &'static str {
         "SELECT id, name, all_products, include_pending, multiple, after_exit FROM checkin_lists ORDER BY id"
     }

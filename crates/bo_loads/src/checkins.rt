@@ -20,7 +20,9 @@ impl Loaded for Checkin {
 
     ghost tree = { 19 };
 
-    #[tactic(auto, using(crate::proofs::CheckinsLemmas::select_is, crate::proofs::CheckinsLemmas::alone_is))]
+    ghost since = { 1 };
+
+    #[tactic(auto, using(crate::proofs::CheckinsLemmas::select_since, crate::proofs::CheckinsLemmas::reads_only, crate::proofs::CheckinsLemmas::alone_since))]
     fn statement() -> &'static str {
         "SELECT id, list_id, position_id, kind, at, nonce FROM checkins ORDER BY id"
     }

@@ -6,12 +6,12 @@ ghost use Rattle.bo_loads.specs.Texts.{counts_text};
 
 use crate::columns::Columns;
 use crate::loaded::Loaded;
-use bo_lists::{QuotaCount, Usage};
+use bo_columns::CountRow;
 use bo_schema::RowError;
 use sqlite::Row;
 use std::alloc::Global;
 
-impl Loaded for QuotaCount {
+impl Loaded for CountRow {
     ghost as_row = { count_row };
 
     ghost fits = { λ w. ⊤ };
@@ -20,25 +20,23 @@ impl Loaded for QuotaCount {
 
     ghost tree = { 21 };
 
-    #[tactic(auto, using(crate::proofs::CountsLemmas::select_is, crate::proofs::CountsLemmas::alone_is))]
+    ghost since = { 1 };
+
+    #[tactic(auto, using(crate::proofs::CountsLemmas::select_since, crate::proofs::CountsLemmas::reads_only, crate::proofs::CountsLemmas::alone_since))]
     fn statement() -> &'static str {
         "SELECT quota_id, paid, pending, blocked, carts, waiting FROM quota_count ORDER BY quota_id"
     }
 
-    fn read(alloc: Global, row: &Row) -> Result<QuotaCount, RowError> {
+    fn read(alloc: Global, row: &Row) -> Result<CountRow, RowError> {
         match Columns::read_from(alloc, row, 0) {
-            Ok((quota_id, (paid, (pending, (blocked, (carts, (waiting, ()))))))) => Ok(
-                QuotaCount {
-                    quota: quota_id,
-                    usage: Usage {
-                        paid,
-                        pending,
-                        blocked,
-                        carts,
-                        waiting,
-                    },
-                },
-            ),
+            Ok((quota_id, (paid, (pending, (blocked, (carts, (waiting, ()))))))) => Ok(CountRow {
+                quota: quota_id,
+                paid,
+                pending,
+                blocked,
+                carts,
+                waiting,
+            }),
             Err(error) => Err(error),
         }
     }

@@ -20,7 +20,9 @@ impl Loaded for Item {
 
     ghost tree = { 1 };
 
-    #[tactic(auto, using(crate::proofs::ItemsLemmas::select_is, crate::proofs::ItemsLemmas::alone_is))]
+    ghost since = { 1 };
+
+    #[tactic(auto, using(crate::proofs::ItemsLemmas::select_since, crate::proofs::ItemsLemmas::reads_only, crate::proofs::ItemsLemmas::alone_since))]
     fn statement() -> &'static str {
         "SELECT id, name, default_price, active, varied FROM items ORDER BY id"
     }

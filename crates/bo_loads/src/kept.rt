@@ -23,7 +23,9 @@ impl Loaded for KeptRow {
 
     ghost tree = { 24 };
 
-    #[tactic(auto, using(crate::proofs::KeptLemmas::select_is, crate::proofs::KeptLemmas::alone_is))]
+    ghost since = { 1 };
+
+    #[tactic(auto, using(crate::proofs::KeptLemmas::select_since, crate::proofs::KeptLemmas::reads_only, crate::proofs::KeptLemmas::alone_since))]
     fn statement() -> &'static str {
         "SELECT rowid, token_id, request_key, first_moment, status, allow, body FROM kept ORDER BY rowid"
     }

@@ -1,4 +1,4 @@
-//! Rows of the file are read.
+//! Which SELECT reads a table's rows, and what does each row say?
 #![tactic(auto)]
 
 mod carts;

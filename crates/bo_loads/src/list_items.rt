@@ -20,7 +20,9 @@ impl Loaded for ListItem {
 
     ghost tree = { 17 };
 
-    #[tactic(auto, using(crate::proofs::ListItemsLemmas::select_is, crate::proofs::ListItemsLemmas::alone_is))]
+    ghost since = { 1 };
+
+    #[tactic(auto, using(crate::proofs::ListItemsLemmas::select_since, crate::proofs::ListItemsLemmas::reads_only, crate::proofs::ListItemsLemmas::alone_since))]
     fn statement() -> &'static str {
         "SELECT rowid, list_id, item_id FROM list_items ORDER BY rowid"
     }

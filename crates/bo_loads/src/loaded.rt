@@ -2,13 +2,14 @@
 
 ghost use Rattle.std.specs.Prelude.{◌≡◌, ◌≢◌, ℕ, map, true, List, [], All, IfOk, IfErr};
 ghost use Rattle.sqlite_value.specs.Order.{Row as Shown};
+ghost use Rattle.sqlite_schema.specs.declared.schema.Schema.{Schema};
 ghost use Rattle.sqlite.specs.Held.{state};
 ghost use Rattle.sqlite.specs.Values.{bound};
 ghost use Rattle.sqlite.specs.State.{HasCleanDisk, Survives, KeepsCommit, Shown as Shows};
 ghost use Rattle.bo_columns.specs.Unread.{IsUnread};
-ghost use Rattle.bo_loads.specs.Alone.{RunsAlone};
+ghost use Rattle.bo_loads.specs.Alone.{RunsAloneSince};
 ghost use Rattle.bo_loads.specs.Damage.{IsDamaged, IsFor, IsForReading, HasNoMeaning};
-ghost use Rattle.bo_loads.specs.Select.{IsSelect};
+ghost use Rattle.bo_loads.specs.Select.{IsSelectSince};
 
 use bo_schema::RowError;
 use sqlite::{Alter, Row, Transaction};
@@ -29,11 +30,15 @@ pub trait Loaded: Drop {
     // the number of the table's tree
     ghost tree: { ℕ };
 
+    // the first version that has the table
+    ghost since: { ℕ };
+
     /// The SELECT of all columns of the table.
     fn statement() -> &'static str
         ensures text { result.now ≡ text }
-        ensures select { IsSelect text tree [] }
-        ensures alone { RunsAlone text };
+        ensures select { IsSelectSince since text tree [] }
+        ensures reads { (s : Schema) → IsForReading s text }
+        ensures alone { RunsAloneSince since text };
 
     /// From a row that is shown. Refusals: 62 where it is the row of no such value within its limits, 6.
     fn read(alloc: Global, row: &Row) -> Result<Self, RowError>

@@ -20,7 +20,9 @@ impl Loaded for Order {
 
     ghost tree = { 11 };
 
-    #[tactic(auto, using(crate::proofs::OrdersLemmas::select_is, crate::proofs::OrdersLemmas::alone_is))]
+    ghost since = { 1 };
+
+    #[tactic(auto, using(crate::proofs::OrdersLemmas::select_since, crate::proofs::OrdersLemmas::reads_only, crate::proofs::OrdersLemmas::alone_since))]
     fn statement() -> &'static str {
         "SELECT id, email, status, made_at, expires FROM orders ORDER BY id"
     }

@@ -7,12 +7,12 @@ ghost use Rattle.bo_loads.specs.Texts.{positions_text};
 use crate::columns::Columns;
 use crate::loaded::Loaded;
 use bo_catalogue::Product;
-use bo_lists::OrderPos;
+use bo_columns::PositionRow;
 use bo_schema::RowError;
 use sqlite::Row;
 use std::alloc::Global;
 
-impl Loaded for OrderPos {
+impl Loaded for PositionRow {
     ghost as_row = { position_row };
 
     ghost fits = { IsFitPosition };
@@ -21,16 +21,18 @@ impl Loaded for OrderPos {
 
     ghost tree = { 12 };
 
-    #[tactic(auto, using(crate::proofs::PositionsLemmas::select_is, crate::proofs::PositionsLemmas::alone_is))]
+    ghost since = { 1 };
+
+    #[tactic(auto, using(crate::proofs::PositionsLemmas::select_since, crate::proofs::PositionsLemmas::reads_only, crate::proofs::PositionsLemmas::alone_since))]
     fn statement() -> &'static str {
         "SELECT id, order_id, positionid, item_id, variation_id, price, voucher_id, secret FROM order_positions ORDER BY id"
     }
 
-    fn read(alloc: Global, row: &Row) -> Result<OrderPos, RowError> {
+    fn read(alloc: Global, row: &Row) -> Result<PositionRow, RowError> {
         match Columns::read_from(alloc, row, 0) {
             Ok((id, (order_id, (positionid, (item_id, others))))) => {
                 let (variation_id, (price, (voucher_id, (secret, ())))) = others;
-                Ok(OrderPos {
+                Ok(PositionRow {
                     id,
                     order: order_id,
                     positionid,

@@ -20,7 +20,9 @@ impl Loaded for QuotaItem {
 
     ghost tree = { 4 };
 
-    #[tactic(auto, using(crate::proofs::QuotaItemsLemmas::select_is, crate::proofs::QuotaItemsLemmas::alone_is))]
+    ghost since = { 1 };
+
+    #[tactic(auto, using(crate::proofs::QuotaItemsLemmas::select_since, crate::proofs::QuotaItemsLemmas::reads_only, crate::proofs::QuotaItemsLemmas::alone_since))]
     fn statement() -> &'static str {
         "SELECT rowid, quota_id, item_id FROM quota_items ORDER BY rowid"
     }

@@ -20,7 +20,9 @@ impl Loaded for QuotaVariation {
 
     ghost tree = { 6 };
 
-    #[tactic(auto, using(crate::proofs::QuotaVariationsLemmas::select_is, crate::proofs::QuotaVariationsLemmas::alone_is))]
+    ghost since = { 1 };
+
+    #[tactic(auto, using(crate::proofs::QuotaVariationsLemmas::select_since, crate::proofs::QuotaVariationsLemmas::reads_only, crate::proofs::QuotaVariationsLemmas::alone_since))]
     fn statement() -> &'static str {
         "SELECT rowid, quota_id, variation_id FROM quota_variations ORDER BY rowid"
     }

@@ -20,7 +20,9 @@ impl Loaded for QuotaRow {
 
     ghost tree = { 3 };
 
-    #[tactic(auto, using(crate::proofs::QuotasLemmas::select_is, crate::proofs::QuotasLemmas::alone_is))]
+    ghost since = { 1 };
+
+    #[tactic(auto, using(crate::proofs::QuotasLemmas::select_since, crate::proofs::QuotasLemmas::reads_only, crate::proofs::QuotasLemmas::alone_since))]
     fn statement() -> &'static str {
         "SELECT id, name, size FROM quotas ORDER BY id"
     }

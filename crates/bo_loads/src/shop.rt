@@ -21,7 +21,9 @@ impl Loaded for ShopRow {
 
     ghost tree = { 0 };
 
-    #[tactic(auto, using(crate::proofs::ShopLemmas::select_is, crate::proofs::ShopLemmas::alone_is))]
+    ghost since = { 1 };
+
+    #[tactic(auto, using(crate::proofs::ShopLemmas::select_since, crate::proofs::ShopLemmas::reads_only, crate::proofs::ShopLemmas::alone_since))]
     fn statement() -> &'static str {
         "SELECT id, version, organizer, event, moment, next_item, next_variation, next_quota, next_voucher, next_cart, next_order, next_position, next_waiting, next_list, next_checkin, next_token FROM shop ORDER BY id"
     }

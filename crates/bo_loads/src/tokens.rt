@@ -20,7 +20,9 @@ impl Loaded for Token {
 
     ghost tree = { 22 };
 
-    #[tactic(auto, using(crate::proofs::TokensLemmas::select_is, crate::proofs::TokensLemmas::alone_is))]
+    ghost since = { 1 };
+
+    #[tactic(auto, using(crate::proofs::TokensLemmas::select_since, crate::proofs::TokensLemmas::reads_only, crate::proofs::TokensLemmas::alone_since))]
     fn statement() -> &'static str {
         "SELECT id, digest FROM tokens ORDER BY id"
     }

@@ -20,7 +20,9 @@ impl Loaded for Variation {
 
     ghost tree = { 2 };
 
-    #[tactic(auto, using(crate::proofs::VariationsLemmas::select_is, crate::proofs::VariationsLemmas::alone_is))]
+    ghost since = { 1 };
+
+    #[tactic(auto, using(crate::proofs::VariationsLemmas::select_since, crate::proofs::VariationsLemmas::reads_only, crate::proofs::VariationsLemmas::alone_since))]
     fn statement() -> &'static str {
         "SELECT id, item_id, name, default_price, active FROM variations ORDER BY id"
     }

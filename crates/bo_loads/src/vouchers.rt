@@ -6,8 +6,7 @@ ghost use Rattle.bo_loads.specs.Texts.{vouchers_text};
 
 use crate::columns::Columns;
 use crate::loaded::Loaded;
-use bo_columns::VoucherRow;
-use bo_lists::Voucher;
+use bo_columns::{VoucherHead, VoucherRow};
 use bo_schema::RowError;
 use sqlite::Row;
 use std::alloc::Global;
@@ -21,7 +20,9 @@ impl Loaded for VoucherRow {
 
     ghost tree = { 8 };
 
-    #[tactic(auto, using(crate::proofs::VouchersLemmas::select_is, crate::proofs::VouchersLemmas::alone_is))]
+    ghost since = { 1 };
+
+    #[tactic(auto, using(crate::proofs::VouchersLemmas::select_since, crate::proofs::VouchersLemmas::reads_only, crate::proofs::VouchersLemmas::alone_since))]
     fn statement() -> &'static str {
         "SELECT id, code, max_usages, valid_until, block_quota, allow_ignore_quota, price_mode, amount, item_id, variation_id, quota_id, tag, comment, redeemed FROM vouchers ORDER BY id"
     }
@@ -32,7 +33,7 @@ impl Loaded for VoucherRow {
                 let (allow_ignore_quota, (price_mode, (amount, (item_id, others)))) = middle;
                 let (variation_id, (quota_id, (tag, (comment, (redeemed, ()))))) = others;
                 Ok(VoucherRow {
-                    voucher: Voucher {
+                    voucher: VoucherHead {
                         id,
                         code,
                         max_usages,

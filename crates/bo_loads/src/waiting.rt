@@ -21,7 +21,9 @@ impl Loaded for Waiting {
 
     ghost tree = { 15 };
 
-    #[tactic(auto, using(crate::proofs::WaitingLemmas::select_is, crate::proofs::WaitingLemmas::alone_is))]
+    ghost since = { 1 };
+
+    #[tactic(auto, using(crate::proofs::WaitingLemmas::select_since, crate::proofs::WaitingLemmas::reads_only, crate::proofs::WaitingLemmas::alone_since))]
     fn statement() -> &'static str {
         "SELECT id, email, item_id, variation_id, priority, created, voucher_id FROM waiting ORDER BY id"
     }

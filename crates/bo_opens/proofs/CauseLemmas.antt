@@ -3,6 +3,7 @@ use Rattle.std.proofs.Common.{◌≡◌, ◌⊎◌, inl, inr, ℕ, ℤ, pos, Lis
 use Rattle.std.specs.List.Sorted.{IsPermutation}
 use Rattle.sqlite_value.specs.declared.value.Value.TheVariants.{Int}
 use Rattle.sqlite_value.specs.Order.{Row, column}
+use Rattle.sqlite_schema.specs.declared.schema.Schema.{Schema}
 use Rattle.sqlite.specs.Effect.{Database, Reads}
 use Rattle.sqlite.specs.Clock.{timed}
 use Rattle.sqlite.specs.Listing.{understood, reads_listing, IsSourceOf}
@@ -15,7 +16,7 @@ use Rattle.bo_schema.specs.declared.error.RowError.TheVariants.{Memory, Foreign,
 use Rattle.bo_columns.specs.declared.rows.ShopRow.{ShopRow}
 use Rattle.bo_columns.specs.Rows.{shop_row}
 use Rattle.bo_loads.specs.Damage.{IsFor, IsForReading}
-use Rattle.bo_loads.specs.Select.{IsSelect}
+use Rattle.bo_loads.specs.Select.{IsSelectIn}
 use Rattle.bo_loads.proofs.Loads.{command_is, shows_all}
 use Rattle.bo_opens.specs.Causes.{ShowsBy, HasNoOtherVersion, IsOneShop}
 
@@ -40,11 +41,11 @@ shown_by sql old new rows reads h =
     (h.0, h.1.is, it.0, it.1, h.1.now, it.2)
 
 -- of our tables these are the rows of the tree
-pub shows_rows : (sql : List ℕ) (tree : ℕ) → IsSelect sql tree [] → (db : Database) → db.schema ≡ schema → (rows : List Row) → ShowsBy sql db rows → IsPermutation rows (map (shown schema tree) (db.trees tree))
+pub shows_rows : {s : Schema} (sql : List ℕ) (tree : ℕ) → IsSelectIn s sql tree [] → (db : Database) → db.schema ≡ s → (rows : List Row) → ShowsBy sql db rows → IsPermutation rows (map (shown schema tree) (db.trees tree))
 shows_rows sql tree is db has rows h =
-    let known = sym h.1 ∙ ap (λ s. understood s sql) has in
+    let known = sym h.1 ∙ ap (λ k. understood k sql) has in
     let bare = subst IsPlain (sym known) is.asks.1 in
-    let source : h.2 ≡ db = subst (λ b. IsSourceOf b db h.2) (ap (λ s. reads_listing s sql) has ∙ is.unlisted) h.3 in
+    let source : h.2 ≡ db = subst (λ b. IsSourceOf b db h.2) (ap (λ k. reads_listing k sql) has ∙ is.unlisted) h.3 in
     let plainly_read : Reads h.0.command h.2 [] rows = rw bare.1 at h.5 in
     let read = subst₂ (λ k d. Reads k d [] rows) (ap command_of known ∙ command_is sql tree [] is) source plainly_read in
     shows_all sql tree is db rows read
@@ -70,7 +71,7 @@ pub version_told : (shop : ShopRow) (row : Row) (version : ℤ) → row ≡ shop
 version_told shop row version is told = let both = sym (ap (λ (r : Row). column r 1) is) ∙ told in cc
 
 -- the shop's row has this version
-pub one_is_ours : (rows : List Row) → IsOneShop rows → HasNoOtherVersion rows
-one_is_ours rows (shop, fit, ids, first, is) version (row, one, told, other) =
+pub one_is_ours : (own : ℕ) (rows : List Row) → IsOneShop own rows → HasNoOtherVersion own rows
+one_is_ours own rows (shop, fit, ids, first, is) version (row, one, told, other) =
     let same : row ≡ shop_row shop = cc in
     other (sym (version_told shop row version same told) ∙ ap pos first)

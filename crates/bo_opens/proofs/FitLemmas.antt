@@ -1,5 +1,5 @@
 -- Tables whose values are within their limits have no cause to be refused.
-use Rattle.std.proofs.Common.{◌≡◌, ◌≢◌, inl, inr, ℤ, pos, List, [], ◌∷◌, Option, Some, Result, Ok, Err, IfOk, IfSome, OnOk, refl, subst}
+use Rattle.std.proofs.Common.{◌≡◌, ◌≢◌, ◌⊎◌, ◌≤◌, ℕ, zero, suc, inl, inr, ℤ, pos, List, [], ◌∷◌, Option, Some, Result, Ok, Err, IfOk, IfSome, OnOk, map, refl, sym, ap, subst, ◌∙◌, arith}
 use Rattle.std.specs.List.{All}
 use Rattle.std.proofs.lemmas.List.Elements.{All-nil, All-cons}
 use Rattle.std.specs.List.Sorted.{IsPermutation}
@@ -10,11 +10,14 @@ use Rattle.sqlite_schema.specs.declared.schema.Schema.{Schema}
 use Rattle.sqlite.specs.Effect.{Database}
 use Rattle.sqlite.proofs.Callers.{one_permutation}
 use Rattle.bo_schema.specs.Tables.{schema, this_version}
+use Rattle.bo_schema.specs.Versions.{schema_of_version}
 use Rattle.bo_columns.specs.declared.rows.ShopRow.{ShopRow}
 use Rattle.bo_columns.specs.Rows.{shop_row, item_row, variation_row, quota_row, quota_item_row, quota_variation_row, voucher_row, cart_row, order_row, position_row, waiting_row, list_row, list_item_row, checkin_row, count_row, token_row, kept_row}
 use Rattle.bo_columns.specs.Fit.{IsFitItem, IsFitVariation, IsFitQuota, IsFitVoucher, IsFitCart, IsFitOrder, IsFitPosition, IsFitWaiting, IsFitList, IsFitCheckin, IsFitToken, IsFitKept}
-use Rattle.bo_columns.specs.Tables.{Tables, Holds}
+use Rattle.bo_columns.specs.Tables.{Tables, Holds, HoldsAt}
+use Rattle.bo_loads.specs.Since.{IsSince}
 use Rattle.bo_loads.proofs.Causes.{lacks_none, undamaged}
+use Rattle.bo_loads.proofs.SinceLemmas.{since_one}
 use Rattle.bo_loads.proofs.ShopLemmas as of_shop
 use Rattle.bo_loads.proofs.ItemsLemmas as of_items
 use Rattle.bo_loads.proofs.VariationsLemmas as of_variations
@@ -38,8 +41,8 @@ use Rattle.bo_rules.specs.declared.rule.Rule.TheVariants as rule
 use Rattle.bo_opens.specs.declared.file.FileTables.{FileTables}
 use Rattle.bo_columns.specs.declared.table_rows.TableRows.{TableRows}
 use Rattle.bo_opens.specs.Read.{HoldsRows, tables_of}
-use Rattle.bo_opens.specs.Causes.{rows_at, LacksCatalogue, LacksSales, LacksDoors, LacksOthers, LacksTable, IsDamagedCatalogue, AreDamagedSales, AreDamagedDoors, AreDamagedOthers, HasTables, HasDamage, IsFitFile, IsReadable, ShowsBy, OfTheShop, IsOneShop, IsCause}
-use Rattle.bo_opens.specs.Lawful.{AreFit, IsOfMachine}
+use Rattle.bo_opens.specs.Causes.{rows_at, LacksCatalogue, LacksSales, LacksDoors, LacksOthers, LacksTable, IsDamagedCatalogue, AreDamagedSales, AreDamagedDoors, AreDamagedOthers, HasTables, HasDamage, IsFitFile, IsReadable, IsReadableAs, ShowsBy, OfTheShop, HasNoOtherVersion, IsOneShop, IsCause}
+use Rattle.bo_opens.specs.Lawful.{AreFit, AreFitAt, IsOfMachine}
 use Rattle.bo_opens.proofs.CauseLemmas.{shows_rows, one_is_ours, version_told}
 use Rattle.bo_opens.proofs.ReadLemmas.{one_shown, was_some}
 
@@ -48,31 +51,31 @@ all_free : {T : Type 0} (xs : List T) → All (λ w. Unit {0}) xs
 all_free [] = All-nil (λ w. Unit {0})
 all_free (x ∷ xs) = All-cons (λ w. Unit {0}) x xs tt (all_free xs)
 
-whole_catalogue : (t : Tables) (db : Trees) → Holds db t → AreFit t → IsDamagedCatalogue db → ⊥
+whole_catalogue : {own : ℕ} (t : Tables) (db : Trees) → Holds db t → AreFitAt own t → IsDamagedCatalogue db → ⊥
 whole_catalogue t db held fit (inl bad) = undamaged item_row IsFitItem t.items (rows_at db 1) fit.items held.1.0 bad
 whole_catalogue t db held fit (inr (inl bad)) = undamaged variation_row IsFitVariation t.variations (rows_at db 2) fit.variations held.1.1.0 bad
 whole_catalogue t db held fit (inr (inr (inl bad))) = undamaged quota_row IsFitQuota t.quotas (rows_at db 3) fit.quotas held.1.1.1.0 bad
 whole_catalogue t db held fit (inr (inr (inr (inl bad)))) = undamaged quota_item_row (λ w. Unit {0}) t.quota_items (rows_at db 4) (all_free t.quota_items) held.1.1.1.1.0 bad
 whole_catalogue t db held fit (inr (inr (inr (inr bad)))) = undamaged quota_variation_row (λ w. Unit {0}) t.quota_variations (rows_at db 6) (all_free t.quota_variations) held.1.1.1.1.1.0 bad
 
-whole_sales : (t : Tables) (db : Trees) → Holds db t → AreFit t → AreDamagedSales db → ⊥
+whole_sales : {own : ℕ} (t : Tables) (db : Trees) → Holds db t → AreFitAt own t → AreDamagedSales db → ⊥
 whole_sales t db held fit (inl bad) = undamaged voucher_row IsFitVoucher t.vouchers (rows_at db 8) fit.vouchers held.1.1.1.1.1.1.0 bad
 whole_sales t db held fit (inr (inl bad)) = undamaged cart_row IsFitCart t.carts (rows_at db 10) fit.carts held.1.1.1.1.1.1.1.0 bad
 whole_sales t db held fit (inr (inr (inl bad))) = undamaged order_row IsFitOrder t.orders (rows_at db 11) fit.orders held.1.1.1.1.1.1.1.1.0 bad
 whole_sales t db held fit (inr (inr (inr (inl bad)))) = undamaged position_row IsFitPosition t.positions (rows_at db 12) fit.positions held.1.1.1.1.1.1.1.1.1.0 bad
 whole_sales t db held fit (inr (inr (inr (inr bad)))) = undamaged waiting_row IsFitWaiting t.waiting (rows_at db 15) fit.waiting held.1.1.1.1.1.1.1.1.1.1.0 bad
 
-whole_doors : (t : Tables) (db : Trees) → Holds db t → AreFit t → AreDamagedDoors db → ⊥
+whole_doors : {own : ℕ} (t : Tables) (db : Trees) → Holds db t → AreFitAt own t → AreDamagedDoors db → ⊥
 whole_doors t db held fit (inl bad) = undamaged list_row IsFitList t.checkin_lists (rows_at db 16) fit.checkin_lists held.1.1.1.1.1.1.1.1.1.1.1.0 bad
 whole_doors t db held fit (inr (inl bad)) = undamaged list_item_row (λ w. Unit {0}) t.list_items (rows_at db 17) (all_free t.list_items) held.1.1.1.1.1.1.1.1.1.1.1.1.0 bad
 whole_doors t db held fit (inr (inr bad)) = undamaged checkin_row IsFitCheckin t.checkins (rows_at db 19) fit.checkins held.1.1.1.1.1.1.1.1.1.1.1.1.1.0 bad
 
-whole_others : (t : Tables) (db : Trees) → Holds db t → AreFit t → AreDamagedOthers db → ⊥
+whole_others : {own : ℕ} (t : Tables) (db : Trees) → Holds db t → AreFitAt own t → AreDamagedOthers db → ⊥
 whole_others t db held fit (inl bad) = undamaged count_row (λ w. Unit {0}) t.counts (rows_at db 21) (all_free t.counts) held.1.1.1.1.1.1.1.1.1.1.1.1.1.1.0 bad
 whole_others t db held fit (inr (inl bad)) = undamaged token_row IsFitToken t.tokens (rows_at db 22) fit.tokens held.1.1.1.1.1.1.1.1.1.1.1.1.1.1.1.0 bad
 whole_others t db held fit (inr (inr bad)) = undamaged kept_row IsFitKept t.kept (rows_at db 24) fit.kept held.1.1.1.1.1.1.1.1.1.1.1.1.1.1.1.1.0 bad
 
-pub undamaged_tables : (t : Tables) (db : Trees) → Holds db t → AreFit t → HasDamage db → ⊥
+pub undamaged_tables : {own : ℕ} (t : Tables) (db : Trees) → Holds db t → AreFitAt own t → HasDamage db → ⊥
 undamaged_tables t db held fit (inl bad) = whole_catalogue t db held fit bad
 undamaged_tables t db held fit (inr (inl bad)) = whole_sales t db held fit bad
 undamaged_tables t db held fit (inr (inr (inl bad))) = whole_doors t db held fit bad
@@ -80,31 +83,31 @@ undamaged_tables t db held fit (inr (inr (inr bad))) = whole_others t db held fi
 
 -- ---- our tables lack none
 
-has_catalogue : (s : Schema) → s ≡ schema → LacksCatalogue s → ⊥
-has_catalogue s known (inl none) = lacks_none of_items.select_text _ [] of_items.select_is s known none
-has_catalogue s known (inr (inl none)) = lacks_none of_variations.select_text _ [] of_variations.select_is s known none
-has_catalogue s known (inr (inr (inl none))) = lacks_none of_quotas.select_text _ [] of_quotas.select_is s known none
-has_catalogue s known (inr (inr (inr (inl none)))) = lacks_none of_quota_items.select_text _ [] of_quota_items.select_is s known none
-has_catalogue s known (inr (inr (inr (inr none)))) = lacks_none of_quota_variations.select_text _ [] of_quota_variations.select_is s known none
+has_catalogue : (s : Schema) → IsSince 1 s → LacksCatalogue s → ⊥
+has_catalogue s known (inl none) = lacks_none of_items.select_text _ [] (of_items.select_since s known) s refl none
+has_catalogue s known (inr (inl none)) = lacks_none of_variations.select_text _ [] (of_variations.select_since s known) s refl none
+has_catalogue s known (inr (inr (inl none))) = lacks_none of_quotas.select_text _ [] (of_quotas.select_since s known) s refl none
+has_catalogue s known (inr (inr (inr (inl none)))) = lacks_none of_quota_items.select_text _ [] (of_quota_items.select_since s known) s refl none
+has_catalogue s known (inr (inr (inr (inr none)))) = lacks_none of_quota_variations.select_text _ [] (of_quota_variations.select_since s known) s refl none
 
-has_sales : (s : Schema) → s ≡ schema → LacksSales s → ⊥
-has_sales s known (inl none) = lacks_none of_vouchers.select_text _ [] of_vouchers.select_is s known none
-has_sales s known (inr (inl none)) = lacks_none of_carts.select_text _ [] of_carts.select_is s known none
-has_sales s known (inr (inr (inl none))) = lacks_none of_orders.select_text _ [] of_orders.select_is s known none
-has_sales s known (inr (inr (inr (inl none)))) = lacks_none of_positions.select_text _ [] of_positions.select_is s known none
-has_sales s known (inr (inr (inr (inr none)))) = lacks_none of_waiting.select_text _ [] of_waiting.select_is s known none
+has_sales : (s : Schema) → IsSince 1 s → LacksSales s → ⊥
+has_sales s known (inl none) = lacks_none of_vouchers.select_text _ [] (of_vouchers.select_since s known) s refl none
+has_sales s known (inr (inl none)) = lacks_none of_carts.select_text _ [] (of_carts.select_since s known) s refl none
+has_sales s known (inr (inr (inl none))) = lacks_none of_orders.select_text _ [] (of_orders.select_since s known) s refl none
+has_sales s known (inr (inr (inr (inl none)))) = lacks_none of_positions.select_text _ [] (of_positions.select_since s known) s refl none
+has_sales s known (inr (inr (inr (inr none)))) = lacks_none of_waiting.select_text _ [] (of_waiting.select_since s known) s refl none
 
-has_doors : (s : Schema) → s ≡ schema → LacksDoors s → ⊥
-has_doors s known (inl none) = lacks_none of_checkin_lists.select_text _ [] of_checkin_lists.select_is s known none
-has_doors s known (inr (inl none)) = lacks_none of_list_items.select_text _ [] of_list_items.select_is s known none
-has_doors s known (inr (inr none)) = lacks_none of_checkins.select_text _ [] of_checkins.select_is s known none
+has_doors : (s : Schema) → IsSince 1 s → LacksDoors s → ⊥
+has_doors s known (inl none) = lacks_none of_checkin_lists.select_text _ [] (of_checkin_lists.select_since s known) s refl none
+has_doors s known (inr (inl none)) = lacks_none of_list_items.select_text _ [] (of_list_items.select_since s known) s refl none
+has_doors s known (inr (inr none)) = lacks_none of_checkins.select_text _ [] (of_checkins.select_since s known) s refl none
 
-has_others : (s : Schema) → s ≡ schema → LacksOthers s → ⊥
-has_others s known (inl none) = lacks_none of_counts.select_text _ [] of_counts.select_is s known none
-has_others s known (inr (inl none)) = lacks_none of_tokens.select_text _ [] of_tokens.select_is s known none
-has_others s known (inr (inr none)) = lacks_none of_kept.select_text _ [] of_kept.select_is s known none
+has_others : (s : Schema) → IsSince 1 s → LacksOthers s → ⊥
+has_others s known (inl none) = lacks_none of_counts.select_text _ [] (of_counts.select_since s known) s refl none
+has_others s known (inr (inl none)) = lacks_none of_tokens.select_text _ [] (of_tokens.select_since s known) s refl none
+has_others s known (inr (inr none)) = lacks_none of_kept.select_text _ [] (of_kept.select_since s known) s refl none
 
-pub has_tables : (s : Schema) → s ≡ schema → LacksTable s → ⊥
+pub has_tables : (s : Schema) → IsSince 1 s → LacksTable s → ⊥
 has_tables s known (inl none) = has_catalogue s known none
 has_tables s known (inr (inl none)) = has_sales s known none
 has_tables s known (inr (inr (inl none))) = has_doors s known none
@@ -117,11 +120,11 @@ alone : (t : Tables) (db : Database) → db.schema ≡ schema → Holds db.trees
 alone t db known held shop one rows shows =
     one_shown t.shop shop rows (IsPermutation-trans _ _ _ held.0 (IsPermutation-sym _ _ (shows_rows of_shop.select_text 0 of_shop.select_is db known rows shows))) one
 
-shop_stands : (t : Tables) (db : Database) → db.schema ≡ schema → Holds db.trees t → AreFit t → (rows : List Row) → ShowsBy of_shop.select_text db rows → IsOneShop rows
+shop_stands : (t : Tables) (db : Database) → db.schema ≡ schema → Holds db.trees t → AreFit t → (rows : List Row) → ShowsBy of_shop.select_text db rows → IsOneShop this_version rows
 shop_stands t db known held fit rows shows = (fit.shop, fit.shop_fits, fit.ids, fit.first, alone t db known held fit.shop fit.alone rows shows)
 
 -- where one shop was shown, no other rows are
-shown_again : (db : Database) → db.schema ≡ schema → OfTheShop db IsOneShop → (rows : List Row) → ShowsBy of_shop.select_text db rows → IsOneShop rows
+shown_again : (db : Database) → db.schema ≡ schema → OfTheShop db (IsOneShop this_version) → (rows : List Row) → ShowsBy of_shop.select_text db rows → IsOneShop this_version rows
 shown_again db known (all, shows, (shop, fit, ids, first, is)) rows again =
     let one = subst (λ l. IsPermutation l (rows_at db.trees 0)) is (shows_rows of_shop.select_text 0 of_shop.select_is db known all shows) in
     (shop, fit, ids, first, one_permutation (shop_row shop) rows (IsPermutation-trans _ _ _ one (IsPermutation-sym _ _ (shows_rows of_shop.select_text 0 of_shop.select_is db known rows again))))
@@ -137,13 +140,13 @@ tells t db known held shop one version (rows, shows, (row, single, told, other))
 
 module _ (db : Database) (known : db.schema ≡ schema) where
   -- such a file is refused for want of memory, or because the store fails
-  clear : (of : (rows : List Row) → ShowsBy of_shop.select_text db rows → IsOneShop rows) → (HasDamage db.trees → ⊥) → (e : OpenError) → IsCause db e → IsOfMachine e
+  clear : (of : (rows : List Row) → ShowsBy of_shop.select_text db rows → IsOneShop this_version rows) → (HasDamage db.trees → ⊥) → (e : OpenError) → IsCause db e → IsOfMachine e
   clear of whole Memory h = tt
   clear of whole NotAShop (inl none) = lacks_none of_shop.select_text _ [] of_shop.select_is db.schema known none
-  clear of whole NotAShop (inr h) = has_tables db.schema known h.2.1
-  clear of whole (Version version) h = one_is_ours h.0 (of h.0 h.1) version h.2
+  clear of whole NotAShop (inr h) = has_tables db.schema (since_one db.schema known) h.2.1
+  clear of whole (Version version) h = one_is_ours this_version h.0 (of h.0 h.1) version h.2
   clear of whole (Damaged rule.Shop) h = h.2.2 (of h.0 h.1)
-  clear of whole (Damaged rule.Limits) h = whole (h.2.2 known)
+  clear of whole (Damaged rule.Limits) h = whole (h.2.2 (since_one db.schema known))
   clear of whole (Damaged rule.Ids) h = h
   clear of whole (Damaged rule.Names) h = h
   clear of whole (Damaged rule.Positions) h = h
@@ -155,11 +158,59 @@ module _ (db : Database) (known : db.schema ≡ schema) where
   of_machine t held fit = clear (shop_stands t db known held fit) (undamaged_tables t db.trees held fit)
 
   pub of_readable : IsReadable db → (e : OpenError) → IsCause db e → IsOfMachine e
-  of_readable r = clear (shown_again db known r.shop) (r.values known)
+  of_readable r = clear (shown_again db known r.shop) (r.values (since_one db.schema known))
+
+-- ---- a file of another version
+
+-- of the tables of a version the first one shows the shop's row
+shop_at : (from : ℕ) (db : Trees) (t : Tables) (shop : ShopRow) → HoldsAt from db t → t.shop ≡ shop ∷ [] → IsSince 1 (schema_of_version from) × IsPermutation (map shop_row t.shop) (rows_at db 0)
+shop_at zero db t shop h one = absurd (let none : map shop_row t.shop ≡ [] = h.none.0 in let some = ap (map shop_row) (sym one) ∙ none in cc)
+shop_at (suc from) db t shop h one = (since_one schema refl, h.shown.0)
+
+module _ (from : ℕ) (t : Tables) (db : Database) (known : db.schema ≡ schema_of_version from) (held : HoldsAt from db.trees t) (shop : ShopRow) (one : t.shop ≡ shop ∷ []) (other : shop.version ≢ this_version) where
+  since : IsSince 1 db.schema
+  since = subst (IsSince 1) (sym known) (shop_at from db.trees t shop held one).0
+
+  its_row : (rows : List Row) → ShowsBy of_shop.select_text db rows → rows ≡ shop_row shop ∷ []
+  its_row rows shows =
+      one_shown t.shop shop rows (IsPermutation-trans _ _ _ (shop_at from db.trees t shop held one).1 (IsPermutation-sym _ _ (shows_rows of_shop.select_text 0 (of_shop.select_since db.schema since) db refl rows shows))) one
+
+  is_other : (rows : List Row) → ShowsBy of_shop.select_text db rows → HasNoOtherVersion this_version rows → ⊥
+  is_other rows shows none = none (pos shop.version) (shop_row shop, its_row rows shows, refl, λ is. other (let same : shop.version ≡ this_version = cc in same))
+
+  is_none : (rows : List Row) → ShowsBy of_shop.select_text db rows → IsOneShop this_version rows → ⊥
+  is_none rows shows here = is_other rows shows (one_is_ours this_version rows here)
+
+  -- it is refused with its version, or for want of memory or because the store fails
+  pub told_as : (e : OpenError) → IsCause db e → (e ≡ Version (pos shop.version)) ⊎ IsOfMachine e
+  told_as Memory h = inr tt
+  told_as NotAShop (inl none) = absurd (lacks_none of_shop.select_text _ [] (of_shop.select_since db.schema since) db.schema refl none)
+  told_as NotAShop (inr h) = absurd (is_other h.0 h.1 h.2.0)
+  told_as (Version version) (rows, shows, (row, single, told, differs)) =
+      let is = its_row rows shows in
+      let same : row ≡ shop_row shop = cc in
+      inl (ap Version (sym (version_told shop row version same told)))
+  told_as (Damaged rule.Shop) h = absurd (is_other h.0 h.1 h.2.0)
+  told_as (Damaged rule.Limits) h = absurd (is_none h.0 h.1 h.2.0)
+  told_as (Damaged rule.Ids) h = absurd h
+  told_as (Damaged rule.Names) h = absurd h
+  told_as (Damaged rule.Positions) h = absurd h
+  told_as (Damaged rule.Headroom) h = absurd h
+  told_as (Damaged rule.Counters) h = absurd h
+  told_as Store h = inr tt
+
+  pub unreadable : IsReadable db → ⊥
+  unreadable r = is_none r.shop.0 r.shop.1 r.shop.2
 
 -- ---- a file that was read
 
-pub fit_read : (file : FileTables) → file.shop.version ≡ this_version → IsFitFile file → AreFit (tables_of file)
+-- as a file of this version
+pub held_at : (own : ℕ) → 1 ≤ own → own ≤ this_version → (db : Trees) (t : Tables) → Holds db t → HoldsAt own db t
+held_at own first last db t h =
+    let only : own ≡ 1 = omega (arith, first, last) in
+    subst (λ v. HoldsAt v db t) (sym only) (record { shown = h; none = tt })
+
+pub fit_read : {own : ℕ} (file : FileTables) → file.shop.version ≡ own → IsFitFile file → AreFitAt own (tables_of file)
 fit_read file first fit = record {
   shop = file.shop;
   alone = refl;
@@ -181,20 +232,20 @@ fit_read file first fit = record {
 }
 
 -- the trees hold what was read
-pub read_holds : (db : Database) (rows : List Row) (file : FileTables) → db.schema ≡ schema → ShowsBy of_shop.select_text db rows → rows ≡ shop_row file.shop ∷ [] → HoldsRows db.trees file.tables → Holds db.trees (tables_of file)
+pub read_holds : (db : Database) (rows : List Row) (file : FileTables) → IsSince 1 db.schema → ShowsBy of_shop.select_text db rows → rows ≡ shop_row file.shop ∷ [] → HoldsRows db.trees file.tables → Holds db.trees (tables_of file)
 read_holds db rows file known shows is held =
-    let shop = subst (λ l. IsPermutation l (rows_at db.trees 0)) is (shows_rows of_shop.select_text 0 of_shop.select_is db known rows shows) in
+    let shop = subst (λ l. IsPermutation l (rows_at db.trees 0)) is (shows_rows of_shop.select_text 0 (of_shop.select_since db.schema known) db refl rows shows) in
     let a = held.catalogue in
     let b = held.sales in
     let d = held.doors in
     let e = held.others in
     (shop, (a.items, (a.variations, (a.quotas, (a.quota_items, (a.quota_variations, (b.vouchers, (b.carts, (b.orders, (b.positions, (b.waiting, (d.checkin_lists, (d.list_items, (d.checkins, (e.counts, (e.tokens, (e.kept, tt)))))))))))))))))
 
-pub readable : (db : Database) (rows : List Row) (o : Option TableRows) (r : Result FileTables OpenError) → ShowsBy of_shop.select_text db rows → IfOk r (λ file. rows ≡ shop_row file.shop ∷ []) → IfOk r (λ file. file.shop.version ≡ this_version) → IfOk r (λ file. o ≡ Some file.tables)
-    → IfOk r IsFitFile → HasTables db.schema → (db.schema ≡ schema → IfSome o (HoldsRows db.trees)) → OnOk r (IsReadable db)
-readable db rows o (Ok file) shows is first some fit has held = record {
+pub readable : (own : ℕ) (db : Database) (rows : List Row) (o : Option TableRows) (r : Result FileTables OpenError) → ShowsBy of_shop.select_text db rows → IfOk r (λ file. rows ≡ shop_row file.shop ∷ []) → IfOk r (λ file. file.shop.version ≡ own) → IfOk r (λ file. o ≡ Some file.tables)
+    → IfOk r IsFitFile → HasTables db.schema → (IsSince 1 db.schema → IfSome o (HoldsRows db.trees)) → OnOk r (IsReadableAs own db)
+readable own db rows o (Ok file) shows is first some fit has held = record {
   shop = (rows, shows, (file.shop, fit.shop, fit.ids, first, is));
   tables = has;
   values = λ known. undamaged_tables (tables_of file) db.trees (read_holds db rows file known shows is (was_some o file.tables (HoldsRows db.trees) some (held known))) (fit_read file first fit);
 }
-readable db rows o (Err e) shows is first some fit has held = tt
+readable own db rows o (Err e) shows is first some fit has held = tt

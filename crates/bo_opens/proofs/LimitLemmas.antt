@@ -17,6 +17,7 @@ use Rattle.bo_catalogue.specs.declared.rows.Quota.{Quota}
 use Rattle.bo_catalogue.specs.Limits.{last_id}
 use Rattle.bo_lists.specs.declared.rows.CheckinList.{CheckinList}
 use Rattle.bo_lists.specs.declared.rows.OrderPos.{OrderPos}
+use Rattle.bo_lists.specs.declared.rows.Voucher.{Voucher}
 use Rattle.bo_lists.specs.Lists.{State}
 use Rattle.bo_sound.specs.Limits.{IsValue, IsLimitedItem, IsLimitedVariation, IsLimitedQuota, IsLimitedVoucher, IsLimitedCart, IsLimitedOrder, IsLimitedPosition, IsLimitedWaiting, IsLimitedCheckinList, IsLimitedCheckin}
 use Rattle.bo_sound.specs.Range.{IsNextId, AllNextIds}
@@ -25,11 +26,14 @@ use Rattle.bo_kept.specs.declared.kept.Kept.{Kept}
 use Rattle.bo_schema.specs.Tables.{this_version}
 use Rattle.bo_columns.specs.declared.rows.ShopRow.{ShopRow}
 use Rattle.bo_columns.specs.declared.rows.QuotaRow.{QuotaRow}
+use Rattle.bo_columns.specs.declared.rows.PositionRow.{PositionRow}
+use Rattle.bo_columns.specs.declared.rows.VoucherHead.{VoucherHead}
 use Rattle.bo_columns.specs.declared.rows.VoucherRow.{VoucherRow}
 use Rattle.bo_columns.specs.declared.rows.ListRow.{ListRow}
-use Rattle.bo_columns.specs.Changes.{head_of_quota, head_of_list}
+use Rattle.bo_columns.specs.Changes.{head_of_quota, head_of_voucher, head_of_position, head_of_list}
 use Rattle.bo_columns.specs.Fit.{IsStored, IsFitItem, IsFitVariation, IsFitQuota, IsFitVoucher, IsFitCart, IsFitOrder, IsFitPosition, IsFitWaiting, IsFitList, IsFitCheckin}
 use Rattle.bo_columns.specs.Tables.{Tables}
+use Rattle.bo_stand.specs.Rows.{voucher_of, position_of}
 use Rattle.bo_stand.specs.Stands.{Stand}
 use Rattle.bo_typed.specs.Typed.{AreTyped}
 use Rattle.bo_opens.specs.Lawful.{AreFit}
@@ -79,7 +83,7 @@ record IsLimitedHead (row : QuotaRow) : Type 0 where
   name : IsText row.name
   size : IfSome row.size IsSize
 
-voucher_fits : (w : VoucherRow) → IsLimitedVoucher w.voucher → IsUtf8 w.voucher.code × IsUtf8 w.voucher.tag × IsUtf8 w.voucher.comment → IsFitVoucher w
+voucher_fits : (w : VoucherRow) → IsLimitedVoucher (voucher_of w.voucher) → IsUtf8 w.voucher.code × IsUtf8 w.voucher.tag × IsUtf8 w.voucher.comment → IsFitVoucher w
 voucher_fits w h utf8 = record {
   code = stored w.voucher.code h.code utf8.0;
   uses = h.uses;
@@ -107,11 +111,15 @@ sound_fits shop t state answers first organizer event token stand sound typed =
           joined IsLimitedHead _ IsFitQuota (λ w h utf8. record { name = stored w.name h.name utf8; size = h.size }) t.quotas (map head_of_quota lists.catalogue.quotas) stand.rows.quotas
           (mapped head_of_quota IsLimitedQuota IsLimitedHead (λ (q : Quota) h. record { name = h.name; size = h.size }) lists.catalogue.quotas limited.quotas) typed.quotas;
       vouchers =
-          with_both (λ (w : VoucherRow). IsLimitedVoucher w.voucher) _ IsFitVoucher voucher_fits t.vouchers
-          (unmapped (λ (w : VoucherRow). w.voucher) IsLimitedVoucher t.vouchers (all-permutation IsLimitedVoucher lists.vouchers (map (λ (w : VoucherRow). w.voucher) t.vouchers) (IsPermutation-sym _ _ stand.rows.vouchers) limited.vouchers)) typed.vouchers;
+          with_both (λ (w : VoucherRow). IsLimitedVoucher (voucher_of w.voucher)) _ IsFitVoucher voucher_fits t.vouchers
+          (unmapped (λ (w : VoucherRow). w.voucher) (λ (h : VoucherHead). IsLimitedVoucher (voucher_of h)) t.vouchers
+          (all-permutation (λ (h : VoucherHead). IsLimitedVoucher (voucher_of h)) (map head_of_voucher lists.vouchers) (map (λ (w : VoucherRow). w.voucher) t.vouchers) (IsPermutation-sym _ _ stand.rows.vouchers)
+          (mapped head_of_voucher IsLimitedVoucher (λ (h : VoucherHead). IsLimitedVoucher (voucher_of h)) (λ (v : Voucher) h. h) lists.vouchers limited.vouchers))) typed.vouchers;
       carts = joined IsLimitedCart _ IsFitCart (λ w h utf8. record { cart_id = stored w.cart_id h.cart_id utf8; price = h.price; made_at = h.made_at; expires = h.expires }) t.carts lists.carts stand.rows.carts limited.carts typed.carts;
       orders = joined IsLimitedOrder _ IsFitOrder (λ w h utf8. record { email = stored_or_none w.email h.email utf8; made_at = h.made_at; expires = h.expires }) t.orders lists.orders stand.rows.orders limited.orders typed.orders;
-      positions = joined IsLimitedPosition (λ (w : OrderPos). (w.positionid < 2 ^ 32) × IsUtf8 w.secret) IsFitPosition (λ w h of. record { positionid = of.0; price = h.price; secret = stored w.secret h.secret of.1 }) t.positions lists.positions stand.rows.positions limited.positions typed.positions;
+      positions =
+          joined (λ (w : PositionRow). IsLimitedPosition (position_of w)) (λ (w : PositionRow). (w.positionid < 2 ^ 32) × IsUtf8 w.secret) IsFitPosition (λ w h of. record { positionid = of.0; price = h.price; secret = stored w.secret h.secret of.1 }) t.positions
+          (map head_of_position lists.positions) stand.rows.positions (mapped head_of_position IsLimitedPosition (λ (w : PositionRow). IsLimitedPosition (position_of w)) (λ (p : OrderPos) h. h) lists.positions limited.positions) typed.positions;
       waiting = joined IsLimitedWaiting _ IsFitWaiting (λ w h utf8. record { email = stored w.email h.email utf8; priority = h.priority; created = h.created }) t.waiting lists.waiting stand.rows.waiting limited.waiting typed.waiting;
       checkin_lists =
           joined (λ (w : ListRow). IsText w.name) _ IsFitList (λ w h utf8. record { name = stored w.name h utf8 }) t.checkin_lists (map head_of_list lists.checkin_lists) stand.rows.checkin_lists

@@ -5,6 +5,7 @@ use Rattle.std.proofs.lemmas.List.Sorted.{Contains-permutation}
 use Rattle.sqlite_value.specs.Order.{Row}
 use Rattle.sqlite_resolve.specs.declared.compiled.Compiled.{Compiled}
 use Rattle.sqlite_schema.specs.declared.command.Command.TheVariants.{Select}
+use Rattle.sqlite_schema.specs.declared.schema.Schema.{Schema}
 use Rattle.sqlite.specs.Clock.{timed}
 use Rattle.sqlite.specs.Listing.{understood}
 use Rattle.sqlite.specs.State.{State, IsUnchanged, Begins}
@@ -13,7 +14,7 @@ use Rattle.bo_schema.specs.Tables.{schema}
 use Rattle.bo_schema.specs.Parts.{shown}
 use Rattle.bo_schema.specs.Shapes.{command_in, over, plainly}
 use Rattle.bo_loads.specs.Damage.{HasMeaning, IsDamaged}
-use Rattle.bo_loads.specs.Select.{IsSelect}
+use Rattle.bo_loads.specs.Select.{IsSelectIn}
 use Rattle.bo_loads.proofs.Loads.{loads}
 
 pub unchanged : (s : State) → IsTrue s.is_open → IsUnchanged s s
@@ -28,7 +29,7 @@ pub begins_meaning : (sql : List ℕ) (s : State) (rows : List Row) → Begins s
 unfolding Begins
 begins_meaning sql s rows h = (h.0, h.1.is)
 
-pub damaged_in : {T : Type 0} (as_row : T → Row) (fits : T → Type 0) (sql : List ℕ) (tree : ℕ) (is : IsSelect sql tree []) (s : State) → s.now.schema ≡ schema → IsTrue s.is_open → (rows : List Row) (row : Row)
+pub damaged_in : {T : Type 0} (as_row : T → Row) (fits : T → Type 0) {of : Schema} (sql : List ℕ) (tree : ℕ) (is : IsSelectIn of sql tree []) (s : State) → s.now.schema ≡ of → IsTrue s.is_open → (rows : List Row) (row : Row)
     → Begins sql [] s (rows ++ row ∷ []) → ((w : T) → fits w → row ≢ as_row w) → IsDamaged as_row fits (map (shown schema tree) (s.now.trees tree))
 damaged_in as_row fits sql tree is s known o rows row h bad =
     let command : (c : Compiled) → understood s.now.schema sql ≡ Ok c → c.command ≡ Select (plainly (over tree [] is.project is.order)) is.names = λ c at.

@@ -10,6 +10,7 @@ use Rattle.sqlite_trees.specs.declared.error.StoreError.TheVariants.{OutOfMemory
 use Rattle.sqlite_schema.specs.declared.command.Command.{Command}
 use Rattle.sqlite_schema.specs.declared.command.Command.TheVariants.{Select}
 use Rattle.sqlite_schema.specs.declared.command.Returning.{Returning}
+use Rattle.sqlite_schema.specs.declared.schema.Schema.{Schema}
 use Rattle.sqlite_resolve.specs.declared.compiled.Compiled.{Compiled}
 use Rattle.sqlite_resolve.specs.declared.error.CompileError.{CompileError}
 use Rattle.sqlite_resolve.specs.declared.error.CompileError.TheVariants as compile
@@ -27,8 +28,8 @@ use Rattle.bo_schema.specs.Failures.{failure_of, meaning_of}
 use Rattle.bo_schema.specs.Tables.{schema}
 use Rattle.bo_schema.specs.Parts.{shown}
 use Rattle.bo_schema.specs.Shapes.{command_in, over, plainly}
-use Rattle.bo_loads.specs.Alone.{RunsAlone, is_accepted, is_alone}
-use Rattle.bo_loads.specs.Select.{IsSelect}
+use Rattle.bo_loads.specs.Alone.{RunsAloneIn, is_accepted, is_alone}
+use Rattle.bo_loads.specs.Select.{IsSelectIn}
 use Rattle.bo_loads.proofs.Loads.{loads}
 use Rattle.bo_columns.specs.Unread.{IsUnread}
 use Rattle.bo_opens.specs.declared.error.OpenError.{OpenError}
@@ -115,21 +116,21 @@ both true true e = (refl, refl)
 both true false e = absurd cc
 both false b e = absurd cc
 
-module _ (sql : List ℕ) (tree : ℕ) (is : IsSelect sql tree []) (alone : RunsAlone sql) (old new : State) (known : old.now.schema ≡ schema) (opened : IsTrue old.is_open) where
+module _ {s : Schema} (sql : List ℕ) (tree : ℕ) (is : IsSelectIn s sql tree []) (alone : RunsAloneIn s sql) (old new : State) (known : old.now.schema ≡ s) (opened : IsTrue old.is_open) where
   -- what the text compiles to
   record Asked (c : Compiled) : Type 0 where
     whole : length sql ≤ c.tail
     given : length c.names ≡ 0
-    accepted : is_accepted (Select (plainly (over tree [] is.project is.order)) is.names) ≡ true
+    accepted : is_accepted s (Select (plainly (over tree [] is.project is.order)) is.names) ≡ true
     command : c.command ≡ Select (plainly (over tree [] is.project is.order)) is.names
     plain : c.formats ≡ []
 
   asked : (c : Compiled) → understood old.now.schema sql ≡ Ok c → Asked c
   asked c at =
-      let here : understood schema sql ≡ Ok c = sym (ap (λ s. understood s sql) known) ∙ at in
-      let all : is_alone sql (Ok c) ≡ true = subst (λ r. is_alone sql r ≡ true) here alone in
-      let first = both (nat_le (length sql) c.tail) ((length c.names == 0) && is_accepted c.command) all in
-      let rest = both (length c.names == 0) (is_accepted c.command) first.1 in
+      let here : understood s sql ≡ Ok c = sym (ap (λ k. understood k sql) known) ∙ at in
+      let all : is_alone s sql (Ok c) ≡ true = subst (λ r. is_alone s sql r ≡ true) here alone in
+      let first = both (nat_le (length sql) c.tail) ((length c.names == 0) && is_accepted s c.command) all in
+      let rest = both (length c.names == 0) (is_accepted s c.command) first.1 in
       let command : c.command ≡ Select (plainly (over tree [] is.project is.order)) is.names =
       (let both : Some c.command ≡ Some (Select (plainly (over tree [] is.project is.order)) is.names) = sym (ap command_in at) ∙ ap (λ k. command_in (understood k sql)) known ∙ is.asks.0 in cc) in
       let low = first.0 in
@@ -137,7 +138,7 @@ module _ (sql : List ℕ) (tree : ℕ) (is : IsSelect sql tree []) (alone : Runs
       record {
         whole = grind (arith, nat_tests, low);
         given = grind (arith, nat_tests, none);
-        accepted = subst (λ k. is_accepted k ≡ true) command rest.1;
+        accepted = subst (λ k. is_accepted s k ≡ true) command rest.1;
         command = command;
         plain = (subst IsPlain here is.asks.1).1;
       }
@@ -166,8 +167,8 @@ module _ (sql : List ℕ) (tree : ℕ) (is : IsSelect sql tree []) (alone : Runs
       → RefusesToRead old.step_limit c.command db (timed [] c.formats now) e → WhereStopped (IsStopped old new) (failure_of e)
   limited c at now db source e h =
       let it = asked c at in
-      let same : db ≡ old.now = subst (λ b. IsSourceOf b old.now db) (ap (λ s. reads_listing s sql) known ∙ is.unlisted) source in
-      let schema_is : db.schema ≡ schema = ap (λ (d : Database). d.schema) same ∙ known in
+      let same : db ≡ old.now = subst (λ b. IsSourceOf b old.now db) (ap (λ k. reads_listing k sql) known ∙ is.unlisted) source in
+      let schema_is : db.schema ≡ s = ap (λ (d : Database). d.schema) same ∙ known in
       let bare : timed [] c.formats now ≡ [] = ap (λ f. timed [] f now) it.plain in
       let refused = subst (λ k. RefusesToRead old.step_limit k db (timed [] c.formats now) e) it.command h in
       elim refused [
@@ -190,7 +191,7 @@ module _ (sql : List ℕ) (tree : ℕ) (is : IsSelect sql tree []) (alone : Runs
   stops e (inr h) = not_shown h.0 h.1.is h.1.now e h.0.returning (is.reads old.now.schema h.0 h.1.is) h.2
 
 -- so many rows were shown of its table
-pub endless : (sql : List ℕ) (tree : ℕ) (is : IsSelect sql tree []) (s : State) → s.now.schema ≡ schema → IsUnchanged s s → (all : List Row) → Begins sql [] s all → 18446744073709551615 ≤ length all → HasEndlessTable s.now.trees
+pub endless : {of : Schema} (sql : List ℕ) (tree : ℕ) (is : IsSelectIn of sql tree []) (s : State) → s.now.schema ≡ of → IsUnchanged s s → (all : List Row) → Begins sql [] s all → 18446744073709551615 ≤ length all → HasEndlessTable s.now.trees
 endless sql tree is s known same all begins many =
     let command : (c : Compiled) → understood s.now.schema sql ≡ Ok c → c.command ≡ Select (plainly (over tree [] is.project is.order)) is.names = λ c at.
     (let both : Some c.command ≡ Some (Select (plainly (over tree [] is.project is.order)) is.names) = sym (ap command_in at) ∙ ap (λ k. command_in (understood k sql)) known ∙ is.asks.0 in cc) in

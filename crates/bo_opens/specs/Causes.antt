@@ -16,6 +16,7 @@ use Rattle.bo_columns.specs.declared.rows.ShopRow.{ShopRow}
 use Rattle.bo_columns.specs.Rows.{shop_row, item_row, variation_row, quota_row, quota_item_row, quota_variation_row, voucher_row, cart_row, order_row, position_row, waiting_row, list_row, list_item_row, checkin_row, count_row, token_row, kept_row}
 use Rattle.bo_columns.specs.Fit.{IsFitShop, IsFitItem, IsFitVariation, IsFitQuota, IsFitVoucher, IsFitCart, IsFitOrder, IsFitPosition, IsFitWaiting, IsFitList, IsFitCheckin, IsFitToken, IsFitKept}
 use Rattle.bo_loads.specs.Damage.{HasMeaning, HasNoMeaning, IsDamaged}
+use Rattle.bo_loads.specs.Since.{IsSince}
 use Rattle.bo_loads.specs.Texts.{shop_text, items_text, variations_text, quotas_text, quota_items_text, quota_variations_text, vouchers_text, carts_text, orders_text, positions_text, waiting_text, checkin_lists_text, list_items_text, checkins_text, counts_text, tokens_text, kept_text}
 use Rattle.bo_rules.specs.declared.rule.Rule.TheVariants as rule
 use Rattle.bo_opens.specs.declared.error.OpenError.{OpenError}
@@ -129,35 +130,43 @@ pub record IsFitFile (file : FileTables) : Type 0 where
 abbrev pub ShowsBy : List ℕ → Database → List Row → Type 0
 ShowsBy sql db rows = (c : Compiled) × (understood db.schema sql ≡ Ok c) × (source : Database) × IsSourceOf (reads_listing db.schema sql) db source × (now : ℕ) × Reads c.command source (timed [] c.formats now) rows
 
--- there is one row, whose version is this number, and not that of this program
-abbrev pub HasOtherVersion : ℤ → List Row → Type 0
-HasOtherVersion version rows = (row : Row) × (rows ≡ row ∷ []) × (column row 1 ≡ Int version) × (version ≢ pos this_version)
+-- there is one row, whose version is this number, and not the one that is asked for
+abbrev pub HasOtherVersion : ℕ → ℤ → List Row → Type 0
+HasOtherVersion own version rows = (row : Row) × (rows ≡ row ∷ []) × (column row 1 ≡ Int version) × (version ≢ pos own)
 
-abbrev pub HasNoOtherVersion : List Row → Type 0
-HasNoOtherVersion rows = (version : ℤ) → HasOtherVersion version rows → ⊥
+abbrev pub HasNoOtherVersion : ℕ → List Row → Type 0
+HasNoOtherVersion own rows = (version : ℤ) → HasOtherVersion own version rows → ⊥
 
 -- there is one row, which is that of a shop of this version within its limits, whose next ids are in range
-abbrev pub IsOneShop : List Row → Type 0
-IsOneShop rows = (shop : ShopRow) × IsFitShop shop × HasNextIds shop × (shop.version ≡ this_version) × (rows ≡ shop_row shop ∷ [])
+abbrev pub IsOneShop : ℕ → List Row → Type 0
+IsOneShop own rows = (shop : ShopRow) × IsFitShop shop × HasNextIds shop × (shop.version ≡ own) × (rows ≡ shop_row shop ∷ [])
 
 -- the file has the table `shop`, and of the rows that are shown of it this holds
 abbrev pub OfTheShop : Database → (List Row → Type 0) → Type 0
 OfTheShop db holds = (rows : List Row) × ShowsBy shop_text db rows × holds rows
 
--- None of 60, 61 and 62 by the first two rules has its cause: no table lacks, there is one shop of this version within its limits, and so is
--- each value of the other tables, where these are declared as ours.
-pub record IsReadable (db : Database) : Type 0 where
-  pub shop : OfTheShop db IsOneShop
+-- None of 60, 61 and 62 by the first two rules has its cause where a file of this version is asked for: no table lacks, there is one shop of
+-- the version within its limits, and so is each value of the other tables, where these are declared as those of some version of ours.
+pub record IsReadableAs (own : ℕ) (db : Database) : Type 0 where
+  pub shop : OfTheShop db (IsOneShop own)
   pub tables : HasTables db.schema
-  pub values : db.schema ≡ schema → HasDamage db.trees → ⊥
+  pub values : IsSince 1 db.schema → HasDamage db.trees → ⊥
 
--- Why each refusal is told, which also says that none before it was to be told: 60 for the table `shop`, 61, 60 for another table, 62.1, 62.2.
--- Of rows in tables that are declared in another way than ours nothing is said. That memory is refused or the store fails has no cause in the file.
+-- a file of this program's version
+abbrev pub IsReadable : Database → Type 0
+IsReadable db = IsReadableAs this_version db
+
+-- Why each refusal is told where a file of this version is asked for, which also says that none before it was to be told: 60 for the table
+-- `shop`, 61, 60 for another table, 62.1, 62.2. Of rows in tables that are declared in another way than ours nothing is said. That memory is
+-- refused or the store fails has no cause in the file.
+abbrev pub IsCauseAs : ℕ → Database → OpenError → Type 0
+IsCauseAs own db Memory = Unit {0}
+IsCauseAs own db NotAShop = HasNoMeaning db.schema shop_text ⊎ OfTheShop db (λ rows. HasNoOtherVersion own rows × LacksTable db.schema)
+IsCauseAs own db (Version version) = OfTheShop db (HasOtherVersion own version)
+IsCauseAs own db (Damaged rule.Shop) = OfTheShop db (λ rows. HasNoOtherVersion own rows × HasTables db.schema × (¬ IsOneShop own rows))
+IsCauseAs own db (Damaged rule.Limits) = OfTheShop db (λ rows. IsOneShop own rows × HasTables db.schema × (IsSince 1 db.schema → HasDamage db.trees))
+IsCauseAs own db (Damaged _) = ⊥
+IsCauseAs own db Store = Unit {0}
+
 abbrev pub IsCause : Database → OpenError → Type 0
-IsCause db Memory = Unit {0}
-IsCause db NotAShop = HasNoMeaning db.schema shop_text ⊎ OfTheShop db (λ rows. HasNoOtherVersion rows × LacksTable db.schema)
-IsCause db (Version version) = OfTheShop db (HasOtherVersion version)
-IsCause db (Damaged rule.Shop) = OfTheShop db (λ rows. HasNoOtherVersion rows × HasTables db.schema × (¬ IsOneShop rows))
-IsCause db (Damaged rule.Limits) = OfTheShop db (λ rows. IsOneShop rows × HasTables db.schema × (db.schema ≡ schema → HasDamage db.trees))
-IsCause db (Damaged _) = ⊥
-IsCause db Store = Unit {0}
+IsCause db error = IsCauseAs this_version db error

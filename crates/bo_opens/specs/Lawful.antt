@@ -1,5 +1,5 @@
 -- Tables that a shop has written.
-use Rattle.std.specs.Prelude.{◌≡◌, [], ◌∷◌, All}
+use Rattle.std.specs.Prelude.{◌≡◌, ℕ, [], ◌∷◌, All}
 use Rattle.bo_schema.specs.Tables.{this_version}
 use Rattle.bo_columns.specs.declared.rows.ShopRow.{ShopRow}
 use Rattle.bo_columns.specs.Tables.{Tables}
@@ -9,10 +9,10 @@ use Rattle.bo_opens.specs.declared.error.OpenError.{OpenError}
 use Rattle.bo_opens.specs.declared.error.OpenError.TheVariants.{Memory, NotAShop, Version, Damaged, Store}
 
 -- all values are within their limits, and there is one shop, of this version; the tables that aren't named have no limits
-pub record AreFit (t : Tables) : Type 0 where
+pub record AreFitAt (own : ℕ) (t : Tables) : Type 0 where
   pub shop : ShopRow
   pub alone : t.shop ≡ shop ∷ []
-  pub first : shop.version ≡ this_version
+  pub first : shop.version ≡ own
   pub shop_fits : IsFitShop shop
   pub ids : HasNextIds shop
   pub items : All IsFitItem t.items
@@ -27,6 +27,10 @@ pub record AreFit (t : Tables) : Type 0 where
   pub checkins : All IsFitCheckin t.checkins
   pub tokens : All IsFitToken t.tokens
   pub kept : All IsFitKept t.kept
+
+-- of this program's version
+abbrev pub AreFit : Tables → Type 0
+AreFit t = AreFitAt this_version t
 
 -- memory was refused or the store failed, and nothing is wrong with the file
 abbrev pub IsOfMachine : OpenError → Type 0

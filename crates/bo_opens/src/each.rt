@@ -5,10 +5,9 @@ ghost use Rattle.sqlite_value.specs.Order.{Row as Shown};
 ghost use Rattle.sqlite_schema.specs.declared.schema.Schema.{Schema};
 ghost use Rattle.sqlite.specs.Held.{state};
 ghost use Rattle.sqlite.specs.State.{HasCleanDisk, Survives, IsUnchanged};
-ghost use Rattle.bo_schema.specs.Tables.{schema};
-ghost use Rattle.bo_loads.specs.Alone.{RunsAlone};
+ghost use Rattle.bo_loads.specs.Alone.{RunsAloneIn};
 ghost use Rattle.bo_loads.specs.Damage.{HasNoMeaning, IsFor, IsForReading};
-ghost use Rattle.bo_loads.specs.Select.{IsSelect};
+ghost use Rattle.bo_loads.specs.Select.{IsSelectIn};
 ghost use Rattle.bo_opens.specs.Rests.{Rests};
 ghost use Rattle.bo_opens.specs.Stopped.{IsStopped, WhereStopped};
 ghost use Rattle.bo_opens.specs.Took.{TakesAll, TakesSome, BreaksOff};
@@ -47,7 +46,7 @@ pub fn each_row<S: Alter, E: Drop, K: Taker<E>, P: Progress>(
     ensures stopped { IfOk result (λ r. IfErr r (λ e. TakesSome K.Taker.takes (λ k row n. K.Taker.stops k row e n) sql.now (state S.Store conn.old) (state S.Store conn.new) taker.old taker.new)) }
     ensures broken { IfErr result (λ _. BreaksOff K.Taker.takes sql.now (state S.Store conn.old) (state S.Store conn.new) taker.old taker.new) }
     ensures refused { HasCleanDisk (state S.Store conn.new) → IfErr result (IsFor (HasNoMeaning (state S.Store conn.old).now.schema sql.now) ⊥) }
-    ensures store { HasCleanDisk (state S.Store conn.new) → (tree : ℕ) → IsSelect sql.now tree [] → RunsAlone sql.now → IsTrue (state S.Store conn.old).is_open → (state S.Store conn.old).now.schema ≡ schema → IfErr result (WhereStopped (IsStopped (state S.Store conn.old) (state S.Store conn.new))) }
+    ensures store { HasCleanDisk (state S.Store conn.new) → (s : Schema) (tree : ℕ) → IsSelectIn s sql.now tree [] → RunsAloneIn s sql.now → IsTrue (state S.Store conn.old).is_open → (state S.Store conn.old).now.schema ≡ s → IfErr result (WhereStopped (IsStopped (state S.Store conn.old) (state S.Store conn.new))) }
     ensures same { HasCleanDisk (state S.Store conn.new) → IfOk result (λ _. IsUnchanged (state S.Store conn.old) (state S.Store conn.new)) }
     ensures rests { Rests (state S.Store conn.old) (state S.Store conn.new) }
     ensures mode { conn.new.in_transaction ≡ false }

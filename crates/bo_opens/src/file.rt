@@ -1,19 +1,20 @@
 //! The tables of a file, read in the order in which it is told what is wrong.
 
-ghost use Rattle.std.specs.Prelude.{◌≡◌, false, [], ◌∷◌, IfOk, IfErr, IfSome, OnOk, Ok, Err, Some, None};
+ghost use Rattle.std.specs.Prelude.{◌≡◌, ◌≤◌, ℕ, false, [], ◌∷◌, IfOk, IfErr, IfSome, OnOk, Ok, Err, Some, None};
 ghost use Rattle.sqlite.specs.Effect.{Database};
 ghost use Rattle.sqlite.specs.Held.{state};
 ghost use Rattle.sqlite.specs.State.{HasCleanDisk, Survives, IsUnchanged};
 ghost use Rattle.bo_schema.specs.declared.error.RowError.TheVariants.{Damaged, Store};
 ghost use Rattle.bo_schema.specs.Tables.{schema, this_version};
 ghost use Rattle.bo_columns.specs.Rows.{shop_row};
-ghost use Rattle.bo_columns.specs.Tables.{Holds};
+ghost use Rattle.bo_columns.specs.Tables.{Holds, HoldsAt};
 ghost use Rattle.bo_loads.specs.Damage.{HasNoMeaning, IsFor};
+ghost use Rattle.bo_loads.specs.Since.{IsSince};
 ghost use Rattle.bo_loads.specs.Texts.{shop_text};
 ghost use Rattle.bo_opens.specs.Rests.{IsOpenAt, Rests};
 ghost use Rattle.bo_opens.specs.Stopped.{IsStopped, WhereClosed};
 ghost use Rattle.bo_opens.specs.Read.{HoldsRows, tables_of};
-ghost use Rattle.bo_opens.specs.Causes.{LacksTable, HasTables, HasDamage, AreFitTables, IsFitFile, IsReadable, ShowsBy, OfTheShop, HasNoOtherVersion, IsCause};
+ghost use Rattle.bo_opens.specs.Causes.{LacksTable, HasTables, HasDamage, AreFitTables, IsFitFile, IsReadable, IsReadableAs, ShowsBy, OfTheShop, HasNoOtherVersion, IsCause, IsCauseAs};
 
 use crate::error::OpenError;
 use crate::head::{read_shop, shop_rows, test_version};
@@ -21,7 +22,7 @@ use crate::progress::Progress;
 use crate::read::read_tables;
 use bo_columns::{ShopRow, TableRows};
 use bo_rules::Rule;
-use bo_schema::RowError;
+use bo_schema::{RowError, VERSION};
 use sqlite::{Alter, Connection, Row};
 use std::alloc::Global;
 
@@ -34,7 +35,7 @@ pub struct FileTables {
 
 // What a refusal means where the shop's rows are read, which aren't damaged before they are looked at.
 fn refusal(error: RowError) -> OpenError
-    ensures cause { (db : Database) → IsFor (HasNoMeaning db.schema shop_text) ⊥ error → IsCause db result }
+    ensures cause { (own : ℕ) (db : Database) → IsFor (HasNoMeaning db.schema shop_text) ⊥ error → IsCauseAs own db result }
     ensures store { WhereClosed (error ≡ Store) result }
 {
     match error {
@@ -50,7 +51,7 @@ fn readable(read: Result<TableRows, RowError>) -> Result<Option<TableRows>, Open
     ensures read { IfOk result (λ found. IfSome found (λ rows. read ≡ Ok rows)) }
     ensures unread { IfOk result (λ found. found ≡ None → read ≡ Err Damaged) }
     ensures store { IfErr result (WhereClosed (read ≡ Err Store)) }
-    ensures cause { (db : Database) → OfTheShop db HasNoOtherVersion → IfErr read (IsFor (LacksTable db.schema) (db.schema ≡ schema → HasDamage db.trees)) → IfErr result (IsCause db) }
+    ensures cause { (own : ℕ) (db : Database) → OfTheShop db (HasNoOtherVersion own) → IfErr read (IsFor (LacksTable db.schema) (IsSince 1 db.schema → HasDamage db.trees)) → IfErr result (IsCauseAs own db) }
 {
     match read {
         Ok(rows) => Ok(Some(rows)),
@@ -61,32 +62,34 @@ fn readable(read: Result<TableRows, RowError>) -> Result<Option<TableRows>, Open
     }
 }
 
-// The rows, if their version is this program's.
-fn tested(rows: Vec<Row>) -> Result<Vec<Row>, OpenError>
+// The rows, if they have this version.
+fn tested(rows: Vec<Row>, own: u64) -> Result<Vec<Row>, OpenError>
+    requires { own ≤ this_version }
     ensures same { IfOk result (λ same. same ≡ rows) }
-    ensures passed { OnOk result (HasNoOtherVersion rows.items) }
-    ensures cause { (db : Database) → ShowsBy shop_text db rows.items → IfErr result (IsCause db) }
+    ensures passed { OnOk result (HasNoOtherVersion own rows.items) }
+    ensures cause { (db : Database) → ShowsBy shop_text db rows.items → IfErr result (IsCauseAs own db) }
     ensures never { IfErr result (WhereClosed ⊥) }
 {
-    match test_version(rows.as_slice()) {
+    match test_version(rows.as_slice(), own) {
         Ok(()) => Ok(rows),
         Err(error) => Err(error),
     }
 }
 
-// The rows of the table `shop`, and that their version is this program's. Refusals: 6, 60, 61, 63.
-fn read_head<S: Alter>(conn: &mut Connection<S>) -> Result<Vec<Row>, OpenError>
-    requires { conn.old.in_transaction ≡ false }
-    ensures found { HasCleanDisk (state S.Store conn.new) → (db : Database) → IsOpenAt db (state S.Store conn.old) → IfOk result (λ rows. ShowsBy shop_text db rows.items × HasNoOtherVersion rows.items) }
-    ensures cause { HasCleanDisk (state S.Store conn.new) → (db : Database) → IsOpenAt db (state S.Store conn.old) → IfErr result (IsCause db) }
-    ensures store { HasCleanDisk (state S.Store conn.new) → (db : Database) → IsOpenAt db (state S.Store conn.old) → db.schema ≡ schema → IfErr result (WhereClosed (IsStopped (state S.Store conn.old) (state S.Store conn.new))) }
+// The rows of the table `shop`, and that they have this version. Refusals: 6, 60, 61, 63.
+fn read_head<S: Alter>(conn: &mut Connection<S>, own: u64) -> Result<Vec<Row>, OpenError>
+    requires outside { conn.old.in_transaction ≡ false }
+    requires version { own ≤ this_version }
+    ensures found { HasCleanDisk (state S.Store conn.new) → (db : Database) → IsOpenAt db (state S.Store conn.old) → IfOk result (λ rows. ShowsBy shop_text db rows.items × HasNoOtherVersion own rows.items) }
+    ensures cause { HasCleanDisk (state S.Store conn.new) → (db : Database) → IsOpenAt db (state S.Store conn.old) → IfErr result (IsCauseAs own db) }
+    ensures store { HasCleanDisk (state S.Store conn.new) → (db : Database) → IsOpenAt db (state S.Store conn.old) → IsSince 1 db.schema → IfErr result (WhereClosed (IsStopped (state S.Store conn.old) (state S.Store conn.new))) }
     ensures same { HasCleanDisk (state S.Store conn.new) → OnOk result (IsUnchanged (state S.Store conn.old) (state S.Store conn.new)) }
     ensures rests { Rests (state S.Store conn.old) (state S.Store conn.new) }
     ensures mode { conn.new.in_transaction ≡ false }
     ensures crash { Survives (state S.Store conn.old) (state S.Store conn.new) (λ _. ⊥) }
 {
     match shop_rows(conn) {
-        Ok(rows) => tested(rows),
+        Ok(rows) => tested(rows, own),
         Err(error) => Err(refusal(error)),
     }
 }
@@ -95,20 +98,22 @@ fn read_head<S: Alter>(conn: &mut Connection<S>) -> Result<Vec<Row>, OpenError>
 fn read_all<S: Alter, P: Progress>(
     alloc: Global,
     conn: &mut Connection<S>,
+    own: u64,
     progress: &mut P,
 ) -> Result<(Vec<Row>, Option<TableRows>), OpenError>
-    requires { conn.old.in_transaction ≡ false }
-    ensures loaded { HasCleanDisk (state S.Store conn.new) → (db : Database) → IsOpenAt db (state S.Store conn.old) → db.schema ≡ schema → IfOk result (λ read. IfSome read.1 (HoldsRows db.trees)) }
+    requires outside { conn.old.in_transaction ≡ false }
+    requires version { own ≤ this_version }
+    ensures loaded { HasCleanDisk (state S.Store conn.new) → (db : Database) → IsOpenAt db (state S.Store conn.old) → IsSince 1 db.schema → IfOk result (λ read. IfSome read.1 (HoldsRows db.trees)) }
     ensures limits { IfOk result (λ read. IfSome read.1 AreFitTables) }
-    ensures found { HasCleanDisk (state S.Store conn.new) → (db : Database) → IsOpenAt db (state S.Store conn.old) → IfOk result (λ read. ShowsBy shop_text db read.0.items × HasNoOtherVersion read.0.items × HasTables db.schema × (read.1 ≡ None → db.schema ≡ schema → HasDamage db.trees)) }
-    ensures cause { HasCleanDisk (state S.Store conn.new) → (db : Database) → IsOpenAt db (state S.Store conn.old) → IfErr result (IsCause db) }
-    ensures store { HasCleanDisk (state S.Store conn.new) → (db : Database) → IsOpenAt db (state S.Store conn.old) → db.schema ≡ schema → IfErr result (WhereClosed (IsStopped (state S.Store conn.old) (state S.Store conn.new))) }
+    ensures found { HasCleanDisk (state S.Store conn.new) → (db : Database) → IsOpenAt db (state S.Store conn.old) → IfOk result (λ read. ShowsBy shop_text db read.0.items × HasNoOtherVersion own read.0.items × HasTables db.schema × (read.1 ≡ None → IsSince 1 db.schema → HasDamage db.trees)) }
+    ensures cause { HasCleanDisk (state S.Store conn.new) → (db : Database) → IsOpenAt db (state S.Store conn.old) → IfErr result (IsCauseAs own db) }
+    ensures store { HasCleanDisk (state S.Store conn.new) → (db : Database) → IsOpenAt db (state S.Store conn.old) → IsSince 1 db.schema → IfErr result (WhereClosed (IsStopped (state S.Store conn.old) (state S.Store conn.new))) }
     ensures same { HasCleanDisk (state S.Store conn.new) → OnOk result (IsUnchanged (state S.Store conn.old) (state S.Store conn.new)) }
     ensures rests { Rests (state S.Store conn.old) (state S.Store conn.new) }
     ensures mode { conn.new.in_transaction ≡ false }
     ensures crash { Survives (state S.Store conn.old) (state S.Store conn.new) (λ _. ⊥) }
 {
-    match read_head(conn) {
+    match read_head(conn, own) {
         Ok(rows) => match readable(read_tables(alloc, conn, progress)) {
             Ok(tables) => Ok((rows, tables)),
             Err(error) => Err(error),
@@ -122,22 +127,53 @@ fn whole_file(
     alloc: Global,
     rows: &[Row],
     tables: Option<TableRows>,
+    own: u64,
 ) -> Result<FileTables, OpenError>
     ensures shop { IfOk result (λ file. rows.now ≡ shop_row file.shop ∷ []) }
-    ensures version { IfOk result (λ file. file.shop.version ≡ this_version) }
+    ensures version { IfOk result (λ file. file.shop.version ≡ own) }
     ensures tables { IfOk result (λ file. tables ≡ Some file.tables) }
     ensures limits { IfSome tables AreFitTables → IfOk result IsFitFile }
-    ensures cause { (db : Database) → ShowsBy shop_text db rows.now → HasNoOtherVersion rows.now → HasTables db.schema → (tables ≡ None → db.schema ≡ schema → HasDamage db.trees) → IfErr result (IsCause db) }
+    ensures cause { (db : Database) → ShowsBy shop_text db rows.now → HasNoOtherVersion own rows.now → HasTables db.schema → (tables ≡ None → IsSince 1 db.schema → HasDamage db.trees) → IfErr result (IsCauseAs own db) }
     ensures never { IfErr result (WhereClosed ⊥) }
 {
-    match (read_shop(alloc, rows), tables) {
+    match (read_shop(alloc, rows, own), tables) {
         (Ok(shop), Some(tables)) => Ok(FileTables { shop, tables }),
         (Ok(_), None) => Err(OpenError::Damaged(Rule::Limits)),
         (Err(error), _) => Err(error),
     }
 }
 
-/// All that the tables of a file hold. The connection stays as it is.
+/// All that the tables of a file of this version hold, which is an earlier one or this program's. The connection stays as it is.
+/// Refusals: 6; 60 where the table `shop` isn't there with its columns; 61 where its row has another version; 60 where another table
+/// isn't there; 62 by rule 1 where there isn't one row of the shop, or a value or a next id of it is out of range; 62 by rule 2 where
+/// a value of another table is; 63. They are told in this order.
+pub fn read_file_of<S: Alter, P: Progress>(
+    alloc: Global,
+    conn: &mut Connection<S>,
+    own: u64,
+    progress: &mut P,
+) -> Result<FileTables, OpenError>
+    requires outside { conn.old.in_transaction ≡ false }
+    requires first { 1 ≤ own }
+    requires version { own ≤ this_version }
+    ensures held { HasCleanDisk (state S.Store conn.new) → (db : Database) → IsOpenAt db (state S.Store conn.old) → IsSince own db.schema → IfOk result (λ file. HoldsAt own db.trees (tables_of file)) }
+    ensures version { IfOk result (λ file. file.shop.version ≡ own) }
+    ensures limits { IfOk result IsFitFile }
+    ensures found { HasCleanDisk (state S.Store conn.new) → (db : Database) → IsOpenAt db (state S.Store conn.old) → OnOk result (IsReadableAs own db) }
+    ensures cause { HasCleanDisk (state S.Store conn.new) → (db : Database) → IsOpenAt db (state S.Store conn.old) → IfErr result (IsCauseAs own db) }
+    ensures store { HasCleanDisk (state S.Store conn.new) → (db : Database) → IsOpenAt db (state S.Store conn.old) → IsSince own db.schema → IfErr result (WhereClosed (IsStopped (state S.Store conn.old) (state S.Store conn.new))) }
+    ensures same { HasCleanDisk (state S.Store conn.new) → OnOk result (IsUnchanged (state S.Store conn.old) (state S.Store conn.new)) }
+    ensures rests { Rests (state S.Store conn.old) (state S.Store conn.new) }
+    ensures mode { conn.new.in_transaction ≡ false }
+    ensures crash { Survives (state S.Store conn.old) (state S.Store conn.new) (λ _. ⊥) }
+{
+    match read_all(alloc, conn, own, progress) {
+        Ok((rows, tables)) => whole_file(alloc, rows.as_slice(), tables, own),
+        Err(error) => Err(error),
+    }
+}
+
+/// All that the tables of a file of this program's version hold. The connection stays as it is.
 /// Refusals: 6; 60 where the table `shop` isn't there with its columns; 61 where its row has another version; 60 where another table
 /// isn't there; 62 by rule 1 where there isn't one row of the shop, or a value or a next id of it is out of range; 62 by rule 2 where
 /// a value of another table is; 63. They are told in this order.
@@ -158,8 +194,5 @@ pub fn read_file<S: Alter, P: Progress>(
     ensures mode { conn.new.in_transaction ≡ false }
     ensures crash { Survives (state S.Store conn.old) (state S.Store conn.new) (λ _. ⊥) }
 {
-    match read_all(alloc, conn, progress) {
-        Ok((rows, tables)) => whole_file(alloc, rows.as_slice(), tables),
-        Err(error) => Err(error),
-    }
+    read_file_of(alloc, conn, VERSION, progress)
 }

@@ -1,32 +1,30 @@
 //! The shop's own row.
 
-ghost use Rattle.std.specs.Prelude.{◌≡◌, ◌≢◌, ℤ, false, [], ◌∷◌, IfOk, IfErr, OnOk};
+ghost use Rattle.std.specs.Prelude.{◌≡◌, ◌≢◌, ◌≤◌, ℤ, false, [], ◌∷◌, IfOk, IfErr, OnOk};
 ghost use Rattle.sqlite_value.specs.declared.value.Value.TheVariants.{Int};
 ghost use Rattle.sqlite_value.specs.Order.{column};
 ghost use Rattle.sqlite.specs.Effect.{Database};
 ghost use Rattle.sqlite.specs.Held.{state};
 ghost use Rattle.sqlite.specs.State.{HasCleanDisk, Survives, IsUnchanged};
-ghost use Rattle.bo_schema.specs.Tables.{schema, this_version};
+ghost use Rattle.bo_schema.specs.Tables.{this_version};
 ghost use Rattle.bo_columns.specs.Rows.{shop_row};
 ghost use Rattle.bo_columns.specs.Fit.{IsFitShop};
 ghost use Rattle.bo_columns.specs.Unread.{IsUnread};
 ghost use Rattle.bo_loads.specs.Damage.{HasNoMeaning, IsFor};
+ghost use Rattle.bo_loads.specs.Since.{IsSince};
 ghost use Rattle.bo_loads.specs.Texts.{shop_text};
 ghost use Rattle.bo_opens.specs.Rests.{IsOpenAt, Rests};
 ghost use Rattle.bo_opens.specs.Stopped.{IsStopped, WhereClosed, WhereStopped};
-ghost use Rattle.bo_opens.specs.Causes.{HasNextIds, HasTables, ShowsBy, HasNoOtherVersion, IsCause};
+ghost use Rattle.bo_opens.specs.Causes.{HasNextIds, HasTables, ShowsBy, HasNoOtherVersion, IsCauseAs};
 
 use crate::error::OpenError;
 use crate::ids::has_next_ids;
 use bo_columns::ShopRow;
 use bo_loads::Loaded;
 use bo_rules::Rule;
-use bo_schema::{RowError, VERSION};
+use bo_schema::RowError;
 use sqlite::{Alter, Connection, Row};
 use std::alloc::Global;
-
-// The version of this program, as it is shown.
-const SHOWN_VERSION: i64 = VERSION as i64;
 
 /// The rows of the table `shop`, as they are shown, whatever their version and their values are. The connection stays as it is.
 /// Refusals: 6, 60 where the file has no such table with these columns, 63.
@@ -34,7 +32,7 @@ pub(crate) fn shop_rows<S: Alter>(conn: &mut Connection<S>) -> Result<Vec<Row>, 
     requires { conn.old.in_transaction ≡ false }
     ensures shown { HasCleanDisk (state S.Store conn.new) → (db : Database) → IsOpenAt db (state S.Store conn.old) → IfOk result (λ rows. ShowsBy shop_text db rows.items) }
     ensures refused { HasCleanDisk (state S.Store conn.new) → (db : Database) → IsOpenAt db (state S.Store conn.old) → IfErr result (IsFor (HasNoMeaning db.schema shop_text) ⊥) }
-    ensures store { HasCleanDisk (state S.Store conn.new) → (db : Database) → IsOpenAt db (state S.Store conn.old) → db.schema ≡ schema → IfErr result (WhereStopped (IsStopped (state S.Store conn.old) (state S.Store conn.new))) }
+    ensures store { HasCleanDisk (state S.Store conn.new) → (db : Database) → IsOpenAt db (state S.Store conn.old) → IsSince 1 db.schema → IfErr result (WhereStopped (IsStopped (state S.Store conn.old) (state S.Store conn.new))) }
     ensures same { HasCleanDisk (state S.Store conn.new) → OnOk result (IsUnchanged (state S.Store conn.old) (state S.Store conn.new)) }
     ensures rests { Rests (state S.Store conn.old) (state S.Store conn.new) }
     ensures mode { conn.new.in_transaction ≡ false }
@@ -57,38 +55,40 @@ fn version_in(row: &Row) -> Result<i64, RowError>
     }
 }
 
-/// That the shop's row, where there is one, has the version of this program. Refusals: 6, and 61 where it has another.
+/// That the shop's row, where there is one, has this version. Refusals: 6, and 61 where it has another.
 /// A row whose version is no number passes, since it has a value of another kind.
-pub(crate) fn test_version(rows: &[Row]) -> Result<(), OpenError>
-    ensures passed { OnOk result (HasNoOtherVersion rows.now) }
-    ensures cause { (db : Database) → ShowsBy shop_text db rows.now → IfErr result (IsCause db) }
+pub(crate) fn test_version(rows: &[Row], own: u64) -> Result<(), OpenError>
+    requires { own ≤ this_version }
+    ensures passed { OnOk result (HasNoOtherVersion own rows.now) }
+    ensures cause { (db : Database) → ShowsBy shop_text db rows.now → IfErr result (IsCauseAs own db) }
     ensures never { IfErr result (WhereClosed ⊥) }
 {
     let [row] = rows else {
         return Ok(());
     };
     match version_in(row) {
-        Ok(SHOWN_VERSION) => Ok(()),
+        Ok(version) if version == own as i64 => Ok(()),
         Ok(version) => Err(OpenError::Version(version)),
         Err(RowError::Memory) => Err(OpenError::Memory),
         Err(_) => Ok(()),
     }
 }
 
-/// The shop's row. Refusals: 6, and 62 where there isn't one row, or a value or a next id of it is out of range.
-pub(crate) fn read_shop(alloc: Global, rows: &[Row]) -> Result<ShopRow, OpenError>
+/// The shop's row, which has to have this version. Refusals: 6, and 62 where there isn't one row, or a value or a next id of it is out
+/// of range.
+pub(crate) fn read_shop(alloc: Global, rows: &[Row], own: u64) -> Result<ShopRow, OpenError>
     ensures row { IfOk result (λ shop. rows.now ≡ shop_row shop ∷ []) }
-    ensures version { IfOk result (λ shop. shop.version ≡ this_version) }
+    ensures version { IfOk result (λ shop. shop.version ≡ own) }
     ensures limits { IfOk result IsFitShop }
     ensures ids { IfOk result HasNextIds }
-    ensures cause { (db : Database) → ShowsBy shop_text db rows.now → HasNoOtherVersion rows.now → HasTables db.schema → IfErr result (IsCause db) }
+    ensures cause { (db : Database) → ShowsBy shop_text db rows.now → HasNoOtherVersion own rows.now → HasTables db.schema → IfErr result (IsCauseAs own db) }
     ensures never { IfErr result (WhereClosed ⊥) }
 {
     let [row] = rows else {
         return Err(OpenError::Damaged(Rule::Shop));
     };
     match ShopRow::read(alloc, row) {
-        Ok(shop) if shop.version == VERSION && has_next_ids(&shop) => Ok(shop),
+        Ok(shop) if shop.version == own && has_next_ids(&shop) => Ok(shop),
         Ok(_) => Err(OpenError::Damaged(Rule::Shop)),
         Err(RowError::Memory) => Err(OpenError::Memory),
         Err(_) => Err(OpenError::Damaged(Rule::Shop)),

@@ -1,8 +1,9 @@
 //! Which files are opened.
 
-ghost use Rattle.std.specs.Prelude.{◌≡◌, ◌≢◌, ℤ, pos, List, [], ◌∷◌};
+ghost use Rattle.std.specs.Prelude.{◌≡◌, ◌≢◌, ◌⊎◌, ℕ, ℤ, pos, List, [], ◌∷◌};
 ghost use Rattle.sqlite.specs.Effect.{Database};
 ghost use Rattle.bo_schema.specs.Tables.{schema, this_version};
+ghost use Rattle.bo_schema.specs.Versions.{schema_of_version};
 ghost use Rattle.bo_lists.specs.Lists.{State};
 ghost use Rattle.bo_base.specs.Slugs.{IsSlug};
 ghost use Rattle.bo_catalogue.specs.Limits.{last_id};
@@ -10,7 +11,7 @@ ghost use Rattle.bo_sound.specs.Range.{IsNextId};
 ghost use Rattle.bo_sound.specs.Sound.{IsSound};
 ghost use Rattle.bo_kept.specs.declared.kept.Kept.{Kept};
 ghost use Rattle.bo_columns.specs.declared.rows.ShopRow.{ShopRow};
-ghost use Rattle.bo_columns.specs.Tables.{Tables, Holds};
+ghost use Rattle.bo_columns.specs.Tables.{Tables, Holds, HoldsAt};
 ghost use Rattle.bo_stand.specs.Stands.{Stand};
 ghost use Rattle.bo_typed.specs.Typed.{AreTyped};
 ghost use Rattle.bo_opens.specs.declared.error.OpenError.{OpenError};
@@ -32,6 +33,13 @@ pub fn readable_files_are_no_fault()
 /// A version that is told is that of the shop's row, and not that of this program.
 pub fn a_version_is_told_of_the_shop()
     ensures { (t : Tables) (db : Database) → db.schema ≡ schema → Holds db.trees t → (shop : ShopRow) → t.shop ≡ shop ∷ [] → (version : ℤ) → IsCause db (Version version) → (pos shop.version ≡ version) × (version ≢ pos this_version) }
+{}
+
+/// A file of whatever version whose tables hold one shop of another version than this program's is refused with 61, which tells the shop's
+/// version, or for want of memory or because the store fails, and never with 60 or 62.
+pub fn another_version_is_told()
+    ensures { (from : ℕ) (t : Tables) (db : Database) → db.schema ≡ schema_of_version from → HoldsAt from db.trees t → (shop : ShopRow) → t.shop ≡ shop ∷ [] → shop.version ≢ this_version
+        → (e : OpenError) → IsCause db e → (e ≡ Version (pos shop.version)) ⊎ IsOfMachine e }
 {}
 
 /// The values of tables that hold a sound box office are within their limits, where their types keep what they promise.

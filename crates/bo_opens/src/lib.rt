@@ -1,4 +1,4 @@
-//! A file is read: all rows of its tables.
+//! Which rows do the tables of a file have?
 #![tactic(auto)]
 
 pub mod each;
@@ -15,6 +15,6 @@ pub mod whole;
 
 pub use each::{Taker, each_row};
 pub use error::OpenError;
-pub use file::{FileTables, read_file};
+pub use file::{FileTables, read_file, read_file_of};
 pub use progress::{Progress, Quiet};
 pub use read::read_tables;

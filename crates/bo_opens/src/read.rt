@@ -4,7 +4,7 @@ ghost use Rattle.std.specs.Prelude.{◌≡◌, false, IfOk, IfErr};
 ghost use Rattle.sqlite.specs.Effect.{Database};
 ghost use Rattle.sqlite.specs.Held.{state};
 ghost use Rattle.sqlite.specs.State.{HasCleanDisk, Survives, IsUnchanged};
-ghost use Rattle.bo_schema.specs.Tables.{schema};
+ghost use Rattle.bo_loads.specs.Since.{IsSince};
 ghost use Rattle.bo_loads.specs.Damage.{IsFor};
 ghost use Rattle.bo_opens.specs.Rests.{IsOpenAt, Rests, WhereShown};
 ghost use Rattle.bo_opens.specs.Stopped.{IsStopped, WhereStopped};
@@ -22,6 +22,8 @@ impl Whole for CatalogueRows {
     ghost is_in = { HoldsCatalogue };
 
     ghost fits = { IsFitCatalogue };
+
+    ghost since = { 1 };
 
     ghost stands = { HasCatalogue };
 
@@ -54,6 +56,8 @@ impl Whole for SaleRows {
 
     ghost fits = { AreFitSales };
 
+    ghost since = { 1 };
+
     ghost stands = { HasSales };
 
     ghost lacks = { LacksSales };
@@ -83,6 +87,8 @@ impl Whole for DoorRows {
 
     ghost fits = { AreFitDoors };
 
+    ghost since = { 1 };
+
     ghost stands = { HasDoors };
 
     ghost lacks = { LacksDoors };
@@ -110,6 +116,8 @@ impl Whole for OtherRows {
 
     ghost fits = { AreFitOthers };
 
+    ghost since = { 1 };
+
     ghost stands = { HasOthers };
 
     ghost lacks = { LacksOthers };
@@ -136,6 +144,8 @@ impl Whole for TableRows {
     ghost is_in = { HoldsRows };
 
     ghost fits = { AreFitTables };
+
+    ghost since = { 1 };
 
     ghost stands = { HasTables };
 
@@ -169,11 +179,11 @@ pub fn read_tables<S: Alter, P: Progress>(
     progress: &mut P,
 ) -> Result<TableRows, RowError>
     requires { conn.old.in_transaction ≡ false }
-    ensures loaded { HasCleanDisk (state S.Store conn.new) → (db : Database) → IsOpenAt db (state S.Store conn.old) → db.schema ≡ schema → IfOk result (HoldsRows db.trees) }
+    ensures loaded { HasCleanDisk (state S.Store conn.new) → (db : Database) → IsOpenAt db (state S.Store conn.old) → IsSince 1 db.schema → IfOk result (HoldsRows db.trees) }
     ensures limits { IfOk result AreFitTables }
     ensures found { HasCleanDisk (state S.Store conn.new) → (db : Database) → IsOpenAt db (state S.Store conn.old) → WhereShown result (HasTables db.schema) }
-    ensures refused { HasCleanDisk (state S.Store conn.new) → (db : Database) → IsOpenAt db (state S.Store conn.old) → IfErr result (IsFor (LacksTable db.schema) (db.schema ≡ schema → HasDamage db.trees)) }
-    ensures store { HasCleanDisk (state S.Store conn.new) → (db : Database) → IsOpenAt db (state S.Store conn.old) → db.schema ≡ schema → IfErr result (WhereStopped (IsStopped (state S.Store conn.old) (state S.Store conn.new))) }
+    ensures refused { HasCleanDisk (state S.Store conn.new) → (db : Database) → IsOpenAt db (state S.Store conn.old) → IfErr result (IsFor (LacksTable db.schema) (IsSince 1 db.schema → HasDamage db.trees)) }
+    ensures store { HasCleanDisk (state S.Store conn.new) → (db : Database) → IsOpenAt db (state S.Store conn.old) → IsSince 1 db.schema → IfErr result (WhereStopped (IsStopped (state S.Store conn.old) (state S.Store conn.new))) }
     ensures same { HasCleanDisk (state S.Store conn.new) → WhereShown result (IsUnchanged (state S.Store conn.old) (state S.Store conn.new)) }
     ensures rests { Rests (state S.Store conn.old) (state S.Store conn.new) }
     ensures mode { conn.new.in_transaction ≡ false }

@@ -8,6 +8,7 @@ ghost use Rattle.bo_schema.specs.Tables.{schema};
 ghost use Rattle.bo_schema.specs.Parts.{shown};
 ghost use Rattle.bo_columns.specs.Unread.{IsUnread};
 ghost use Rattle.bo_loads.specs.Damage.{HasMeaning, HasNoMeaning, IsDamaged, IsFor};
+ghost use Rattle.bo_loads.specs.Since.{IsSince};
 ghost use Rattle.bo_opens.specs.Rests.{IsOpenAt, Rests, WhereShown};
 ghost use Rattle.bo_opens.specs.Stopped.{IsStopped, WhereStopped};
 
@@ -47,11 +48,11 @@ pub(crate) fn rows_in<S: Alter, T: Loaded, P: Progress>(
     progress: &mut P,
 ) -> Result<Vec<T>, RowError>
     requires { conn.old.in_transaction ≡ false }
-    ensures loaded { HasCleanDisk (state S.Store conn.new) → (db : Database) → IsOpenAt db (state S.Store conn.old) → db.schema ≡ schema → IfOk result (λ all. IsPermutation (map T.as_row all.items) (map (shown schema T.tree) (db.trees T.tree))) }
+    ensures loaded { HasCleanDisk (state S.Store conn.new) → (db : Database) → IsOpenAt db (state S.Store conn.old) → IsSince T.since db.schema → IfOk result (λ all. IsPermutation (map T.as_row all.items) (map (shown schema T.tree) (db.trees T.tree))) }
     ensures limits { IfOk result (λ all. All T.fits all.items) }
     ensures found { HasCleanDisk (state S.Store conn.new) → (db : Database) → IsOpenAt db (state S.Store conn.old) → WhereShown result (HasMeaning db.schema T.text) }
-    ensures refused { HasCleanDisk (state S.Store conn.new) → (db : Database) → IsOpenAt db (state S.Store conn.old) → IfErr result (IsFor (HasNoMeaning db.schema T.text) (db.schema ≡ schema → IsDamaged T.as_row T.fits (map (shown schema T.tree) (db.trees T.tree)))) }
-    ensures store { HasCleanDisk (state S.Store conn.new) → (db : Database) → IsOpenAt db (state S.Store conn.old) → db.schema ≡ schema → IfErr result (WhereStopped (IsStopped (state S.Store conn.old) (state S.Store conn.new))) }
+    ensures refused { HasCleanDisk (state S.Store conn.new) → (db : Database) → IsOpenAt db (state S.Store conn.old) → IfErr result (IsFor (HasNoMeaning db.schema T.text) (IsSince T.since db.schema → IsDamaged T.as_row T.fits (map (shown schema T.tree) (db.trees T.tree)))) }
+    ensures store { HasCleanDisk (state S.Store conn.new) → (db : Database) → IsOpenAt db (state S.Store conn.old) → IsSince T.since db.schema → IfErr result (WhereStopped (IsStopped (state S.Store conn.old) (state S.Store conn.new))) }
     ensures same { HasCleanDisk (state S.Store conn.new) → WhereShown result (IsUnchanged (state S.Store conn.old) (state S.Store conn.new)) }
     ensures rests { Rests (state S.Store conn.old) (state S.Store conn.new) }
     ensures mode { conn.new.in_transaction ≡ false }

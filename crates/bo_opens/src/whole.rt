@@ -1,6 +1,6 @@
 //! What is read of a file whole: tables one after another.
 
-ghost use Rattle.std.specs.Prelude.{◌≡◌, ◌⊎◌, false, map, All, IfOk, IfErr, IsPermutation};
+ghost use Rattle.std.specs.Prelude.{◌≡◌, ◌⊎◌, ℕ, max, false, map, All, IfOk, IfErr, IsPermutation};
 ghost use Rattle.sqlite_trees.specs.Tree.{Trees};
 ghost use Rattle.sqlite_schema.specs.declared.schema.Schema.{Schema};
 ghost use Rattle.sqlite.specs.Effect.{Database};
@@ -9,6 +9,7 @@ ghost use Rattle.sqlite.specs.State.{HasCleanDisk, Survives, IsUnchanged};
 ghost use Rattle.bo_schema.specs.Tables.{schema};
 ghost use Rattle.bo_schema.specs.Parts.{shown};
 ghost use Rattle.bo_loads.specs.Damage.{HasMeaning, HasNoMeaning, IsDamaged, IsFor};
+ghost use Rattle.bo_loads.specs.Since.{IsSince};
 ghost use Rattle.bo_opens.specs.Rests.{IsOpenAt, Rests, WhereShown};
 ghost use Rattle.bo_opens.specs.Stopped.{IsStopped, WhereStopped};
 
@@ -27,6 +28,9 @@ pub(crate) trait Whole: Drop {
     // its values are within their limits
     ghost fits: { Self → Type 0 };
 
+    // the first version that has all of these tables
+    ghost since: { ℕ };
+
     // a file has all of these tables, or lacks one of them
     ghost stands: { Schema → Type 0 };
 
@@ -44,11 +48,11 @@ pub(crate) trait Whole: Drop {
         progress: &mut P,
     ) -> Result<Self, RowError>
         requires { conn.old.in_transaction ≡ false }
-        ensures loaded { HasCleanDisk (state S.Store conn.new) → (db : Database) → IsOpenAt db (state S.Store conn.old) → db.schema ≡ schema → IfOk result (is_in db.trees) }
+        ensures loaded { HasCleanDisk (state S.Store conn.new) → (db : Database) → IsOpenAt db (state S.Store conn.old) → IsSince since db.schema → IfOk result (is_in db.trees) }
         ensures limits { IfOk result fits }
         ensures found { HasCleanDisk (state S.Store conn.new) → (db : Database) → IsOpenAt db (state S.Store conn.old) → WhereShown result (stands db.schema) }
-        ensures refused { HasCleanDisk (state S.Store conn.new) → (db : Database) → IsOpenAt db (state S.Store conn.old) → IfErr result (IsFor (lacks db.schema) (db.schema ≡ schema → is_damaged db.trees)) }
-        ensures store { HasCleanDisk (state S.Store conn.new) → (db : Database) → IsOpenAt db (state S.Store conn.old) → db.schema ≡ schema → IfErr result (WhereStopped (IsStopped (state S.Store conn.old) (state S.Store conn.new))) }
+        ensures refused { HasCleanDisk (state S.Store conn.new) → (db : Database) → IsOpenAt db (state S.Store conn.old) → IfErr result (IsFor (lacks db.schema) (IsSince since db.schema → is_damaged db.trees)) }
+        ensures store { HasCleanDisk (state S.Store conn.new) → (db : Database) → IsOpenAt db (state S.Store conn.old) → IsSince since db.schema → IfErr result (WhereStopped (IsStopped (state S.Store conn.old) (state S.Store conn.new))) }
         ensures same { HasCleanDisk (state S.Store conn.new) → WhereShown result (IsUnchanged (state S.Store conn.old) (state S.Store conn.new)) }
         ensures rests { Rests (state S.Store conn.old) (state S.Store conn.new) }
         ensures mode { conn.new.in_transaction ≡ false }
@@ -60,6 +64,8 @@ impl<T: Loaded> Whole for Vec<T> {
     ghost is_in = { λ trees rows. IsPermutation (map T.as_row rows.items) (map (shown schema T.tree) (trees T.tree)) };
 
     ghost fits = { λ rows. All T.fits rows.items };
+
+    ghost since = { T.since };
 
     ghost stands = { λ s. HasMeaning s T.text };
 
@@ -83,11 +89,11 @@ fn read_both<S: Alter, A: Whole, B: Whole, P: Progress>(
     progress: &mut P,
 ) -> Result<(A, B), RowError>
     requires { conn.old.in_transaction ≡ false }
-    ensures loaded { HasCleanDisk (state S.Store conn.new) → (db : Database) → IsOpenAt db (state S.Store conn.old) → db.schema ≡ schema → IfOk result (λ both. A.is_in db.trees both.0 × B.is_in db.trees both.1) }
+    ensures loaded { HasCleanDisk (state S.Store conn.new) → (db : Database) → IsOpenAt db (state S.Store conn.old) → IsSince (max A.since B.since) db.schema → IfOk result (λ both. A.is_in db.trees both.0 × B.is_in db.trees both.1) }
     ensures limits { IfOk result (λ both. A.fits both.0 × B.fits both.1) }
     ensures found { HasCleanDisk (state S.Store conn.new) → (db : Database) → IsOpenAt db (state S.Store conn.old) → WhereShown result (A.stands db.schema × B.stands db.schema) }
-    ensures refused { HasCleanDisk (state S.Store conn.new) → (db : Database) → IsOpenAt db (state S.Store conn.old) → IfErr result (IsFor (A.lacks db.schema ⊎ B.lacks db.schema) (db.schema ≡ schema → A.is_damaged db.trees ⊎ B.is_damaged db.trees)) }
-    ensures store { HasCleanDisk (state S.Store conn.new) → (db : Database) → IsOpenAt db (state S.Store conn.old) → db.schema ≡ schema → IfErr result (WhereStopped (IsStopped (state S.Store conn.old) (state S.Store conn.new))) }
+    ensures refused { HasCleanDisk (state S.Store conn.new) → (db : Database) → IsOpenAt db (state S.Store conn.old) → IfErr result (IsFor (A.lacks db.schema ⊎ B.lacks db.schema) (IsSince (max A.since B.since) db.schema → A.is_damaged db.trees ⊎ B.is_damaged db.trees)) }
+    ensures store { HasCleanDisk (state S.Store conn.new) → (db : Database) → IsOpenAt db (state S.Store conn.old) → IsSince (max A.since B.since) db.schema → IfErr result (WhereStopped (IsStopped (state S.Store conn.old) (state S.Store conn.new))) }
     ensures same { HasCleanDisk (state S.Store conn.new) → WhereShown result (IsUnchanged (state S.Store conn.old) (state S.Store conn.new)) }
     ensures rests { Rests (state S.Store conn.old) (state S.Store conn.new) }
     ensures mode { conn.new.in_transaction ≡ false }
@@ -110,6 +116,8 @@ impl<A: Whole, B: Whole> Whole for (A, B) {
     ghost is_in = { λ trees both. A.is_in trees both.0 × B.is_in trees both.1 };
 
     ghost fits = { λ both. A.fits both.0 × B.fits both.1 };
+
+    ghost since = { max A.since B.since };
 
     ghost stands = { λ s. A.stands s × B.stands s };
 

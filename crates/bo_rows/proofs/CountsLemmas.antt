@@ -12,7 +12,7 @@ use Rattle.bo_schema.proofs.Casts.{cast_null, cast_int}
 use Rattle.bo_lists.specs.declared.count_rows.QuotaCount.{QuotaCount}
 use Rattle.bo_columns.specs.Cells.{number}
 use Rattle.bo_columns.specs.Rows.{count_row}
-use Rattle.bo_columns.specs.Changes.{with_count, without_count}
+use Rattle.bo_columns.specs.Changes.{head_of_count, with_count, without_count}
 use Rattle.bo_rows.specs.Statements.{AreStatementsOf}
 
 abbrev insert_text : List ℕ
@@ -38,12 +38,12 @@ removes = (refl, (refl, refl))
 
 -- the columns behind the number, as they are stored
 abbrev behind : QuotaCount → Row
-behind w = Null ∷ drop 1 (count_row w)
+behind w = Null ∷ drop 1 (count_row (head_of_count w))
 
 stays : (w : QuotaCount) → cast_row quota_count_table (number w.quota ∷ behind w) ≡ number w.quota ∷ behind w
 stays w = simp (cast_int, cast_null)
 
-pub statements_are : AreStatementsOf count_row (λ w. w.quota) with_count without_count insert_text update_text delete_text
+pub statements_are : AreStatementsOf (λ w. count_row (head_of_count w)) (λ w. w.quota) with_count without_count insert_text update_text delete_text
 statements_are = record {
   at = 14;
   table = quota_count_table;

@@ -12,7 +12,7 @@ use Rattle.bo_schema.proofs.Casts.{cast_null, cast_int, cast_int_or_null}
 use Rattle.bo_lists.specs.declared.rows.OrderPos.{OrderPos}
 use Rattle.bo_columns.specs.Cells.{number}
 use Rattle.bo_columns.specs.Rows.{position_row}
-use Rattle.bo_columns.specs.Changes.{with_position, without_position}
+use Rattle.bo_columns.specs.Changes.{head_of_position, with_position, without_position}
 use Rattle.bo_rows.specs.Statements.{AreStatementsOf}
 
 abbrev insert_text : List ℕ
@@ -38,12 +38,12 @@ removes = (refl, (refl, refl))
 
 -- the columns behind the number, as they are stored
 abbrev behind : OrderPos → Row
-behind w = Null ∷ drop 1 (position_row w)
+behind w = Null ∷ drop 1 (position_row (head_of_position w))
 
 stays : (w : OrderPos) → cast_row order_positions_table (number w.id ∷ behind w) ≡ number w.id ∷ behind w
 stays w = simp (cast_int, cast_null, cast_int_or_null (λ n. pos n))
 
-pub statements_are : AreStatementsOf position_row (λ w. w.id) with_position without_position insert_text update_text delete_text
+pub statements_are : AreStatementsOf (λ w. position_row (head_of_position w)) (λ w. w.id) with_position without_position insert_text update_text delete_text
 statements_are = record {
   at = 9;
   table = order_positions_table;

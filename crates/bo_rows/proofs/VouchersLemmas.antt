@@ -27,7 +27,7 @@ use Rattle.bo_columns.specs.declared.rows.VoucherRow.{VoucherRow}
 use Rattle.bo_columns.specs.Cells.{number, truth, mode}
 use Rattle.bo_columns.specs.Rows.{voucher_row}
 use Rattle.bo_columns.specs.Tables.{Tables, Holds, parts}
-use Rattle.bo_columns.specs.Changes.{IsInside, Changes}
+use Rattle.bo_columns.specs.Changes.{IsInside, Changes, head_of_voucher}
 use Rattle.bo_rows.specs.Vouchers.{voucher_values, redeemed_of, without_id, with_new_voucher, put_voucher, set_redeemed, without_voucher}
 use Rattle.bo_rows.proofs.CastLemmas.{cast_mode}
 use Rattle.bo_rows.proofs.Rows.{adds_row, misses_row, removes_row}
@@ -100,7 +100,7 @@ rows_left id t = rw (rows_without voucher_row key (λ r. refl) id t.vouchers)
 
 -- a new voucher is redeemed 0 times
 abbrev new_row : Voucher → VoucherRow
-new_row w = record { voucher = w; redeemed = 0 }
+new_row w = record { voucher = head_of_voucher w; redeemed = 0 }
 
 -- the parameters behind the id
 abbrev values_behind : Voucher → Row
@@ -122,12 +122,12 @@ module _ (old new : State) (at : IsInside old) (limit : new.step_limit ≡ old.s
   pub puts : (w : Voucher) (count : ℕ) → count ≡ 1 → Executes update_text (voucher_values w) old new (Ok count) → Changes (put_voucher w) old new
   puts w count one h =
       updates_part 6 vouchers_table table_is update_text update_is.1 old new at limit voucher_row key (λ r. refl) (λ t. t.vouchers) (λ t h. h.1.1.1.1.1.1.0) (λ t. refl) update_project update_is.0
-      w.id (values_behind w) (λ r. counted_in w (shown schema 8 r)) (λ r. refl) (λ (a : VoucherRow). record { voucher = w; redeemed = a.redeemed })
+      w.id (values_behind w) (λ r. counted_in w (shown schema 8 r)) (λ r. refl) (λ (a : VoucherRow). record { voucher = head_of_voucher w; redeemed = a.redeemed })
       (λ a r same is.
-      let row : VoucherRow = record { voucher = w; redeemed = a.redeemed } in
+      let row : VoucherRow = record { voucher = head_of_voucher w; redeemed = a.redeemed } in
       (behind row, ap (λ s. cast_row vouchers_table (number w.id ∷ counted_in w s)) same ∙ casts w.id row, refl))
       (subst (λ n. Executes update_text (voucher_values w) old new (Ok n)) one h)
-      (put_voucher w) (λ t a found. ap (λ n. parts (record t { vouchers = record { voucher = w; redeemed = n } ∷ without_id w.id t.vouchers })) (ap (sum_at (λ (r : VoucherRow). r.redeemed)) (find_one (λ (r : VoucherRow). r.voucher.id == w.id) t.vouchers a found)))
+      (put_voucher w) (λ t a found. ap (λ n. parts (record t { vouchers = record { voucher = head_of_voucher w; redeemed = n } ∷ without_id w.id t.vouchers })) (ap (sum_at (λ (r : VoucherRow). r.redeemed)) (find_one (λ (r : VoucherRow). r.voucher.id == w.id) t.vouchers a found)))
 
   pub redeems : (c : VoucherCount) (count : ℕ) → count ≡ 1 → Executes redeem_text (number c.voucher ∷ number c.redeemed ∷ []) old new (Ok count) → Changes (set_redeemed c) old new
   redeems c count one h =
@@ -158,5 +158,5 @@ adds_new old mid new w none a b = record {
   inside = b.inside;
   committed = b.committed ∙ a.committed;
   listed = λ d. b.listed (a.listed d);
-  holds = λ t held. subst (λ n. Holds new.now.trees (record t { vouchers = record { voucher = w; redeemed = n } ∷ without_id w.id t.vouchers })) (sym (none t held)) (b.holds (without_voucher w.id t) (a.holds t held));
+  holds = λ t held. subst (λ n. Holds new.now.trees (record t { vouchers = record { voucher = head_of_voucher w; redeemed = n } ∷ without_id w.id t.vouchers })) (sym (none t held)) (b.holds (without_voucher w.id t) (a.holds t held));
 }

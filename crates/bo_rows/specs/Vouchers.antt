@@ -8,6 +8,7 @@ use Rattle.bo_lists.specs.declared.rows.Voucher.{Voucher}
 use Rattle.bo_lists.specs.declared.count_rows.VoucherCount.{VoucherCount}
 use Rattle.bo_columns.specs.declared.rows.VoucherRow.{VoucherRow}
 use Rattle.bo_columns.specs.Cells.{number, truth, mode}
+use Rattle.bo_columns.specs.Changes.{head_of_voucher}
 use Rattle.bo_columns.specs.Tables.{Tables}
 
 -- the columns of a voucher but the count
@@ -23,11 +24,11 @@ without_id id rows = filter (λ r. not (r.voucher.id == id)) rows
 
 -- a voucher more, redeemed 0 times
 abbrev pub with_new_voucher : Voucher → Tables → Tables
-with_new_voucher w t = record t { vouchers = record { voucher = w; redeemed = 0 } ∷ t.vouchers }
+with_new_voucher w t = record t { vouchers = record { voucher = head_of_voucher w; redeemed = 0 } ∷ t.vouchers }
 
 -- the voucher stands in the place of its id, and is redeemed as often as the one that stood there
 abbrev pub put_voucher : Voucher → Tables → Tables
-put_voucher w t = record t { vouchers = record { voucher = w; redeemed = redeemed_of w.id t.vouchers } ∷ without_id w.id t.vouchers }
+put_voucher w t = record t { vouchers = record { voucher = head_of_voucher w; redeemed = redeemed_of w.id t.vouchers } ∷ without_id w.id t.vouchers }
 
 -- the voucher of the count is redeemed so often
 abbrev pub set_redeemed : VoucherCount → Tables → Tables

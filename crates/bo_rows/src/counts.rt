@@ -1,7 +1,7 @@
 //! The table `quota_count`.
 
 ghost use Rattle.bo_columns.specs.Rows.{count_row};
-ghost use Rattle.bo_columns.specs.Changes.{with_count, without_count};
+ghost use Rattle.bo_columns.specs.Changes.{head_of_count, with_count, without_count};
 
 use crate::bound::run_bound;
 use crate::stored::{Statements, Stored};
@@ -13,7 +13,7 @@ use sqlite::{Alter, Transaction};
 impl Stored for QuotaCount {
     ghost key = { λ r. r.quota };
 
-    ghost as_row = { count_row };
+    ghost as_row = { λ w. count_row (head_of_count w) };
 
     ghost with_row = { with_count };
 

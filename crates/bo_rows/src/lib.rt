@@ -1,4 +1,4 @@
-//! Rows of the file are put and removed, one statement a row.
+//! How is a row put into the file, or removed from it, by one statement?
 #![tactic(auto)]
 
 mod bound;

@@ -1,7 +1,7 @@
 //! The table `order_positions`.
 
 ghost use Rattle.bo_columns.specs.Rows.{position_row};
-ghost use Rattle.bo_columns.specs.Changes.{with_position, without_position};
+ghost use Rattle.bo_columns.specs.Changes.{head_of_position, with_position, without_position};
 
 use crate::bound::run_bound;
 use crate::stored::{Statements, Stored};
@@ -13,7 +13,7 @@ use sqlite::{Alter, Transaction};
 impl Stored for OrderPos {
     ghost key = { λ r. r.id };
 
-    ghost as_row = { position_row };
+    ghost as_row = { λ w. position_row (head_of_position w) };
 
     ghost with_row = { with_position };
 

@@ -1,4 +1,4 @@
-//! The schema of the file, how its tables are made, one statement on it inside a transaction, and whole transactions.
+//! Which tables does the file have, and what do statements and transactions do to them?
 #![tactic(auto)]
 
 pub mod error;

@@ -20,6 +20,7 @@ use Rattle.bo_kept.specs.ShopView.{listed, with_kept}
 use Rattle.bo_columns.specs.declared.rows.ShopRow.{ShopRow}
 use Rattle.bo_columns.specs.declared.rows.KeptRow.{KeptRow}
 use Rattle.bo_columns.specs.declared.rows.VoucherRow.{VoucherRow}
+use Rattle.bo_columns.specs.Changes.{head_of_voucher, head_of_count}
 use Rattle.bo_columns.specs.Tables.{Tables}
 use Rattle.bo_stand.specs.Counts.{with_all, VoucherKept}
 use Rattle.bo_stand.specs.Free.{IsFree}
@@ -28,7 +29,7 @@ use Rattle.bo_stand.specs.Made.{set_redeemed, made, next_after, put_shop, put_co
 use Rattle.bo_stand.specs.Rows.{rows_of, redeemed_in}
 use Rattle.bo_stand.specs.RowsAfter.{put_row}
 use Rattle.bo_stand.specs.Stands.{AreRowsOf, AreOrdered, IsRising, Stand}
-use Rattle.bo_stand.proofs.Changed.{row_put}
+use Rattle.bo_stand.proofs.Changed.{part_put}
 use Rattle.bo_stand.proofs.Counting.{counting_starts, quotas_counted, vouchers_counted, of_voucher}
 use Rattle.bo_stand.proofs.EachRow.{set_vouchers}
 use Rattle.bo_stand.specs.Turned.{AreTurned}
@@ -129,9 +130,9 @@ counts_is : (cs : List QuotaCount) (t : Tables) → each put_count cs t ≡ reco
 counts_is [] t = refl
 counts_is (c ∷ cs) t = counts_is cs (put_count c t)
 
-all_put : (cs : List QuotaCount) (t : Tables) (xs : List QuotaCount) → AreInOrder (λ c. c.quota) xs → IsPermutation t.counts xs → IsPermutation (each put_count cs t).counts (with_all (λ c. c.quota) cs xs)
+all_put : (cs : List QuotaCount) (t : Tables) (xs : List QuotaCount) → AreInOrder (λ c. c.quota) xs → IsPermutation t.counts (map head_of_count xs) → IsPermutation (each put_count cs t).counts (map head_of_count (with_all (λ c. c.quota) cs xs))
 all_put [] t xs h same = same
-all_put (c ∷ cs) t xs h same = all_put cs (put_count c t) (with_row (λ c. c.quota) c xs) (put_stays (λ c. c.quota) c xs h) (row_put (λ c. c.quota) c t.counts xs h same)
+all_put (c ∷ cs) t xs h same = all_put cs (put_count c t) (with_row (λ c. c.quota) c xs) (put_stays (λ c. c.quota) c xs h) (part_put (λ c. c.quota) head_of_count (λ r. r.quota) (λ c. refl) c t.counts xs h same)
 
 -- the tables with the counts: only the vouchers' counters and the counts of quotas differ
 pub counted_is : (counts : CountRows) (t : Tables) → counted counts t ≡ record t { vouchers = (counted counts t).vouchers; counts = (counted counts t).counts }
@@ -255,19 +256,19 @@ module _ (old shop : ShopRow) (changes : Changed) (counts : CountRows) (from at 
       let here : IsPermutation (redeemed_in (each set_redeemed counts.vouchers mid)) (voucher_counts after) = subst (IsPermutation (redeemed_in (each set_redeemed counts.vouchers mid))) (ap (λ (c : CountRows). with_all of_voucher c.vouchers xs) right ∙ is) put in
       subst (λ (l : List VoucherRow). IsPermutation (map count_of l) (voucher_counts after)) (sym (ap (λ (u : Tables). u.vouchers) (counts_is counts.quotas (each set_redeemed counts.vouchers mid)))) here
 
-  used_full : IsPermutation full.counts (quota_counts after)
+  used_full : IsPermutation full.counts (map head_of_count (quota_counts after))
   used_full =
       let set = each set_redeemed counts.vouchers mid in
       let same : set.counts ≡ t.counts = ap (λ (u : Tables). u.counts) (set_is counts.vouchers mid) ∙ as_was.counts in
       let before = order_of_parts (λ q. q.id) (quota_count s) (λ c. c.quota) (λ q. refl) 0 s.lists.catalogue.quotas h.ordered.ids.quotas in
-      let put = all_put counts.quotas set (quota_counts s) before (subst (λ l. IsPermutation l (quota_counts s)) (sym same) h.used) in
-      subst (IsPermutation full.counts) (ap (λ (c : CountRows). with_all (λ c. c.quota) c.quotas (quota_counts s)) right ∙ quotas_counted changes.list s after refl h.ordered.ids.quotas lists.0.ids.quotas) put
+      let put = all_put counts.quotas set (quota_counts s) before (subst (λ l. IsPermutation l (map head_of_count (quota_counts s))) (sym same) h.used) in
+      subst (λ l. IsPermutation full.counts (map head_of_count l)) (ap (λ (c : CountRows). with_all (λ c. c.quota) c.quotas (quota_counts s)) right ∙ quotas_counted changes.list s after refl h.ordered.ids.quotas lists.0.ids.quotas) put
 
   rows_full : AreRowsOf after.lists (rows_of full)
   rows_full =
       let same : map (λ (r : VoucherRow). r.voucher) full.vouchers ≡ map (λ (r : VoucherRow). r.voucher) mid.vouchers =
       ap (λ (u : Tables). map (λ (r : VoucherRow). r.voucher) u.vouchers) (counts_is counts.quotas (each set_redeemed counts.vouchers mid)) ∙ set_vouchers_same counts.vouchers mid in
-      subst (λ (u : Tables). AreRowsOf after.lists (rows_of u)) (sym full_is) (set_vouchers lists.1 (subst (λ l. IsPermutation l after.lists.vouchers) (sym same) lists.1.vouchers))
+      subst (λ (u : Tables). AreRowsOf after.lists (rows_of u)) (sym full_is) (set_vouchers lists.1 (subst (λ l. IsPermutation l (map head_of_voucher after.lists.vouchers)) (sym same) lists.1.vouchers))
 
   kept_end : IsPermutation (map (λ r. r.kept) end.kept) (with_kept at ks (listed o))
   kept_end =
@@ -292,7 +293,7 @@ module _ (old shop : ShopRow) (changes : Changed) (counts : CountRows) (from at 
     next = number;
     rows = subst (λ (u : Tables). AreRowsOf after.lists (rows_of u)) (sym end_is) rows_full;
     ordered = lists.0;
-    used = subst (λ (u : Tables). IsPermutation u.counts (quota_counts after)) (sym end_is) used_full;
+    used = subst (λ (u : Tables). IsPermutation u.counts (map head_of_count (quota_counts after))) (sym end_is) used_full;
     redeemed = subst (λ (u : Tables). IsPermutation (redeemed_in u) (voucher_counts after)) (sym end_is) redeemed_full;
     kept = kept_end;
   }

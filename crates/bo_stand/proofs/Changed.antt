@@ -13,7 +13,7 @@ use Rattle.bo_lists.specs.Change.{after_change}
 use Rattle.bo_lists.specs.Lists.{Lists}
 use Rattle.bo_sound.proofs.EachTable as Each
 use Rattle.bo_stand.specs.Links.{links, links_but}
-use Rattle.bo_columns.specs.Changes.{head_of_quota, head_of_list}
+use Rattle.bo_columns.specs.Changes.{head_of_quota, head_of_voucher, head_of_position, head_of_list}
 use Rattle.bo_stand.specs.Rows.{OfficeRows}
 use Rattle.bo_stand.specs.RowsAfter.{put_row, rows_after}
 use Rattle.bo_stand.specs.Stands.{AreRowsOf, AreOrdered, MembersRise, ItemsRise, IsRising}
@@ -41,6 +41,14 @@ part_put key part of is row xs ys h same =
     subst (IsPermutation (without_row of (of (part row)) xs)) (filter-map (λ u. not (of u == of (part row))) part ys ∙ ap (λ l. map part l) (same_tests key part of is row ys)) (IsPermutation-filter (λ u. not (of u == of (part row))) xs (map part ys) same) in
     IsPermutation-trans _ _ _ (IsPermutation-cons (part row) _ _ others) (IsPermutation-map part (row ∷ without_row key (key row) ys) (with_row key row ys) (put_in key 0 row ys h))
 
+none_tests : {T U : Type 0} (key : T → ℕ) (part : T → U) (of : U → ℕ) → ((r : T) → of (part r) ≡ key r) → (id : ℕ) (ys : List T) → filter (λ x. not (of (part x) == id)) ys ≡ without_row key id ys
+none_tests key part of is id [] = refl
+none_tests key part of is id (y ∷ ys) = rw (is y, none_tests key part of is id ys)
+
+pub part_dropped : {T U : Type 0} (key : T → ℕ) (part : T → U) (of : U → ℕ) → ((r : T) → of (part r) ≡ key r) → (id : ℕ) (xs : List U) (ys : List T) → IsPermutation xs (map part ys) → IsPermutation (without_row of id xs) (map part (without_row key id ys))
+part_dropped key part of is id xs ys same =
+    subst (IsPermutation (without_row of id xs)) (filter-map (λ u. not (of u == id)) part ys ∙ ap (λ l. map part l) (none_tests key part of is id ys)) (IsPermutation-filter (λ u. not (of u == id)) xs (map part ys) same)
+
 pub kept_rows : (change : Change) (lists : Lists) (rows : OfficeRows) → AreOrdered lists → AreRowsOf lists rows → AreRowsOf (after_change change lists) (rows_after change rows)
 kept_rows (PutItem row) lists rows o h = set_items h (row_put (λ r. r.id) row rows.items lists.catalogue.items o.ids.items h.items)
 kept_rows (PutVariation row) lists rows o h = set_variations h (row_put (λ r. r.id) row rows.variations lists.catalogue.variations o.ids.variations h.variations)
@@ -50,12 +58,12 @@ kept_rows (PutQuota row) lists rows o h =
     (set_quota_variations h (links_put (λ q. q.id) (λ q. q.variations) row lists.catalogue.quotas rows.quota_variations o.ids.quotas h.quota_variations))
     (links_put (λ q. q.id) (λ q. q.items) row lists.catalogue.quotas rows.quota_items o.ids.quotas h.quota_items))
     (part_put (λ r. r.id) head_of_quota (λ r. r.id) (λ r. refl) row rows.quotas lists.catalogue.quotas o.ids.quotas h.quotas)
-kept_rows (PutVoucher row) lists rows o h = set_vouchers h (row_put (λ r. r.id) row rows.vouchers lists.vouchers o.ids.vouchers h.vouchers)
+kept_rows (PutVoucher row) lists rows o h = set_vouchers h (part_put (λ r. r.id) head_of_voucher (λ r. r.id) (λ r. refl) row rows.vouchers lists.vouchers o.ids.vouchers h.vouchers)
 kept_rows (PutCart row) lists rows o h = set_carts h (row_put (λ r. r.id) row rows.carts lists.carts o.ids.carts h.carts)
 kept_rows (PutOrder row) lists rows o h = set_orders h (row_put (λ r. r.id) row rows.orders lists.orders o.ids.orders h.orders)
-kept_rows (PutPosition row) lists rows o h = set_positions h (row_put (λ r. r.id) row rows.positions lists.positions o.ids.positions h.positions)
+kept_rows (PutPosition row) lists rows o h = set_positions h (part_put (λ r. r.id) head_of_position (λ r. r.id) (λ r. refl) row rows.positions lists.positions o.ids.positions h.positions)
 kept_rows (PutWaiting row) lists rows o h = set_waiting h (row_put (λ r. r.id) row rows.waiting lists.waiting o.ids.waiting h.waiting)
-kept_rows (DropVoucher id) lists rows o h = set_vouchers h (row_dropped (λ r. r.id) id rows.vouchers lists.vouchers h.vouchers)
+kept_rows (DropVoucher id) lists rows o h = set_vouchers h (part_dropped (λ r. r.id) head_of_voucher (λ r. r.id) (λ r. refl) id rows.vouchers lists.vouchers h.vouchers)
 kept_rows (DropCart id) lists rows o h = set_carts h (row_dropped (λ r. r.id) id rows.carts lists.carts h.carts)
 kept_rows (DropWaiting id) lists rows o h = set_waiting h (row_dropped (λ r. r.id) id rows.waiting lists.waiting h.waiting)
 kept_rows (PutCheckinList row) lists rows o h =

@@ -13,6 +13,7 @@ use Rattle.bo_columns.specs.declared.rows.QuotaItem.{QuotaItem}
 use Rattle.bo_columns.specs.declared.rows.QuotaVariation.{QuotaVariation}
 use Rattle.bo_columns.specs.declared.rows.ListItem.{ListItem}
 use Rattle.bo_columns.specs.declared.rows.VoucherRow.{VoucherRow}
+use Rattle.bo_columns.specs.Changes.{head_of_voucher}
 use Rattle.bo_columns.specs.Tables.{Tables}
 use Rattle.bo_stand.specs.Free.{AreApart, AreBelow, IsFree}
 use Rattle.bo_stand.specs.Links.{Link, links, links_but, are_just}
@@ -185,7 +186,7 @@ one_turned (PutQuota w) from t h =
       };
     }
 one_turned (PutVoucher w) from t h = record {
-  rows = set_vouchers (same_rows (rows_after (PutVoucher w) (rows_of t))) (IsPermutation-same _ _ (ap (λ l. w ∷ l) (sym (filter-map (λ v. not (v.id == w.id)) (λ (r : VoucherRow). r.voucher) t.vouchers))));
+  rows = set_vouchers (same_rows (rows_after (PutVoucher w) (rows_of t))) (IsPermutation-same _ _ (ap (λ l. head_of_voucher w ∷ l) (sym (filter-map (λ v. not (v.id == w.id)) (λ (r : VoucherRow). r.voucher) t.vouchers))));
   redeemed = IsPermutation-same _ _
       (ap (λ l. record { voucher = w.id; redeemed = redeemed_of w.id (redeemed_in t) } ∷ l) (sym (filter-map (λ c. not (c.voucher == w.id)) (λ (r : VoucherRow). record { voucher = r.voucher.id; redeemed = r.redeemed }) t.vouchers)));
   shop = refl;

@@ -10,8 +10,8 @@ use Rattle.bo_lists.specs.declared.rows.CheckinList.{CheckinList}
 use Rattle.bo_lists.specs.Lists.{Lists}
 use Rattle.bo_columns.specs.declared.rows.QuotaRow.{QuotaRow}
 use Rattle.bo_columns.specs.declared.rows.ListRow.{ListRow}
-use Rattle.bo_columns.specs.Changes.{head_of_quota, head_of_list}
-use Rattle.bo_stand.specs.Rows.{OfficeRows}
+use Rattle.bo_columns.specs.Changes.{head_of_quota, head_of_voucher, head_of_position, head_of_list}
+use Rattle.bo_stand.specs.Rows.{OfficeRows, voucher_of, position_of}
 use Rattle.bo_stand.specs.Stands.{EachOfRows, AreRowsOf, AreOrdered, AreSameRows, MembersRise, ItemsRise}
 use Rattle.bo_stand.specs.Links.{Link, all_links}
 use Rattle.bo_stand.proofs.Order.{same_order}
@@ -20,6 +20,18 @@ use Rattle.bo_stand.proofs.Links.{links_tell}
 pub order_of_parts : {T U : Type 0} (key : T → ℕ) (part : T → U) (of : U → ℕ) → ((r : T) → of (part r) ≡ key r) → (n : ℕ) (rows : List T) → InOrderFrom key n rows → InOrderFrom of n (map part rows)
 order_of_parts key part of is n [] h = tt
 order_of_parts key part of is n (r ∷ rows) h = (subst (λ m. n ≤ m) (sym (is r)) h.0, subst (λ m. InOrderFrom of (m + 1) (map part rows)) (sym (is r)) (order_of_parts key part of is (key r + 1) rows h.1))
+
+-- rows of which each part tells its row
+pub map_back : {T U : Type 0} (part : T → U) (whole : U → T) → ((r : T) → whole (part r) ≡ r) → (rows : List T) → map whole (map part rows) ≡ rows
+map_back part whole back [] = refl
+map_back part whole back (r ∷ rows) = ap₂ ◌∷◌ (back r) (map_back part whole back rows)
+
+-- such rows in order are those whose parts are the same, in whatever order
+pub same_parts : {T U : Type 0} (key : T → ℕ) (part : T → U) (of : U → ℕ) → ((r : T) → of (part r) ≡ key r) → (whole : U → T) → ((r : T) → whole (part r) ≡ r) → (xs ys : List T) → AreInOrder key xs → AreInOrder key ys
+    → IsPermutation (map part xs) (map part ys) → xs ≡ ys
+same_parts key part of is whole back xs ys h k same =
+    let parts = same_order of (map part xs) (map part ys) (order_of_parts key part of is 0 xs h) (order_of_parts key part of is 0 ys k) same in
+    sym (map_back part whole back xs) ∙ ap (map whole) parts ∙ map_back part whole back ys
 
 quota_ids : (xs ys : List Quota) → map head_of_quota xs ≡ map head_of_quota ys → map (λ (q : Quota). q.id) xs ≡ map (λ (q : Quota). q.id) ys
 quota_ids [] [] e = refl
@@ -91,10 +103,10 @@ tell_one a b xs ys o p h k same =
     (all_map MembersRise (λ q. AreInOrder (λ n. n) q.items) (λ q r. r.items) b.catalogue.quotas p.members) (joined xs.quota_items ys.quota_items _ _ h.quota_items k.quota_items same.quota_items))
     (links_tell (λ q. q.id) (λ q. q.variations) a.catalogue.quotas b.catalogue.quotas ids o.ids.quotas p.ids.quotas (all_map MembersRise (λ q. AreInOrder (λ n. n) q.variations) (λ q r. r.variations) a.catalogue.quotas o.members)
     (all_map MembersRise (λ q. AreInOrder (λ n. n) q.variations) (λ q r. r.variations) b.catalogue.quotas p.members) (joined xs.quota_variations ys.quota_variations _ _ h.quota_variations k.quota_variations same.quota_variations)) in
-    let vouchers = same_order (λ r. r.id) a.vouchers b.vouchers o.ids.vouchers p.ids.vouchers (joined xs.vouchers ys.vouchers _ _ h.vouchers k.vouchers same.vouchers) in
+    let vouchers = same_parts (λ r. r.id) head_of_voucher (λ h. h.id) (λ r. refl) voucher_of (λ r. refl) a.vouchers b.vouchers o.ids.vouchers p.ids.vouchers (joined xs.vouchers ys.vouchers _ _ h.vouchers k.vouchers same.vouchers) in
     let carts = same_order (λ r. r.id) a.carts b.carts o.ids.carts p.ids.carts (joined xs.carts ys.carts _ _ h.carts k.carts same.carts) in
     let orders = same_order (λ r. r.id) a.orders b.orders o.ids.orders p.ids.orders (joined xs.orders ys.orders _ _ h.orders k.orders same.orders) in
-    let positions = same_order (λ r. r.id) a.positions b.positions o.ids.positions p.ids.positions (joined xs.positions ys.positions _ _ h.positions k.positions same.positions) in
+    let positions = same_parts (λ r. r.id) head_of_position (λ h. h.id) (λ r. refl) position_of (λ r. refl) a.positions b.positions o.ids.positions p.ids.positions (joined xs.positions ys.positions _ _ h.positions k.positions same.positions) in
     let waiting = same_order (λ r. r.id) a.waiting b.waiting o.ids.waiting p.ids.waiting (joined xs.waiting ys.waiting _ _ h.waiting k.waiting same.waiting) in
     let tops : map head_of_list a.checkin_lists ≡ map head_of_list b.checkin_lists =
     same_order (λ (h : ListRow). h.id) (map head_of_list a.checkin_lists) (map head_of_list b.checkin_lists) (order_of_parts (λ r. r.id) head_of_list (λ h. h.id) (λ r. refl) 0 a.checkin_lists o.ids.checkin_lists)

@@ -11,7 +11,7 @@ use Rattle.bo_lists.specs.CountRows.{CountRows}
 use Rattle.bo_kept.specs.declared.kept.Kept.{Kept}
 use Rattle.bo_kept.specs.KeptAnswers.{lasts}
 use Rattle.bo_columns.specs.declared.rows.ShopRow.{ShopRow}
-use Rattle.bo_columns.specs.Changes.{with_shop, without_shop, with_item, without_item, with_variation, without_variation, with_quota, without_quota, with_cart, without_cart, with_order, without_order, with_position, without_position, with_waiting, without_waiting, with_list, without_list, with_checkin, without_checkin, with_count, without_count, with_kept}
+use Rattle.bo_columns.specs.Changes.{head_of_voucher, with_shop, without_shop, with_item, without_item, with_variation, without_variation, with_quota, without_quota, with_cart, without_cart, with_order, without_order, with_position, without_position, with_waiting, without_waiting, with_list, without_list, with_checkin, without_checkin, with_count, without_count, with_kept}
 use Rattle.bo_columns.specs.Tables.{Tables}
 use Rattle.bo_stand.specs.Links.{are_just}
 use Rattle.bo_stand.specs.Rows.{redeemed_in}
@@ -20,7 +20,7 @@ use Rattle.bo_stand.specs.RowsAfter.{redeemed_of}
 -- ---- vouchers, whose rows have a counter
 
 abbrev pub put_voucher : Voucher → Tables → Tables
-put_voucher w t = record t { vouchers = record { voucher = w; redeemed = redeemed_of w.id (redeemed_in t) } ∷ filter (λ r. not (r.voucher.id == w.id)) t.vouchers }
+put_voucher w t = record t { vouchers = record { voucher = head_of_voucher w; redeemed = redeemed_of w.id (redeemed_in t) } ∷ filter (λ r. not (r.voucher.id == w.id)) t.vouchers }
 
 abbrev pub without_voucher : ℕ → Tables → Tables
 without_voucher id t = record t { vouchers = filter (λ r. not (r.voucher.id == id)) t.vouchers }

@@ -8,23 +8,27 @@ use Rattle.bo_lists.specs.declared.rows.Order.{Order}
 use Rattle.bo_lists.specs.declared.rows.OrderPos.{OrderPos}
 use Rattle.bo_lists.specs.declared.rows.Waiting.{Waiting}
 use Rattle.bo_lists.specs.declared.rows.Checkin.{Checkin}
+use Rattle.bo_lists.specs.declared.count_rows.QuotaCount.{QuotaCount}
 use Rattle.bo_lists.specs.declared.count_rows.VoucherCount.{VoucherCount}
+use Rattle.bo_columns.specs.declared.rows.CountRow.{CountRow}
 use Rattle.bo_columns.specs.declared.rows.QuotaRow.{QuotaRow}
 use Rattle.bo_columns.specs.declared.rows.ListRow.{ListRow}
+use Rattle.bo_columns.specs.declared.rows.PositionRow.{PositionRow}
+use Rattle.bo_columns.specs.declared.rows.VoucherHead.{VoucherHead}
 use Rattle.bo_columns.specs.Tables.{Tables}
 use Rattle.bo_stand.specs.Links.{Link}
 
--- quotas and check-in lists are without their members, which are links
+-- quotas and check-in lists are without their members, which are links; vouchers and order positions are as their rows have them
 pub record OfficeRows : Type 0 where
   pub items : List Item
   pub variations : List Variation
   pub quotas : List QuotaRow
   pub quota_items : List Link
   pub quota_variations : List Link
-  pub vouchers : List Voucher
+  pub vouchers : List VoucherHead
   pub carts : List CartPos
   pub orders : List Order
-  pub positions : List OrderPos
+  pub positions : List PositionRow
   pub waiting : List Waiting
   pub checkin_lists : List ListRow
   pub list_items : List Link
@@ -51,3 +55,28 @@ rows_of t = record {
 -- how often each voucher is redeemed, as the tables tell
 abbrev pub redeemed_in : Tables → List VoucherCount
 redeemed_in t = map (λ r. record { voucher = r.voucher.id; redeemed = r.redeemed }) t.vouchers
+
+-- ---- what a row tells
+
+abbrev pub voucher_of : VoucherHead → Voucher
+voucher_of w = record {
+  id = w.id;
+  code = w.code;
+  max_usages = w.max_usages;
+  valid_until = w.valid_until;
+  block_quota = w.block_quota;
+  allow_ignore_quota = w.allow_ignore_quota;
+  price_mode = w.price_mode;
+  value = w.value;
+  item = w.item;
+  variation = w.variation;
+  quota = w.quota;
+  tag = w.tag;
+  comment = w.comment;
+}
+
+abbrev pub position_of : PositionRow → OrderPos
+position_of w = record { id = w.id; order = w.order; positionid = w.positionid; product = w.product; price = w.price; voucher = w.voucher; secret = w.secret }
+
+abbrev pub usage_in : CountRow → QuotaCount
+usage_in w = record { quota = w.quota; usage = record { paid = w.paid; pending = w.pending; blocked = w.blocked; carts = w.carts; waiting = w.waiting } }

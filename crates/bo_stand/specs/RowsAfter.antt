@@ -5,7 +5,7 @@ use Rattle.bo_lists.specs.declared.count_rows.VoucherCount.{VoucherCount}
 use Rattle.bo_lists.specs.declared.changes.Change.{Change}
 use Rattle.bo_lists.specs.declared.changes.Change.TheVariants.{PutItem, PutVariation, PutQuota, PutVoucher, PutCart, PutOrder, PutPosition, PutWaiting, DropVoucher, DropCart, DropWaiting, PutCheckinList, PutCheckin}
 use Rattle.bo_stand.specs.Links.{links, links_but}
-use Rattle.bo_columns.specs.Changes.{head_of_quota, head_of_list}
+use Rattle.bo_columns.specs.Changes.{head_of_quota, head_of_voucher, head_of_position, head_of_list}
 use Rattle.bo_stand.specs.Rows.{OfficeRows}
 
 -- the row goes before the others, and the one that had its id goes away
@@ -21,10 +21,10 @@ rows_after (PutQuota row) rows = record rows {
   quota_items = links (λ q. q.id) (λ q. q.items) row ++ links_but row.id rows.quota_items;
   quota_variations = links (λ q. q.id) (λ q. q.variations) row ++ links_but row.id rows.quota_variations;
 }
-rows_after (PutVoucher row) rows = record rows { vouchers = put_row (λ r. r.id) row rows.vouchers }
+rows_after (PutVoucher row) rows = record rows { vouchers = put_row (λ r. r.id) (head_of_voucher row) rows.vouchers }
 rows_after (PutCart row) rows = record rows { carts = put_row (λ r. r.id) row rows.carts }
 rows_after (PutOrder row) rows = record rows { orders = put_row (λ r. r.id) row rows.orders }
-rows_after (PutPosition row) rows = record rows { positions = put_row (λ r. r.id) row rows.positions }
+rows_after (PutPosition row) rows = record rows { positions = put_row (λ r. r.id) (head_of_position row) rows.positions }
 rows_after (PutWaiting row) rows = record rows { waiting = put_row (λ r. r.id) row rows.waiting }
 rows_after (DropVoucher id) rows = record rows { vouchers = without_row (λ r. r.id) id rows.vouchers }
 rows_after (DropCart id) rows = record rows { carts = without_row (λ r. r.id) id rows.carts }

@@ -1,4 +1,4 @@
--- When the rows of a file are those of a box office.
+-- When the rows of a file are those of a box office: lists by id whatever the rows' order, members as links, counts equal to recounts.
 use Rattle.std.specs.Prelude.{◌≡◌, List, [], ◌∷◌, map, IsPermutation}
 use Rattle.std.specs.List.{AllByRecursion}
 use Rattle.bo_sorted.specs.Tables.{AreInOrder}
@@ -10,7 +10,7 @@ use Rattle.bo_lists.specs.CountRows.{quota_counts, voucher_counts}
 use Rattle.bo_lists.specs.Lists.{Lists, State}
 use Rattle.bo_sound.specs.Ids.{EachTable}
 use Rattle.bo_stand.specs.Links.{all_links}
-use Rattle.bo_columns.specs.Changes.{head_of_quota, head_of_list}
+use Rattle.bo_columns.specs.Changes.{head_of_quota, head_of_voucher, head_of_position, head_of_list, head_of_count}
 use Rattle.bo_columns.specs.declared.rows.ShopRow.{ShopRow}
 use Rattle.bo_columns.specs.Tables.{Tables}
 use Rattle.bo_kept.specs.declared.kept.Kept.{Kept}
@@ -41,10 +41,10 @@ AreRowsOf lists rows =
     (IsPermutation rows.quotas (map head_of_quota lists.catalogue.quotas))
     (IsPermutation rows.quota_items (all_links (λ q. q.id) (λ q. q.items) lists.catalogue.quotas))
     (IsPermutation rows.quota_variations (all_links (λ q. q.id) (λ q. q.variations) lists.catalogue.quotas))
-    (IsPermutation rows.vouchers lists.vouchers)
+    (IsPermutation rows.vouchers (map head_of_voucher lists.vouchers))
     (IsPermutation rows.carts lists.carts)
     (IsPermutation rows.orders lists.orders)
-    (IsPermutation rows.positions lists.positions)
+    (IsPermutation rows.positions (map head_of_position lists.positions))
     (IsPermutation rows.waiting lists.waiting)
     (IsPermutation rows.checkin_lists (map head_of_list lists.checkin_lists))
     (IsPermutation rows.list_items (all_links (λ l. l.id) (λ l. l.limit_products) lists.checkin_lists))
@@ -108,6 +108,6 @@ pub record Stand (shop : ShopRow) (t : Tables) (state : State) (answers : List K
   pub rows : AreRowsOf state.lists (rows_of t)
   pub ordered : AreOrdered state.lists
   -- the counters are what is counted afresh at the moment
-  pub used : IsPermutation t.counts (quota_counts state)
+  pub used : IsPermutation t.counts (map head_of_count (quota_counts state))
   pub redeemed : IsPermutation (redeemed_in t) (voucher_counts state)
   pub kept : IsPermutation (map (λ r. r.kept) t.kept) answers

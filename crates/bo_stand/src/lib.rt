@@ -1,4 +1,4 @@
-//! What the tables of a file hold of a box office: each table's rows up to their order.
+//! What do the tables of a file say of a box office, in whatever order their rows are?
 #![tactic(auto)]
 
 pub mod laws;

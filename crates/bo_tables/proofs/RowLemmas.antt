@@ -11,7 +11,7 @@ use Rattle.bo_lists.specs.declared.count_rows.VoucherCount.{VoucherCount}
 use Rattle.bo_columns.specs.declared.rows.VoucherRow.{VoucherRow}
 use Rattle.bo_columns.specs.Rows.{voucher_row}
 use Rattle.bo_columns.specs.Tables.{Tables, Holds}
-use Rattle.bo_columns.specs.Changes.{Changes, ChangesFit}
+use Rattle.bo_columns.specs.Changes.{Changes, ChangesFit, head_of_voucher}
 use Rattle.bo_rows.specs.Removed.{AreApart}
 use Rattle.bo_rows.specs.Vouchers as rows
 use Rattle.bo_stand.proofs.Carried.{set_one}
@@ -42,7 +42,7 @@ same_redeemed id (r ∷ xs) = elim (r.voucher.id == id) as (λ b. sum_at (λ (r 
 
 -- the voucher that is put keeps the count that stood
 pub voucher_put : (w : Voucher) (t : Tables) → rows.put_voucher w t ≡ put_voucher w t
-voucher_put w t = ap (λ n. record t { vouchers = record { voucher = w; redeemed = n } ∷ rows.without_id w.id t.vouchers }) (same_redeemed w.id t.vouchers)
+voucher_put w t = ap (λ n. record t { vouchers = record { voucher = head_of_voucher w; redeemed = n } ∷ rows.without_id w.id t.vouchers }) (same_redeemed w.id t.vouchers)
 
 abbrev redeemed_so : VoucherCount → VoucherRow → VoucherRow
 redeemed_so c r = record { voucher = r.voucher; redeemed = c.redeemed }

@@ -1,4 +1,4 @@
--- A token is added.
+-- A token is added: its digest keeps its number, or gets the next one, from 1 to 1,000,000.
 use Rattle.std.specs.Prelude.{◌≡◌, ℕ, ◌+◌, ◌<◌, ◌≤◌, List, Option, Some, None, bytes_eq, if◌then◌else◌}
 use Rattle.bo_kept.specs.House.{House}
 use Rattle.bo_columns.specs.declared.rows.ShopRow.{ShopRow}

@@ -1,4 +1,6 @@
-//! The tables of a shop in an SQLite file: how they are made, what is committed, the answers that are kept, and the tokens.
+//! How are a shop's tables made in an SQLite file, and what does a commit make of them?
+//!
+//! It also has the answers that are kept, and the tokens.
 #![tactic(auto)]
 
 mod add;

@@ -13,7 +13,7 @@ use Rattle.bo_lists.specs.declared.count_rows.QuotaCount.{QuotaCount}
 use Rattle.bo_lists.specs.declared.count_rows.VoucherCount.{VoucherCount}
 use Rattle.bo_lists.specs.declared.rows.CartPos.{CartPos}
 use Rattle.bo_lists.specs.declared.rows.Order.{Order}
-use Rattle.bo_lists.specs.declared.rows.OrderPos.{OrderPos}
+use Rattle.bo_columns.specs.declared.rows.PositionRow.{PositionRow}
 use Rattle.bo_lists.specs.declared.rows.Waiting.{Waiting}
 use Rattle.bo_lists.specs.declared.rows.Checkin.{Checkin}
 use Rattle.bo_lists.specs.CountRows.{CountRows}
@@ -27,7 +27,7 @@ use Rattle.bo_columns.specs.declared.rows.VoucherRow.{VoucherRow}
 use Rattle.bo_columns.specs.declared.rows.ListRow.{ListRow}
 use Rattle.bo_columns.specs.declared.rows.Token.{Token}
 use Rattle.bo_columns.specs.declared.rows.KeptRow.{KeptRow}
-use Rattle.bo_columns.specs.Changes.{head_of_quota, head_of_list, with_shop, without_shop, with_token}
+use Rattle.bo_columns.specs.Changes.{head_of_quota, head_of_voucher, head_of_position, head_of_list, with_shop, without_shop, with_token}
 use Rattle.bo_columns.specs.Fit.{IsDigest, IsFitToken, IsFitKept}
 use Rattle.bo_columns.specs.Tables.{Tables, no_rows}
 use Rattle.bo_stand.specs.Free.{IsFree}
@@ -57,10 +57,10 @@ change_typed : (change : Change) (from : ℕ) (t : Tables) → IsTypedChange cha
 change_typed (PutItem w) from t is h = set_items h (put IsTypedItem (λ (r : Item). not (r.id == w.id)) w t.items is h.items)
 change_typed (PutVariation w) from t is h = set_variations h (put IsTypedVariation (λ (r : Variation). not (r.id == w.id)) w t.variations is h.variations)
 change_typed (PutQuota w) from t is h = set_quotas h (put OfQuota (λ (r : QuotaRow). not (r.id == w.id)) (head_of_quota w) t.quotas is h.quotas)
-change_typed (PutVoucher w) from t is h = set_vouchers h (put OfVoucher (λ (r : VoucherRow). not (r.voucher.id == w.id)) (record { voucher = w; redeemed = redeemed_of w.id (redeemed_in t) }) t.vouchers is h.vouchers)
+change_typed (PutVoucher w) from t is h = set_vouchers h (put OfVoucher (λ (r : VoucherRow). not (r.voucher.id == w.id)) (record { voucher = head_of_voucher w; redeemed = redeemed_of w.id (redeemed_in t) }) t.vouchers is h.vouchers)
 change_typed (PutCart w) from t is h = set_carts h (put IsTypedCart (λ (r : CartPos). not (r.id == w.id)) w t.carts is h.carts)
 change_typed (PutOrder w) from t is h = set_orders h (put IsTypedOrder (λ (r : Order). not (r.id == w.id)) w t.orders is h.orders)
-change_typed (PutPosition w) from t is h = set_positions h (put IsTypedPosition (λ (r : OrderPos). not (r.id == w.id)) w t.positions is h.positions)
+change_typed (PutPosition w) from t is h = set_positions h (put IsTypedPosition (λ (r : PositionRow). not (r.id == w.id)) (head_of_position w) t.positions is h.positions)
 change_typed (PutWaiting w) from t is h = set_waiting h (put IsTypedWaiting (λ (r : Waiting). not (r.id == w.id)) w t.waiting is h.waiting)
 change_typed (DropVoucher id) from t is h = set_vouchers h (All-filter (λ (r : VoucherRow). not (r.voucher.id == id)) OfVoucher t.vouchers h.vouchers)
 change_typed (DropCart id) from t is h = set_carts h (All-filter (λ (r : CartPos). not (r.id == id)) IsTypedCart t.carts h.carts)

@@ -10,17 +10,18 @@ use Rattle.bo_catalogue.specs.declared.rows.Item.{Item}
 use Rattle.bo_catalogue.specs.declared.rows.Variation.{Variation}
 use Rattle.bo_lists.specs.declared.changes.Change.{Change}
 use Rattle.bo_lists.specs.declared.changes.Change.TheVariants.{PutItem, PutVariation, PutQuota, PutVoucher, PutCart, PutOrder, PutPosition, PutWaiting, DropVoucher, DropCart, DropWaiting, PutCheckinList, PutCheckin}
-use Rattle.bo_lists.specs.declared.rows.Voucher.{Voucher}
 use Rattle.bo_lists.specs.declared.rows.CartPos.{CartPos}
 use Rattle.bo_lists.specs.declared.rows.Order.{Order}
-use Rattle.bo_lists.specs.declared.rows.OrderPos.{OrderPos}
 use Rattle.bo_lists.specs.declared.rows.Waiting.{Waiting}
 use Rattle.bo_lists.specs.declared.rows.Checkin.{Checkin}
 use Rattle.bo_kept.specs.declared.kept.Kept.{Kept}
 use Rattle.bo_sound.specs.Range.{IsNextId}
 use Rattle.bo_schema.specs.Tables.{this_version}
 use Rattle.bo_columns.specs.declared.rows.ShopRow.{ShopRow}
+use Rattle.bo_columns.specs.declared.rows.PositionRow.{PositionRow}
 use Rattle.bo_columns.specs.declared.rows.Token.{Token}
+use Rattle.bo_columns.specs.declared.rows.VoucherHead.{VoucherHead}
+use Rattle.bo_columns.specs.Changes.{head_of_voucher, head_of_position}
 use Rattle.bo_columns.specs.Fit.{IsStatus, IsFitToken, IsFitKept}
 use Rattle.bo_columns.specs.Tables.{Tables}
 
@@ -32,7 +33,7 @@ IsTypedItem w = IsUtf8 w.name
 abbrev pub IsTypedVariation : Variation → Type 0
 IsTypedVariation w = IsUtf8 w.name
 
-abbrev pub IsTypedVoucher : Voucher → Type 0
+abbrev pub IsTypedVoucher : VoucherHead → Type 0
 IsTypedVoucher w = IsUtf8 w.code × IsUtf8 w.tag × IsUtf8 w.comment
 
 abbrev pub IsTypedCart : CartPos → Type 0
@@ -41,7 +42,7 @@ IsTypedCart w = IsUtf8 w.cart_id
 abbrev pub IsTypedOrder : Order → Type 0
 IsTypedOrder w = IfSome w.email IsUtf8
 
-abbrev pub IsTypedPosition : OrderPos → Type 0
+abbrev pub IsTypedPosition : PositionRow → Type 0
 IsTypedPosition w = (w.positionid < 2 ^ 32) × IsUtf8 w.secret
 
 abbrev pub IsTypedWaiting : Waiting → Type 0
@@ -58,10 +59,10 @@ abbrev pub IsTypedChange : Change → Type 0
 IsTypedChange (PutItem w) = IsTypedItem w
 IsTypedChange (PutVariation w) = IsTypedVariation w
 IsTypedChange (PutQuota w) = IsUtf8 w.name
-IsTypedChange (PutVoucher w) = IsTypedVoucher w
+IsTypedChange (PutVoucher w) = IsTypedVoucher (head_of_voucher w)
 IsTypedChange (PutCart w) = IsTypedCart w
 IsTypedChange (PutOrder w) = IsTypedOrder w
-IsTypedChange (PutPosition w) = IsTypedPosition w
+IsTypedChange (PutPosition w) = IsTypedPosition (head_of_position w)
 IsTypedChange (PutWaiting w) = IsTypedWaiting w
 IsTypedChange (DropVoucher id) = Unit {0}
 IsTypedChange (DropCart id) = Unit {0}

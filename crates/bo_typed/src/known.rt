@@ -4,6 +4,7 @@ ghost use Rattle.std.specs.Prelude.{IfSome};
 ghost use Rattle.std.specs.List.{AllByRecursion};
 ghost use Rattle.std.specs.Str.{IsUtf8};
 ghost use Rattle.bo_kept.specs.ShopView.{listed};
+ghost use Rattle.bo_columns.specs.Changes.{head_of_voucher, head_of_position};
 ghost use Rattle.bo_typed.specs.Typed.{IsTypedVoucher, IsTypedPosition, IsTypedChange, IsTypedKept};
 
 use bo_base::{Known, Text};
@@ -25,7 +26,7 @@ fn some_known(text: &Option<Text>)
 }
 
 fn voucher_known(row: &Voucher)
-    ensures { IsTypedVoucher row.now }
+    ensures { IsTypedVoucher (head_of_voucher row.now) }
 {
     text_known(&row.code);
     text_known(&row.tag);
@@ -33,7 +34,7 @@ fn voucher_known(row: &Voucher)
 }
 
 fn position_known(row: &OrderPos)
-    ensures { IsTypedPosition row.now }
+    ensures { IsTypedPosition (head_of_position row.now) }
 {
     let _place = row.positionid;
     text_known(&row.secret);

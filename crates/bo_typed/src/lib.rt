@@ -1,4 +1,4 @@
-//! What the types of a shop's values promise of its tables.
+//! What do the types of a shop's values promise of its tables?
 #![tactic(auto)]
 
 pub mod known;

@@ -27,9 +27,9 @@ use Rattle.bo_columns.specs.Fit.{IsFitOrder, IsFitPosition, IsFitVoucher, IsStor
 use Rattle.bo_columns.specs.Rows.{position_row, order_row, voucher_row}
 use Rattle.bo_columns.specs.Tables.{Tables, Holds}
 use Rattle.bo_columns.specs.Unread.{IsUnread}
+use Rattle.bo_columns.specs.declared.rows.PositionRow.{PositionRow}
 use Rattle.bo_columns.specs.declared.rows.VoucherRow.{VoucherRow}
 use Rattle.bo_lists.specs.declared.rows.Order.{Order}
-use Rattle.bo_lists.specs.declared.rows.OrderPos.{OrderPos}
 use Rattle.bo_loads.specs.Damage.{HasMeaning, HasNoMeaning, IsFor}
 use Rattle.bo_opens.specs.Lawful.{AreFit}
 use Rattle.bo_opens.specs.Took.{TakesSome}
@@ -75,7 +75,7 @@ abbrev ShowsLine : Output → Type 0
 ShowsLine x = IsLine x.1
 
 -- a position with an order and with the code of a voucher, or none
-one_line : (p : OrderPos) (o : Order) (code : Option (List ℕ)) → IsFitPosition p → IfSome code IsStored → ShowsLine (line (position_row p) (order_row o) (or_null Text code))
+one_line : (p : PositionRow) (o : Order) (code : Option (List ℕ)) → IsFitPosition p → IfSome code IsStored → ShowsLine (line (position_row p) (order_row o) (or_null Text code))
 one_line p o code fit stored = (
   record { order = p.order; positionid = p.positionid; status = o.status; item = p.product.item; variation = p.product.variation; price = p.price; voucher = code; secret = p.secret },
   record { positionid = fit.positionid; price = fit.price; voucher = stored; secret = fit.secret },
@@ -86,18 +86,18 @@ where_of : (b : Bool) (x : Output) → ShowsLine x → AllByRecursion ShowsLine 
 where_of true x h = (h, tt)
 where_of false x h = tt
 
-with_vouchers : (p : OrderPos) (o : Order) → IsFitPosition p → (vs : List VoucherRow) → All IsFitVoucher vs → AllByRecursion ShowsLine (with_codes (position_row p) (order_row o) (map voucher_row vs))
+with_vouchers : (p : PositionRow) (o : Order) → IsFitPosition p → (vs : List VoucherRow) → All IsFitVoucher vs → AllByRecursion ShowsLine (with_codes (position_row p) (order_row o) (map voucher_row vs))
 with_vouchers p o fit [] h = where_of (is_of (position_row p) (order_row o)) (line (position_row p) (order_row o) Null) (one_line p o None fit tt)
 with_vouchers p o fit (v ∷ vs) h =
     of_rows ShowsLine IsFitVoucher voucher_row (λ w. if_of (position_row p) (order_row o) (column w 1))
     (λ v fits. where_of (is_of (position_row p) (order_row o)) (line (position_row p) (order_row o) (Text v.voucher.code)) (one_line p o (Some v.voucher.code) fit fits.code)) (v ∷ vs) h
 
-with_order : (p : OrderPos) (o : Order) → IsFitPosition p → (vs : List VoucherRow) → All IsFitVoucher vs → AllByRecursion ShowsLine (lines_of (position_row p) (map voucher_row vs) (order_row o))
+with_order : (p : PositionRow) (o : Order) → IsFitPosition p → (vs : List VoucherRow) → All IsFitVoucher vs → AllByRecursion ShowsLine (lines_of (position_row p) (map voucher_row vs) (order_row o))
 with_order p o fit vs h =
     subst (λ l. AllByRecursion ShowsLine (with_codes (position_row p) (order_row o) l)) (sym (filter-map (is_named (position_row p)) voucher_row vs))
     (with_vouchers p o fit (filter (λ v. is_named (position_row p) (voucher_row v)) vs) (All-filter (λ v. is_named (position_row p) (voucher_row v)) IsFitVoucher vs h))
 
-all_lines : (ps : List OrderPos) (os : List Order) (vs : List VoucherRow) → All IsFitPosition ps → All IsFitOrder os → All IsFitVoucher vs
+all_lines : (ps : List PositionRow) (os : List Order) (vs : List VoucherRow) → All IsFitPosition ps → All IsFitOrder os → All IsFitVoucher vs
     → AllByRecursion ShowsLine (lines (map position_row ps) (map order_row os) (map voucher_row vs))
 all_lines ps os vs positions orders vouchers =
     of_rows ShowsLine IsFitPosition position_row (λ p. flat_map (lines_of p (map voucher_row vs)) (map order_row os))

@@ -1,4 +1,4 @@
--- Why an export breaks off, as the program tells it.
+-- Why an export breaks off, as the program tells it: for memory, the store or the writer, and never for the file.
 use Rattle.bo_export.specs.declared.sink.SinkFault.TheVariants as sinks
 use Rattle.bo_line.specs.declared.fault.RunFault.{RunFault}
 use Rattle.bo_line.specs.declared.fault.RunFault.TheVariants as faults

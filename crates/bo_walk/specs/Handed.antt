@@ -1,4 +1,4 @@
--- Which lines of an export a sink was handed.
+-- Which lines of an export a sink was handed: all, or those before one that it refused or that couldn't be read.
 use Rattle.std.specs.Prelude.{◌≡◌, ◌≢◌, List, [], ◌∷◌, ◌++◌}
 use Rattle.sqlite_value.specs.Order.{Row}
 use Rattle.sqlite.specs.Effect.{Database}

@@ -1,4 +1,4 @@
-//! The order positions of a file, handed to a sink one at a time, and written as CSV so.
+//! How are a file's order positions read one at a time, and written as CSV?
 #![tactic(auto)]
 
 pub mod positions;

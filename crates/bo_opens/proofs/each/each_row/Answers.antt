@@ -23,7 +23,7 @@ returns-in-Err-clause-refused g c clean =
     subst (IsFor _ ⊥) (sym c.of.ensures) (failed old new c.args.sql.now [] c.in-Err.error ⊥ (c.requires.reads old.now.schema) (inl fails))
 
 pub returns-in-Err-clause-store : goal.returns-in-Err-clause-store
-returns-in-Err-clause-store g c clean tree is alone opened known =
+returns-in-Err-clause-store g c clean s tree is alone opened known =
     let old = state g.S.Store c.args.conn.now in
     let new = state g.S.Store c.query.follows.lender-at-none in
     let fails : FailsToQuery c.args.sql.now [] old new c.in-Err.error = (rw c.in-Err.is at c.query.follows.holds-at-none).err clean in
@@ -137,7 +137,7 @@ returns-in-Err-next-clause-refused g c clean =
     search rules
 
 pub returns-in-Err-next-clause-store : goal.returns-in-Err-next-clause-store
-returns-in-Err-next-clause-store g c clean tree is alone opened known =
+returns-in-Err-next-clause-store g c clean s tree is alone opened known =
     let moved = c.next.follows.holds-at-none in
     let inv = c.rows.invariant in
     let old = state g.S.Store c.args.conn.now in
@@ -146,13 +146,13 @@ returns-in-Err-next-clause-store g c clean tree is alone opened known =
     let late : HasCleanDisk now = search rules in
     let had = inv.3.2 (omega (arith, moved.survives.clean, late)) in
     let fails : FailsToQuery c.args.sql.now [] was now c.in-Err-next.error = (rw c.in-Err-next.is at (moved.err late)) c.args.sql.now [] inv.3.0 had.0 in
-    let has : was.now.schema ≡ schema = ap (λ (d : Database). d.schema) had.1.0.now_is ∙ known in
+    let has : was.now.schema ≡ s = ap (λ (d : Database). d.schema) had.1.0.now_is ∙ known in
     let told = stops c.args.sql.now tree is alone was now has had.1.0.is_open c.in-Err-next.error fails in
     let here = where_stopped (failure_of c.in-Err-next.error) _ _ told (stopped_later old was now had.1 inv.1) in
     search rules
 
 pub returns-clause-store : goal.returns-clause-store
-returns-clause-store g c clean tree is alone opened known =
+returns-clause-store g c clean s tree is alone opened known =
     let inv = c.rows.invariant in
     let old = state g.S.Store c.args.conn.now in
     let was = state g.S.Store c.rows.rows.conn.now in

@@ -40,7 +40,7 @@ returns-in-Err-readable-clause-cause g c clean db at =
     let clean_mid : HasCleanDisk mid = omega (arith, clean, c.read_tables.ensures.crash.clean) in
     let head = c.in-Ok.ensures.found clean_mid db at in
     let at_mid = at_same start mid (c.in-Ok.ensures.same clean_mid) db at in
-    c.in-Err-readable.ensures.cause db (c.in-Ok.rows.items, head.0, head.1) (c.read_tables.ensures.refused clean db at_mid)
+    c.in-Err-readable.ensures.cause c.args.own db (c.in-Ok.rows.items, head.0, head.1) (c.read_tables.ensures.refused clean db at_mid)
 
 pub returns-in-Err-readable-clause-store : goal.returns-in-Err-readable-clause-store
 returns-in-Err-readable-clause-store g c clean db at known =

@@ -10,7 +10,7 @@ pub returns-in-Ok-clause-cause : goal.returns-in-Ok-clause-cause
 returns-in-Ok-clause-cause g c clean db at = c.tested.ensures.cause db (c.in-Ok.ensures.shown clean db at)
 
 pub returns-in-Err-clause-cause : goal.returns-in-Err-clause-cause
-returns-in-Err-clause-cause g c clean db at = c.refusal.ensures.cause db (c.in-Err.ensures.refused clean db at)
+returns-in-Err-clause-cause g c clean db at = c.refusal.ensures.cause c.args.own db (c.in-Err.ensures.refused clean db at)
 
 pub returns-in-Ok-clause-store : goal.returns-in-Ok-clause-store
 returns-in-Ok-clause-store g c clean db at known = never_closed c.tested.result _ c.tested.ensures.never

@@ -4,7 +4,7 @@ use Rattle.bo_opens.specs.Causes.{ShowsBy, HasNoOtherVersion}
 use Rattle.bo_opens.proofs.file.tested.Goals as goal
 
 pub returns-in-Ok-clause-passed : goal.returns-in-Ok-clause-passed
-returns-in-Ok-clause-passed c = subst HasNoOtherVersion c.as_slice.ensures.value c.in-Ok.ensures.passed
+returns-in-Ok-clause-passed c = subst (HasNoOtherVersion c.args.own) c.as_slice.ensures.value c.in-Ok.ensures.passed
 
 pub returns-in-Err-clause-cause : goal.returns-in-Err-clause-cause
 returns-in-Err-clause-cause c db shows = c.in-Err.ensures.cause db (subst (ShowsBy shop_text db) (sym c.as_slice.ensures.value) shows)

@@ -12,8 +12,9 @@ use Rattle.bo_loads.proofs.Causes.{means_something, unread_for}
 use Rattle.bo_opens.proofs.Gathering.{gathers}
 use Rattle.bo_opens.proofs.Refusing.{begins_meaning, damaged_in}
 use Rattle.bo_opens.proofs.Shown.{not_damaged, where_damaged}
-use Rattle.bo_loads.specs.Alone.{RunsAlone}
-use Rattle.bo_loads.specs.Select.{IsSelect}
+use Rattle.bo_loads.specs.Alone.{RunsAloneIn}
+use Rattle.bo_loads.specs.Select.{IsSelectIn}
+use Rattle.bo_loads.specs.Since.{IsSince}
 use Rattle.bo_opens.specs.Stopped.{IsStopped}
 use Rattle.bo_opens.proofs.Stopping.{unread_goes_on}
 use Rattle.bo_opens.proofs.table.rows_in.Goals as goal
@@ -26,8 +27,8 @@ returns-in-Ok-taken-clause-loaded g c clean db at known =
     let it = gathers (λ k. k.all.items) g.T.Loaded.as_row g.T.Loaded.fits _ _ all.rows all.took in
     let none = c.new.ensures.items in
     let same : map g.T.Loaded.as_row c.each_row.new.taker.all.items ≡ all.rows = ap (map g.T.Loaded.as_row) (it.behind ∙ ap (λ l. l ++ it.more) none) ∙ it.values in
-    let has : old.now.schema ≡ schema = ap (λ (d : Database). d.schema) at.now ∙ known in
-    let told = loads g.T.Loaded.text g.T.Loaded.tree c.statement.ensures.select old new has all.rows (subst (λ t. Shown t [] old new all.rows) c.statement.ensures.text (all.shown clean)) in
+    let has : old.now.schema ≡ db.schema = ap (λ (d : Database). d.schema) at.now in
+    let told = loads g.T.Loaded.text g.T.Loaded.tree (c.statement.ensures.select db.schema known) old new has all.rows (subst (λ t. Shown t [] old new all.rows) c.statement.ensures.text (all.shown clean)) in
     subst (λ (d : Database). IsPermutation (map g.T.Loaded.as_row c.each_row.new.taker.all.items) (map (shown schema g.T.Loaded.tree) (d.trees g.T.Loaded.tree))) at.now (subst (λ l. IsPermutation l (map (shown schema g.T.Loaded.tree) (old.now.trees g.T.Loaded.tree))) (sym same) told)
 
 pub returns-in-Ok-taken-clause-limits : goal.returns-in-Ok-taken-clause-limits
@@ -49,9 +50,9 @@ returns-in-Err-taken-clause-refused g c clean db at =
     let some = rw c.in-Err-taken.is at c.in-Ok.ensures.stopped in
     let text = c.statement.ensures.text in
     let front = subst (λ t. Begins t [] old (some.rows ++ some.row ∷ [])) text (some.front clean) in
-    let why : ((w : g.row.T.Denot) → g.T.Loaded.fits w → some.row ≢ g.T.Loaded.as_row w) → db.schema ≡ schema → IsDamaged g.T.Loaded.as_row g.T.Loaded.fits (map (shown schema g.T.Loaded.tree) (db.trees g.T.Loaded.tree)) = λ bad known.
+    let why : ((w : g.row.T.Denot) → g.T.Loaded.fits w → some.row ≢ g.T.Loaded.as_row w) → IsSince g.T.Loaded.since db.schema → IsDamaged g.T.Loaded.as_row g.T.Loaded.fits (map (shown schema g.T.Loaded.tree) (db.trees g.T.Loaded.tree)) = λ bad known.
     subst (λ (d : Database). IsDamaged g.T.Loaded.as_row g.T.Loaded.fits (map (shown schema g.T.Loaded.tree) (d.trees g.T.Loaded.tree))) at.now
-    (damaged_in g.T.Loaded.as_row g.T.Loaded.fits g.T.Loaded.text g.T.Loaded.tree c.statement.ensures.select old (ap (λ (d : Database). d.schema) at.now ∙ known) at.is_open some.rows some.row front bad) in
+    (damaged_in g.T.Loaded.as_row g.T.Loaded.fits g.T.Loaded.text g.T.Loaded.tree (c.statement.ensures.select db.schema known) old (ap (λ (d : Database). d.schema) at.now) at.is_open some.rows some.row front bad) in
     unread_for (HasNoMeaning db.schema g.T.Loaded.text) _ _ why _ some.stopped
 
 pub returns-in-Err-taken-clause-same : goal.returns-in-Err-taken-clause-same
@@ -73,7 +74,8 @@ returns-in-Err-clause-found g c clean db at = not_damaged c.in-Err.error _ _ (c.
 pub returns-in-Err-clause-store : goal.returns-in-Err-clause-store
 returns-in-Err-clause-store g c clean db at known =
     let text = sym c.statement.ensures.text in
-    c.in-Err.ensures.store clean g.T.Loaded.tree (subst (λ t. IsSelect t g.T.Loaded.tree []) text c.statement.ensures.select) (subst RunsAlone text c.statement.ensures.alone) at.is_open (ap (λ (d : Database). d.schema) at.now ∙ known)
+    c.in-Err.ensures.store clean db.schema g.T.Loaded.tree (subst (λ t. IsSelectIn db.schema t g.T.Loaded.tree []) text (c.statement.ensures.select db.schema known)) (subst (RunsAloneIn db.schema) text (c.statement.ensures.alone db.schema known)) at.is_open
+    (ap (λ (d : Database). d.schema) at.now)
 
 pub returns-in-Err-taken-clause-store : goal.returns-in-Err-taken-clause-store
 returns-in-Err-taken-clause-store g c clean db at known =
