@@ -1,6 +1,6 @@
 //! The room of a connection.
 
-ghost use Rattle.std.specs.Prelude.{◌≡◌, [], IfOk, length};
+ghost use Rattle.std.specs.Prelude.{◌≡◌, [], IfOk, length, replicate};
 
 use bo_http::frames::Frames;
 use std::alloc::{AllocError, Global};
@@ -19,7 +19,7 @@ pub struct Room {
 
 /// So many bytes of 0, as room for what a read gives.
 pub fn blank(alloc: Global, size: usize) -> Result<Vec<u8>, AllocError>
-    ensures { IfOk result (λ v. length v.items ≡ size) }
+    ensures { IfOk result (λ v. v.items ≡ replicate size 0) }
 {
     vec![in alloc; 0u8; size]
 }
