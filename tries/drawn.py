@@ -283,16 +283,18 @@ class Drawn:
 
     def redeem(self):
         body = {"type": self.draw.choice(["entry", "entry", "exit"]), "force": self.one_in(10), "ignore_unpaid": self.one_in(4)}
+        if self.one_in(6):
+            body["datetime"] = moment(self.at - self.draw.randrange(600))
         if self.one_in(2):
             body["nonce"] = f"n{self.draw.randrange(100)}"
         self.ask("redeem ticket", "POST", f"/checkinlists/{self.id('lists')}/positions/{self.id('positions')}/redeem/", body)
 
 
-# How often each kind is drawn, of about 200 commands.
+# How often each kind is drawn, of about 220 commands.
 SHARES = {
     "add_item": 1, "change_item": 2, "add_variation": 1, "add_quota": 1, "resize_quota": 8, "add_voucher": 24, "change_voucher": 10,
     "drop_voucher": 9, "add_cart": 50, "add_carts": 8, "drop_cart": 8, "add_order": 24, "move_order": 24, "add_waiting": 12,
-    "change_waiting": 3, "drop_waiting": 3, "send_voucher": 4, "periodic": 5, "add_checkin_list": 1, "redeem": 8,
+    "change_waiting": 3, "drop_waiting": 3, "send_voucher": 4, "periodic": 5, "add_checkin_list": 1, "redeem": 24,
 }
 # How many rows a command adds, as it was seen.
 SEEN = {"vouchers": 0.8, "carts": 0.5, "orders": 0.4, "positions": 0.35, "waiting": 0.35}

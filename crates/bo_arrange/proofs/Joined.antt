@@ -1,5 +1,5 @@
 -- Rows with their members, and when they are whole.
-use Rattle.std.proofs.Common.{◌≡◌, ◌↔◌, ℕ, List, [], ◌∷◌, map, length, Result, Ok, Err, IfErr, refl, sym, ap, ap₂, subst, ◌∙◌}
+use Rattle.std.proofs.Common.{◌≡◌, ◌↔◌, ℕ, false, List, [], ◌∷◌, map, length, Result, Ok, Err, IfErr, refl, sym, ap, ap₂, subst, ◌∙◌}
 use Rattle.std.specs.Result.{IsErrAnd}
 use Rattle.std.specs.List.{zip, flat_map}
 use Rattle.std.specs.List.Sorted.{IsPermutation}
@@ -72,7 +72,7 @@ lists_whole heads items given ids lists W of_heads same are whole =
 -- ---- quotas
 
 quotas_joined : (i v : List Link) (heads : List QuotaRow)
-    → map (λ (p : (QuotaRow × List ℕ) × List ℕ). record { id = p.0.0.id; name = p.0.0.name; size = p.0.0.size; items = p.0.1; variations = p.1 })
+    → map (λ (p : (QuotaRow × List ℕ) × List ℕ). record { id = p.0.0.id; name = p.0.0.name; release_after_exit = false; size = p.0.0.size; items = p.0.1; variations = p.1 })
     (zip (zip heads (map (λ id. members_of id i) (map (λ (h : QuotaRow). h.id) heads))) (map (λ id. members_of id v) (map (λ (h : QuotaRow). h.id) heads))) ≡ map (quota_of i v) heads
 quotas_joined i v [] = refl
 quotas_joined i v (h ∷ heads) = ap (λ l. quota_of i v h ∷ l) (quotas_joined i v heads)
@@ -80,12 +80,12 @@ quotas_joined i v (h ∷ heads) = ap (λ l. quota_of i v h ∷ l) (quotas_joined
 pub quotas_are : (heads : List QuotaRow) (items given : List QuotaItem) (variations given_variations : List QuotaVariation) (ids : List ℕ) (each each_variation : List (List ℕ)) (quotas : List Quota) → ids ≡ map (λ (h : QuotaRow). h.id) heads
     → given ≡ items → given_variations ≡ variations
     → each ≡ map (λ id. members_of id (map item_link given)) ids → each_variation ≡ map (λ id. members_of id (map variation_link given_variations)) ids
-    → quotas ≡ map (λ (p : (QuotaRow × List ℕ) × List ℕ). record { id = p.0.0.id; name = p.0.0.name; size = p.0.0.size; items = p.0.1; variations = p.1 }) (zip (zip heads each) each_variation)
+    → quotas ≡ map (λ (p : (QuotaRow × List ℕ) × List ℕ). record { id = p.0.0.id; name = p.0.0.name; release_after_exit = false; size = p.0.0.size; items = p.0.1; variations = p.1 }) (zip (zip heads each) each_variation)
     → quotas ≡ map (quota_of (map item_link items) (map variation_link variations)) heads
 quotas_are heads items given variations given_variations ids each each_variation quotas of_heads same same_variations told told_variations joined =
     let all : each ≡ map (λ id. members_of id (map item_link items)) (map (λ (h : QuotaRow). h.id) heads) = told ∙ ap₂ (λ g n. map (λ id. members_of id (map item_link g)) n) same of_heads in
     let others : each_variation ≡ map (λ id. members_of id (map variation_link variations)) (map (λ (h : QuotaRow). h.id) heads) = told_variations ∙ ap₂ (λ g n. map (λ id. members_of id (map variation_link g)) n) same_variations of_heads in
-    joined ∙ ap₂ (λ e f. map (λ (p : (QuotaRow × List ℕ) × List ℕ). record { id = p.0.0.id; name = p.0.0.name; size = p.0.0.size; items = p.0.1; variations = p.1 }) (zip (zip heads e) f)) all others
+    joined ∙ ap₂ (λ e f. map (λ (p : (QuotaRow × List ℕ) × List ℕ). record { id = p.0.0.id; name = p.0.0.name; release_after_exit = false; size = p.0.0.size; items = p.0.1; variations = p.1 }) (zip (zip heads e) f)) all others
     ∙ quotas_joined (map item_link items) (map variation_link variations) heads
 
 pub items_whole : (heads : List QuotaRow) (items given : List QuotaItem) (v : List Link) (ids : List ℕ) (quotas : List Quota) (W : Type 0) → ids ≡ map (λ (h : QuotaRow). h.id) heads → given ≡ items

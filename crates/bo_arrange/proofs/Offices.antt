@@ -1,5 +1,5 @@
 -- Rows in order are arranged as the box office whose rows they are.
-use Rattle.std.proofs.Common.{◌≡◌, ℕ, ◌+◌, ◌≤◌, List, [], ◌∷◌, ◌++◌, map, refl, ap, ap₂, subst, ◌∙◌}
+use Rattle.std.proofs.Common.{◌≡◌, ℕ, ◌+◌, ◌≤◌, List, [], ◌∷◌, ◌++◌, map, refl, sym, ap, ap₂, subst, ◌∙◌}
 use Rattle.std.specs.List.{AllByRecursion}
 use Rattle.std.specs.List.Sorted.{IsPermutation}
 use Rattle.bo_sorted.specs.Tables.{InOrderFrom, AreInOrder}
@@ -35,7 +35,7 @@ list_links i (h ∷ heads) = ap (λ l. links_to (members_of h.id i) h.id ++ l) (
 
 pub members_rise : (i v : List Link) (heads : List QuotaRow) → AllByRecursion MembersRise (map (quota_of i v) heads)
 members_rise i v [] = tt
-members_rise i v (h ∷ heads) = (record { items = rising_in_order (told h.id i); variations = rising_in_order (told h.id v) }, members_rise i v heads)
+members_rise i v (h ∷ heads) = (record { items = rising_in_order (told h.id i); variations = rising_in_order (told h.id v); kept = refl }, members_rise i v heads)
 
 pub items_rise : (i : List Link) (heads : List ListRow) → AllByRecursion ItemsRise (map (list_of i) heads)
 items_rise i [] = tt
@@ -47,13 +47,13 @@ pub order_in_parts : {T U : Type 0} (key : T → ℕ) (part : T → U) (of : U �
 order_in_parts key part of is n [] h = tt
 order_in_parts key part of is n (r ∷ rows) h = (subst (λ m. n ≤ m) (is r) h.0, subst (λ m. InOrderFrom key (m + 1) rows) (is r) (order_in_parts key part of is (of (part r) + 1) rows h.1))
 
-quotas_back : (i v : List Link) (qs : List Quota) → map (λ (q : Quota). members_of q.id i) qs ≡ map (λ (q : Quota). q.items) qs → map (λ (q : Quota). members_of q.id v) qs ≡ map (λ (q : Quota). q.variations) qs → map (quota_of i v) (map head_of_quota qs) ≡ qs
-quotas_back i v [] e f = refl
-quotas_back i v (q ∷ qs) e f =
+quotas_back : (i v : List Link) (qs : List Quota) → AllByRecursion MembersRise qs → map (λ (q : Quota). members_of q.id i) qs ≡ map (λ (q : Quota). q.items) qs → map (λ (q : Quota). members_of q.id v) qs ≡ map (λ (q : Quota). q.variations) qs → map (quota_of i v) (map head_of_quota qs) ≡ qs
+quotas_back i v [] r e f = refl
+quotas_back i v (q ∷ qs) r e f =
     let items : members_of q.id i ≡ q.items = cc in
     let variations : members_of q.id v ≡ q.variations = cc in
-    let first : quota_of i v (head_of_quota q) ≡ q = λ k. record { id = q.id; name = q.name; size = q.size; items = items k; variations = variations k } in
-    ap₂ ◌∷◌ first (quotas_back i v qs (let m : map (λ (p : Quota). members_of p.id i) qs ≡ map (λ (p : Quota). p.items) qs = cc in m) (let m : map (λ (p : Quota). members_of p.id v) qs ≡ map (λ (p : Quota). p.variations) qs = cc in m))
+    let first : quota_of i v (head_of_quota q) ≡ q = λ k. record { id = q.id; name = q.name; release_after_exit = sym r.0.kept k; size = q.size; items = items k; variations = variations k } in
+    ap₂ ◌∷◌ first (quotas_back i v qs r.1 (let m : map (λ (p : Quota). members_of p.id i) qs ≡ map (λ (p : Quota). p.items) qs = cc in m) (let m : map (λ (p : Quota). members_of p.id v) qs ≡ map (λ (p : Quota). p.variations) qs = cc in m))
 
 lists_back : (i : List Link) (ls : List CheckinList) → map (λ (l : CheckinList). members_of l.id i) ls ≡ map (λ (l : CheckinList). l.limit_products) ls → map (list_of i) (map head_of_list ls) ≡ ls
 lists_back i [] e = refl
@@ -79,7 +79,7 @@ quotas_told lists rows o p h =
     same_order (λ (r : QuotaRow). r.id) rows.quotas (map head_of_quota qs) (order_in_parts (λ (r : QuotaRow). r.id) (quota_of i v) (λ (q : Quota). q.id) (λ r. refl) 0 rows.quotas p.ids.quotas)
     (order_of_parts (λ (q : Quota). q.id) head_of_quota (λ (r : QuotaRow). r.id) (λ q. refl) 0 qs o.ids.quotas) h.quotas in
     ap (map (quota_of i v)) heads
-    ∙ quotas_back i v qs (members_back (λ (q : Quota). q.id) (λ (q : Quota). q.items) qs i o.ids.quotas (all_map MembersRise (λ q. AreInOrder (λ n. n) q.items) (λ q r. r.items) qs o.members) h.quota_items)
+    ∙ quotas_back i v qs o.members (members_back (λ (q : Quota). q.id) (λ (q : Quota). q.items) qs i o.ids.quotas (all_map MembersRise (λ q. AreInOrder (λ n. n) q.items) (λ q r. r.items) qs o.members) h.quota_items)
     (members_back (λ (q : Quota). q.id) (λ (q : Quota). q.variations) qs v o.ids.quotas (all_map MembersRise (λ q. AreInOrder (λ n. n) q.variations) (λ q r. r.variations) qs o.members) h.quota_variations)
 
 lists_told : (lists : Lists) (rows : OfficeRows) → AreOrdered lists → AreOrdered (told_by rows) → AreRowsOf lists rows → map (list_of rows.list_items) rows.checkin_lists ≡ lists.checkin_lists

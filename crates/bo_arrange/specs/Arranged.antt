@@ -1,5 +1,5 @@
 -- The box office that the rows of a file tell.
-use Rattle.std.specs.Prelude.{List, map}
+use Rattle.std.specs.Prelude.{false, List, map}
 use Rattle.bo_sorted.specs.Tables.{AreInOrder}
 use Rattle.bo_catalogue.specs.declared.rows.Quota.{Quota}
 use Rattle.bo_lists.specs.declared.rows.CheckinList.{CheckinList}
@@ -53,9 +53,9 @@ rows_in tables = record {
 
 -- ---- the office that they tell
 
--- a quota with the members that its links tell
+-- a quota with the members that its links tell; it keeps its places, since no table tells of one that releases them
 abbrev pub quota_of : List Link → List Link → QuotaRow → Quota
-quota_of items variations row = record { id = row.id; name = row.name; size = row.size; items = members_of row.id items; variations = members_of row.id variations }
+quota_of items variations row = record { id = row.id; name = row.name; release_after_exit = false; size = row.size; items = members_of row.id items; variations = members_of row.id variations }
 
 -- a check-in list with the items that its links tell
 abbrev pub list_of : List Link → ListRow → CheckinList

@@ -22,6 +22,7 @@ pub(crate) fn used_in(alloc: Global, rows: &[CountRow]) -> Result<Vec<QuotaCount
                 blocked: row.blocked,
                 carts: row.carts,
                 waiting: row.waiting,
+                exited: 0,
             },
         })
         .collect(alloc)

@@ -1,6 +1,6 @@
 //! Quotas with their members.
 
-ghost use Rattle.std.specs.Prelude.{◌≡◌, ◌↔◌, IfOk, IfErr, OnOk, IsTrue, IsPermutation, map};
+ghost use Rattle.std.specs.Prelude.{◌≡◌, ◌↔◌, IfOk, IfErr, OnOk, IsTrue, IsPermutation, false, map};
 ghost use Rattle.std.specs.List.{zip};
 ghost use Rattle.bo_sorted.specs.Tables.{AreInOrder};
 ghost use Rattle.bo_stand.specs.Links.{all_links};
@@ -31,14 +31,15 @@ fn ids_of(alloc: Global, rows: &[QuotaRow]) -> Result<Vec<u64>, AllocError>
     rows.iter().map(|row| row.id).collect(alloc)
 }
 
-// A quota of its row, its items and its variations.
+// A quota of its row, its items and its variations. No table tells of one that releases places.
 fn quota_with(parts: ((QuotaRow, Ids), Ids)) -> Quota
-    ensures { result ≡ record { id = parts.0.0.id; name = parts.0.0.name; size = parts.0.0.size; items = parts.0.1; variations = parts.1 } }
+    ensures { result ≡ record { id = parts.0.0.id; name = parts.0.0.name; release_after_exit = false; size = parts.0.0.size; items = parts.0.1; variations = parts.1 } }
 {
     let ((row, items), variations) = parts;
     Quota {
         id: row.id,
         name: row.name,
+        release_after_exit: false,
         size: row.size,
         items,
         variations,
@@ -52,7 +53,7 @@ fn joined(
     items: Vec<Ids>,
     variations: Vec<Ids>,
 ) -> Result<Vec<Quota>, AllocError>
-    ensures { IfOk result (λ all. all.items ≡ map (λ p. record { id = p.0.0.id; name = p.0.0.name; size = p.0.0.size; items = p.0.1; variations = p.1 }) (zip (zip rows.items items.items) variations.items)) }
+    ensures { IfOk result (λ all. all.items ≡ map (λ p. record { id = p.0.0.id; name = p.0.0.name; release_after_exit = false; size = p.0.0.size; items = p.0.1; variations = p.1 }) (zip (zip rows.items items.items) variations.items)) }
 {
     rows.into_iter()
         .zip(items.into_iter())

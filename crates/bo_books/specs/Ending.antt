@@ -17,7 +17,7 @@ abbrev pub start : ℕ
 start = 1777629600
 
 abbrev pub five_places : Quota
-five_places = record { id = 1; name = []; size = Some 5; items = 1 ∷ []; variations = [] }
+five_places = record { id = 1; name = []; release_after_exit = false; size = Some 5; items = 1 ∷ []; variations = [] }
 
 -- it blocks two of them, for ten minutes
 abbrev pub ten_minutes : Voucher
@@ -45,4 +45,4 @@ ending = record {
 
 -- so many places are blocked, and so many cart positions count
 abbrev pub used : ℕ → ℕ → Usage
-used blocked carts = record { paid = 0; pending = 0; blocked = blocked; carts = carts; waiting = 0 }
+used blocked carts = record { paid = 0; pending = 0; blocked = blocked; carts = carts; waiting = 0; exited = 0 }

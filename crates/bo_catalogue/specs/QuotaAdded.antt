@@ -14,9 +14,9 @@ use Rattle.bo_catalogue.specs.declared.refusal.CatalogueRefusal.TheVariants.{NoI
 use Rattle.bo_catalogue.specs.Limits.{takes_row}
 use Rattle.bo_catalogue.specs.CatalogueLists.{CatalogueLists, item_at, variation_at}
 
--- the row of a new quota; ids that are given twice count once
+-- the row of a new quota, which keeps the places of tickets that went out; ids that are given twice count once
 abbrev pub quota_row : NewQuota → ℕ → Quota
-quota_row new id = record { id = id; name = new.name; size = new.size; items = rising new.items; variations = rising new.variations }
+quota_row new id = record { id = id; name = new.name; release_after_exit = false; size = new.size; items = rising new.items; variations = rising new.variations }
 
 -- the variation is of one of these items
 abbrev pub is_of_one : List ℕ → Option Variation → Bool

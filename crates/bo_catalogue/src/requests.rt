@@ -112,6 +112,7 @@ impl NewQuota {
         Ok(Quota {
             id,
             name: self.name.copy(alloc)?,
+            release_after_exit: false,
             size: self.size,
             items: Ids::rising(alloc, self.items.as_slice())?,
             variations: Ids::rising(alloc, self.variations.as_slice())?,

@@ -50,7 +50,7 @@ impl Limited for Quota {
     fn is_limited(&self) -> bool {
         self.name.known();
         self.size.known();
-        true
+        !self.release_after_exit
     }
 }
 

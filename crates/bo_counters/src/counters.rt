@@ -83,6 +83,7 @@ const NOTHING: Usage = Usage {
     blocked: 0,
     carts: 0,
     waiting: 0,
+    exited: 0,
 };
 
 impl Counters {

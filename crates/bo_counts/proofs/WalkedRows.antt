@@ -57,9 +57,10 @@ shifted_is u v o e =
     (omega (arith, ap (λ (w : Usage). w.blocked) e))
     (omega (arith, ap (λ (w : Usage). w.carts) e))
     (omega (arith, ap (λ (w : Usage). w.waiting) e))
+    (omega (arith, ap (λ (w : Usage). w.exited) e))
 
 same_self : (u : Usage) → same_usage u u ≡ true
-same_self u = rw (own_id u.paid, own_id u.pending, own_id u.blocked, own_id u.carts, own_id u.waiting) refl
+same_self u = rw (own_id u.paid, own_id u.pending, own_id u.blocked, own_id u.carts, own_id u.waiting, own_id u.exited) refl
 
 -- ---- the quota of an id after changes
 

@@ -37,7 +37,7 @@ quota_after id before (change ∷ changes) = quota_after id (quota_with id chang
 
 -- what is left without the other, count by count
 abbrev pub less : Usage → Usage → Usage
-less a b = record { paid = a.paid - b.paid; pending = a.pending - b.pending; blocked = a.blocked - b.blocked; carts = a.carts - b.carts; waiting = a.waiting - b.waiting }
+less a b = record { paid = a.paid - b.paid; pending = a.pending - b.pending; blocked = a.blocked - b.blocked; carts = a.carts - b.carts; waiting = a.waiting - b.waiting; exited = a.exited - b.exited }
 
 -- a usage, with what came and without what went
 abbrev pub shifted : Usage → Option QuotaShift → Usage

@@ -17,7 +17,7 @@ use std::alloc::{AllocError, Global};
 /// those of the quotas and vouchers that are new or whose counts differ, and the ids of the vouchers that are gone.
 /// It is refused where there is no memory, and where a count doesn't fit in 64 bits.
 /// Only those quotas are asked that the shifts name, that changes put, or that what came due reaches. No row is looked up but
-/// what came due; a quota that is new, or whose products change, is counted over all rows.
+/// what came due; a quota that is new, or whose products change, or whether it releases places, is counted over all rows.
 pub fn counts_by_shifts<B: Dues>(
     book: &B,
     alloc: Global,

@@ -2,16 +2,17 @@
 
 ghost use Rattle.std.specs.Prelude.{◌≡◌, ◌≤◌, count_by, sum_by};
 ghost use Rattle.bo_lists.specs.Conditions.{is_paid, is_pending};
-ghost use Rattle.bo_lists.specs.Usage.{usage_of, position_counts, blocked_by, is_covered, cart_counts, waits_for};
+ghost use Rattle.bo_lists.specs.Usage.{usage_of, position_counts, is_released, exit_counts, blocked_by, is_covered, cart_counts, waits_for};
 
 use bo_base::Moment;
 use bo_catalogue::Quota;
+use bo_lists::passages::is_exit_if;
 use bo_lists::{CartPos, OrderPos, Usage, Voucher};
 use bo_usage::Book;
 use bo_usage::rules::{blocks, is_paid, is_pending, left_of};
 
 /// What uses any quota at a moment, whether it stands or not. All rows are looked at: for a quota that is new, or whose
-/// products change.
+/// products change, or whether it releases places.
 #[tactic(auto, unfolding(bo_lists::specs::Usage::usage_of))]
 pub fn recount<B: Book>(book: &B, quota: &Quota, at: Moment) -> Usage
     ensures { result ≡ usage_of (B.state book.now).lists at quota.now }
@@ -22,6 +23,7 @@ pub fn recount<B: Book>(book: &B, quota: &Quota, at: Moment) -> Usage
         blocked: blocked_in(book, quota, at),
         carts: carts_in(book, quota, at),
         waiting: waiting_in(book, quota),
+        exited: exited_in(book, quota),
     }
 }
 
@@ -117,4 +119,30 @@ fn waiting_in<B: Book>(book: &B, quota: &Quota) -> u64
 {
     let entries = book.waiting();
     entries.iter().filter(|e| e.waits_for(quota)).count() as u64
+}
+
+// The positions of paid orders that have gone out, where the quota releases places.
+fn exited_in<B: Book>(book: &B, quota: &Quota) -> u64
+    ensures { result ≡ count_by (exit_counts (B.state book.now).lists quota.now) (B.state book.now).lists.positions }
+{
+    let positions = book.positions();
+    positions
+        .iter()
+        .filter(|p| is_exited_in(book, quota, p))
+        .count() as u64
+}
+
+fn is_exited_in<B: Book>(book: &B, quota: &Quota, position: &OrderPos) -> bool
+    ensures { result ≡ exit_counts (B.state book.now).lists quota.now position.now }
+{
+    is_paid(book.order(position.order))
+        && (quota.has(position.product) && is_released(book, quota, position))
+}
+
+// Whether a position has gone out, and the quota lets its place be sold again.
+#[tactic(auto, unfolding(bo_lists::specs::Passages::is_out))]
+fn is_released<B: Book>(book: &B, quota: &Quota, position: &OrderPos) -> bool
+    ensures { result ≡ is_released (B.state book.now).lists quota.now position.now }
+{
+    quota.release_after_exit && is_exit_if(book.last_at(position.id))
 }

@@ -53,6 +53,7 @@ fn shifted_by(usage: Usage, shift: &QuotaShift) -> Result<Usage, AllocError>
         blocked: moved(usage.blocked, come.blocked, gone.blocked)?,
         carts: moved(usage.carts, come.carts, gone.carts)?,
         waiting: moved(usage.waiting, come.waiting, gone.waiting)?,
+        exited: moved(usage.exited, come.exited, gone.exited)?,
     })
 }
 
@@ -75,6 +76,7 @@ fn same_usage(a: Usage, b: Usage) -> bool
         && a.blocked == b.blocked
         && a.carts == b.carts
         && a.waiting == b.waiting
+        && a.exited == b.exited
 }
 
 /// Whether the book has this very count of a quota.

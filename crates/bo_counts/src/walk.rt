@@ -117,7 +117,7 @@ impl<'w, B: Book> Walk<'w, B> {
         }
     }
 
-    // The same of a quota that stood. Unless its products change, the book knows it.
+    // The same of a quota that stood. Unless its products change, or whether it releases places, the book knows it.
     fn known_by(&self, old: &Quota, quota: &Quota) -> Known
         requires walk { IsWalk (B.state self.now.book.now) self.now.changes.now self.now.shifts.now.quotas.items self.now.at self.now.put self.now.due }
         requires stood { quota_at quota.now.id (B.state self.now.book.now).lists.catalogue ≡ Some old.now }
@@ -239,13 +239,15 @@ fn shift_of(shifts: &[QuotaShift], quota: u64) -> Option<&QuotaShift>
     }
 }
 
-// Whether two quotas have the same products.
+// Whether two quotas have the same products, and both release places or neither does.
 fn has_same_members(a: &Quota, b: &Quota) -> bool
     ensures items { result ≡ true → a.now.items ≡ b.now.items }
     ensures variations { result ≡ true → a.now.variations ≡ b.now.variations }
+    ensures release { result ≡ true → a.now.release_after_exit ≡ b.now.release_after_exit }
 {
     same(a.items.as_slice(), b.items.as_slice())
         && same(a.variations.as_slice(), b.variations.as_slice())
+        && a.release_after_exit == b.release_after_exit
 }
 
 // Whether these are the same ids.

@@ -5,18 +5,14 @@ use Rattle.bo_base.proofs.Decided.{gave, gave_it, passed}
 use Rattle.bo_base.specs.Moments.{IsMoment}
 use Rattle.bo_sorted.specs.Tables.{AreInOrder}
 use Rattle.bo_base.specs.Texts.{same_text}
-use Rattle.bo_catalogue.specs.declared.rows.Quota.{Quota}
 use Rattle.bo_lists.specs.declared.rows.OrderPos.{OrderPos}
 use Rattle.bo_lists.specs.declared.rows.CheckinList.{CheckinList}
 use Rattle.bo_lists.specs.declared.changes.Change.TheVariants.{PutCheckin}
 use Rattle.bo_lists.specs.Lists.{Lists, State, position_at, checkin_list_at}
 use Rattle.bo_lists.specs.Full.{takes_checkin}
 use Rattle.bo_lists.specs.Numbered.{with_checkin}
-use Rattle.bo_lists.specs.Takes.{used}
-use Rattle.bo_lists.specs.Total.{total}
 use Rattle.bo_lists.proofs.EachRow.{key-row_at}
 use Rattle.bo_lists.proofs.Found.{row_at_found}
-use Rattle.bo_lists.proofs.Lowers.{checkin_apart}
 use Rattle.bo_sound.specs.Checkins.{IsCheckedIn}
 use Rattle.bo_sound.specs.Changes.{LeadTo}
 use Rattle.bo_sound.specs.Limits.{IsLimitedCheckin}
@@ -129,14 +125,6 @@ module _ (list : ℕ) (ticket : Ticket) (scan : Scan) (before after : State) (po
       by_case : IsEitherOf list scan before after position → after.moment ≡ before.moment
       by_case (inl same) = sym (ap (λ (s : State). s.moment) same.1)
       by_case (inr new) = sym (ap (λ (s : State). s.moment) new.is_after)
-
-  -- no quota is used otherwise
-  pub admitted_used : (quota : Quota) → Gives (scanned list ticket scan before) → used after quota ≡ used before quota
-  admitted_used quota h = by_case (admitted_is h).1
-    where
-      by_case : IsEitherOf list scan before after position → used after quota ≡ used before quota
-      by_case (inl same) = ap (λ (s : State). used s quota) (sym same.1)
-      by_case (inr new) = ap (λ (s : State). used s quota) (sym new.is_after) ∙ ap total (checkin_apart (checkin_row list position scan before) before.lists before.moment quota)
 
   -- the list and the position of the check-in stand
   admitted_rows : IsSound before → IsAdmitted list ticket scan before position → IsCheckedIn before.lists.checkin_lists before.lists.positions (checkin_row list position scan before)

@@ -1,6 +1,7 @@
 pub mod Added
 pub mod Judged
 pub mod Admitted
+pub mod Places
 pub mod Last
 pub mod Again
 pub mod Noting

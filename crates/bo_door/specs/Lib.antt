@@ -7,3 +7,4 @@ pub mod Scanned
 pub mod Stays
 pub mod Status
 pub mod Worked
+pub mod Places

@@ -1,11 +1,12 @@
 //! Laws of the decisions at the door.
 
-ghost use Rattle.std.specs.Prelude.{◌≡◌, ℕ, true, List, Some, Ok, is_some};
+ghost use Rattle.std.specs.Prelude.{◌≡◌, ℕ, ◌+◌, ◌≤◌, true, false, List, Some, Ok, is_some};
 ghost use Rattle.bo_catalogue.specs.declared.rows.Quota.{Quota};
 ghost use Rattle.bo_lists.specs.declared.rows.OrderPos.{OrderPos};
 ghost use Rattle.bo_lists.specs.declared.rows.CheckinList.{CheckinList};
 ghost use Rattle.bo_lists.specs.declared.rows.Checkin.{Checkin};
 ghost use Rattle.bo_lists.specs.Lists.{State, checkin_list_at};
+ghost use Rattle.bo_lists.specs.Passages.{is_entry, is_exit};
 ghost use Rattle.bo_lists.specs.Takes.{used};
 ghost use Rattle.bo_sound.specs.Checkins.{AreOnce};
 ghost use Rattle.bo_sound.specs.Sound.{IsSound};
@@ -15,6 +16,7 @@ ghost use Rattle.bo_commands.specs.declared.doors.Ticket.{Ticket};
 ghost use Rattle.bo_commands.specs.declared.doors.Scan.{Scan};
 ghost use Rattle.bo_door.specs.Last.{IsLast, checkins_of, last_of};
 ghost use Rattle.bo_door.specs.ListAdded.{list_added};
+ghost use Rattle.bo_door.specs.Places.{has_gone, IsReleasing};
 ghost use Rattle.bo_door.specs.Scanned.{scanned};
 ghost use Rattle.bo_door.specs.Valid.{IsStillGood};
 ghost use Rattle.bo_door.specs.Verdict.{shown_by, is_stored};
@@ -27,12 +29,40 @@ pub fn doors_keep_sound()
         IsFitScan scan → IsSound before → scanned list ticket scan before ≡ Ok (after, position) → IsSound after }
 {}
 
-/// Neither a new check-in list nor a scan changes what is used of a quota.
-pub fn doors_use_nothing()
+/// A new check-in list leaves what is used of each quota, and in a sound box office so does a scan of a quota that keeps the
+/// places of tickets that went out. Of another quota an exit raises nothing; an entry raises it by at most one place, and only
+/// where its ticket had gone out: where its last check-in, by whatever list, was an exit.
+pub fn scans_move_only_released_places()
     ensures added { (new : NewCheckinList) (before after : State) (row : CheckinList) (quota : Quota) →
         list_added new before ≡ Ok (after, row) → used after quota ≡ used before quota }
-    ensures scanned { (list : ℕ) (ticket : Ticket) (scan : Scan) (before after : State) (position : OrderPos) (quota : Quota) →
-        scanned list ticket scan before ≡ Ok (after, position) → used after quota ≡ used before quota }
+    ensures kept { (list : ℕ) (ticket : Ticket) (scan : Scan) (before after : State) (position : OrderPos) (quota : Quota) →
+        IsSound before → scanned list ticket scan before ≡ Ok (after, position) →
+        quota.release_after_exit ≡ false → used after quota ≡ used before quota }
+    ensures exits { (list : ℕ) (ticket : Ticket) (scan : Scan) (before after : State) (position : OrderPos) (quota : Quota) →
+        IsSound before → scanned list ticket scan before ≡ Ok (after, position) →
+        is_exit scan.kind ≡ true → used after quota ≤ used before quota }
+    ensures entries { (list : ℕ) (ticket : Ticket) (scan : Scan) (before after : State) (position : OrderPos) (quota : Quota) →
+        IsSound before → scanned list ticket scan before ≡ Ok (after, position) →
+        is_entry scan.kind ≡ true → used after quota ≤ used before quota + 1 }
+    ensures inside { (list : ℕ) (ticket : Ticket) (scan : Scan) (before after : State) (position : OrderPos) (quota : Quota) →
+        IsSound before → scanned list ticket scan before ≡ Ok (after, position) →
+        is_entry scan.kind ≡ true → has_gone position before ≡ false → used after quota ≡ used before quota }
+{}
+
+/// In a sound box office, a paid ticket that goes out sets one place free in each quota of its product that releases places: it
+/// was in, and its last check-in is an exit. When it comes in again it takes the place back. After an exit and the entry behind it
+/// what is used of each quota is what it was before both.
+pub fn who_goes_out_sets_a_place_free()
+    ensures freed { (list : ℕ) (ticket : Ticket) (scan : Scan) (before after : State) (position : OrderPos) (quota : Quota) →
+        IsSound before → scanned list ticket scan before ≡ Ok (after, position) → IsReleasing quota position before.lists →
+        has_gone position before ≡ false → has_gone position after ≡ true → used after quota + 1 ≡ used before quota }
+    ensures taken_back { (list : ℕ) (ticket : Ticket) (scan : Scan) (before after : State) (position : OrderPos) (quota : Quota) →
+        IsSound before → scanned list ticket scan before ≡ Ok (after, position) → IsReleasing quota position before.lists →
+        has_gone position before ≡ true → has_gone position after ≡ false → used after quota ≡ used before quota + 1 }
+    ensures both { (list other : ℕ) (ticket again : Ticket) (first second : Scan) (before between after : State) (position : OrderPos) (quota : Quota) →
+        IsFitScan first → IsSound before → scanned list ticket first before ≡ Ok (between, position) →
+        scanned other again second between ≡ Ok (after, position) →
+        has_gone position after ≡ has_gone position before → used after quota ≡ used before quota }
 {}
 
 /// In a box office that is sound before it, a scan leaves no list with a nonce twice for a position.

@@ -1,8 +1,9 @@
 //! Scanning tickets at a door.
 
-ghost use Rattle.std.specs.Prelude.{◌≡◌, ◌≢◌, [], ◌∷◌, ◌++◌, Ok, Err, IfOk, IfErr, OnOk, OnErr};
+ghost use Rattle.std.specs.Prelude.{◌≡◌, ◌≢◌, [], ◌∷◌, ◌++◌, None, Ok, Err, IfOk, IfErr, OnOk, OnErr};
 ghost use Rattle.bo_draft.specs.DraftState.{now, Extends};
 ghost use Rattle.bo_lists.specs.declared.changes.Change.TheVariants.{PutCheckin};
+ghost use Rattle.bo_lists.specs.Lists.{checkin_at};
 ghost use Rattle.bo_door.specs.Scanned.{checkin_row, stored, scanned, scan_puts};
 
 use crate::verdict::{Admission, judge};
@@ -13,9 +14,9 @@ use bo_lists::{Checkin, OrderPos};
 use bo_usage::Book;
 use std::alloc::{AllocError, Global};
 
-/// Scans a ticket by the list of an id, in a draft that has changed no position and no check-in, and answers a copy of
-/// the ticket's position where it is let through. A scan with a nonce that is stored for its list and position adds
-/// nothing. A refusal leaves the draft as it was.
+/// Scans a ticket by the list of an id, in a draft that has changed no position and no check-in and whose next check-in's
+/// id is new, and answers a copy of the ticket's position where it is let through. A scan with a nonce that is stored for
+/// its list and position adds nothing. A refusal leaves the draft as it was.
 /// Refusals, in this order: 50 `NoList`; 51 `Invalid`, no such position; 52 `Canceled`, its order is expired or
 /// cancelled; 53 `Product`, the list isn't for its item; 54 `Unpaid`, its order is pending, which takes `force`, or
 /// `ignore_unpaid` and a list that includes pending orders; 55 `AlreadyRedeemed`, an entry after another one, which
@@ -30,6 +31,7 @@ pub fn redeem<B: Book>(
 ) -> Result<OrderPos, DoorRefusal>
     requires positions { (now draft.old).lists.positions ≡ draft.old.log.base.positions }
     requires checkins { (now draft.old).lists.checkins ≡ draft.old.log.base.checkins }
+    requires new { checkin_at (now draft.old).next.checkin (now draft.old).lists ≡ None }
     ensures done { IfOk result (λ row. scanned list ticket.now scan.now (now draft.old) ≡ Ok (now draft.new, row)) }
     ensures refused { IfErr result (λ e. e ≢ DoorRefusal.Memory → scanned list ticket.now scan.now (now draft.old) ≡ Err e) }
     ensures extends { Extends draft.old draft.new }
@@ -76,7 +78,8 @@ fn store<B: Book>(
     row: Checkin,
     position: OrderPos,
 ) -> Result<OrderPos, DoorRefusal>
-    requires { (now draft.old).lists.checkins ≡ draft.old.log.base.checkins }
+    requires checkins { (now draft.old).lists.checkins ≡ draft.old.log.base.checkins }
+    requires new { checkin_at row.id (now draft.old).lists ≡ None }
     ensures done { IfOk result (λ answer. stored row position (now draft.old) ≡ Ok (now draft.new, answer)) }
     ensures refused { IfErr result (λ e. e ≢ DoorRefusal.Memory → stored row position (now draft.old) ≡ Err e) }
     ensures extends { Extends draft.old draft.new }

@@ -5,10 +5,10 @@ use Rattle.std.proofs.lemmas.Bool.{cases_lt}
 use Rattle.std.proofs.lemmas.Bool.Decides.{nat_tests, eqb_tells}
 use Rattle.std.proofs.lemmas.List.{get_or_default}
 use Rattle.bo_log.specs.Places.{further}
-use Rattle.bo_sorted.specs.Tables.{has, row_at, with_row, without_row, InOrderFrom, AreInOrder}
+use Rattle.bo_sorted.specs.Tables.{has, row_at, InOrderFrom, AreInOrder}
 use Rattle.bo_sorted.specs.Rising.{rising}
 use Rattle.bo_sorted.proofs.Appended.{has-append, neither}
-use Rattle.bo_sorted.proofs.Edits.{row_at-with_row, row_at-without_row, row_at_above}
+use Rattle.bo_sorted.proofs.Edits.{row_at-with_row, row_at-without_row}
 use Rattle.bo_sorted.proofs.Places.{at_least}
 use Rattle.bo_sorted.proofs.RisingLemmas.{has-rising, rising_in_order}
 use Rattle.bo_catalogue.specs.declared.rows.Quota.{Quota}

@@ -18,57 +18,58 @@ use Rattle.bo_lists.specs.declared.rows.Checkin.{Checkin}
 use Rattle.bo_lists.specs.declared.changes.Change.{Change}
 use Rattle.bo_lists.specs.declared.changes.Change.TheVariants.{PutItem, PutVariation, PutQuota, PutVoucher, PutCart, PutOrder, PutPosition, PutWaiting, DropVoucher, DropCart, DropWaiting, PutCheckinList, PutCheckin}
 use Rattle.bo_lists.specs.Conditions.{is_paid, is_pending, is_in_force, blocks}
-use Rattle.bo_lists.specs.Lists.{Lists, voucher_at, order_at, position_at}
+use Rattle.bo_lists.specs.Lists.{Lists, voucher_at, order_at, position_at, checkin_at}
 use Rattle.bo_lists.specs.Kept.{IsKept}
 use Rattle.bo_lists.specs.Change.{after_change}
 use Rattle.bo_lists.specs.Headroom.{held_in}
-use Rattle.bo_lists.specs.Usage.{usage_of, stands_as, cart_counts, blocked_by, blocks_if, is_covered_by, waits_for, redeemed}
+use Rattle.bo_lists.specs.Usage.{usage_of, stands_as, cart_counts, blocked_by, blocks_if, is_covered_by, waits_for, is_released, redeemed}
 use Rattle.bo_lists.proofs.EachRow.{key-row_at}
-use Rattle.bo_lists.proofs.Lowers.{checkin_list_apart, checkin_apart}
+use Rattle.bo_lists.proofs.Exits.{exit_shift}
+use Rattle.bo_lists.proofs.Lowers.{checkin_list_apart}
 use Rattle.bo_lists.proofs.Orders.{counts, of_order, order_step, position_step, blocked_linear}
 use Rattle.bo_lists.proofs.Time.{one}
 use Rattle.bo_usage.proofs.OrderSums.{of_one, order_put_is}
 use Rattle.bo_usage.proofs.VoucherCounts.{carts_with}
 use Rattle.bo_usage.specs.OfOrder.{count_ordered, if_stands}
-use Rattle.bo_usage.specs.Shares.{cart_share, waiting_share}
+use Rattle.bo_usage.specs.Shares.{cart_share, waiting_share, exited_share}
 use Rattle.bo_shares.specs.Logs.{Log, rows_of}
 use Rattle.bo_shares.specs.Shift.{left_of}
 use Rattle.bo_draft.specs.CanCome.{CanCome, KeepsHeadroom}
 use Rattle.bo_lists.specs.declared.rows.Status.TheVariants.{Pending, Paid, Expired, Cancelled}
 use Rattle.bo_tally.specs.Amounts.{nothing, plus}
 use Rattle.bo_tally.proofs.AmountLemmas.{same_usage}
-use Rattle.bo_shares.specs.Shift.{order_side, keeps_status, unless_kept, come_of, gone_of}
+use Rattle.bo_shares.specs.Shift.{order_side, keeps_status, come_of, gone_of}
 
 -- count by count
-each_count : (u g v c : Usage) → u.paid + g.paid ≡ v.paid + c.paid → u.pending + g.pending ≡ v.pending + c.pending → u.blocked + g.blocked ≡ v.blocked + c.blocked → u.carts + g.carts ≡ v.carts + c.carts → u.waiting + g.waiting ≡ v.waiting + c.waiting → plus u g ≡ plus v c
+each_count : (u g v c : Usage) → u.paid + g.paid ≡ v.paid + c.paid → u.pending + g.pending ≡ v.pending + c.pending → u.blocked + g.blocked ≡ v.blocked + c.blocked → u.carts + g.carts ≡ v.carts + c.carts → u.waiting + g.waiting ≡ v.waiting + c.waiting → u.exited + g.exited ≡ v.exited + c.exited → plus u g ≡ plus v c
 each_count u g v c = same_usage (plus u g) (plus v c)
 
 -- what is the same on both sides may go
 same_rest : (u v w : Usage) → plus u w ≡ plus v w → plus u nothing ≡ plus v nothing
 same_rest u v w e =
-    each_count u nothing v nothing (omega (arith, ap (λ (x : Usage). x.paid) e)) (omega (arith, ap (λ (x : Usage). x.pending) e)) (omega (arith, ap (λ (x : Usage). x.blocked) e)) (omega (arith, ap (λ (x : Usage). x.carts) e)) (omega (arith, ap (λ (x : Usage). x.waiting) e))
+    each_count u nothing v nothing (omega (arith, ap (λ (x : Usage). x.paid) e)) (omega (arith, ap (λ (x : Usage). x.pending) e)) (omega (arith, ap (λ (x : Usage). x.blocked) e)) (omega (arith, ap (λ (x : Usage). x.carts) e)) (omega (arith, ap (λ (x : Usage). x.waiting) e)) (omega (arith, ap (λ (x : Usage). x.exited) e))
 
 -- an order of one status in the place of one of another
-abbrev as_status : Status → Status → ℕ → ℕ → Usage
-as_status status other n m = record nothing { paid = if is_paid status then n else 0; pending = if is_pending status then n else 0; blocked = if is_in_force other && not (is_in_force status) then m else 0 }
+abbrev as_status : Status → Status → ℕ → ℕ → ℕ → Usage
+as_status status other n m k = record nothing { paid = if is_paid status then n else 0; pending = if is_pending status then n else 0; blocked = if is_in_force other && not (is_in_force status) then m else 0; exited = if is_paid status then k else 0 }
 
-alike : (a b : Status) (n m : ℕ) → (beq (is_paid a) (is_paid b) && beq (is_pending a) (is_pending b)) ≡ true → as_status a b n m ≡ as_status b a n m
-alike Pending Pending n m e = refl
-alike Pending Paid n m e = absurd (cc e)
-alike Pending Expired n m e = absurd (cc e)
-alike Pending Cancelled n m e = absurd (cc e)
-alike Paid Pending n m e = absurd (cc e)
-alike Paid Paid n m e = refl
-alike Paid Expired n m e = absurd (cc e)
-alike Paid Cancelled n m e = absurd (cc e)
-alike Expired Pending n m e = absurd (cc e)
-alike Expired Paid n m e = absurd (cc e)
-alike Expired Expired n m e = refl
-alike Expired Cancelled n m e = refl
-alike Cancelled Pending n m e = absurd (cc e)
-alike Cancelled Paid n m e = absurd (cc e)
-alike Cancelled Expired n m e = refl
-alike Cancelled Cancelled n m e = refl
+alike : (a b : Status) (n m k : ℕ) → (beq (is_paid a) (is_paid b) && beq (is_pending a) (is_pending b)) ≡ true → as_status a b n m k ≡ as_status b a n m k
+alike Pending Pending n m k e = refl
+alike Pending Paid n m k e = absurd (cc e)
+alike Pending Expired n m k e = absurd (cc e)
+alike Pending Cancelled n m k e = absurd (cc e)
+alike Paid Pending n m k e = absurd (cc e)
+alike Paid Paid n m k e = refl
+alike Paid Expired n m k e = absurd (cc e)
+alike Paid Cancelled n m k e = absurd (cc e)
+alike Expired Pending n m k e = absurd (cc e)
+alike Expired Paid n m k e = absurd (cc e)
+alike Expired Expired n m k e = refl
+alike Expired Cancelled n m k e = refl
+alike Cancelled Pending n m k e = absurd (cc e)
+alike Cancelled Paid n m k e = absurd (cc e)
+alike Cancelled Expired n m k e = refl
+alike Cancelled Cancelled n m k e = refl
 
 module _ (lists : Lists) (at : ℕ) (quota : Quota) where
   cart_put : (row : CartPos) → AreInOrder (λ r. r.id) lists.carts → plus (usage_of (after_change (PutCart row) lists) at quota) (gone_of lists at (PutCart row) quota) ≡ plus (usage_of lists at quota) (come_of lists at (PutCart row) quota)
@@ -76,34 +77,37 @@ module _ (lists : Lists) (at : ℕ) (quota : Quota) where
   cart_put row order =
       let f : CartPos → ℕ = λ c. if cart_counts lists at quota c then 1 else 0 in
       each_count (usage_of (after_change (PutCart row) lists) at quota) (gone_of lists at (PutCart row) quota) (usage_of lists at quota) (come_of lists at (PutCart row) quota)
-      refl refl refl (sum_by-with_row (λ r. r.id) f 0 row lists.carts order) refl
+      refl refl refl (sum_by-with_row (λ r. r.id) f 0 row lists.carts order) refl refl
 
   cart_drop : (id : ℕ) → AreInOrder (λ r. r.id) lists.carts → plus (usage_of (after_change (DropCart id) lists) at quota) (gone_of lists at (DropCart id) quota) ≡ plus (usage_of lists at quota) nothing
   unfolding usage_of blocked_by cart_share
   cart_drop id order =
       let f : CartPos → ℕ = λ c. if cart_counts lists at quota c then 1 else 0 in
       each_count (usage_of (after_change (DropCart id) lists) at quota) (gone_of lists at (DropCart id) quota) (usage_of lists at quota) nothing
-      refl refl refl (omega (arith, sum_by-without_row (λ r. r.id) f 0 id lists.carts order)) refl
+      refl refl refl (omega (arith, sum_by-without_row (λ r. r.id) f 0 id lists.carts order)) refl refl
 
   waiting_put : (row : Waiting) → AreInOrder (λ r. r.id) lists.waiting → plus (usage_of (after_change (PutWaiting row) lists) at quota) (gone_of lists at (PutWaiting row) quota) ≡ plus (usage_of lists at quota) (come_of lists at (PutWaiting row) quota)
   unfolding usage_of blocked_by waiting_share
   waiting_put row order =
       let f : Waiting → ℕ = λ w. if waits_for quota w then 1 else 0 in
       each_count (usage_of (after_change (PutWaiting row) lists) at quota) (gone_of lists at (PutWaiting row) quota) (usage_of lists at quota) (come_of lists at (PutWaiting row) quota)
-      refl refl refl refl (sum_by-with_row (λ r. r.id) f 0 row lists.waiting order)
+      refl refl refl refl (sum_by-with_row (λ r. r.id) f 0 row lists.waiting order) refl
 
   waiting_drop : (id : ℕ) → AreInOrder (λ r. r.id) lists.waiting → plus (usage_of (after_change (DropWaiting id) lists) at quota) (gone_of lists at (DropWaiting id) quota) ≡ plus (usage_of lists at quota) nothing
   unfolding usage_of blocked_by waiting_share
   waiting_drop id order =
       let f : Waiting → ℕ = λ w. if waits_for quota w then 1 else 0 in
       each_count (usage_of (after_change (DropWaiting id) lists) at quota) (gone_of lists at (DropWaiting id) quota) (usage_of lists at quota) nothing
-      refl refl refl refl (omega (arith, sum_by-without_row (λ r. r.id) f 0 id lists.waiting order))
+      refl refl refl refl (omega (arith, sum_by-without_row (λ r. r.id) f 0 id lists.waiting order)) refl
 
   checkin_list_put : (row : CheckinList) → plus (usage_of (after_change (PutCheckinList row) lists) at quota) nothing ≡ plus (usage_of lists at quota) nothing
   checkin_list_put row = ap (λ (u : Usage). plus u nothing) (checkin_list_apart row lists at quota)
 
-  checkin_put : (row : Checkin) → plus (usage_of (after_change (PutCheckin row) lists) at quota) nothing ≡ plus (usage_of lists at quota) nothing
-  checkin_put row = ap (λ (u : Usage). plus u nothing) (checkin_apart row lists at quota)
+  checkin_put : (row : Checkin) → checkin_at row.id lists ≡ None → AreInOrder (λ r. r.id) lists.positions → plus (usage_of (after_change (PutCheckin row) lists) at quota) (gone_of lists at (PutCheckin row) quota) ≡ plus (usage_of lists at quota) (come_of lists at (PutCheckin row) quota)
+  unfolding usage_of blocked_by exited_share
+  checkin_put row new order =
+      each_count (usage_of (after_change (PutCheckin row) lists) at quota) (gone_of lists at (PutCheckin row) quota) (usage_of lists at quota) (come_of lists at (PutCheckin row) quota)
+      refl refl refl refl refl (exit_shift row lists new order quota)
 
   blocked_here : (id : ℕ) (voucher : Option Voucher) → ((v : Voucher) → voucher ≡ Some v → v.id ≡ id) → sum_at (blocked_by lists at quota) voucher ≡ (if blocks_if at quota voucher then left_of (redeemed id lists) voucher else 0)
   unfolding blocked_by
@@ -128,7 +132,7 @@ module _ (lists : Lists) (at : ℕ) (quota : Quota) where
       (omega (arith, sum_by-with_row (λ r. r.id) (blocked_by lists at quota) 0 row lists.vouchers order, gone, come))
       (covered (count_by (cart_counts lists at quota) lists.carts) (count_by (cart_counts after at quota) lists.carts) (held_in at quota row.id lists) (blocks_if at quota (voucher_at row.id lists)) (blocks at quota row)
       (carts_with lists at quota row.id (Some row) (with_row (λ r. r.id) row lists.vouchers) (λ x. row_at-with_row (λ r. r.id) x row lists.vouchers)))
-      refl
+      refl refl
     where
       id_in : ℕ → Option Voucher → ℕ
       id_in d None = d
@@ -144,7 +148,7 @@ module _ (lists : Lists) (at : ℕ) (quota : Quota) where
       (omega (arith, sum_by-without_row (λ r. r.id) (blocked_by lists at quota) 0 id lists.vouchers order, gone))
       (covered (count_by (cart_counts lists at quota) lists.carts) (count_by (cart_counts after at quota) lists.carts) (held_in at quota id lists) (blocks_if at quota (voucher_at id lists)) false
       (carts_with lists at quota id None (without_row (λ r. r.id) id lists.vouchers) (λ x. row_at-without_row (λ r. r.id) x id lists.vouchers)))
-      refl
+      refl refl
 
   -- what an order's positions do to what vouchers block
   given_back : (b b' n : ℕ) (old new : Bool) → b' + (if new then n else 0) ≡ b + (if old then n else 0) → b' + (if new && not old then n else 0) ≡ b + (if old && not new then n else 0)
@@ -156,6 +160,10 @@ module _ (lists : Lists) (at : ℕ) (quota : Quota) where
 module _ (lists : Lists) (at limit : ℕ) (kept : IsKept limit lists) (quota : Quota) where
   abbrev in_it : OrderPos → Bool
   in_it p = is_in quota p.product
+
+  -- and released there
+  abbrev freed : OrderPos → Bool
+  freed p = is_in quota p.product && is_released lists quota p
 
   -- its voucher blocks the quota
   abbrev spends : OrderPos → Bool
@@ -180,6 +188,7 @@ module _ (lists : Lists) (at limit : ℕ) (kept : IsKept limit lists) (quota : Q
       (omega (arith, order_step is_pending in_it order lists, own is_pending in_it order, own_after is_pending in_it order))
       (given_back lists at quota (sum_by (blocked_by lists at quota) lists.vouchers) (sum_by (blocked_by after at quota) lists.vouchers) (count_ordered order.id spends lists) (stands_as is_in_force old) (is_in_force order.status) blocks_as)
       refl refl
+      (omega (arith, order_step is_paid freed order lists, own is_paid freed order, own_after is_paid freed order))
 
   -- where it counts as the one in its place did, nothing comes and nothing goes
   order_put : (order : Order) → KeepsHeadroom at (PutOrder order) lists → plus (usage_of (after_change (PutOrder order) lists) at quota) (gone_of lists at (PutOrder order) quota) ≡ plus (usage_of lists at quota) (come_of lists at (PutOrder order) quota)
@@ -191,7 +200,7 @@ module _ (lists : Lists) (at limit : ℕ) (kept : IsKept limit lists) (quota : Q
       by_old (Some old) turn = by_test (keeps_status order (Some old)) refl
         where
           by_test : (b : Bool) → keeps_status order (Some old) ≡ b → plus (usage_of (after_change (PutOrder order) lists) at quota) (if b then nothing else order_side lists at quota order.id (Some old) (Some order)) ≡ plus (usage_of lists at quota) (if b then nothing else order_side lists at quota order.id (Some order) (Some old))
-          by_test true keeps = same_rest (usage_of (after_change (PutOrder order) lists) at quota) (usage_of lists at quota) (order_side lists at quota order.id (Some order) (Some old)) (ap (plus (usage_of (after_change (PutOrder order) lists) at quota)) (alike order.status old.status _ _ keeps) ∙ turn)
+          by_test true keeps = same_rest (usage_of (after_change (PutOrder order) lists) at quota) (usage_of lists at quota) (order_side lists at quota order.id (Some order) (Some old)) (ap (plus (usage_of (after_change (PutOrder order) lists) at quota)) (alike order.status old.status _ _ _ keeps) ∙ turn)
           by_test false keeps = turn
 
   position_put : (p : OrderPos) → position_at p.id lists ≡ None → KeepsHeadroom at (PutPosition p) lists → plus (usage_of (after_change (PutPosition p) lists) at quota) (gone_of lists at (PutPosition p) quota) ≡ plus (usage_of lists at quota) (come_of lists at (PutPosition p) quota)
@@ -206,6 +215,7 @@ module _ (lists : Lists) (at limit : ℕ) (kept : IsKept limit lists) (quota : Q
       (omega (arith, position_step is_pending in_it p lists order, none (λ p. one (counts is_pending in_it lists p))))
       (omega (arith, blocked_linear at quota lists vouchers room.before, blocked_linear at quota after vouchers room.after, position_step is_in_force spends p lists order, none (λ p. one (counts is_in_force spends lists p))))
       refl refl
+      (omega (arith, position_step is_paid freed p lists order, none (λ p. one (counts is_paid freed lists p))))
 
 -- any change that can come
 pub one_step : (log : Log) (at limit : ℕ) → IsKept limit (rows_of log) → (change : Change) → CanCome at log change → (quota : Quota) → plus (usage_of (after_change change (rows_of log)) at quota) (gone_of (rows_of log) at change quota) ≡ plus (usage_of (rows_of log) at quota) (come_of (rows_of log) at change quota)
@@ -221,4 +231,4 @@ one_step log at limit kept (PutPosition row) can quota = position_put (rows_of l
 one_step log at limit kept (PutWaiting row) can quota = waiting_put (rows_of log) at quota row kept.waiting.in_order
 one_step log at limit kept (DropWaiting id) can quota = waiting_drop (rows_of log) at quota id kept.waiting.in_order
 one_step log at limit kept (PutCheckinList row) can quota = checkin_list_put (rows_of log) at quota row
-one_step log at limit kept (PutCheckin row) can quota = checkin_put (rows_of log) at quota row
+one_step log at limit kept (PutCheckin row) can quota = checkin_put (rows_of log) at quota row can.0 kept.positions.in_order

@@ -4,9 +4,8 @@ use Rattle.bo_sorted.specs.Tables.{AreInOrder}
 use Rattle.bo_lists.specs.declared.rows.NextIds.{NextIds}
 use Rattle.bo_lists.specs.declared.changes.Change.{Change}
 use Rattle.bo_lists.specs.declared.rows.Usage.{Usage}
-use Rattle.bo_lists.specs.Lists.{Lists, State}
+use Rattle.bo_lists.specs.Lists.{State}
 use Rattle.bo_lists.specs.Headroom.{AllHaveHeadroom}
-use Rattle.bo_lists.specs.Total.{total}
 use Rattle.bo_lists.specs.Usage.{usage_of}
 use Rattle.bo_shares.specs.Logs.{Log, rows_of}
 use Rattle.bo_tally.specs.declared.amount.Uses.{Uses}
@@ -19,7 +18,7 @@ use Rattle.bo_shares.specs.Tallied.{Tallied, reach_at, tallied_at}
 use Rattle.bo_shares.specs.Uses.{uses_of}
 use Rattle.bo_draft.specs.declared.bases.Base.{Base}
 use Rattle.bo_draft.specs.Handed.{AreNoted}
-use Rattle.bo_draft.specs.Used.{used, AreBases}
+use Rattle.bo_draft.specs.Used.{used, raised, AreBases}
 
 -- a draft, which contracts see as its log, the next ids and its moment
 pub record DraftState : Type 0 where
@@ -48,14 +47,14 @@ pub record MarkState : Type 0 where
 abbrev pub back : MarkState → DraftState → DraftState
 back mark draft = record draft { log = log_at mark.count draft.log; next = mark.next }
 
--- the counts by quota, each by its place among all quotas: with what came and without what went, each of the five counts of the book is
+-- the counts by quota, each by its place among all quotas: with what came and without what went, each count of the book is
 -- the one now
 abbrev pub IsCounted : ℕ → Log → List (Count Usage) → Type 0
 IsCounted at log counts = (place : ℕ) → plus (value_at nothing (usage_of (rows_of log) at) log.base.catalogue.quotas place) (went nothing place counts) ≡ plus (value_at nothing (usage_of log.base at) log.base.catalogue.quotas place) (came nothing place counts)
 
--- the same of all that is used of a quota
+-- the same of all that is used of a quota: what raises it, and what lowers it
 abbrev pub IsTotalled : ℕ → Log → List (Count Usage) → Type 0
-IsTotalled at log counts = (place : ℕ) → value_at 0 (used (rows_of log) at) log.base.catalogue.quotas place + total (went nothing place counts) ≡ value_at 0 (used log.base at) log.base.catalogue.quotas place + total (came nothing place counts)
+IsTotalled at log counts = (place : ℕ) → value_at 0 (used (rows_of log) at) log.base.catalogue.quotas place + raised (went nothing place counts) (came nothing place counts) ≡ value_at 0 (used log.base at) log.base.catalogue.quotas place + raised (came nothing place counts) (went nothing place counts)
 
 -- the same of the uses of each voucher
 abbrev pub AreKept : ℕ → Log → List (Count Uses) → Type 0

@@ -1,16 +1,23 @@
 -- All that is used of a quota, and what a draft keeps of that.
-use Rattle.std.specs.Prelude.{◌≡◌, ℕ, ◌≤◌, List, Some}
+use Rattle.std.specs.Prelude.{◌≡◌, ℕ, ◌≤◌, ◌+◌, List, Some}
 use Rattle.bo_sorted.specs.Tables.{row_at}
 use Rattle.bo_catalogue.specs.declared.rows.Quota.{Quota}
 use Rattle.bo_lists.specs.Lists.{Lists}
 use Rattle.bo_lists.specs.Total.{total}
 use Rattle.bo_lists.specs.Usage.{usage_of}
+use Rattle.bo_lists.specs.declared.rows.Usage.{Usage}
 use Rattle.bo_shares.specs.Counts.{value_at}
+use Rattle.bo_tally.specs.Amounts.{adds}
 use Rattle.bo_draft.specs.declared.bases.Base.{Base}
 
 -- all that is used of a quota
 unfoldable pub used : Lists → ℕ → Quota → ℕ
 used lists at quota = total (usage_of lists at quota)
+
+-- by how much all that is used rises where the first amount comes and the second goes, but for what it falls: of those who have gone
+-- out it is the going that adds
+abbrev pub raised : Usage → Usage → ℕ
+raised come gone = adds come + gone.exited
 
 -- what is kept of a quota: how much the lists use of it
 pub record IsBase (lists : Lists) (at : ℕ) (quotas : List Quota) (place : ℕ) (base : Base) : Type 0 where

@@ -2,7 +2,7 @@
 
 ghost use Rattle.std.specs.Prelude.{true, not, ◌||◌, ◌≡◌, [], ◌≤◌, ◌<◌, ◌+◌, ◌-◌, IfOk, OnOk, OnErr, count_by, Some, None};
 ghost use Rattle.bo_lists.specs.Full.{takes_cart, takes_voucher, takes_order, takes_positions, takes_waiting, takes_checkin_list, takes_checkin};
-ghost use Rattle.bo_lists.specs.Lists.{position_at};
+ghost use Rattle.bo_lists.specs.Lists.{position_at, checkin_at};
 ghost use Rattle.bo_lists.specs.Headroom.{has_use, held, HasHeadroom, AllHaveHeadroom};
 ghost use Rattle.bo_lists.specs.Conditions.{is_live_cart};
 ghost use Rattle.bo_sorted.specs.Tables.{AreInOrder};
@@ -143,7 +143,7 @@ impl<'a, B: Book> Draft<'a, B> {
         (u128::from(before) + come).saturating_sub(gone)
     }
 
-    /// All that is used of a quota that stands: its five counts together.
+    /// All that is used of a quota that stands.
     #[tactic(auto, unfolding(crate::specs::Used::used))]
     pub fn used(&self, quota: &Quota) -> u128
         requires { quota_at quota.now.id (now self.now).lists.catalogue ≡ Some quota.now }
@@ -455,10 +455,11 @@ impl<'a, B: Book> Draft<'a, B> {
         self.change(alloc, Change::PutCheckinList(row))
     }
 
-    /// Puts a check-in in the place of its id.
+    /// Puts a new check-in.
     /// `Err` where there is no memory or 2^32 changes stand; the draft is then as it was.
     #[tactic(auto, using(crate::proofs::CanCome::can_put_checkin))]
     pub fn put_checkin(&mut self, alloc: Global, row: Checkin) -> Result<(), AllocError>
+        requires new { checkin_at row.id (now self.old).lists ≡ None }
         ensures ok { OnOk result (now self.new ≡ changed (Change.PutCheckin row) (now self.old)) }
         ensures extends { Extends self.old self.new }
         ensures err { OnErr result (self.new ≡ self.old) }

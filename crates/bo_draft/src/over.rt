@@ -5,13 +5,12 @@ ghost use Rattle.std.specs.Option.{IfSome};
 ghost use Rattle.bo_catalogue.specs.CatalogueLists.{quota_at};
 ghost use Rattle.bo_sorted.specs.Tables.{AreInOrder};
 ghost use Rattle.bo_lists.specs.Over.{first_over, is_over};
-ghost use Rattle.bo_lists.specs.Total.{total};
 ghost use Rattle.bo_shares.specs.Logs.{rows_of, rows_at};
 ghost use Rattle.bo_shares.specs.Counts.{value_at};
 ghost use Rattle.bo_draft.specs.Least.{found_at, IsLeast};
 ghost use Rattle.bo_draft.specs.DraftState.{log_at, IsTotalled};
 ghost use Rattle.bo_catalogue.specs.declared.rows.Quota.{Quota};
-ghost use Rattle.bo_draft.specs.Used.{used, AreBases};
+ghost use Rattle.bo_draft.specs.Used.{used, raised, AreBases};
 ghost use Rattle.bo_tally.specs.Counts.{newest};
 
 use crate::bases::{Base, base_of};
@@ -201,8 +200,8 @@ fn over_at<B: Book>(
     requires bases { AreBases (B.state book.now).lists at quotas.now bases.now }
     requires base { overlay.now.base ≡ (B.state book.now).lists }
     requires past { (B.state book.now).moment ≤ at }
-    requires counted { value_at 0 (used (rows_of overlay.now) at) quotas.now after.id + total after.gone ≡ value_at 0 (used overlay.now.base at) quotas.now after.id + total after.come }
-    requires counted_before { value_at 0 (used (rows_at count overlay.now) at) quotas.now after.id + total before.gone ≡ value_at 0 (used overlay.now.base at) quotas.now after.id + total before.come }
+    requires counted { value_at 0 (used (rows_of overlay.now) at) quotas.now after.id + raised after.gone after.come ≡ value_at 0 (used overlay.now.base at) quotas.now after.id + raised after.come after.gone }
+    requires counted_before { value_at 0 (used (rows_at count overlay.now) at) quotas.now after.id + raised before.gone before.come ≡ value_at 0 (used overlay.now.base at) quotas.now after.id + raised before.come before.gone }
     ensures { result ≡ found_at (λ q. q.id) (is_over (rows_at count overlay.now) (rows_of overlay.now) at own.now) quotas.now after.id }
 {
     let place = after.id as usize;
@@ -219,7 +218,7 @@ fn over_at<B: Book>(
     }
 }
 
-// Whether too much is taken of the quota at a place. Where no more came than went since, the book isn't asked.
+// Whether too much is taken of the quota at a place. Where it is used no more than before, the book isn't asked.
 fn is_over<B: Book>(
     book: &B,
     overlay: &Overlay<'_, B>,
@@ -238,8 +237,8 @@ fn is_over<B: Book>(
     requires bases { AreBases (B.state book.now).lists at quotas.now bases.now }
     requires base { overlay.now.base ≡ (B.state book.now).lists }
     requires past { (B.state book.now).moment ≤ at }
-    requires counted { (d : Quota) → used (rows_of overlay.now) at (slice_index_or quotas.now place d) + total after.gone ≡ used overlay.now.base at (slice_index_or quotas.now place d) + total after.come }
-    requires counted_before { (d : Quota) → used (rows_at count overlay.now) at (slice_index_or quotas.now place d) + total before.gone ≡ used overlay.now.base at (slice_index_or quotas.now place d) + total before.come }
+    requires counted { (d : Quota) → used (rows_of overlay.now) at (slice_index_or quotas.now place d) + raised after.gone after.come ≡ used overlay.now.base at (slice_index_or quotas.now place d) + raised after.come after.gone }
+    requires counted_before { (d : Quota) → used (rows_at count overlay.now) at (slice_index_or quotas.now place d) + raised before.gone before.come ≡ used overlay.now.base at (slice_index_or quotas.now place d) + raised before.come before.gone }
     ensures { (d : Quota) → result ≡ is_over (rows_at count overlay.now) (rows_of overlay.now) at own.now (slice_index_or quotas.now place d) }
 {
     let _ = count;
@@ -247,8 +246,8 @@ fn is_over<B: Book>(
     if quota.size.is_none() {
         return false;
     }
-    let more = all_of(after.come) + all_of(before.gone);
-    let less = all_of(before.come) + all_of(after.gone);
+    let more = raised(after.come, after.gone) + raised(before.gone, before.come);
+    let less = raised(before.come, before.gone) + raised(after.gone, after.come);
     if more <= less {
         return false;
     }
@@ -258,18 +257,24 @@ fn is_over<B: Book>(
     is_too_much(overlay, at, quota, own, was, used)
 }
 
-// All places of a usage.
-fn all_of(usage: Usage) -> u128
-    ensures value { result ≡ total usage }
-    ensures few { result ≤ 92233720368547758080 }
+// By how much all that is used rises where the first amount comes and the second goes, but for what it falls.
+fn raised(come: Usage, gone: Usage) -> u128
+    ensures value { result ≡ raised come gone }
+    ensures few { result ≤ 110680464442257309696 }
 {
-    usage.total()
+    u128::from(come.paid)
+        + u128::from(come.pending)
+        + u128::from(come.blocked)
+        + u128::from(come.carts)
+        + u128::from(come.waiting)
+        + u128::from(gone.exited)
 }
 
 // What is used, by what was used in the book, and what came and went since.
 fn moved(base: u128, count: Count<Usage>) -> u128
     requires { base ≤ 92233720368547758080 }
-    ensures { result ≡ base + total count.come - total count.gone }
+    ensures { result ≡ base + raised count.come count.gone - raised count.gone count.come }
 {
-    (base + all_of(count.come)).saturating_sub(all_of(count.gone))
+    let more = base + raised(count.come, count.gone);
+    more.saturating_sub(raised(count.gone, count.come))
 }

@@ -9,11 +9,11 @@ ghost use Rattle.bo_lists.specs.Usage.{usage_of};
 use bo_base::Moment;
 use bo_catalogue::Quota;
 use bo_lists::{CartPos, OrderPos, Own};
-use bo_usage::LookUps;
-use bo_usage::rules::{cart_counts, ignores, is_sold_in};
+use bo_usage::Exits;
+use bo_usage::rules::{cart_counts, ignores, takes_place};
 
 // Whether a request's own row counts in the quota, and its voucher ignores quotas.
-fn is_free<R: LookUps>(rows: &R, at: Moment, quota: &Quota, own: Own) -> bool
+fn is_free<R: Exits>(rows: &R, at: Moment, quota: &Quota, own: Own) -> bool
     ensures { result ≡ is_free (R.rows rows.now) at quota.now own }
 {
     match own {
@@ -22,7 +22,7 @@ fn is_free<R: LookUps>(rows: &R, at: Moment, quota: &Quota, own: Own) -> bool
     }
 }
 
-fn is_free_cart<R: LookUps>(rows: &R, at: Moment, quota: &Quota, cart: Option<&CartPos>) -> bool
+fn is_free_cart<R: Exits>(rows: &R, at: Moment, quota: &Quota, cart: Option<&CartPos>) -> bool
     ensures { result ≡ is_free_cart (R.rows rows.now) at quota.now (option_copied cart.entry) }
 {
     match cart {
@@ -31,16 +31,16 @@ fn is_free_cart<R: LookUps>(rows: &R, at: Moment, quota: &Quota, cart: Option<&C
     }
 }
 
-fn is_free_position<R: LookUps>(rows: &R, quota: &Quota, position: Option<&OrderPos>) -> bool
+fn is_free_position<R: Exits>(rows: &R, quota: &Quota, position: Option<&OrderPos>) -> bool
     ensures { result ≡ is_free_position (R.rows rows.now) quota.now (option_copied position.entry) }
 {
     match position {
         None => false,
-        Some(row) => is_sold_in(rows, quota, row) && ignores(rows, row.voucher),
+        Some(row) => takes_place(rows, quota, row) && ignores(rows, row.voucher),
     }
 }
 
-fn free_count<R: LookUps>(rows: &R, at: Moment, quota: &Quota, own: &[Own]) -> usize
+fn free_count<R: Exits>(rows: &R, at: Moment, quota: &Quota, own: &[Own]) -> usize
     ensures { result ≡ count_by (is_free (R.rows rows.now) at quota.now) own.now }
 {
     own.iter()
@@ -50,7 +50,7 @@ fn free_count<R: LookUps>(rows: &R, at: Moment, quota: &Quota, own: &[Own]) -> u
 
 /// Whether a request takes too much of a quota of which so much was used before, and is used now.
 #[tactic(auto, unfolding(bo_lists::specs::Over::weighed))]
-pub fn is_too_much<R: LookUps>(
+pub fn is_too_much<R: Exits>(
     rows: &R,
     at: Moment,
     quota: &Quota,

@@ -14,14 +14,14 @@ use Rattle.bo_kept.specs.ShopView.{IsSame}
 use Rattle.bo_columns.specs.declared.rows.ShopRow.{ShopRow}
 use Rattle.bo_columns.specs.declared.rows.Token.{Token}
 use Rattle.bo_columns.specs.Rows.{shop_row}
-use Rattle.bo_columns.specs.Changes.{head_of_count}
 use Rattle.bo_columns.specs.Tables.{Tables, Holds}
 use Rattle.bo_loads.proofs.Back.{alike, shop_in, shop_back}
 use Rattle.bo_stand.specs.Rows.{OfficeRows, rows_of, usage_in}
 use Rattle.bo_stand.specs.Stands.{AreRowsOf, AreSameRows, Stand}
 use Rattle.bo_stand.proofs.Follow.{rows_along}
 use Rattle.bo_stand.proofs.Order.{same_order}
-use Rattle.bo_stand.proofs.Told.{order_of_parts, map_back}
+use Rattle.bo_stand.proofs.CountsBack.{counts_back}
+use Rattle.bo_stand.proofs.Told.{order_of_parts}
 use Rattle.bo_rules.specs.declared.rule.Rule.{Rule}
 use Rattle.bo_rules.specs.Rules.{File, IsCounted, Keeps}
 use Rattle.bo_rules.proofs.Sounds.{keeps_all}
@@ -80,7 +80,7 @@ module _ (head : ShopRow) (t : Tables) (s : State) (ks : List Kept) (stand : Sta
     used_is : file.used ≡ quota_counts s
     used_is =
         same_order (λ c. c.quota) file.used (quota_counts s) order.used (order_of_parts (λ q. q.id) (quota_count s) (λ c. c.quota) (λ r. refl) 0 s.lists.catalogue.quotas stand.ordered.ids.quotas)
-        (subst (IsPermutation file.used) (map_back head_of_count usage_in (λ c. refl) (quota_counts s))
+        (subst (IsPermutation file.used) (counts_back s stand.ordered.members)
         (IsPermutation-trans _ _ _ (IsPermutation-sym _ _ (IsPermutation-map usage_in _ _ of.tables.others.counts)) (IsPermutation-map usage_in _ _ stand.used)))
 
     redeemed_is : file.redeemed ≡ voucher_counts s

@@ -9,3 +9,4 @@ pub mod Orders
 pub mod LastPlaces
 pub mod LikeUsage
 pub mod LastPassages
+pub mod Exits

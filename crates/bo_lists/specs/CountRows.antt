@@ -26,7 +26,7 @@ abbrev pub voucher_counts : State → List VoucherCount
 voucher_counts state = map (voucher_count state) state.lists.vouchers
 
 abbrev pub same_usage : Usage → Usage → Bool
-same_usage a b = a.paid == b.paid && (a.pending == b.pending && (a.blocked == b.blocked && (a.carts == b.carts && a.waiting == b.waiting)))
+same_usage a b = a.paid == b.paid && (a.pending == b.pending && (a.blocked == b.blocked && (a.carts == b.carts && (a.waiting == b.waiting && a.exited == b.exited))))
 
 abbrev pub same_quota_count : QuotaCount → QuotaCount → Bool
 same_quota_count a b = a.quota == b.quota && same_usage a.usage b.usage

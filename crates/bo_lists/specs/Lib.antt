@@ -8,6 +8,7 @@ pub mod Change
 pub mod Weight
 pub mod Kept
 pub mod Over
+pub mod Refills
 pub mod Headroom
 pub mod Fits
 pub mod Named

@@ -8,9 +8,11 @@ use Rattle.bo_lists.specs.declared.rows.Order.{Order}
 use Rattle.bo_lists.specs.declared.rows.OrderPos.{OrderPos}
 use Rattle.bo_lists.specs.declared.rows.Waiting.{Waiting}
 use Rattle.bo_lists.specs.declared.rows.Status.{Status}
+use Rattle.bo_lists.specs.declared.rows.Status.TheVariants.{Pending, Paid, Expired, Cancelled}
 use Rattle.bo_lists.specs.declared.rows.Usage.{Usage}
 use Rattle.bo_lists.specs.Conditions.{is_paid, is_pending, is_in_force, is_live_cart, blocks, names}
 use Rattle.bo_lists.specs.Lists.{Lists, voucher_at, order_at}
+use Rattle.bo_lists.specs.Passages.{is_out}
 
 -- an order that stands, and has such a status
 abbrev pub stands_as : (Status → Bool) → Option Order → Bool
@@ -57,7 +59,26 @@ has_none (Some voucher) = false
 abbrev pub waits_for : Quota → Waiting → Bool
 waits_for quota entry = has_none entry.voucher && is_in quota entry.product
 
--- the five counts: paid, pending, blocked, carts, waiting
+-- it has gone out, and the quota lets its place be sold again
+abbrev pub is_released : Lists → Quota → OrderPos → Bool
+is_released lists quota position = quota.release_after_exit && is_out position.id lists.checkins
+
+-- a position of a paid order, in the quota, that is released
+abbrev pub exit_counts : Lists → Quota → OrderPos → Bool
+exit_counts lists quota position = stands_as is_paid (order_at position.order lists) && (is_in quota position.product && is_released lists quota position)
+
+-- whether a position of an order of this status takes its place, where it is released or not
+abbrev pub holds_place : Status → Bool → Bool
+holds_place Pending released = true
+holds_place Paid released = not released
+holds_place Expired released = false
+holds_place Cancelled released = false
+
+-- an order position that takes a place of the quota
+abbrev pub takes_place : Lists → Quota → OrderPos → Bool
+takes_place lists quota position = stands_as (λ s. holds_place s (is_released lists quota position)) (order_at position.order lists) && is_in quota position.product
+
+-- the counts: paid, pending, blocked, carts, waiting, and those of the paid ones that are released
 unfoldable pub usage_of : Lists → ℕ → Quota → Usage
 usage_of lists at quota = record {
   paid = count_by (position_counts is_paid lists quota) lists.positions;
@@ -65,4 +86,5 @@ usage_of lists at quota = record {
   blocked = sum_by (blocked_by lists at quota) lists.vouchers;
   carts = count_by (cart_counts lists at quota) lists.carts;
   waiting = count_by (waits_for quota) lists.waiting;
+  exited = count_by (exit_counts lists quota) lists.positions;
 }

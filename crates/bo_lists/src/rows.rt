@@ -137,7 +137,7 @@ pub enum Own {
     Position(u64),
 }
 
-/// What uses a quota, in places.
+/// What uses a quota, in places. Those who have gone out of a quota that releases their places are among the paid ones.
 #[derive(Clone, Copy, PartialEq, Eq)]
 pub struct Usage {
     pub paid: u64,
@@ -145,6 +145,7 @@ pub struct Usage {
     pub blocked: u64,
     pub carts: u64,
     pub waiting: u64,
+    pub exited: u64,
 }
 
 /// The ids that the next row of each table gets.
@@ -373,7 +374,7 @@ impl Usage {
     pub fn total(&self) -> u128
         ensures { result ≡ total self.now }
     {
-        u128::from(self.paid)
+        u128::from(self.paid.saturating_sub(self.exited))
             + u128::from(self.pending)
             + u128::from(self.blocked)
             + u128::from(self.carts)

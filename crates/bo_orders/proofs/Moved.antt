@@ -12,6 +12,7 @@ use Rattle.bo_lists.specs.Lists.{State, order_at, positions_of}
 use Rattle.bo_lists.specs.Change.{after_change, changed}
 use Rattle.std.specs.List.{AllByRecursion}
 use Rattle.bo_lists.specs.Over.{first_over, ignores}
+use Rattle.bo_lists.specs.Refills.{refills}
 use Rattle.bo_lists.proofs.EachRow.{all-row_at}
 use Rattle.bo_sound.specs.Limits.{IsLimitedOrder}
 use Rattle.bo_sound.specs.Sound.{IsSound}
@@ -172,13 +173,19 @@ module _ (number : ℕ) (change : Move) (before after : State) (rows : OrderRows
       let heeds = all_unsorted (λ p. ignores before.lists p.voucher ≡ false) (positions_of rows.order.id before.lists) own in
       subst (λ (s : State). TakesNoMore before s) m.is_after (revival_takes_no_more before rows.order sound.ids.positions.in_order heeds weighed)
 
-  -- any other move raises no usage of a quota that stands
-  pub moved_lowers : (old : Order) (quota : Quota) → IsSound before → quota_at quota.id before.lists.catalogue ≡ Some quota → order_at number before.lists ≡ Some old → (is_in_force old.status ≡ true) ⊎ (is_in_force rows.order.status ≡ false) → Gives (order_moved number change before) → used after quota ≤ used before quota
-  moved_lowers old quota sound stands stood which h = subst (λ (s : State). used s quota ≤ used before quota) m.is_after (by_which which)
+  -- any other move raises no usage of a quota that stands, unless it takes places again that exits set free
+  pub moved_lowers : (old : Order) (quota : Quota) → IsSound before → quota_at quota.id before.lists.catalogue ≡ Some quota → order_at number before.lists ≡ Some old → (is_in_force old.status ≡ true) ⊎ (is_in_force rows.order.status ≡ false) → refills before.lists before.moment quota old rows.order.status ≡ false → Gives (order_moved number change before) → used after quota ≤ used before quota
+  moved_lowers old quota sound stands stood which again h = subst (λ (s : State). used s quota ≤ used before quota) m.is_after (by_which which)
     where
       m : IsMoved number change before after rows
       m = moved_is h
 
+      same : m.old ≡ old
+      same = some_order m.old old (sym m.stood ∙ stood)
+
+      its_again : refills before.lists before.moment quota m.old rows.order.status ≡ false
+      its_again = ap (λ (o : Order). refills before.lists before.moment quota o rows.order.status) same ∙ again
+
       by_which : (is_in_force old.status ≡ true) ⊎ (is_in_force rows.order.status ≡ false) → used (changed (PutOrder rows.order) before) quota ≤ used before quota
-      by_which (inl kept) = moved_order_lowers before rows.order m.old quota (stood_as m) stands (inr (its_old m old stood ∙ kept)) sound
-      by_which (inr ended) = moved_order_lowers before rows.order m.old quota (stood_as m) stands (inl ended) sound
+      by_which (inl kept) = moved_order_lowers before rows.order m.old quota (stood_as m) stands (inr (its_old m old stood ∙ kept)) its_again sound
+      by_which (inr ended) = moved_order_lowers before rows.order m.old quota (stood_as m) stands (inl ended) its_again sound

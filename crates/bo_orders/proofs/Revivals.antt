@@ -12,9 +12,8 @@ use Rattle.bo_lists.specs.Lists.{Lists, State, position_at, positions_of}
 use Rattle.bo_lists.specs.Change.{after_change, changed}
 use Rattle.bo_lists.specs.Over.{first_over, is_over, is_over_size, is_free, is_free_position, ignores, weighed}
 use Rattle.bo_lists.specs.Takes.{used, IsWithin, TakesNoMore}
-use Rattle.bo_lists.specs.Conditions.{is_in_force}
 use Rattle.bo_lists.specs.Total.{total}
-use Rattle.bo_lists.specs.Usage.{usage_of, position_counts}
+use Rattle.bo_lists.specs.Usage.{usage_of, takes_place}
 use Rattle.bo_lists.proofs.Found.{each_found}
 use Rattle.bo_lists.proofs.Takes.{none_passes, within}
 use Rattle.bo_lists.proofs.Time.{one}
@@ -27,8 +26,8 @@ module _ (lists : Lists) (at : ℕ) (quota : Quota) where
   not_free : (p : OrderPos) → position_at p.id lists ≡ Some p → ignores lists p.voucher ≡ false → is_free lists at quota (Position p.id) ≡ false
   not_free p stands heeds =
       ap (λ (found : Option OrderPos). is_free_position lists quota found) stands
-      ∙ ap (λ (free : Bool). position_counts is_in_force lists quota p && free) heeds
-      ∙ and_false (position_counts is_in_force lists quota p)
+      ∙ ap (λ (free : Bool). takes_place lists quota p && free) heeds
+      ∙ and_false (takes_place lists quota p)
 
   none_free : (ps : List OrderPos) → AllByRecursion (λ p. position_at p.id lists ≡ Some p) ps → AllByRecursion (λ p. ignores lists p.voucher ≡ false) ps → count_by (is_free lists at quota) (map (λ p. Position p.id) ps) ≡ 0
   none_free [] stand heed = refl

@@ -6,13 +6,15 @@ ghost use Rattle.bo_base.specs.Draws.{IsDraw};
 ghost use Rattle.bo_base.specs.declared.draw.Draw.{Draw};
 ghost use Rattle.bo_catalogue.specs.CatalogueLists.{quota_at};
 ghost use Rattle.bo_catalogue.specs.declared.rows.Quota.{Quota};
-ghost use Rattle.bo_lists.specs.Lists.{State, order_at};
+ghost use Rattle.bo_lists.specs.Lists.{Lists, State, order_at};
 ghost use Rattle.bo_lists.specs.Over.{first_over, ignores};
 ghost use Rattle.bo_lists.specs.declared.rows.CartPos.{CartPos};
 ghost use Rattle.bo_lists.specs.declared.rows.Order.{Order};
 ghost use Rattle.bo_lists.specs.declared.rows.OrderPos.{OrderPos};
 ghost use Rattle.bo_lists.specs.declared.rows.OrderRows.{OrderRows};
 ghost use Rattle.bo_lists.specs.declared.rows.Own.{Own};
+ghost use Rattle.bo_lists.specs.declared.rows.Status.{Status};
+ghost use Rattle.bo_lists.specs.Refills.{refills};
 ghost use Rattle.bo_sound.specs.Sound.{IsSound};
 ghost use Rattle.bo_lists.specs.Conditions.{is_in_force};
 ghost use Rattle.bo_commands.specs.FitRequests.{IsFitCart, IsFitEntry, IsFitOrder, IsFitMove};
@@ -119,12 +121,17 @@ pub fn revivals_take_no_more()
         order_moved number change before ≡ Ok (after, rows) → TakesNoMore before after }
 {}
 
-/// In a sound box office no other move raises the usage of a quota that stands.
+/// In a sound box office no other move raises the usage of a quota that stands, unless it takes places of it again that exits set
+/// free: a payment that is taken back, where the quota releases places, and a paid order that ends while the voucher of one who
+/// has gone out blocks a place of it. Of a quota that keeps its places no move takes one again.
 pub fn other_moves_lower()
-    ensures { (number : ℕ) (change : Move) (before after : State) (rows : OrderRows) (old : Order) (quota : Quota) →
+    ensures lower { (number : ℕ) (change : Move) (before after : State) (rows : OrderRows) (old : Order) (quota : Quota) →
         IsSound before → quota_at quota.id before.lists.catalogue ≡ Some quota →
         order_at number before.lists ≡ Some old → (is_in_force old.status ≡ true) ⊎ (is_in_force rows.order.status ≡ false) →
+        refills before.lists before.moment quota old rows.order.status ≡ false →
         order_moved number change before ≡ Ok (after, rows) → used after quota ≤ used before quota }
+    ensures kept { (lists : Lists) (at : ℕ) (quota : Quota) (old : Order) (status : Status) →
+        quota.release_after_exit ≡ false → refills lists at quota old status ≡ false }
 {}
 
 /// A sound box office stays sound where an order is moved, to an end that is a moment.

@@ -4,6 +4,7 @@ ghost use Rattle.std.specs.Prelude.{◌≡◌, ◌++◌, [], ◌∷◌, IfOk, On
 ghost use Rattle.std.specs.Option.{option_copied};
 ghost use Rattle.bo_lists.specs.Lists.{cart_at, order_at, waiting_at, checkin_list_at, checkin_at};
 ghost use Rattle.bo_lists.specs.Named.{voucher_of, is_used};
+ghost use Rattle.bo_lists.specs.Passages.{last_at};
 ghost use Rattle.bo_usage.specs.Naming.{naming};
 ghost use Rattle.bo_overlay.specs.Names.{name_gone};
 ghost use Rattle.bo_overlay.specs.Coded.{IsLeast, lesser, IsPutBelow, IsUnchanged, is_place, put_if};
@@ -24,14 +25,15 @@ use crate::purchases::{Purchase, copy_purchases, put_purchases};
 use crate::row_names::{cart_name, entry_name, is_name, name_put};
 use bo_base::Moment;
 use bo_catalogue::Quota;
-use bo_lists::{CartPos, Change, Checkin, CheckinList, Order, OrderPos, Voucher, Waiting};
+use bo_lists::passages::is_exit_if;
+use bo_lists::{CartPos, Change, Checkin, CheckinList, Order, OrderPos, Passage, Voucher, Waiting};
 use bo_log::rows::{
-    cart_after, cart_in, checkin_in, checkin_list_in, order_after, order_in, position_in,
-    voucher_in, waiting_after, waiting_in,
+    cart_after, cart_in, checkin_in, checkin_list_in, last_checkin_in, order_after, order_in,
+    position_in, voucher_in, waiting_after, waiting_in,
 };
 use bo_log::{ChangeLog, KeyLog, Table, code_key, digest};
 use bo_usage::rules::is_in_force;
-use bo_usage::{Book, Catalogue, LookUps, PositionTest};
+use bo_usage::{Book, Catalogue, Exits, LookUps, PositionTest};
 use std::alloc::{AllocError, Global};
 use std::marker::Model;
 
@@ -353,11 +355,11 @@ impl<'a, B: Book> Overlay<'a, B> {
     {
         self.book.known();
         let rows = self.book.positions_of(alloc, order)?;
-        let mut purchases = copy_purchases(alloc, rows.as_slice())?;
+        let mut purchases = copy_purchases(alloc, self, rows.as_slice())?;
         if !self.puts_positions() {
             return Ok(purchases);
         }
-        put_purchases(&mut purchases, order, self.log.as_slice())?;
+        put_purchases(&mut purchases, self, order, self.log.as_slice())?;
         Ok(purchases)
     }
 
@@ -495,6 +497,13 @@ impl<'a, B: Book> Overlay<'a, B> {
         checkin_list_in(&self.log, id, self.book.checkin_list(id))
     }
 
+    /// The last check-in of a position, by whatever list: by its moment, and then by its id.
+    pub fn last_at(&self, position: u64) -> Option<Passage>
+        ensures { result ≡ last_at position (rows_of self.now).checkins }
+    {
+        last_checkin_in(&self.log, position, self.book.last_at(position))
+    }
+
     /// The check-in of an id.
     pub fn checkin(&self, id: u64) -> Option<&Checkin>
         ensures { option_copied result ≡ checkin_at id (rows_of self.now) }
@@ -524,6 +533,13 @@ impl<'a, B: Book> LookUps for Overlay<'a, B> {
 
     fn entry(&self, id: u64) -> Option<&Waiting> {
         waiting_in(&self.log, id, self.book.entry(id))
+    }
+}
+
+impl<'a, B: Book> Exits for Overlay<'a, B> {
+    #[tactic(auto, unfolding(bo_lists::specs::Passages::is_out))]
+    fn is_out(&self, position: u64) -> bool {
+        is_exit_if(self.last_at(position))
     }
 }
 

@@ -7,58 +7,70 @@ ghost use Rattle.bo_overlay.specs.Purchases.{purchase};
 
 use bo_catalogue::Product;
 use bo_lists::{Change, OrderPos};
+use bo_usage::Exits;
 use std::alloc::{AllocError, Global};
 
-/// What an order position is for, and the voucher that it names.
+/// What an order position is for, the voucher that it names, and whether it has gone out.
 #[derive(Clone, Copy)]
 pub struct Purchase {
     pub product: Product,
     pub voucher: Option<u64>,
+    pub out: bool,
 }
 
 // The purchase of an order position.
-fn purchase_of(row: &OrderPos) -> Purchase
-    ensures { result ≡ purchase row.now }
+fn purchase_of<R: Exits>(rows: &R, row: &OrderPos) -> Purchase
+    ensures { result ≡ purchase (R.rows rows.now) row.now }
 {
     Purchase {
         product: row.product,
         voucher: row.voucher,
+        out: rows.is_out(row.id),
     }
 }
 
 /// The purchases of these order positions.
-pub fn copy_purchases(alloc: Global, rows: &[OrderPos]) -> Result<Vec<Purchase>, AllocError>
-    ensures { IfOk result (λ purchases. purchases.items ≡ map purchase rows.now) }
+pub fn copy_purchases<R: Exits>(
+    alloc: Global,
+    rows: &R,
+    positions: &[OrderPos],
+) -> Result<Vec<Purchase>, AllocError>
+    ensures { IfOk result (λ purchases. purchases.items ≡ map (purchase (R.rows rows.now)) positions.now) }
 {
-    rows.iter().map(|row| purchase_of(row)).collect(alloc)
+    positions
+        .iter()
+        .map(|row| purchase_of(rows, row))
+        .collect(alloc)
 }
 
 /// Adds the purchases of an order that changes put.
-pub fn put_purchases(
+pub fn put_purchases<R: Exits>(
     purchases: &mut Vec<Purchase>,
+    rows: &R,
     order: u64,
     changes: &[Change],
 ) -> Result<(), AllocError>
-    ensures { OnOk result ((passes : Purchase → Bool) → count_by passes purchases.new.items ≡ count_by passes purchases.old.items + count_by (puts (λ p. order == p.order && passes (purchase p))) changes.now) }
+    ensures { OnOk result ((passes : Purchase → Bool) → count_by passes purchases.new.items ≡ count_by passes purchases.old.items + count_by (puts (λ p. order == p.order && passes (purchase (R.rows rows.now) p))) changes.now) }
 {
     for i in 0..changes.len() {
-        put_purchase(purchases, order, &changes[i])?;
+        put_purchase(purchases, rows, order, &changes[i])?;
     }
     Ok(())
 }
 
 // Adds the purchase that a change puts, if it puts one of the order.
-fn put_purchase(
+fn put_purchase<R: Exits>(
     purchases: &mut Vec<Purchase>,
+    rows: &R,
     order: u64,
     change: &Change,
 ) -> Result<(), AllocError>
-    ensures { OnOk result ((passes : Purchase → Bool) → count_by passes purchases.new.items ≡ count_by passes purchases.old.items + (if puts (λ p. order == p.order && passes (purchase p)) change.now then 1 else 0)) }
+    ensures { OnOk result ((passes : Purchase → Bool) → count_by passes purchases.new.items ≡ count_by passes purchases.old.items + (if puts (λ p. order == p.order && passes (purchase (R.rows rows.now) p)) change.now then 1 else 0)) }
 {
     match change {
         Change::PutPosition(row) => {
             if row.order == order {
-                purchases.push(purchase_of(row))?;
+                purchases.push(purchase_of(rows, row))?;
             }
             Ok(())
         }

@@ -7,6 +7,7 @@ use Rattle.bo_catalogue.specs.declared.rows.Quota.{Quota}
 use Rattle.bo_lists.specs.declared.changes.Change.{Change}
 use Rattle.bo_lists.specs.declared.changes.Change.TheVariants.{PutItem, PutVariation, PutQuota, PutVoucher, PutCart, PutOrder, PutPosition, PutWaiting, DropVoucher, DropCart, DropWaiting, PutCheckinList, PutCheckin}
 use Rattle.bo_lists.specs.declared.rows.CartPos.{CartPos}
+use Rattle.bo_lists.specs.declared.rows.Checkin.{Checkin}
 use Rattle.bo_lists.specs.declared.rows.NextIds.{NextIds}
 use Rattle.bo_lists.specs.declared.rows.Order.{Order}
 use Rattle.bo_lists.specs.declared.rows.OrderPos.{OrderPos}
@@ -74,6 +75,10 @@ waiting_put : (rows : List Entry) (l : Lists) → after_all (map (λ r. PutWaiti
 waiting_put [] l = refl
 waiting_put (r ∷ rs) l = waiting_put rs (after_change (PutWaiting r) l)
 
+checkins_put : (rows : List Checkin) (l : Lists) → after_all (map (λ r. PutCheckin r) rows) l ≡ record l { checkins = all_put (λ r. r.id) rows l.checkins }
+checkins_put [] l = refl
+checkins_put (r ∷ rs) l = checkins_put rs (after_change (PutCheckin r) l)
+
 -- one list of changes behind another
 both_put : (xs ys : List Change) (a b c : Lists) → after_all xs a ≡ b → after_all ys b ≡ c → after_all (xs ++ ys) a ≡ c
 both_put [] ys a b c first then = ap (after_all ys) first ∙ then
@@ -95,6 +100,9 @@ module _ (lists : Lists) (n : ℕ) (kept : IsKept n lists) (quotas : AreInOrder 
   abbrev with_carts : Lists
   with_carts = record with_positions { carts = lists.carts }
 
+  abbrev with_waiting : Lists
+  with_waiting = record with_carts { waiting = lists.waiting }
+
   pub copied : after_all (puts_of lists) no_rows ≡ counted lists
   copied =
       let a = quotas_put lists.catalogue.quotas no_rows ∙ ap (λ (l : List Quota). record no_rows { catalogue = record { items = []; variations = []; quotas = l } }) (filled (λ (r : Quota). r.id) lists.catalogue.quotas quotas) in
@@ -103,17 +111,20 @@ module _ (lists : Lists) (n : ℕ) (kept : IsKept n lists) (quotas : AreInOrder 
       let d = positions_put lists.positions with_orders ∙ ap (λ (l : List OrderPos). record with_orders { positions = l }) (filled (λ (r : OrderPos). r.id) lists.positions kept.positions.in_order) in
       let e = carts_put lists.carts with_positions ∙ ap (λ (l : List CartPos). record with_positions { carts = l }) (filled (λ (r : CartPos). r.id) lists.carts kept.carts.in_order) in
       let f = waiting_put lists.waiting with_carts ∙ ap (λ (l : List Entry). record with_carts { waiting = l }) (filled (λ (r : Entry). r.id) lists.waiting kept.waiting.in_order) in
+      let g = checkins_put lists.checkins with_waiting ∙ ap (λ (l : List Checkin). record with_waiting { checkins = l }) (filled (λ (r : Checkin). r.id) lists.checkins kept.checkins.in_order) in
       let q : List Change = map (λ r. PutQuota r) lists.catalogue.quotas in
       let v : List Change = map (λ r. PutVoucher r) lists.vouchers in
       let o : List Change = map (λ r. PutOrder r) lists.orders in
       let p : List Change = map (λ r. PutPosition r) lists.positions in
       let k : List Change = map (λ r. PutCart r) lists.carts in
       let w : List Change = map (λ r. PutWaiting r) lists.waiting in
+      let i : List Change = map (λ r. PutCheckin r) lists.checkins in
       let two = both_put q v no_rows with_quotas with_vouchers a b in
       let three = both_put (q ++ v) o no_rows with_vouchers with_orders two c in
       let four = both_put (q ++ v ++ o) p no_rows with_orders with_positions three d in
       let five = both_put (q ++ v ++ o ++ p) k no_rows with_positions with_carts four e in
-      both_put (q ++ v ++ o ++ p ++ k) w no_rows with_carts (counted lists) five f
+      let six = both_put (q ++ v ++ o ++ p ++ k) w no_rows with_carts with_waiting five f in
+      both_put (q ++ v ++ o ++ p ++ k ++ w) i no_rows with_waiting (counted lists) six g
 
   -- a book that was empty, with these changes
   pub copy_is : (list : List Change) (changes : Changed) (at : ℕ) (old new : State) → list ≡ puts_of lists → changes.list ≡ list → old ≡ empty → new ≡ applied changes at old → new.lists ≡ counted lists

@@ -2,7 +2,7 @@
 
 ghost use Rattle.std.specs.Prelude.{◌≡◌, ◌≤◌, ◌++◌, [], ◌∷◌, map, IfOk, OnOk};
 ghost use Rattle.bo_lists.specs.declared.changes.Change.{Change};
-ghost use Rattle.bo_lists.specs.declared.changes.Change.TheVariants.{PutQuota, PutVoucher, PutCart, PutOrder, PutPosition, PutWaiting};
+ghost use Rattle.bo_lists.specs.declared.changes.Change.TheVariants.{PutQuota, PutVoucher, PutCart, PutOrder, PutPosition, PutWaiting, PutCheckin};
 ghost use Rattle.bo_lists.specs.Change.{applied};
 ghost use Rattle.bo_lists.specs.CountRows.{counts_after};
 ghost use Rattle.bo_recount.specs.Copied.{counted, puts_of};
@@ -11,7 +11,7 @@ use crate::recount::Recount;
 use bo_base::Moment;
 use bo_catalogue::Quota;
 use bo_counts::counts_between;
-use bo_lists::{CartPos, Change, Changes, CountRows, Order, OrderPos, Voucher, Waiting};
+use bo_lists::{CartPos, Change, Changes, Checkin, CountRows, Order, OrderPos, Voucher, Waiting};
 use bo_sorted::Row;
 use bo_sparse::Sparse;
 use bo_usage::Book;
@@ -63,6 +63,7 @@ fn puts_of<B: Book>(book: &B, alloc: Global) -> Result<Vec<Change>, AllocError>
     add_rows(alloc, book.positions(), &mut list)?;
     add_sparse(alloc, book.carts(), &mut list)?;
     add_sparse(alloc, book.waiting(), &mut list)?;
+    add_rows(alloc, book.checkins(), &mut list)?;
     Ok(list)
 }
 
@@ -152,5 +153,13 @@ impl Put for Waiting {
 
     fn to_change(&self, alloc: Global) -> Result<Change, AllocError> {
         Ok(Change::PutWaiting(self.copy(alloc)?))
+    }
+}
+
+impl Put for Checkin {
+    ghost change = { λ r. PutCheckin r };
+
+    fn to_change(&self, alloc: Global) -> Result<Change, AllocError> {
+        Ok(Change::PutCheckin(self.copy(alloc)?))
     }
 }

@@ -4,7 +4,7 @@ ghost use Rattle.std.specs.Prelude.{◌≡◌, ◌≤◌, ◌+◌, ◌↔◌, �
 ghost use Rattle.std.specs.Option.{option_copied};
 ghost use Rattle.bo_lists.specs.Lists.{empty};
 ghost use Rattle.bo_lists.specs.Conditions.{is_paid, is_pending, names};
-ghost use Rattle.bo_lists.specs.Usage.{redeemed, usage_of, position_counts, blocked_by, cart_counts, waits_for};
+ghost use Rattle.bo_lists.specs.Usage.{redeemed, usage_of, position_counts, exit_counts, blocked_by, cart_counts, waits_for};
 ghost use Rattle.bo_lists.specs.Change.{applied, after_change, after_all};
 ghost use Rattle.bo_lists.specs.Weight.{change_weight, weight};
 
@@ -17,7 +17,7 @@ use bo_lists::{
 };
 use bo_sorted::Rows;
 use bo_sparse::Sparse;
-use bo_usage::rules::{cart_counts, is_paid_in, is_pending_in, left_of, uses};
+use bo_usage::rules::{cart_counts, is_exited_in, is_paid_in, is_pending_in, left_of, uses};
 use bo_usage::{Book, Catalogue, Exits, LookUps, PositionTest};
 use std::alloc::{AllocError, Global};
 use std::marker::Model;
@@ -162,6 +162,16 @@ impl Recount {
         positions
             .iter()
             .filter(|p| is_pending_in(self, quota, p))
+            .count() as u64
+    }
+
+    fn exited_in(&self, quota: &Quota) -> u64
+        ensures { result ≡ count_by (exit_counts self.now.state.lists quota.now) self.now.state.lists.positions }
+    {
+        let positions = self.positions.as_slice();
+        positions
+            .iter()
+            .filter(|p| is_exited_in(self, quota, p))
             .count() as u64
     }
 
@@ -430,6 +440,7 @@ impl Book for Recount {
             blocked: self.blocked_in(at, quota),
             carts: self.count_carts(at, quota),
             waiting: self.waiting_in(quota),
+            exited: self.exited_in(quota),
         }
     }
 

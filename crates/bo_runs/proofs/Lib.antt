@@ -5,6 +5,7 @@ pub mod QuietSteps
 pub mod ImportRuns
 pub mod ImportAgain
 pub mod BulkRuns
+pub mod Refilled
 pub mod Runs
 pub mod DoorTables
 pub mod ScansAgain

@@ -11,6 +11,7 @@ use Rattle.bo_lists.specs.declared.rows.Status.{Status}
 use Rattle.bo_lists.specs.declared.rows.Status.TheVariants.{Pending, Paid, Expired, Cancelled}
 use Rattle.bo_lists.specs.Lists.{State}
 use Rattle.bo_lists.specs.Over.{first_over, ignores}
+use Rattle.bo_lists.specs.Refills.{refills}
 use Rattle.bo_sound.specs.Sound.{IsSound}
 use Rattle.bo_lists.specs.Takes.{used, TakesNoMore}
 use Rattle.bo_lists.specs.Conditions.{is_in_force}
@@ -24,17 +25,18 @@ use Rattle.bo_orders.proofs.Created.{created_none_over}
 use Rattle.bo_orders.proofs.CreatedTakes.{created_takes_no_more}
 use Rattle.bo_orders.proofs.Moved.{IsMoved, moved_is, revived_none_over, revived_takes_no_more, moved_lowers}
 use Rattle.bo_runs.specs.NewIds.{AllIdsGoOn}
-use Rattle.bo_runs.specs.Takings.{revives, revives_found, brings_back}
+use Rattle.bo_commands.specs.declared.requests.Command.TheVariants.{MoveOrder}
+use Rattle.bo_runs.specs.Takings.{revives, revives_found, brings_back, refills_turned, refills_found, fills_again}
 use Rattle.bo_runs.proofs.NewIds.{created_ids, moved_ids}
 
--- where an order was made or moved, and whether it took places
-pub record IsOrderFine (state after : State) (rows : OrderRows) (takes : Bool) : Type 0 where
+-- where an order was made or moved, whether it took places, and of which quotas it took some again
+pub record IsOrderFine (state after : State) (rows : OrderRows) (takes : Bool) (again : Quota → Bool) : Type 0 where
   pub ids : AllIdsGoOn state after
   pub not_over : takes ≡ true → first_over state.lists after.lists state.moment (map (λ p. Position p.id) rows.positions) ≡ None
   pub within : takes ≡ true → IsSound state → AllByRecursion (λ p. ignores after.lists p.voucher ≡ false) rows.positions → TakesNoMore state after
-  pub lowers : takes ≡ false → IsSound state → (quota : Quota) → quota_at quota.id state.lists.catalogue ≡ Some quota → used after quota ≤ used state quota
+  pub lowers : takes ≡ false → IsSound state → (quota : Quota) → quota_at quota.id state.lists.catalogue ≡ Some quota → again quota ≡ false → used after quota ≤ used state quota
 
-pub made_fine : (new : NewOrder) (draw : Draw) (state after : State) (rows : OrderRows) → order_created new draw state ≡ Ok (after, rows) → IsOrderFine state after rows true
+pub made_fine : (new : NewOrder) (draw : Draw) (state after : State) (rows : OrderRows) → order_created new draw state ≡ Ok (after, rows) → IsOrderFine state after rows true (λ quota. false)
 made_fine new draw state after rows h = record {
   ids = created_ids new draw state after rows h;
   not_over = λ takes. created_none_over new draw state after rows h;
@@ -90,10 +92,17 @@ module _ (number : ℕ) (change : Move) (state after : State) (rows : OrderRows)
   stays : takes ≡ false → (is_in_force m.old.status ≡ true) ⊎ (is_in_force rows.order.status ≡ false)
   stays plain = subst (λ s. (is_in_force m.old.status ≡ true) ⊎ (is_in_force s ≡ false)) (sym status_is) (stayed m.old.status change m.turn m.turns (sym by_status ∙ plain))
 
-  pub moved_fine : IsOrderFine state after rows (brings_back number change state.lists)
+  -- the places that its turn takes again
+  refills_is : (quota : Quota) → fills_again (MoveOrder number change) state quota ≡ refills state.lists state.moment quota m.old rows.order.status
+  refills_is quota =
+      ap (λ (o : Option Order). refills_found state quota o change) m.stood
+      ∙ ap (λ (t : Option Transition). refills_turned state quota m.old t) m.turns
+      ∙ ap (λ s. refills state.lists state.moment quota m.old s) (sym status_is)
+
+  pub moved_fine : IsOrderFine state after rows (brings_back number change state.lists) (λ quota. fills_again (MoveOrder number change) state quota)
   moved_fine = record {
     ids = moved_ids number change state after rows h;
     not_over = λ back. revived_none_over number change state after rows m.old m.stood (forces back).1 (forces back).0 h;
     within = λ back sound heed. revived_takes_no_more number change state after rows m.old sound m.stood (forces back).1 (forces back).0 heed h;
-    lowers = λ plain sound quota stands. moved_lowers number change state after rows m.old quota sound stands m.stood (stays plain) h;
+    lowers = λ plain sound quota stands none. moved_lowers number change state after rows m.old quota sound stands m.stood (stays plain) (sym (refills_is quota) ∙ none) h;
   }

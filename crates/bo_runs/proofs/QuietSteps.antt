@@ -1,5 +1,5 @@
 -- Steps that take no places: sending, periodic work, and the doors.
-use Rattle.std.proofs.Common.{◌≡◌, ℕ, ◌≤◌, inl, inr, Bool, true, false, List, [], ◌∷◌, Some, Ok, refl, subst, arith}
+use Rattle.std.proofs.Common.{◌≡◌, ℕ, ◌≤◌, inl, inr, Bool, true, false, ◌&&◌, List, [], ◌∷◌, Some, Ok, refl, subst, arith}
 use Rattle.std.specs.Prelude.{filter, if◌then◌else◌}
 use Rattle.std.specs.List.{AllByRecursion}
 use Rattle.bo_base.specs.declared.draw.Draw.{Draw}
@@ -9,6 +9,7 @@ use Rattle.bo_lists.specs.declared.rows.CheckinList.{CheckinList}
 use Rattle.bo_lists.specs.declared.rows.OrderPos.{OrderPos}
 use Rattle.bo_lists.specs.declared.rows.Waiting.{Waiting}
 use Rattle.bo_lists.specs.Lists.{State}
+use Rattle.bo_lists.specs.Passages.{is_entry}
 use Rattle.bo_lists.specs.Takes.{used}
 use Rattle.bo_lists.specs.Usage.{has_none}
 use Rattle.bo_sound.specs.Sound.{IsSound}
@@ -24,9 +25,11 @@ use Rattle.bo_door.specs.ListAdded.{list_added}
 use Rattle.bo_door.specs.Scanned.{checkin_row, scanned}
 use Rattle.bo_door.proofs.Added.{added_is, added_id}
 use Rattle.bo_door.proofs.Admitted.{IsEitherOf, admitted_is}
+use Rattle.bo_door.proofs.Places.{kept_used, exit_used, no_entry_is_exit}
 use Rattle.bo_runs.specs.NewIds.{AllIdsGoOn}
 use Rattle.bo_machine.specs.PeriodicWork.{ended, periodic_done}
 use Rattle.bo_machine.proofs.SoundSteps.{ended_sound}
+use Rattle.bo_runs.proofs.CatalogueLowers.{as_before}
 use Rattle.bo_runs.proofs.NewIds.{all_same, all_more, stands_in, each_stands, ended_ids, all_sent_ids, new_checkin_list, new_checkin}
 
 -- ---- sending and serving
@@ -74,3 +77,12 @@ scanned_ids list ticket scan state after position h = by_kind (admitted_is list 
     by_kind : IsEitherOf list scan state after position → AllIdsGoOn state after
     by_kind (inl same) = subst (λ (s : State). AllIdsGoOn state s) same.1 (all_same state)
     by_kind (inr made) = subst (λ (s : State). AllIdsGoOn state s) made.is_after (new_checkin state (checkin_row list position scan state) refl)
+
+-- a scan raises what is used of a quota only where it is an entry, and the quota releases places
+pub scan_lowers : (list : ℕ) (ticket : Ticket) (scan : Scan) (state after : State) (position : OrderPos) → IsSound state → scanned list ticket scan state ≡ Ok (after, position)
+    → (quota : Quota) → (quota.release_after_exit && is_entry scan.kind) ≡ false → used after quota ≤ used state quota
+scan_lowers list ticket scan state after position sound h quota none = by_release quota.release_after_exit refl none
+  where
+    by_release : (releases : Bool) → quota.release_after_exit ≡ releases → (releases && is_entry scan.kind) ≡ false → used after quota ≤ used state quota
+    by_release true is e = exit_used list ticket scan state after position sound h quota (no_entry_is_exit scan.kind e)
+    by_release false is e = as_before (used after quota) (used state quota) (kept_used list ticket scan state after position sound h quota is)

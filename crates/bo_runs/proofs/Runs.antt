@@ -69,7 +69,6 @@ use Rattle.bo_waiting.proofs.Sent.{sending_keeps_used}
 use Rattle.bo_door.specs.ListAdded.{list_added}
 use Rattle.bo_door.specs.Scanned.{scanned}
 use Rattle.bo_door.proofs.Added.{added_used as list_used}
-use Rattle.bo_door.proofs.Admitted.{admitted_used}
 use Rattle.bo_commands.specs.declared.requests.Kind.{Kind}
 use Rattle.bo_commands.specs.declared.replies.Refusal.{Refusal}
 use Rattle.bo_commands.specs.declared.replies.Reply.{Reply}
@@ -79,22 +78,22 @@ use Rattle.bo_machine.specs.ShownRows.{show_voucher}
 use Rattle.bo_machine.specs.Step.{step, step_now, item_step, item_change_step, variation_step, quota_step, resize_step, voucher_step, voucher_change_step, voucher_drop_step, import_step, cart_step, bulk_step, order_step, move_step, cart_drop_step, join_step, priority_step, leave_step, send_step, periodic_step, checkin_list_step, redeem_step, moment_at}
 use Rattle.bo_machine.specs.PeriodicWork.{periodic_done}
 use Rattle.bo_runs.specs.NewIds.{AllIdsGoOn}
-use Rattle.bo_runs.specs.Takings.{OwnRow, cart_own, position_own, cart_taken, order_taken, voucher_taken, brings_back, taken, voucher_ignores, is_joined, may_raise}
+use Rattle.bo_runs.specs.Takings.{OwnRow, cart_own, position_own, cart_taken, order_taken, voucher_taken, brings_back, taken, voucher_ignores, is_joined, may_raise, fills_again}
 use Rattle.bo_runs.specs.Runs.{Arrival, IsFitArrival, Stepped, stepped, office_at, trace, after_run, alone, made_alone, import_trace, steps_of, Each, NoneOver, StaysWithin, RaisesNothing, GivesNewIds, LeavesSound, NeverGoesBack, StoresItsMoment, ChangesNothingElse}
 use Rattle.bo_machine.proofs.SoundSteps.{sound_step, step_sound}
 use Rattle.bo_runs.proofs.OrderSteps.{IsOrderFine, made_fine, moved_fine}
 use Rattle.bo_runs.proofs.NewIds.{all_same, all_more, item_ids, item_change_ids, variation_ids, quota_ids, resize_ids, made_ids, rows_ids, changed_ids, deleted_ids, added_ids, entries_ids, dropped_ids, joined_ids, changed_entry_ids, left_ids, sending_ids}
-use Rattle.bo_runs.proofs.QuietSteps.{worked_ids, worked_lowers, list_ids, scanned_ids}
+use Rattle.bo_runs.proofs.QuietSteps.{worked_ids, worked_lowers, list_ids, scanned_ids, scan_lowers}
 use Rattle.bo_runs.proofs.CatalogueLowers.{as_before, item_lowers, item_change_lowers, variation_lowers, quota_lowers, resize_lowers}
 
 -- what holds of each step, from the office at its moment: where it took places, with these own rows; and else, where it is a
--- step by itself, and may raise no usage
-record IsFine (state : State) (made : State × Reply) (own : Option (List OwnRow)) (itself may : Bool) : Type 0 where
+-- step by itself, and may raise no usage, of quotas of which it takes no places again
+record IsFine (state : State) (made : State × Reply) (own : Option (List OwnRow)) (itself may : Bool) (again : Quota → Bool) : Type 0 where
   refused : (kind : Kind) (refusal : Refusal) → made.1 ≡ Refused kind refusal → made.0 ≡ state
   ids : AllIdsGoOn state made.0
   none_over : (rows : List OwnRow) → own ≡ Some rows → first_over state.lists made.0.lists state.moment (map (λ r. r.own) rows) ≡ None
   within : IsSound state → (rows : List OwnRow) → own ≡ Some rows → list_any (λ r. ignores made.0.lists r.voucher) rows ≡ false → TakesNoMore state made.0
-  lowers : IsSound state → itself ≡ true → own ≡ None → may ≡ false → (quota : Quota) → quota_at quota.id state.lists.catalogue ≡ Some quota → used made.0 quota ≤ used state quota
+  lowers : IsSound state → itself ≡ true → own ≡ None → may ≡ false → (quota : Quota) → quota_at quota.id state.lists.catalogue ≡ Some quota → again quota ≡ false → used made.0 quota ≤ used state quota
 
 no_list : (own : List OwnRow) → (let none : Option (List OwnRow) = None in none ≡ Some own) → ⊥
 no_list own e = cc
@@ -138,64 +137,68 @@ positions_heed : (lists : Lists) (positions : List OrderPos) → AllByRecursion 
 positions_heed lists [] h = tt
 positions_heed lists (position ∷ positions) h = (h.0, positions_heed lists positions h.1)
 
+-- none of a quota
+abbrev never : Quota → Bool
+never quota = false
+
 module _ (state : State) where
-  refused_fine : (kind : Kind) (refusal : Refusal) (itself may : Bool) → IsFine state (state, Refused kind refusal) None itself may
-  refused_fine kind refusal itself may = record {
+  refused_fine : (kind : Kind) (refusal : Refusal) (itself may : Bool) (again : Quota → Bool) → IsFine state (state, Refused kind refusal) None itself may again
+  refused_fine kind refusal itself may again = record {
     refused = λ k r e. refl;
     ids = all_same state;
     none_over = λ rows e. absurd (no_list rows e);
     within = λ sound rows e. absurd (no_list rows e);
-    lowers = λ sound one e may quota stands. no_more (used state quota);
+    lowers = λ sound one e may quota stands none. no_more (used state quota);
   }
 
-  item_fine : (r : Result ItemRows CatalogueRefusal) → ((made : ItemRows) → r ≡ Ok made → AllIdsGoOn state (with_item made state)) → IsFine state (item_step state r) None true false
-  item_fine (Err refusal) ids = refused_fine _ _ _ _
+  item_fine : (r : Result ItemRows CatalogueRefusal) → ((made : ItemRows) → r ≡ Ok made → AllIdsGoOn state (with_item made state)) → IsFine state (item_step state r) None true false never
+  item_fine (Err refusal) ids = refused_fine _ _ _ _ _
   item_fine (Ok made) ids = record {
     refused = λ k r e. absurd (cc);
     ids = ids made refl;
     none_over = λ rows e. absurd (no_list rows e);
     within = λ sound rows e. absurd (no_list rows e);
-    lowers = λ sound one e may quota stands. item_lowers state quota made;
+    lowers = λ sound one e may quota stands none. item_lowers state quota made;
   }
 
-  item_change_fine : (r : Result Item CatalogueRefusal) → ((row : Item) → r ≡ Ok row → AllIdsGoOn state (changed (PutItem row) state)) → IsFine state (item_change_step state r) None true false
-  item_change_fine (Err refusal) ids = refused_fine _ _ _ _
+  item_change_fine : (r : Result Item CatalogueRefusal) → ((row : Item) → r ≡ Ok row → AllIdsGoOn state (changed (PutItem row) state)) → IsFine state (item_change_step state r) None true false never
+  item_change_fine (Err refusal) ids = refused_fine _ _ _ _ _
   item_change_fine (Ok row) ids = record {
     refused = λ k r e. absurd (cc);
     ids = ids row refl;
     none_over = λ rows e. absurd (no_list rows e);
     within = λ sound rows e. absurd (no_list rows e);
-    lowers = λ sound one e may quota stands. item_change_lowers state quota row;
+    lowers = λ sound one e may quota stands none. item_change_lowers state quota row;
   }
 
-  variation_fine : (r : Result PricedVariation CatalogueRefusal) → ((made : PricedVariation) → r ≡ Ok made → AllIdsGoOn state (with_variation made.row state)) → IsFine state (variation_step state r) None true false
-  variation_fine (Err refusal) ids = refused_fine _ _ _ _
+  variation_fine : (r : Result PricedVariation CatalogueRefusal) → ((made : PricedVariation) → r ≡ Ok made → AllIdsGoOn state (with_variation made.row state)) → IsFine state (variation_step state r) None true false never
+  variation_fine (Err refusal) ids = refused_fine _ _ _ _ _
   variation_fine (Ok made) ids = record {
     refused = λ k r e. absurd (cc);
     ids = ids made refl;
     none_over = λ rows e. absurd (no_list rows e);
     within = λ sound rows e. absurd (no_list rows e);
-    lowers = λ sound one e may quota stands. variation_lowers state quota made.row;
+    lowers = λ sound one e may quota stands none. variation_lowers state quota made.row;
   }
 
-  quota_fine : (r : Result Quota CatalogueRefusal) → ((row : Quota) → r ≡ Ok row → AllIdsGoOn state (with_quota row state)) → IsFine state (quota_step state r) None true false
-  quota_fine (Err refusal) ids = refused_fine _ _ _ _
+  quota_fine : (r : Result Quota CatalogueRefusal) → ((row : Quota) → r ≡ Ok row → AllIdsGoOn state (with_quota row state)) → IsFine state (quota_step state r) None true false never
+  quota_fine (Err refusal) ids = refused_fine _ _ _ _ _
   quota_fine (Ok row) ids = record {
     refused = λ k r e. absurd (cc);
     ids = ids row refl;
     none_over = λ rows e. absurd (no_list rows e);
     within = λ sound rows e. absurd (no_list rows e);
-    lowers = λ sound one e may quota stands. quota_lowers state quota row;
+    lowers = λ sound one e may quota stands none. quota_lowers state quota row;
   }
 
-  resize_fine : (r : Result Quota CatalogueRefusal) → ((row : Quota) → r ≡ Ok row → AllIdsGoOn state (changed (PutQuota row) state)) → IsFine state (resize_step state r) None true false
-  resize_fine (Err refusal) ids = refused_fine _ _ _ _
+  resize_fine : (r : Result Quota CatalogueRefusal) → ((row : Quota) → r ≡ Ok row → AllIdsGoOn state (changed (PutQuota row) state)) → IsFine state (resize_step state r) None true false never
+  resize_fine (Err refusal) ids = refused_fine _ _ _ _ _
   resize_fine (Ok row) ids = record {
     refused = λ k r e. absurd (cc);
     ids = ids row refl;
     none_over = λ rows e. absurd (no_list rows e);
     within = λ sound rows e. absurd (no_list rows e);
-    lowers = λ sound one e may quota stands. resize_lowers state quota row;
+    lowers = λ sound one e may quota stands none. resize_lowers state quota row;
   }
 
   -- where a voucher was made or changed
@@ -209,9 +212,9 @@ module _ (state : State) where
       let which = none_or_own row.allow_ignore_quota rows e in
       subst (λ (own : List OwnRow). first_over state.lists after.lists state.moment (map (λ r. r.own) own) ≡ None) which.1 (known.not_over which.0)
 
-  voucher_fine : (r : Result (State × Voucher) VoucherRefusal) → ((after : State) (row : Voucher) → r ≡ Ok (after, row) → IsVoucherFine after row) → IsFine state (voucher_step state r) (voucher_taken r) true (voucher_ignores r)
+  voucher_fine : (r : Result (State × Voucher) VoucherRefusal) → ((after : State) (row : Voucher) → r ≡ Ok (after, row) → IsVoucherFine after row) → IsFine state (voucher_step state r) (voucher_taken r) true (voucher_ignores r) never
   unfolding show_voucher
-  voucher_fine (Err refusal) known = refused_fine _ _ _ _
+  voucher_fine (Err refusal) known = refused_fine _ _ _ _ _
   voucher_fine (Ok (after, row)) known = record {
     refused = λ k r e. absurd (cc);
     ids = (known after row refl).ids;
@@ -220,9 +223,9 @@ module _ (state : State) where
     lowers = λ sound one e may. absurd (takes_or_ignores row.allow_ignore_quota e may);
   }
 
-  voucher_change_fine : (r : Result (State × Voucher) VoucherRefusal) → ((after : State) (row : Voucher) → r ≡ Ok (after, row) → IsVoucherFine after row) → IsFine state (voucher_change_step state r) (voucher_taken r) true (voucher_ignores r)
+  voucher_change_fine : (r : Result (State × Voucher) VoucherRefusal) → ((after : State) (row : Voucher) → r ≡ Ok (after, row) → IsVoucherFine after row) → IsFine state (voucher_change_step state r) (voucher_taken r) true (voucher_ignores r) never
   unfolding show_voucher
-  voucher_change_fine (Err refusal) known = refused_fine _ _ _ _
+  voucher_change_fine (Err refusal) known = refused_fine _ _ _ _ _
   voucher_change_fine (Ok (after, row)) known = record {
     refused = λ k r e. absurd (cc);
     ids = (known after row refl).ids;
@@ -231,14 +234,14 @@ module _ (state : State) where
     lowers = λ sound one e may. absurd (takes_or_ignores row.allow_ignore_quota e may);
   }
 
-  voucher_drop_fine : (r : Result State VoucherRefusal) → ((after : State) → r ≡ Ok after → AllIdsGoOn state after) → ((after : State) → r ≡ Ok after → (quota : Quota) → used after quota ≤ used state quota) → IsFine state (voucher_drop_step state r) None true false
-  voucher_drop_fine (Err refusal) ids lowers = refused_fine _ _ _ _
+  voucher_drop_fine : (r : Result State VoucherRefusal) → ((after : State) → r ≡ Ok after → AllIdsGoOn state after) → ((after : State) → r ≡ Ok after → (quota : Quota) → used after quota ≤ used state quota) → IsFine state (voucher_drop_step state r) None true false never
+  voucher_drop_fine (Err refusal) ids lowers = refused_fine _ _ _ _ _
   voucher_drop_fine (Ok after) ids lowers = record {
     refused = λ k r e. absurd (cc);
     ids = ids after refl;
     none_over = λ rows e. absurd (no_list rows e);
     within = λ sound rows e. absurd (no_list rows e);
-    lowers = λ sound one e may quota stands. lowers after refl quota;
+    lowers = λ sound one e may quota stands none. lowers after refl quota;
   }
 
   -- where a cart position was added
@@ -256,8 +259,8 @@ module _ (state : State) where
       let own : list_any (λ r. ignores after.lists r.voucher) (cart_own row ∷ []) ≡ false = ap (λ (own : List OwnRow). list_any (λ r. ignores after.lists r.voucher) own) (same_list (cart_own row ∷ []) rows e) ∙ heed in
       known.within (each_fails (λ (r : OwnRow). ignores after.lists r.voucher) (cart_own row ∷ []) own).0
 
-  cart_fine : (r : Result (State × CartPos) OrderRefusal) → ((after : State) (row : CartPos) → r ≡ Ok (after, row) → IsCartFine after row) → IsFine state (cart_step state r) (cart_taken r) true false
-  cart_fine (Err refusal) known = refused_fine _ _ _ _
+  cart_fine : (r : Result (State × CartPos) OrderRefusal) → ((after : State) (row : CartPos) → r ≡ Ok (after, row) → IsCartFine after row) → IsFine state (cart_step state r) (cart_taken r) true false never
+  cart_fine (Err refusal) known = refused_fine _ _ _ _ _
   cart_fine (Ok (after, row)) known = record {
     refused = λ k r e. absurd (cc);
     ids = (known after row refl).ids;
@@ -271,8 +274,8 @@ module _ (state : State) where
     ids : AllIdsGoOn state after
     entries : itself ≡ false
 
-  bulk_fine : (itself : Bool) (r : Result (State × List Outcome) OrderRefusal) → ((made : State × List Outcome) → r ≡ Ok made → IsManyFine made.0 itself) → IsFine state (bulk_step state r) None itself false
-  bulk_fine itself (Err refusal) known = refused_fine _ _ _ _
+  bulk_fine : (itself : Bool) (r : Result (State × List Outcome) OrderRefusal) → ((made : State × List Outcome) → r ≡ Ok made → IsManyFine made.0 itself) → IsFine state (bulk_step state r) None itself false never
+  bulk_fine itself (Err refusal) known = refused_fine _ _ _ _ _
   bulk_fine itself (Ok (after, outcomes)) known = record {
     refused = λ k r e. absurd (cc);
     ids = (known (after, outcomes) refl).ids;
@@ -282,7 +285,7 @@ module _ (state : State) where
   }
 
   -- where the vouchers of a file were added
-  import_fine : (made : State × List Verdict) → AllIdsGoOn state made.0 → IsFine state (import_step made) None false false
+  import_fine : (made : State × List Verdict) → AllIdsGoOn state made.0 → IsFine state (import_step made) None false false never
   import_fine (after, verdicts) ids = record {
     refused = λ k r e. absurd (cc (e));
     ids = ids;
@@ -291,7 +294,7 @@ module _ (state : State) where
     lowers = λ sound one. absurd (cc (one));
   }
 
-  module _ (after : State) (rows : OrderRows) (known : IsOrderFine state after rows true) where
+  module _ (after : State) (rows : OrderRows) (again : Quota → Bool) (known : IsOrderFine state after rows true again) where
     order_not_over : (own : List OwnRow) → Some (map position_own rows.positions) ≡ Some own → first_over state.lists after.lists state.moment (map (λ r. r.own) own) ≡ None
     order_not_over own e =
         let over = ap (λ (ids : List Own). first_over state.lists after.lists state.moment ids) (sym (positions_are rows.positions)) ∙ known.not_over refl in
@@ -302,27 +305,27 @@ module _ (state : State) where
         let mine : list_any (λ r. ignores after.lists r.voucher) (map position_own rows.positions) ≡ false = ap (λ (own : List OwnRow). list_any (λ r. ignores after.lists r.voucher) own) (same_list (map position_own rows.positions) own e) ∙ heed in
         known.within refl sound (positions_heed after.lists rows.positions (each_fails (λ (r : OwnRow). ignores after.lists r.voucher) (map position_own rows.positions) mine))
 
-  order_fine : (r : Result (State × OrderRows) OrderRefusal) → ((after : State) (rows : OrderRows) → r ≡ Ok (after, rows) → IsOrderFine state after rows true) → IsFine state (order_step state r) (order_taken r) true false
-  order_fine (Err refusal) known = refused_fine _ _ _ _
+  order_fine : (r : Result (State × OrderRows) OrderRefusal) → ((after : State) (rows : OrderRows) → r ≡ Ok (after, rows) → IsOrderFine state after rows true never) → IsFine state (order_step state r) (order_taken r) true false never
+  order_fine (Err refusal) known = refused_fine _ _ _ _ _
   order_fine (Ok (after, rows)) known = record {
     refused = λ k r e. absurd (cc);
     ids = (known after rows refl).ids;
-    none_over = order_not_over after rows (known after rows refl);
-    within = order_within after rows (known after rows refl);
+    none_over = order_not_over after rows _ (known after rows refl);
+    within = order_within after rows _ (known after rows refl);
     lowers = λ sound one e. absurd (a_list (map position_own rows.positions) e);
   }
 
-  move_fine : (back : Bool) (r : Result (State × OrderRows) OrderRefusal) → ((after : State) (rows : OrderRows) → r ≡ Ok (after, rows) → IsOrderFine state after rows back) → IsFine state (move_step state r) (if back then order_taken r else None) true false
-  move_fine true (Err refusal) known = refused_fine _ _ _ _
-  move_fine false (Err refusal) known = refused_fine _ _ _ _
-  move_fine true (Ok (after, rows)) known = record {
+  move_fine : (back : Bool) (again : Quota → Bool) (r : Result (State × OrderRows) OrderRefusal) → ((after : State) (rows : OrderRows) → r ≡ Ok (after, rows) → IsOrderFine state after rows back again) → IsFine state (move_step state r) (if back then order_taken r else None) true false again
+  move_fine true again (Err refusal) known = refused_fine _ _ _ _ _
+  move_fine false again (Err refusal) known = refused_fine _ _ _ _ _
+  move_fine true again (Ok (after, rows)) known = record {
     refused = λ k r e. absurd (cc);
     ids = (known after rows refl).ids;
-    none_over = order_not_over after rows (known after rows refl);
-    within = order_within after rows (known after rows refl);
+    none_over = order_not_over after rows _ (known after rows refl);
+    within = order_within after rows _ (known after rows refl);
     lowers = λ sound one e. absurd (a_list (map position_own rows.positions) e);
   }
-  move_fine false (Ok (after, rows)) known = record {
+  move_fine false again (Ok (after, rows)) known = record {
     refused = λ k r e. absurd (cc);
     ids = (known after rows refl).ids;
     none_over = λ own e. absurd (no_list own e);
@@ -330,23 +333,23 @@ module _ (state : State) where
     lowers = λ sound one e may. (known after rows refl).lowers refl sound;
   }
 
-  cart_drop_fine : (r : Result State OrderRefusal) → ((after : State) → r ≡ Ok after → AllIdsGoOn state after) → ((after : State) → r ≡ Ok after → (quota : Quota) → used after quota ≤ used state quota) → IsFine state (cart_drop_step state r) None true false
-  cart_drop_fine (Err refusal) ids lowers = refused_fine _ _ _ _
+  cart_drop_fine : (r : Result State OrderRefusal) → ((after : State) → r ≡ Ok after → AllIdsGoOn state after) → ((after : State) → r ≡ Ok after → (quota : Quota) → used after quota ≤ used state quota) → IsFine state (cart_drop_step state r) None true false never
+  cart_drop_fine (Err refusal) ids lowers = refused_fine _ _ _ _ _
   cart_drop_fine (Ok after) ids lowers = record {
     refused = λ k r e. absurd (cc);
     ids = ids after refl;
     none_over = λ rows e. absurd (no_list rows e);
     within = λ sound rows e. absurd (no_list rows e);
-    lowers = λ sound one e may quota stands. lowers after refl quota;
+    lowers = λ sound one e may quota stands none. lowers after refl quota;
   }
 
-  -- where a step was made that takes no places
-  record IsQuiet (after : State) : Type 0 where
+  -- where a step was made that takes no places, but some of these quotas again
+  record IsQuiet (after : State) (again : Quota → Bool) : Type 0 where
     ids : AllIdsGoOn state after
-    lowers : IsSound state → (quota : Quota) → quota_at quota.id state.lists.catalogue ≡ Some quota → used after quota ≤ used state quota
+    lowers : IsSound state → (quota : Quota) → quota_at quota.id state.lists.catalogue ≡ Some quota → again quota ≡ false → used after quota ≤ used state quota
 
-  quiet_fine : (after : State) (reply : Reply) → ((kind : Kind) (refusal : Refusal) → reply ≡ Refused kind refusal → ⊥) → IsQuiet after → IsFine state (after, reply) None true false
-  quiet_fine after reply told known = record {
+  quiet_fine : (after : State) (reply : Reply) (again : Quota → Bool) → ((kind : Kind) (refusal : Refusal) → reply ≡ Refused kind refusal → ⊥) → IsQuiet after again → IsFine state (after, reply) None true false again
+  quiet_fine after reply again told known = record {
     refused = λ k r e. absurd (told k r e);
     ids = known.ids;
     none_over = λ rows e. absurd (no_list rows e);
@@ -358,8 +361,8 @@ module _ (state : State) where
   record IsJoinFine (after : State) : Type 0 where
     ids : AllIdsGoOn state after
 
-  join_fine : (r : Result (State × Waiting) WaitingRefusal) → ((after : State) (row : Waiting) → r ≡ Ok (after, row) → IsJoinFine after) → IsFine state (join_step state r) None true (is_joined r)
-  join_fine (Err refusal) known = refused_fine _ _ _ _
+  join_fine : (r : Result (State × Waiting) WaitingRefusal) → ((after : State) (row : Waiting) → r ≡ Ok (after, row) → IsJoinFine after) → IsFine state (join_step state r) None true (is_joined r) never
+  join_fine (Err refusal) known = refused_fine _ _ _ _ _
   join_fine (Ok (after, row)) known = record {
     refused = λ k r e. absurd (cc);
     ids = (known after row refl).ids;
@@ -368,28 +371,28 @@ module _ (state : State) where
     lowers = λ sound one e may. absurd (cc (may));
   }
 
-  priority_fine : (r : Result (State × Waiting) WaitingRefusal) → ((after : State) (row : Waiting) → r ≡ Ok (after, row) → IsQuiet after) → IsFine state (priority_step state r) None true false
-  priority_fine (Err refusal) known = refused_fine _ _ _ _
-  priority_fine (Ok (after, row)) known = quiet_fine after (Found (rows.Waiting row)) (λ k r e. cc (e)) (known after row refl)
+  priority_fine : (r : Result (State × Waiting) WaitingRefusal) → ((after : State) (row : Waiting) → r ≡ Ok (after, row) → IsQuiet after never) → IsFine state (priority_step state r) None true false never
+  priority_fine (Err refusal) known = refused_fine _ _ _ _ _
+  priority_fine (Ok (after, row)) known = quiet_fine after (Found (rows.Waiting row)) never (λ k r e. cc (e)) (known after row refl)
 
-  leave_fine : (r : Result State WaitingRefusal) → ((after : State) → r ≡ Ok after → IsQuiet after) → IsFine state (leave_step state r) None true false
-  leave_fine (Err refusal) known = refused_fine _ _ _ _
-  leave_fine (Ok after) known = quiet_fine after Gone (λ k r e. cc (e)) (known after refl)
+  leave_fine : (r : Result State WaitingRefusal) → ((after : State) → r ≡ Ok after → IsQuiet after never) → IsFine state (leave_step state r) None true false never
+  leave_fine (Err refusal) known = refused_fine _ _ _ _ _
+  leave_fine (Ok after) known = quiet_fine after Gone never (λ k r e. cc (e)) (known after refl)
 
-  send_fine : (r : Result (State × Waiting) WaitingRefusal) → ((after : State) (row : Waiting) → r ≡ Ok (after, row) → IsQuiet after) → IsFine state (send_step state r) None true false
-  send_fine (Err refusal) known = refused_fine _ _ _ _
-  send_fine (Ok (after, row)) known = quiet_fine after Gone (λ k r e. cc (e)) (known after row refl)
+  send_fine : (r : Result (State × Waiting) WaitingRefusal) → ((after : State) (row : Waiting) → r ≡ Ok (after, row) → IsQuiet after never) → IsFine state (send_step state r) None true false never
+  send_fine (Err refusal) known = refused_fine _ _ _ _ _
+  send_fine (Ok (after, row)) known = quiet_fine after Gone never (λ k r e. cc (e)) (known after row refl)
 
-  periodic_fine : (made : State × PeriodicCounts) → IsQuiet made.0 → IsFine state (periodic_step made) None true false
-  periodic_fine (after, counts) known = quiet_fine after (TheCounts counts) (λ k r e. cc (e)) known
+  periodic_fine : (made : State × PeriodicCounts) → IsQuiet made.0 never → IsFine state (periodic_step made) None true false never
+  periodic_fine (after, counts) known = quiet_fine after (TheCounts counts) never (λ k r e. cc (e)) known
 
-  checkin_list_fine : (r : Result (State × CheckinList) DoorRefusal) → ((after : State) (row : CheckinList) → r ≡ Ok (after, row) → IsQuiet after) → IsFine state (checkin_list_step state r) None true false
-  checkin_list_fine (Err refusal) known = refused_fine _ _ _ _
-  checkin_list_fine (Ok (after, row)) known = quiet_fine after (Made (rows.CheckinList row)) (λ k r e. cc (e)) (known after row refl)
+  checkin_list_fine : (r : Result (State × CheckinList) DoorRefusal) → ((after : State) (row : CheckinList) → r ≡ Ok (after, row) → IsQuiet after never) → IsFine state (checkin_list_step state r) None true false never
+  checkin_list_fine (Err refusal) known = refused_fine _ _ _ _ _
+  checkin_list_fine (Ok (after, row)) known = quiet_fine after (Made (rows.CheckinList row)) never (λ k r e. cc (e)) (known after row refl)
 
-  redeem_fine : (r : Result (State × OrderPos) DoorRefusal) → ((after : State) (position : OrderPos) → r ≡ Ok (after, position) → IsQuiet after) → IsFine state (redeem_step state r) None true false
-  redeem_fine (Err refusal) known = refused_fine _ _ _ _
-  redeem_fine (Ok (after, position)) known = quiet_fine after (Admitted position) (λ k r e. cc (e)) (known after position refl)
+  redeem_fine : (again : Quota → Bool) (r : Result (State × OrderPos) DoorRefusal) → ((after : State) (position : OrderPos) → r ≡ Ok (after, position) → IsQuiet after again) → IsFine state (redeem_step state r) None true false again
+  redeem_fine again (Err refusal) known = refused_fine _ _ _ _ _
+  redeem_fine again (Ok (after, position)) known = quiet_fine after (Admitted position) again (λ k r e. cc (e)) (known after position refl)
 
 -- a bulk call that is refused as a whole is a step by itself, and so is any other command but an import
 abbrev is_itself : Command → Bool
@@ -406,7 +409,7 @@ few_entries entries draw state made h = by_count (nat_lt most_entries (length en
     by_count true e = absurd (cc (e))
     by_count false e = refl
 
-step_fine : (command : Command) (draw : Draw) (state : State) → IsFine state (step_now command draw state) (taken command draw state) (is_itself command) (may_raise command draw state)
+step_fine : (command : Command) (draw : Draw) (state : State) → IsFine state (step_now command draw state) (taken command draw state) (is_itself command) (may_raise command draw state) (λ quota. fills_again command state quota)
 step_fine (AddItem new) draw state = item_fine state (item_added new state.next.item state.next.variation state.lists.catalogue) (λ made h. item_ids new state made h)
 step_fine (ChangeItem id patch) draw state = item_change_fine state (item_changed id patch state.lists.catalogue) (λ row h. item_change_ids id patch state row h)
 step_fine (AddVariation item new) draw state = variation_fine state (variation_added item new state.next.variation state.lists.catalogue) (λ made h. variation_ids item new state made h)
@@ -434,34 +437,34 @@ step_fine (AddCarts entries) draw state = bulk_fine state (nat_lt most_entries (
   entries = few_entries entries draw state made h;
 })
 step_fine (AddOrder new) draw state = order_fine state (order_created new draw state) (λ after rows h. made_fine new draw state after rows h)
-step_fine (MoveOrder number change) draw state = move_fine state (brings_back number change state.lists) (order_moved number change state) (λ after rows h. moved_fine number change state after rows h)
+step_fine (MoveOrder number change) draw state = move_fine state (brings_back number change state.lists) (λ quota. fills_again (MoveOrder number change) state quota) (order_moved number change state) (λ after rows h. moved_fine number change state after rows h)
 step_fine (DropCart id) draw state = cart_drop_fine state (position_dropped id state) (λ after h. dropped_ids id state after h) (λ after h quota. dropped_lowers id state after quota h)
 step_fine (AddWaiting new) draw state = join_fine state (entry_joined new state) (λ after row h. record {
   ids = joined_ids new state after row h;
 })
 step_fine (ChangeWaiting id patch) draw state = priority_fine state (entry_changed id patch state) (λ after row h. record {
   ids = changed_entry_ids id patch state after row h;
-  lowers = λ sound quota stands. as_before (used after quota) (used state quota) (changed_keeps_used id patch state after row quota sound h);
+  lowers = λ sound quota stands none. as_before (used after quota) (used state quota) (changed_keeps_used id patch state after row quota sound h);
 })
 step_fine (DropWaiting id) draw state = leave_fine state (entry_left id state) (λ after h. record {
   ids = left_ids id state after h;
-  lowers = λ sound quota stands. left_lowers id state after quota sound h;
+  lowers = λ sound quota stands none. left_lowers id state after quota sound h;
 })
 step_fine (SendVoucher id) draw state = send_fine state (voucher_sent id draw state) (λ after row h. record {
   ids = sending_ids id draw state after row h;
-  lowers = λ sound quota stands. as_before (used after quota) (used state quota) (sending_keeps_used id draw state after row sound h quota);
+  lowers = λ sound quota stands none. as_before (used after quota) (used state quota) (sending_keeps_used id draw state after row sound h quota);
 })
 step_fine Periodic draw state = periodic_fine state (periodic_done draw state) (record {
   ids = worked_ids draw state;
-  lowers = worked_lowers draw state;
+  lowers = λ sound quota stands none. worked_lowers draw state sound quota stands;
 })
 step_fine (AddCheckinList new) draw state = checkin_list_fine state (list_added new state) (λ after row h. record {
   ids = list_ids new state after row h;
-  lowers = λ sound quota stands. as_before (used after quota) (used state quota) (list_used new state after row quota h);
+  lowers = λ sound quota stands none. as_before (used after quota) (used state quota) (list_used new state after row quota h);
 })
-step_fine (Redeem list ticket scan) draw state = redeem_fine state (scanned list ticket scan state) (λ after position h. record {
+step_fine (Redeem list ticket scan) draw state = redeem_fine state (λ quota. fills_again (Redeem list ticket scan) state quota) (scanned list ticket scan state) (λ after position h. record {
   ids = scanned_ids list ticket scan state after position h;
-  lowers = λ sound quota stands. as_before (used after quota) (used state quota) (admitted_used list ticket scan state after position quota h);
+  lowers = λ sound quota stands none. scan_lowers list ticket scan state after position sound h quota none;
 })
 
 -- the office's moment is never after the one of a command that comes
@@ -479,7 +482,7 @@ in_range clock state le = by_last state.moment clock last_moment le
     by_last moment clock last le = omega (arith, le)
 
 -- the step of an arrival, from the office at its moment
-fine_at : (arrival : Arrival) (state : State) → (let now : State = record state { moment = moment_at arrival.clock state } in IsFine now (step arrival.command (moment_at arrival.clock state) arrival.draw state) (taken arrival.command arrival.draw now) (is_itself arrival.command) (may_raise arrival.command arrival.draw now))
+fine_at : (arrival : Arrival) (state : State) → (let now : State = record state { moment = moment_at arrival.clock state } in IsFine now (step arrival.command (moment_at arrival.clock state) arrival.draw state) (taken arrival.command arrival.draw now) (is_itself arrival.command) (may_raise arrival.command arrival.draw now) (λ quota. fills_again arrival.command now quota))
 fine_at arrival state = step_fine arrival.command arrival.draw (record state { moment = moment_at arrival.clock state })
 
 pub sound_at : (arrival : Arrival) (state : State) → IsSound state → IsSound (record state { moment = moment_at arrival.clock state })

@@ -29,7 +29,7 @@ use Rattle.bo_commands.specs.declared.replies.Reply.{Reply}
 use Rattle.bo_commands.specs.declared.replies.Reply.TheVariants.{Made, Results, Imported, Refused}
 use Rattle.bo_commands.specs.declared.replies.Shown.TheVariants as rows
 use Rattle.bo_machine.specs.Step.{step, moment_at}
-use Rattle.bo_runs.specs.Takings.{OwnRow, taken, may_raise}
+use Rattle.bo_runs.specs.Takings.{OwnRow, taken, may_raise, fills_again}
 use Rattle.bo_runs.specs.NewIds.{AllIdsGoOn}
 
 -- a command as it comes: with the clock's moment and a draw
@@ -110,11 +110,13 @@ abbrev pub StaysWithin : Stepped → Type 0
 StaysWithin s =
     (own : List OwnRow) → taken s.command s.draw (office_at s) ≡ Some own → list_any (λ r. ignores s.after.lists r.voucher) own ≡ false → TakesNoMore (office_at s) s.after
 
--- any other step raises the usage of no quota that stood before, but for those that may
+-- any other step raises the usage of no quota that stood before, but for those that may, and those that take places of this quota
+-- again that exits set free
 abbrev pub RaisesNothing : Stepped → Type 0
 RaisesNothing s =
     taken s.command s.draw (office_at s) ≡ None → may_raise s.command s.draw (office_at s) ≡ false →
-    (quota : Quota) → quota_at quota.id s.before.lists.catalogue ≡ Some quota → used s.after quota ≤ used (office_at s) quota
+    (quota : Quota) → quota_at quota.id s.before.lists.catalogue ≡ Some quota → fills_again s.command (office_at s) quota ≡ false →
+    used s.after quota ≤ used (office_at s) quota
 
 -- what became of an entry, by what its own step was told
 abbrev pub outcome_told : Reply → Option Outcome

@@ -1,6 +1,7 @@
--- What takes places, and what else may raise how much of a quota is used.
-use Rattle.std.specs.Prelude.{ℕ, Bool, true, false, List, [], ◌∷◌, map, Option, Some, None, Result, Ok, Err, if◌then◌else◌}
+-- What takes places, what else may raise how much of a quota is used, and what takes places again that exits set free.
+use Rattle.std.specs.Prelude.{ℕ, Bool, true, false, ◌&&◌, List, [], ◌∷◌, map, Option, Some, None, Result, Ok, Err, if◌then◌else◌}
 use Rattle.bo_base.specs.declared.draw.Draw.{Draw}
+use Rattle.bo_catalogue.specs.declared.rows.Quota.{Quota}
 use Rattle.bo_lists.specs.declared.rows.CartPos.{CartPos}
 use Rattle.bo_lists.specs.declared.rows.Order.{Order}
 use Rattle.bo_lists.specs.declared.rows.OrderPos.{OrderPos}
@@ -12,6 +13,8 @@ use Rattle.bo_lists.specs.declared.rows.Status.TheVariants.{Expired}
 use Rattle.bo_lists.specs.declared.rows.Voucher.{Voucher}
 use Rattle.bo_lists.specs.declared.rows.Waiting.{Waiting}
 use Rattle.bo_lists.specs.Lists.{Lists, State, order_at}
+use Rattle.bo_lists.specs.Passages.{is_entry}
+use Rattle.bo_lists.specs.Refills.{refills}
 use Rattle.bo_commands.specs.declared.vouchers.VoucherRefusal.{VoucherRefusal}
 use Rattle.bo_vouchers.specs.Made.{voucher_made}
 use Rattle.bo_vouchers.specs.Changed.{voucher_changed}
@@ -20,11 +23,12 @@ use Rattle.bo_commands.specs.declared.orders.Move.TheVariants.{MarkPaid, Extend}
 use Rattle.bo_commands.specs.declared.orders.OrderRefusal.{OrderRefusal}
 use Rattle.bo_orders.specs.Carts.{position_added}
 use Rattle.bo_orders.specs.Created.{order_created}
-use Rattle.bo_orders.specs.Moves.{order_moved}
+use Rattle.bo_orders.specs.declared.moves.Transition.{Transition}
+use Rattle.bo_orders.specs.Moves.{turned, order_moved}
 use Rattle.bo_commands.specs.declared.waiting.WaitingRefusal.{WaitingRefusal}
 use Rattle.bo_waiting.specs.Joined.{entry_joined}
 use Rattle.bo_commands.specs.declared.requests.Command.{Command}
-use Rattle.bo_commands.specs.declared.requests.Command.TheVariants.{AddVoucher, ChangeVoucher, AddCart, AddOrder, MoveOrder, AddWaiting}
+use Rattle.bo_commands.specs.declared.requests.Command.TheVariants.{AddVoucher, ChangeVoucher, AddCart, AddOrder, MoveOrder, AddWaiting, Redeem}
 
 -- a row of a request's own, and the voucher that it names
 pub record OwnRow : Type 0 where
@@ -94,3 +98,19 @@ may_raise (AddVoucher new) draw state = voucher_ignores (voucher_made new draw s
 may_raise (ChangeVoucher id patch) draw state = voucher_ignores (voucher_changed id patch state)
 may_raise (AddWaiting new) draw state = is_joined (entry_joined new state)
 may_raise other draw state = false
+
+-- what the move makes of an order takes places of the quota again
+abbrev pub refills_turned : State → Quota → Order → Option Transition → Bool
+refills_turned state quota old None = false
+refills_turned state quota old (Some turn) = refills state.lists state.moment quota old turn.status
+
+abbrev pub refills_found : State → Quota → Option Order → Move → Bool
+refills_found state quota None change = false
+refills_found state quota (Some old) change = refills_turned state quota old (turned old.status change)
+
+-- What takes places of a quota again that exits set free, though it is no taking: an entry, a payment that is taken back, and a paid
+-- order that ends while a voucher of one who has gone out blocks places. Of a quota that releases places alone.
+abbrev pub fills_again : Command → State → Quota → Bool
+fills_again (Redeem list ticket scan) state quota = quota.release_after_exit && is_entry scan.kind
+fills_again (MoveOrder number change) state quota = refills_found state quota (order_at number state.lists) change
+fills_again other state quota = false

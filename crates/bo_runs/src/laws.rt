@@ -4,6 +4,7 @@
 
 ghost use Rattle.std.specs.Prelude.{◌≡◌, ℕ, true, is_some, List};
 ghost use Rattle.std.specs.List.{AllByRecursion};
+ghost use Rattle.bo_catalogue.specs.declared.rows.Quota.{Quota};
 ghost use Rattle.bo_lists.specs.Lists.{State};
 ghost use Rattle.bo_sound.specs.Sound.{IsSound};
 ghost use Rattle.bo_runs.specs.Changes.{MakesItsChanges};
@@ -17,6 +18,7 @@ ghost use Rattle.bo_lists.specs.declared.rows.OrderPos.{OrderPos};
 ghost use Rattle.bo_commands.specs.declared.doors.Scan.{Scan};
 ghost use Rattle.bo_commands.specs.declared.doors.Ticket.{Ticket};
 ghost use Rattle.bo_commands.specs.declared.replies.Reply.{Reply};
+ghost use Rattle.bo_commands.specs.declared.requests.Command.{Command};
 ghost use Rattle.bo_door.specs.Valid.{IsStillGood};
 ghost use Rattle.bo_base.specs.declared.answer.Response.{Response};
 ghost use Rattle.bo_deliveries.specs.Deliveries.{Delivery, Opening, firsts, office};
@@ -24,6 +26,7 @@ ghost use Rattle.bo_deliveries.specs.Fit.{IsFitDelivery};
 ghost use Rattle.bo_runs.specs.NothingTooMuch.{TakesNothingTooMuch, steps};
 ghost use Rattle.bo_runs.specs.Doors.{HasNoncesOnce, scan_comes, AddsNothing};
 ghost use Rattle.bo_runs.specs.NewIds.{AllIdsGoOn};
+ghost use Rattle.bo_runs.specs.Takings.{fills_again};
 ghost use Rattle.bo_runs.specs.Runs.{Arrival, IsFitArrival, stepped, trace, after_run, Each, NoneOver, StaysWithin, RaisesNothing, RunsItsEntries, GivesNewIds, LeavesSound, StoresItsMoment, ChangesNothingElse, NeverGoesBack};
 
 /// Whatever commands come, where one takes places, no quota is taken too much of: where a cart position is added, an order is
@@ -43,10 +46,13 @@ pub fn takings_stay_within()
 /// Whatever commands come to a sound office, one that takes no places raises the usage of no quota that stood before: a
 /// catalogue's change, what is deleted, what is refused, each move that brings no order back, periodic work, a voucher that is
 /// sent, another priority, and all that is done at the doors. Only making or changing a voucher that then ignores quotas may,
-/// and joining the waiting list.
+/// and joining the waiting list; and, of quotas that release the places of tickets that went out alone, an entry, a payment that is
+/// taken back, and a paid order that ends while a voucher of one who has gone out blocks places.
 pub fn the_rest_raises_nothing()
-    ensures { (arrivals : List Arrival) (state : State) →
+    ensures rest { (arrivals : List Arrival) (state : State) →
         AllByRecursion IsFitArrival arrivals → IsSound state → AllByRecursion (Each RaisesNothing) (trace arrivals state) }
+    ensures again { (command : Command) (state : State) (quota : Quota) →
+        fills_again command state quota ≡ true → quota.release_after_exit ≡ true }
 {}
 
 /// A bulk call of at most 500 entries leaves the office as its entries do, each as a command of its own at the call's moment

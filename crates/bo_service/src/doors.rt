@@ -31,6 +31,7 @@ pub fn add_checkin_list<B: Book>(
 }
 
 /// Checks a ticket in or out.
+#[tactic(auto, using(bo_door::proofs::Places::next_is_new))]
 pub fn redeem<B: Book>(
     book: &B,
     alloc: Global,

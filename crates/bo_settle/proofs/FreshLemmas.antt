@@ -14,8 +14,8 @@ use Rattle.bo_lists.specs.declared.rows.Waiting.{Waiting}
 use Rattle.bo_lists.specs.Conditions.{blocks, hits, is_live_voucher, is_paid, is_pending}
 use Rattle.bo_lists.specs.Kept.{IsKept}
 use Rattle.bo_lists.specs.Lists.{Lists}
-use Rattle.bo_lists.specs.Usage.{blocked_by, cart_counts, position_counts, redeemed, usage_of, waits_for}
-use Rattle.bo_usage.specs.Shares.{blocked_share, cart_share, status_share, waiting_share}
+use Rattle.bo_lists.specs.Usage.{blocked_by, cart_counts, exit_counts, position_counts, redeemed, usage_of, waits_for}
+use Rattle.bo_usage.specs.Shares.{blocked_share, cart_share, exited_share, status_share, waiting_share}
 use Rattle.bo_shifts.specs.Shifts.{block_shift, map_beside, moved, only}
 use Rattle.bo_shifts.proofs.OfProducts.{either}
 use Rattle.bo_shifts.proofs.ShiftLemmas.{map_beside_map}
@@ -104,6 +104,9 @@ module _ (lists : Lists) (at : ℕ) (q : Quota) where
   abbrev of_status : (Status → Bool) → OrderPos → ℕ
   of_status test p = status_share test lists q (Some p)
 
+  abbrev of_exit : OrderPos → ℕ
+  of_exit p = exited_share lists q (Some p)
+
   abbrev of_cart : CartPos → ℕ
   of_cart c = cart_share lists at q (Some c)
 
@@ -117,6 +120,14 @@ module _ (lists : Lists) (at : ℕ) (q : Quota) where
   no_status : (test : Status → Bool) → status_share test lists q None ≡ 0
   unfolding status_share
   no_status test = refl
+
+  exit_one : (p : OrderPos) → of_exit p ≤ 1
+  unfolding exited_share
+  exit_one p = at_most_one (exit_counts lists q p)
+
+  no_exit : exited_share lists q None ≡ 0
+  unfolding exited_share
+  no_exit = refl
 
   cart_one : (c : CartPos) → of_cart c ≤ 1
   unfolding cart_share
@@ -134,19 +145,22 @@ module _ (lists : Lists) (at : ℕ) (q : Quota) where
   unfolding waiting_share
   no_entry = refl
 
-  positions_sum : (rows : List OrderPos) (u : Usage) → u.paid + length rows ≤ 18446744073709551615 → u.pending + length rows ≤ 18446744073709551615
-      → after_each (position_comes lists) rows q u ≡ record u { paid = u.paid + sum_by (of_status is_paid) rows; pending = u.pending + sum_by (of_status is_pending) rows }
-  positions_sum [] u a b =
+  positions_sum : (rows : List OrderPos) (u : Usage) → u.paid + length rows ≤ 18446744073709551615 → u.pending + length rows ≤ 18446744073709551615 → u.exited + length rows ≤ 18446744073709551615
+      → after_each (position_comes lists) rows q u ≡ record u { paid = u.paid + sum_by (of_status is_paid) rows; pending = u.pending + sum_by (of_status is_pending) rows; exited = u.exited + sum_by of_exit rows }
+  positions_sum [] u a b e =
       let paid : u.paid ≡ u.paid + sum_by (of_status is_paid) [] = omega arith in
       let pending : u.pending ≡ u.pending + sum_by (of_status is_pending) [] = omega arith in
-      λ i. record u { paid = paid i; pending = pending i }
-  positions_sum (p ∷ ps) u a b =
+      let exited : u.exited ≡ u.exited + sum_by of_exit [] = omega arith in
+      λ i. record u { paid = paid i; pending = pending i; exited = exited i }
+  positions_sum (p ∷ ps) u a b e =
       let v : Usage = position_comes lists p q u in
       let paid_is : v.paid ≡ u.paid + of_status is_paid p = omega (arith, a, status_one is_paid p, no_status is_paid) in
       let pending_is : v.pending ≡ u.pending + of_status is_pending p = omega (arith, b, status_one is_pending p, no_status is_pending) in
+      let exited_is : v.exited ≡ u.exited + of_exit p = omega (arith, e, exit_one p, no_exit) in
       let paid : v.paid + sum_by (of_status is_paid) ps ≡ u.paid + sum_by (of_status is_paid) (p ∷ ps) = omega (arith, paid_is, sum_by-cons (of_status is_paid) p ps) in
       let pending : v.pending + sum_by (of_status is_pending) ps ≡ u.pending + sum_by (of_status is_pending) (p ∷ ps) = omega (arith, pending_is, sum_by-cons (of_status is_pending) p ps) in
-      positions_sum ps v (omega (arith, paid_is, a, status_one is_paid p)) (omega (arith, pending_is, b, status_one is_pending p)) ∙ (λ i. record u { paid = paid i; pending = pending i })
+      let exited : v.exited + sum_by of_exit ps ≡ u.exited + sum_by of_exit (p ∷ ps) = omega (arith, exited_is, sum_by-cons of_exit p ps) in
+      positions_sum ps v (omega (arith, paid_is, a, status_one is_paid p)) (omega (arith, pending_is, b, status_one is_pending p)) (omega (arith, exited_is, e, exit_one p)) ∙ (λ i. record u { paid = paid i; pending = pending i; exited = exited i })
 
   carts_sum : (rows : List CartPos) (u : Usage) → u.carts + length rows ≤ 18446744073709551615 → after_each (cart_comes lists at) rows q u ≡ record u { carts = u.carts + sum_by of_cart rows }
   carts_sum [] u a =
@@ -189,29 +203,30 @@ module _ (lists : Lists) (at : ℕ) (q : Quota) where
     blocked = sum_by (blocked_by lists at q) lists.vouchers;
     carts = sum_by of_cart lists.carts;
     waiting = sum_by of_entry lists.waiting;
+    exited = sum_by of_exit lists.positions;
   }
 
   counted_is : all_counted ≡ usage_of lists at q
-  unfolding status_share cart_share waiting_share usage_of
+  unfolding status_share exited_share cart_share waiting_share usage_of
   counted_is = refl
 
-  from_none : (a b c d e : ℕ) → ◌≡◌ {A = Usage} (record { paid = 0 + a; pending = 0 + b; blocked = 0 + c; carts = 0 + d; waiting = 0 + e }) (record { paid = a; pending = b; blocked = c; carts = d; waiting = e })
-  from_none a b c d e =
+  from_none : (a b c d e f : ℕ) → ◌≡◌ {A = Usage} (record { paid = 0 + a; pending = 0 + b; blocked = 0 + c; carts = 0 + d; waiting = 0 + e; exited = 0 + f }) (record { paid = a; pending = b; blocked = c; carts = d; waiting = e; exited = f })
+  from_none a b c d e f =
       let none : (n : ℕ) → 0 + n ≡ n = λ n. omega arith in
-      λ i. record { paid = none a i; pending = none b i; blocked = none c i; carts = none d i; waiting = none e i }
+      λ i. record { paid = none a i; pending = none b i; blocked = none c i; carts = none d i; waiting = none e i; exited = none f i }
 
   -- all rows, one after another, are the usage
   all_come : IsKept 4294967296 lists → AreSmall lists
       → after_each entry_comes lists.waiting q (after_each (cart_comes lists at) lists.carts q (after_each (voucher_comes lists at) lists.vouchers q (after_each (position_comes lists) lists.positions q nothing))) ≡ usage_of lists at q
   all_come kept small =
-      let u : Usage = record nothing { paid = 0 + sum_by (of_status is_paid) lists.positions; pending = 0 + sum_by (of_status is_pending) lists.positions } in
+      let u : Usage = record nothing { paid = 0 + sum_by (of_status is_paid) lists.positions; pending = 0 + sum_by (of_status is_pending) lists.positions; exited = 0 + sum_by of_exit lists.positions } in
       let v : Usage = record u { blocked = 0 + sum_by (blocked_by lists at q) lists.vouchers } in
       let w : Usage = record v { carts = 0 + sum_by of_cart lists.carts } in
-      ap (λ (x : Usage). after_each entry_comes lists.waiting q (after_each (cart_comes lists at) lists.carts q (after_each (voucher_comes lists at) lists.vouchers q x))) (positions_sum lists.positions nothing (omega (arith, kept.positions.few)) (omega (arith, kept.positions.few)))
+      ap (λ (x : Usage). after_each entry_comes lists.waiting q (after_each (cart_comes lists at) lists.carts q (after_each (voucher_comes lists at) lists.vouchers q x))) (positions_sum lists.positions nothing (omega (arith, kept.positions.few)) (omega (arith, kept.positions.few)) (omega (arith, kept.positions.few)))
       ∙ ap (λ (x : Usage). after_each entry_comes lists.waiting q (after_each (cart_comes lists at) lists.carts q x)) (vouchers_sum lists.vouchers u (omega (arith, blocked_few lists at q lists.vouchers small, kept.vouchers.few)))
       ∙ ap (λ (x : Usage). after_each entry_comes lists.waiting q x) (carts_sum lists.carts v (omega (arith, kept.carts.few)))
       ∙ entries_sum lists.waiting w (omega (arith, kept.waiting.few))
-      ∙ from_none (sum_by (of_status is_paid) lists.positions) (sum_by (of_status is_pending) lists.positions) (sum_by (blocked_by lists at q) lists.vouchers) (sum_by of_cart lists.carts) (sum_by of_entry lists.waiting)
+      ∙ from_none (sum_by (of_status is_paid) lists.positions) (sum_by (of_status is_pending) lists.positions) (sum_by (blocked_by lists at q) lists.vouchers) (sum_by of_cart lists.carts) (sum_by of_entry lists.waiting) (sum_by of_exit lists.positions)
       ∙ counted_is
 
 -- of each quota

@@ -16,7 +16,9 @@ use bo_shifts::shift::{Shift, moved};
 use bo_shifts::touched::{shift_hit, shift_product};
 use bo_shifts::turns::{redeemed_in, vouchers};
 use bo_store::Store;
-use bo_usage::rules::{blocked_share, cart_share, paid_share, pending_share, waiting_share};
+use bo_usage::rules::{
+    blocked_share, cart_share, exited_share, paid_share, pending_share, waiting_share,
+};
 
 const NOTHING: Usage = Usage {
     paid: 0,
@@ -24,6 +26,7 @@ const NOTHING: Usage = Usage {
     blocked: 0,
     carts: 0,
     waiting: 0,
+    exited: 0,
 };
 
 // An order position comes.
@@ -49,6 +52,11 @@ impl<'s> Shift for PositionComes<'s> {
                 usage.pending,
                 pending_share(self.store, quota, Some(self.row)),
                 pending_share(self.store, quota, None),
+            ),
+            exited: moved(
+                usage.exited,
+                exited_share(self.store, quota, Some(self.row)),
+                exited_share(self.store, quota, None),
             ),
             ..usage
         }
@@ -176,7 +184,7 @@ fn add_voucher<'s>(
     shift_hit(store.catalogue(), usages, row, &shift);
 }
 
-// Adds what these order positions count, of paid orders and of pending ones.
+// Adds what these order positions count: of paid orders, of pending ones, and where they have gone out.
 fn add_positions(store: &Store, usages: &mut Vec<Usage>, rows: &[OrderPos])
     requires { length usages.old.items ≡ length store.now.state.lists.catalogue.quotas }
     ensures items { usages.new.items ≡ map_beside (after_each (position_comes store.now.state.lists) rows.now) store.now.state.lists.catalogue.quotas usages.old.items }

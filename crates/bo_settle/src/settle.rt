@@ -32,6 +32,7 @@ const NOTHING: Usage = Usage {
     blocked: 0,
     carts: 0,
     waiting: 0,
+    exited: 0,
 };
 
 // Puts each of these counts beside its quota.

@@ -5,4 +5,5 @@ mod Reached
 pub mod UseShifts
 mod UseCounts
 mod Unsold
+mod Releases
 pub mod Logs

@@ -127,7 +127,7 @@ absent_before n (x ∷ xs) zero d h lt = refl
 absent_before n (x ∷ xs) (suc i) d h lt = grind (arith, nat_tests, at_least (λ n. n) (x + 1) xs h.1 i d (omega arith), absent_before (x + 1) xs i d h.1 (omega arith))
 
 none_before : (u : Usage) → plus nothing u ≡ u
-none_before u = same_usage (plus nothing u) u (omega arith) (omega arith) (omega arith) (omega arith) (omega arith)
+none_before u = same_usage (plus nothing u) u (omega arith) (omega arith) (omega arith) (omega arith) (omega arith) (omega arith)
 
 -- one more id is among those that were reached
 among_more : (ids : List ℕ) (i d : ℕ) (f : Quota → Usage) → AreInOrder (λ n. n) ids → i < length ids → (q : Quota) → among (take (i + 1) ids) f q ≡ plus (among (take i ids) f q) (at_id (get_or ids i d) f q)

@@ -26,27 +26,31 @@ if_more_uses u v true = refl
 if_more_uses u v false = sym (alone_uses u)
 
 -- an order without positions counts nothing
-pub none_ordered : (order other : Option Order) → order_counts order other 0 0 ≡ nothing
+pub none_ordered : (order other : Option Order) → order_counts order other 0 0 0 ≡ nothing
 none_ordered order other =
-    same_usage (order_counts order other 0 0) nothing (none_if (stands_as is_paid order)) (none_if (stands_as is_pending order)) (none_if (stands_as is_in_force other && not (stands_as is_in_force order))) refl refl
+    same_usage (order_counts order other 0 0 0) nothing (none_if (stands_as is_paid order)) (none_if (stands_as is_pending order)) (none_if (stands_as is_in_force other && not (stands_as is_in_force order))) refl refl (none_if (stands_as is_paid order))
   where
     none_if : (b : Bool) → ◌≡◌ {A = ℕ} (if b then 0 else 0) 0
     none_if true = refl
     none_if false = refl
 
+pub same_counts : (order other : Option Order) {here here' covered covered' released released' : ℕ} → here ≡ here' → covered ≡ covered' → released ≡ released' → order_counts order other here covered released ≡ order_counts order other here' covered' released'
+same_counts order other {here} {here'} {covered} {covered'} {released} {released'} a b c =
+    ap (λ n. order_counts order other n covered released) a ∙ ap (λ n. order_counts order other here' n released) b ∙ ap (order_counts order other here' covered') c
+
 -- nor does a place that isn't there
-pub none_sold : (paid pending : Bool) → sold_as paid pending false ≡ nothing
-none_sold true true = refl
-none_sold true false = refl
-none_sold false true = refl
-none_sold false false = refl
+pub none_sold : (paid pending released : Bool) → sold_as paid pending false released ≡ nothing
+none_sold true true released = refl
+none_sold true false released = refl
+none_sold false true released = refl
+none_sold false false released = refl
 
 -- nor does one whose order is in force no more
-pub ended_sold : (order : Option Order) (here : Bool) → stands_as is_in_force order ≡ false → nothing ≡ sold_as (stands_as is_paid order) (stands_as is_pending order) here
-ended_sold None here ended = refl
-ended_sold (Some order) here ended = by_status order.status ended
+pub ended_sold : (order : Option Order) (here released : Bool) → stands_as is_in_force order ≡ false → nothing ≡ sold_as (stands_as is_paid order) (stands_as is_pending order) here released
+ended_sold None here released ended = refl
+ended_sold (Some order) here released ended = by_status order.status ended
   where
-    by_status : (s : Status) → is_in_force s ≡ false → nothing ≡ sold_as (is_paid s) (is_pending s) here
+    by_status : (s : Status) → is_in_force s ≡ false → nothing ≡ sold_as (is_paid s) (is_pending s) here released
     by_status Pending e = absurd (cc e)
     by_status Paid e = absurd (cc e)
     by_status Expired e = refl

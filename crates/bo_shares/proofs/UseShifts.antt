@@ -2,7 +2,7 @@
 use mathlib.Core.Bool.{beq}
 use Rattle.std.proofs.Common.{◌≡◌, ℕ, ◌+◌, Bool, true, false, ◌&&◌, Option, None, Some, refl, sym, ap, ◌∙◌, arith}
 use Rattle.std.specs.Prelude.{if◌then◌else◌, not}
-use Rattle.bo_sorted.specs.Tables.{sum_at, AreInOrder}
+use Rattle.bo_sorted.specs.Tables.{sum_at}
 use Rattle.bo_sorted.proofs.Edits.{sum_by-with_row, sum_by-without_row}
 use Rattle.bo_lists.specs.declared.rows.CartPos.{CartPos}
 use Rattle.bo_lists.specs.declared.rows.Order.{Order}
@@ -13,10 +13,9 @@ use Rattle.bo_lists.specs.declared.changes.Change.{Change}
 use Rattle.bo_lists.specs.declared.changes.Change.TheVariants.{PutItem, PutVariation, PutQuota, PutVoucher, PutCart, PutOrder, PutPosition, PutWaiting, DropVoucher, DropCart, DropWaiting, PutCheckinList, PutCheckin}
 use Rattle.bo_lists.specs.Change.{after_change}
 use Rattle.bo_lists.specs.Kept.{IsKept}
-use Rattle.bo_lists.specs.Lists.{Lists, cart_at, order_at, position_at}
+use Rattle.bo_lists.specs.Lists.{Lists, cart_at, order_at}
 use Rattle.bo_lists.specs.Conditions.{is_paid, is_pending, is_in_force, is_live_cart, names, holds}
 use Rattle.bo_lists.specs.Usage.{redeemed, stands_as, uses}
-use Rattle.bo_lists.specs.Headroom.{held}
 use Rattle.bo_lists.proofs.Time.{one}
 use Rattle.bo_overlay.specs.Logs.{IsSale}
 use Rattle.bo_usage.specs.OfOrder.{count_ordered}

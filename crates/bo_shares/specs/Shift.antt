@@ -10,15 +10,16 @@ use Rattle.bo_lists.specs.declared.rows.Order.{Order}
 use Rattle.bo_lists.specs.declared.rows.OrderPos.{OrderPos}
 use Rattle.bo_lists.specs.declared.rows.Usage.{Usage}
 use Rattle.bo_lists.specs.declared.changes.Change.{Change}
-use Rattle.bo_lists.specs.declared.changes.Change.TheVariants.{PutVoucher, PutCart, PutOrder, PutPosition, PutWaiting, DropVoucher, DropCart, DropWaiting}
+use Rattle.bo_lists.specs.declared.changes.Change.TheVariants.{PutVoucher, PutCart, PutOrder, PutPosition, PutWaiting, DropVoucher, DropCart, DropWaiting, PutCheckin}
 use Rattle.bo_lists.specs.Conditions.{is_paid, is_pending, is_in_force}
-use Rattle.bo_lists.specs.Lists.{Lists, voucher_at, cart_at, order_at, waiting_at}
-use Rattle.bo_lists.specs.Usage.{redeemed, stands_as, blocks_if, is_covered_by}
+use Rattle.bo_lists.specs.Change.{after_change}
+use Rattle.bo_lists.specs.Lists.{Lists, voucher_at, cart_at, order_at, position_at, waiting_at}
+use Rattle.bo_lists.specs.Usage.{redeemed, stands_as, blocks_if, is_covered_by, is_released}
 use Rattle.bo_lists.specs.Headroom.{held_in}
 use Rattle.bo_overlay.specs.declared.purchases.Purchase.{Purchase}
 use Rattle.bo_tally.specs.Amounts.{nothing}
 use Rattle.bo_usage.specs.OfOrder.{count_ordered, if_stands}
-use Rattle.bo_usage.specs.Shares.{cart_share, waiting_share}
+use Rattle.bo_usage.specs.Shares.{cart_share, waiting_share, exited_share}
 use Rattle.bo_overlay.specs.Purchases.{ArePurchasesOf}
 
 -- one, where it is so
@@ -29,9 +30,17 @@ once b = if b then 1 else 0
 abbrev pub spot_share : ℕ → Quota → Product → Option Voucher → ℕ
 spot_share at quota product voucher = once (is_in quota product && not (blocks_if at quota voucher))
 
+-- a place of a product is in the quota and set free there, where its ticket has gone out
+abbrev pub is_free_in : Quota → Product → Bool → Bool
+is_free_in quota product out = is_in quota product && (quota.release_after_exit && out)
+
 -- its positions in the quota
 abbrev pub ordered_in : Lists → Quota → ℕ → ℕ
 ordered_in lists quota id = count_ordered id (λ p. is_in quota p.product) lists
+
+-- its positions in the quota that are released there
+abbrev pub released_in : Lists → Quota → ℕ → ℕ
+released_in lists quota id = count_ordered id (λ p. is_in quota p.product && is_released lists quota p) lists
 
 -- its positions whose vouchers block places of the quota
 abbrev pub ordered_covered : Lists → ℕ → Quota → ℕ → ℕ
@@ -53,17 +62,19 @@ voucher_counts blocks other left held = record nothing { blocked = if blocks the
 abbrev pub voucher_side : Lists → ℕ → Quota → ℕ → Option Voucher → Option Voucher → Usage
 voucher_side lists at quota id voucher other = voucher_counts (blocks_if at quota voucher) (blocks_if at quota other) (left_of (redeemed id lists) voucher) (held_in at quota id lists)
 
--- so many places of an order, by its status; and those that vouchers block again, where the other one was in force and it isn't
-abbrev pub order_counts : Option Order → Option Order → ℕ → ℕ → Usage
-order_counts order other here covered = record nothing {
+-- so many places of an order, by its status, and so many that are released, where it is paid; and those that vouchers block again,
+-- where the other one was in force and it isn't
+abbrev pub order_counts : Option Order → Option Order → ℕ → ℕ → ℕ → Usage
+order_counts order other here covered released = record nothing {
   paid = if_stands is_paid order here;
   pending = if_stands is_pending order here;
   blocked = if stands_as is_in_force other && not (stands_as is_in_force order) then covered else 0;
+  exited = if_stands is_paid order released;
 }
 
 -- what counts with an order of this id, where another one or none goes
 abbrev pub order_side : Lists → ℕ → Quota → ℕ → Option Order → Option Order → Usage
-order_side lists at quota id order other = order_counts order other (ordered_in lists quota id) (ordered_covered lists at quota id)
+order_side lists at quota id order other = order_counts order other (ordered_in lists quota id) (ordered_covered lists at quota id) (released_in lists quota id)
 
 -- an order stands there that counts the same: paid as this one, and pending as this one
 abbrev pub keeps_status : Order → Option Order → Bool
@@ -79,13 +90,13 @@ abbrev pub AreTurned : Change → Lists → List Purchase → Type 0
 AreTurned (PutOrder row) lists purchases = keeps_status row (order_at row.id lists) ≡ false → ArePurchasesOf row.id lists purchases
 AreTurned _ lists purchases = Unit {0}
 
--- a place that is sold counts once, as paid or as pending
-abbrev pub sold_as : Bool → Bool → Bool → Usage
-sold_as paid pending here = record nothing { paid = once (paid && here); pending = once (pending && here) }
+-- a place that is sold counts once, as paid or as pending; and as one that is released, where it is paid
+abbrev pub sold_as : Bool → Bool → Bool → Bool → Usage
+sold_as paid pending here released = record nothing { paid = once (paid && here); pending = once (pending && here); exited = once (paid && (here && released)) }
 
 -- a new order position counts by the status of its order
 abbrev pub sale_come : Lists → OrderPos → Quota → Usage
-sale_come lists row quota = sold_as (stands_as is_paid (order_at row.order lists)) (stands_as is_pending (order_at row.order lists)) (is_in quota row.product)
+sale_come lists row quota = sold_as (stands_as is_paid (order_at row.order lists)) (stands_as is_pending (order_at row.order lists)) (is_in quota row.product) (is_released lists quota row)
 
 -- and takes a place that its voucher blocked, where its order is in force
 abbrev pub sale_gone : Lists → ℕ → OrderPos → Quota → Usage
@@ -99,6 +110,7 @@ come_of lists at (PutCart row) quota = placed false (cart_share lists at quota (
 come_of lists at (PutOrder row) quota = unless_kept (keeps_status row (order_at row.id lists)) (order_side lists at quota row.id (Some row) (order_at row.id lists))
 come_of lists at (PutPosition row) quota = sale_come lists row quota
 come_of lists at (PutWaiting row) quota = placed true (waiting_share quota (Some row))
+come_of lists at (PutCheckin row) quota = record nothing { exited = exited_share (after_change (PutCheckin row) lists) quota (position_at row.position lists) }
 come_of lists at _ quota = nothing
 
 -- what goes
@@ -111,4 +123,5 @@ gone_of lists at (PutOrder row) quota = unless_kept (keeps_status row (order_at 
 gone_of lists at (PutPosition row) quota = sale_gone lists at row quota
 gone_of lists at (PutWaiting row) quota = placed true (waiting_share quota (waiting_at row.id lists))
 gone_of lists at (DropWaiting id) quota = placed true (waiting_share quota (waiting_at id lists))
+gone_of lists at (PutCheckin row) quota = record nothing { exited = exited_share lists quota (position_at row.position lists) }
 gone_of lists at _ quota = nothing

@@ -1,5 +1,5 @@
 -- The uses of vouchers, and how many of them come and go with a change.
-use Rattle.std.specs.Prelude.{ℕ, Bool, ◌&&◌, not, Option, Some, None, if◌then◌else◌}
+use Rattle.std.specs.Prelude.{ℕ, Bool, ◌&&◌, not, Option, Some, if◌then◌else◌}
 use Rattle.bo_lists.specs.declared.changes.Change.{Change}
 use Rattle.bo_lists.specs.declared.changes.Change.TheVariants.{PutCart, PutOrder, PutPosition, DropCart}
 use Rattle.bo_lists.specs.declared.rows.Order.{Order}

@@ -9,8 +9,9 @@ ghost use Rattle.bo_lists.specs.Usage.{is_covered_by, blocks_if};
 ghost use Rattle.bo_overlay.specs.Logs.{rows_of};
 ghost use Rattle.bo_shares.specs.Counts.{IsMore};
 ghost use Rattle.bo_shares.specs.Touched.{NoOther, NoneElse, Keeps};
-ghost use Rattle.bo_shares.specs.Shift.{come_of, gone_of, order_counts, keeps_status, AreTurned};
+ghost use Rattle.bo_shares.specs.Shift.{come_of, gone_of, is_free_in, order_counts, keeps_status, AreTurned};
 
+use crate::checkins::is_free_in;
 use crate::share::{Share, Shares, count_each};
 use crate::shift::{Spot, voucher_of};
 use crate::touched::{touch_product, touch_voucher};
@@ -33,16 +34,17 @@ struct OrderTurn<'o> {
 }
 
 impl<'o> Share for OrderTurn<'o> {
-    ghost come = { λ t q. order_counts (Some t.come.now) (option_copied t.gone) (count_by (λ s. is_in q s.product) t.spots.items) (count_by (λ s. blocks_if t.at q (option_copied s.voucher)) t.spots.items) };
+    ghost come = { λ t q. order_counts (Some t.come.now) (option_copied t.gone) (count_by (λ s. is_in q s.product) t.spots.items) (count_by (λ s. blocks_if t.at q (option_copied s.voucher)) t.spots.items) (count_by (λ s. is_free_in q s.product s.out) t.spots.items) };
 
-    ghost gone = { λ t q. order_counts (option_copied t.gone) (Some t.come.now) (count_by (λ s. is_in q s.product) t.spots.items) (count_by (λ s. blocks_if t.at q (option_copied s.voucher)) t.spots.items) };
+    ghost gone = { λ t q. order_counts (option_copied t.gone) (Some t.come.now) (count_by (λ s. is_in q s.product) t.spots.items) (count_by (λ s. blocks_if t.at q (option_copied s.voucher)) t.spots.items) (count_by (λ s. is_free_in q s.product s.out) t.spots.items) };
 
     fn shares(&self, quota: &Quota) -> Shares {
         let here = count_here(quota, &self.spots);
         let covered = count_covered(self.at, quota, &self.spots);
+        let released = count_released(quota, &self.spots);
         Shares {
-            come: order_counts(Some(self.come), self.gone, here, covered),
-            gone: order_counts(self.gone, Some(self.come), here, covered),
+            come: order_counts(Some(self.come), self.gone, here, covered, released),
+            gone: order_counts(self.gone, Some(self.come), here, covered, released),
         }
     }
 
@@ -57,15 +59,22 @@ impl<'o> Share for OrderTurn<'o> {
     }
 }
 
-// So many places of an order, by its status; and those that vouchers block again, where the other one was in force and it
-// isn't.
-fn order_counts(order: Option<&Order>, other: Option<&Order>, here: u64, covered: u64) -> Usage
-    ensures { result ≡ order_counts (option_copied order.entry) (option_copied other.entry) here covered }
+// So many places of an order, by its status, and so many that are released, where it is paid; and those that vouchers block
+// again, where the other one was in force and it isn't.
+fn order_counts(
+    order: Option<&Order>,
+    other: Option<&Order>,
+    here: u64,
+    covered: u64,
+    released: u64,
+) -> Usage
+    ensures { result ≡ order_counts (option_copied order.entry) (option_copied other.entry) here covered released }
 {
     Usage {
         paid: count_if(is_paid(order), here),
         pending: count_if(is_pending(order), here),
         blocked: count_if(is_in_force(other) && !is_in_force(order), covered),
+        exited: count_if(is_paid(order), released),
         ..Usage::none()
     }
 }
@@ -119,14 +128,26 @@ fn count_covered(at: Moment, quota: &Quota, spots: &[Spot<'_>]) -> u64
         .count() as u64
 }
 
+// How many of them are for products of the quota, and released there.
+fn count_released(quota: &Quota, spots: &[Spot<'_>]) -> u64
+    ensures { result ≡ count_by (λ s. is_free_in quota.now s.product s.out) spots.now }
+{
+    spots
+        .iter()
+        .filter(|s| is_free_in(quota, s.product, s.out))
+        .count() as u64
+}
+
 // The place of a purchase, with its voucher.
 fn spot_of<'o, B: Book>(overlay: &'o Overlay<'_, B>, purchase: &Purchase) -> Spot<'o>
     ensures product { result.product ≡ purchase.now.product }
+    ensures out { result.out ≡ purchase.now.out }
     ensures covered { (q : Quota) → (at : ℕ) → blocks_if at q (option_copied result.voucher) ≡ is_covered_by (rows_of overlay.now) at q purchase.now.voucher }
 {
     Spot {
         product: purchase.product,
         voucher: voucher_of(overlay, purchase.voucher),
+        out: purchase.out,
     }
 }
 
@@ -138,6 +159,7 @@ fn spots_of<'o, B: Book>(
 ) -> Result<Vec<Spot<'o>>, AllocError>
     ensures here { IfOk result (λ spots. (q : Quota) → count_by (λ s. is_in q s.product) spots.items ≡ count_by (λ t. is_in q t.product) purchases.now) }
     ensures covered { IfOk result (λ spots. (q : Quota) → (at : ℕ) → count_by (λ s. blocks_if at q (option_copied s.voucher)) spots.items ≡ count_by (λ t. is_covered_by (rows_of overlay.now) at q t.voucher) purchases.now) }
+    ensures released { IfOk result (λ spots. (q : Quota) → count_by (λ s. is_free_in q s.product s.out) spots.items ≡ count_by (λ t. is_free_in q t.product t.out) purchases.now) }
 {
     let mut spots = Vec::new(alloc);
     for purchase in purchases {

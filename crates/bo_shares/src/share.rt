@@ -12,7 +12,7 @@ ghost use Rattle.bo_shares.specs.Touched.{NoneElse, Keeps, among, at_id};
 use bo_catalogue::Quota;
 use bo_lists::Usage;
 use bo_sorted::{Ids, place_of};
-use bo_tally::Tally;
+use bo_tally::{Amount, Tally};
 use bo_usage::Catalogue;
 use std::alloc::{AllocError, Global};
 
@@ -117,9 +117,9 @@ fn count_one(counts: &mut Tally<Usage>, place: u64, shares: Shares) -> Result<()
     counts.add(place, shares.come, shares.gone)
 }
 
-// Whether it is no place at all.
+// Whether it is none of each count.
 fn is_nothing(usage: Usage) -> bool
     ensures { result ≡ true → usage ≡ nothing }
 {
-    usage.total() == 0
+    usage == Usage::none()
 }

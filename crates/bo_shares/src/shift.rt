@@ -1,6 +1,6 @@
 //! What a change of one row brings to each count of the quotas, and what it takes.
 
-ghost use Rattle.std.specs.Prelude.{◌≡◌, ◌-◌, ℕ, IfOk, OnOk, OnErr, length, count_by, false, true, Some};
+ghost use Rattle.std.specs.Prelude.{◌≡◌, ◌-◌, ◌&&◌, ℕ, IfOk, OnOk, OnErr, length, count_by, false, true, Some};
 ghost use Rattle.std.specs.Option.{option_copied};
 ghost use Rattle.bo_sorted.specs.Tables.{sum_at};
 ghost use Rattle.bo_catalogue.specs.declared.rows.Quota.{Quota};
@@ -10,13 +10,14 @@ ghost use Rattle.bo_lists.specs.Change.{after_change};
 ghost use Rattle.bo_lists.specs.Headroom.{held_in};
 ghost use Rattle.bo_lists.specs.Lists.{voucher_at, cart_at, order_at, waiting_at};
 ghost use Rattle.bo_lists.specs.Usage.{redeemed, is_covered_by, blocks_if};
-ghost use Rattle.bo_overlay.specs.Logs.{rows_of};
+ghost use Rattle.bo_overlay.specs.Logs.{rows_of, IsSale};
 ghost use Rattle.bo_usage.specs.Shares.{cart_share, waiting_share};
 ghost use Rattle.bo_tally.specs.Amounts.{nothing};
 ghost use Rattle.bo_shares.specs.Counts.{IsMore, if_any};
 ghost use Rattle.bo_shares.specs.Touched.{NoOther, NoneElse, Keeps};
 ghost use Rattle.bo_shares.specs.Shift.{come_of, gone_of, once, spot_share, placed, sold_as, sale_come, sale_gone, left_of, voucher_counts, voucher_side, order_counts, keeps_status, AreTurned};
 
+use crate::checkins::with_checkin;
 use crate::orders::with_order;
 use crate::share::{Share, Shares, count_each};
 use crate::touched::{touch_product, touch_voucher};
@@ -26,7 +27,7 @@ use bo_lists::{CartPos, Change, Order, OrderPos, Usage, Voucher, Waiting};
 use bo_overlay::{Overlay, Purchase, count_if};
 use bo_tally::{Amount, Tally};
 use bo_usage::rules::{self, blocks, is_in_force, is_paid, is_pending};
-use bo_usage::{Book, Catalogue, LookUps};
+use bo_usage::{Book, Catalogue, Exits, LookUps};
 use std::alloc::{AllocError, Global};
 
 /// Adds what a change brings to the quotas and takes from them to the counts. Where there is no memory for it, they are as
@@ -41,6 +42,7 @@ pub fn count_change<B: Book>(
     change: &Change,
     purchases: &[Purchase],
 ) -> Result<(), AllocError>
+    requires sale { IsSale change.now (rows_of overlay.now) }
     requires turned { AreTurned change.now (rows_of overlay.now) purchases.now }
     ensures more { OnOk result (IsMore (come_of (rows_of overlay.now) at change.now) (gone_of (rows_of overlay.now) at change.now) catalogue.now.lists.quotas counts.old counts.new) }
     ensures err { OnErr result (counts.new ≡ counts.old) }
@@ -70,15 +72,17 @@ pub fn count_change<B: Book>(
         Change::DropWaiting(id) => with_waiting(overlay, alloc, at, catalogue, counts, *id, None),
         Change::PutOrder(row) => with_order(overlay, alloc, at, catalogue, counts, row, purchases),
         Change::PutPosition(row) => with_position(overlay, alloc, at, catalogue, counts, row),
+        Change::PutCheckin(row) => with_checkin(overlay, alloc, at, catalogue, counts, row),
         _ => Ok(()),
     }
 }
 
-/// A place for a product, which counts in its quotas but where the voucher blocks places.
+/// A place for a product, which counts in its quotas but where the voucher blocks places. Its ticket may have gone out.
 #[derive(Drop)]
 pub struct Spot<'s> {
     pub product: Product,
     pub voucher: Option<&'s Voucher>,
+    pub out: bool,
 }
 
 impl<'s> Spot<'s> {
@@ -195,6 +199,7 @@ fn cart_spot<'o, B: Book>(
                 Some(Spot {
                     product: cart.product,
                     voucher: voucher_of(overlay, cart.voucher),
+                    out: false,
                 })
             } else {
                 None
@@ -244,6 +249,7 @@ fn waiting_spot<'s>(at: Moment, entry: Option<&Waiting>) -> Option<Spot<'s>>
             None => Some(Spot {
                 product: entry.product,
                 voucher: None,
+                out: false,
             }),
         },
     }
@@ -278,25 +284,31 @@ fn with_waiting<B: Book>(
     )
 }
 
-// A place that is sold, as paid or as pending, and the one that its voucher may have blocked.
+// A place that is sold, as paid or as pending, whose ticket may have gone out; and the one that its voucher may have blocked.
 #[derive(Drop)]
 struct Sale<'s> {
     at: Moment,
     paid: bool,
     pending: bool,
+    out: bool,
     product: Product,
     voucher: Option<&'s Voucher>,
 }
 
 impl<'s> Share for Sale<'s> {
-    ghost come = { λ s q. sold_as s.paid s.pending (is_in q s.product) };
+    ghost come = { λ s q. sold_as s.paid s.pending (is_in q s.product) (q.release_after_exit && s.out) };
 
     ghost gone = { λ s q. record nothing { blocked = once (blocks_if s.at q (option_copied s.voucher)) } };
 
     fn shares(&self, quota: &Quota) -> Shares {
         let here = quota.has(self.product);
         Shares {
-            come: sold_as(self.paid, self.pending, here),
+            come: sold_as(
+                self.paid,
+                self.pending,
+                here,
+                quota.release_after_exit && self.out,
+            ),
             gone: Usage {
                 blocked: u64::from(blocks(self.at, quota, self.voucher)),
                 ..Usage::none()
@@ -316,13 +328,14 @@ impl<'s> Share for Sale<'s> {
     }
 }
 
-// A place that is sold counts once.
-fn sold_as(paid: bool, pending: bool, here: bool) -> Usage
-    ensures { result ≡ sold_as paid pending here }
+// A place that is sold counts once, and once more as released, where it is paid.
+fn sold_as(paid: bool, pending: bool, here: bool, released: bool) -> Usage
+    ensures { result ≡ sold_as paid pending here released }
 {
     Usage {
         paid: u64::from(paid && here),
         pending: u64::from(pending && here),
+        exited: u64::from(paid && (here && released)),
         ..Usage::none()
     }
 }
@@ -352,6 +365,7 @@ fn with_position<B: Book>(
             at,
             paid: is_paid(order),
             pending: is_pending(order),
+            out: overlay.is_out(row.id),
             product: row.product,
             voucher,
         },

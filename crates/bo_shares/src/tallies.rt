@@ -167,6 +167,7 @@ fn count_both<B: Book>(
     change: &Change,
     purchases: &[Purchase],
 ) -> Result<(), AllocError>
+    requires sale { IsSale change.now (rows_of overlay.now) }
     requires turned { AreTurned change.now (rows_of overlay.now) purchases.now }
     ensures more { OnOk result (IsMore (come_of (rows_of overlay.now) at change.now) (gone_of (rows_of overlay.now) at change.now) catalogue.now.lists.quotas counts.old counts.new) }
     ensures uses { OnOk result (AreMoreUses (use_come (rows_of overlay.now) at change.now) (use_gone (rows_of overlay.now) at change.now) uses.old uses.new) }

@@ -10,8 +10,8 @@ use Rattle.bo_lists.specs.declared.rows.OrderPos.{OrderPos}
 use Rattle.bo_lists.specs.declared.rows.Status.{Status}
 use Rattle.bo_lists.specs.Conditions.{is_live_cart, is_paid, is_pending}
 use Rattle.bo_lists.specs.Lists.{Lists, order_at}
-use Rattle.bo_lists.specs.Usage.{is_covered, has_none, stands_as}
-use Rattle.bo_usage.specs.Shares.{cart_share, status_share, waiting_share}
+use Rattle.bo_lists.specs.Usage.{is_covered, has_none, is_released, stands_as}
+use Rattle.bo_usage.specs.Shares.{cart_share, exited_share, status_share, waiting_share}
 use Rattle.bo_shifts.specs.Turns.{position_shift}
 use Rattle.bo_shifts.specs.Shifts.{map_beside, only, moved, cart_shift, waiting_shift}
 use Rattle.bo_shifts.proofs.TouchedLemmas.{beside_alike}
@@ -83,13 +83,28 @@ no_position : (test : Status → Bool) (lists : Lists) (quota : Quota) → statu
 unfolding status_share
 no_position test lists quota = refl
 
-position_still : (lists : Lists) (come gone : Option OrderPos) (quota : Quota) (usage : Usage) → ((test : Status → Bool) → status_share test lists quota come ≡ 0) → ((test : Status → Bool) → status_share test lists quota gone ≡ 0) → position_shift lists come gone quota usage ≡ usage
-position_still lists come gone quota usage a b =
+-- and of those that are released
+inside : (a b d : Bool) → b ≡ false → ◌≡◌ {A = ℕ} (if a && (b && d) then 1 else 0) 0
+inside true true d h = absurd (cc h)
+inside true false d h = refl
+inside false b d h = refl
+
+exit_none : (lists : Lists) (quota : Quota) (row : OrderPos) → is_in quota row.product ≡ false → exited_share lists quota (Some row) ≡ 0
+unfolding exited_share
+exit_none lists quota row none = inside (stands_as is_paid (order_at row.order lists)) (is_in quota row.product) (is_released lists quota row) none
+
+no_exit : (lists : Lists) (quota : Quota) → exited_share lists quota None ≡ 0
+unfolding exited_share
+no_exit lists quota = refl
+
+position_still : (lists : Lists) (come gone : Option OrderPos) (quota : Quota) (usage : Usage) → ((test : Status → Bool) → status_share test lists quota come ≡ 0) → ((test : Status → Bool) → status_share test lists quota gone ≡ 0) → exited_share lists quota come ≡ 0 → exited_share lists quota gone ≡ 0 → position_shift lists come gone quota usage ≡ usage
+position_still lists come gone quota usage a b d e =
     let paid : moved usage.paid (status_share is_paid lists quota come) (status_share is_paid lists quota gone) ≡ usage.paid = omega (arith, a is_paid, b is_paid) in
     let pending : moved usage.pending (status_share is_pending lists quota come) (status_share is_pending lists quota gone) ≡ usage.pending = omega (arith, a is_pending, b is_pending) in
-    λ i. record usage { paid = paid i; pending = pending i }
+    let exited : moved usage.exited (exited_share lists quota come) (exited_share lists quota gone) ≡ usage.exited = omega (arith, d, e) in
+    λ i. record usage { paid = paid i; pending = pending i; exited = exited i }
 
 module _ (lists : Lists) (quotas : List Quota) (us : List Usage) where
   pub position_comes_one : (row : OrderPos) → map_beside (only (λ q. is_in q row.product) (position_shift lists (Some row) None)) quotas us ≡ map_beside (position_shift lists (Some row) None) quotas us
   position_comes_one row = beside_alike (only (λ q. is_in q row.product) (position_shift lists (Some row) None)) (position_shift lists (Some row) None) quotas us
-      (λ q u. either (is_in q row.product) (position_shift lists (Some row) None q u) u (λ none. position_still lists (Some row) None q u (λ test. position_none test lists q row none) (λ test. no_position test lists q)))
+      (λ q u. either (is_in q row.product) (position_shift lists (Some row) None q u) u (λ none. position_still lists (Some row) None q u (λ test. position_none test lists q row none) (λ test. no_position test lists q) (exit_none lists q row none) (no_exit lists q)))

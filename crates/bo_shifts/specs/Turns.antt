@@ -5,7 +5,7 @@ use Rattle.bo_lists.specs.declared.rows.OrderPos.{OrderPos}
 use Rattle.bo_lists.specs.declared.rows.Usage.{Usage}
 use Rattle.bo_lists.specs.Conditions.{names, is_paid, is_pending}
 use Rattle.bo_lists.specs.Lists.{Lists}
-use Rattle.bo_usage.specs.Shares.{status_share}
+use Rattle.bo_usage.specs.Shares.{status_share, exited_share}
 use Rattle.bo_shifts.specs.Shifts.{moved}
 
 -- one more, or one less
@@ -26,6 +26,7 @@ abbrev pub position_shift : Lists → Option OrderPos → Option OrderPos → Qu
 position_shift lists come gone quota usage = record usage {
   paid = moved usage.paid (status_share is_paid lists quota come) (status_share is_paid lists quota gone);
   pending = moved usage.pending (status_share is_pending lists quota come) (status_share is_pending lists quota gone);
+  exited = moved usage.exited (exited_share lists quota come) (exited_share lists quota gone);
 }
 
 -- the voucher that it names

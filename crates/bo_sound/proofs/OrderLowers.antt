@@ -1,7 +1,7 @@
--- An order whose status changes, but that doesn't come back: that raises no usage.
-use Rattle.std.proofs.Common.{◌≡◌, ℕ, ◌+◌, ◌≤◌, ◌⊎◌, inl, inr, Bool, true, false, ◌&&◌, eqb, List, [], ◌∷◌, Option, Some, None, refl, sym, ap, ◌∙◌, subst, sum_by, count_by, arith}
-use Rattle.std.specs.Prelude.{◌||◌, if◌then◌else◌}
-use Rattle.std.specs.List.{AllByRecursion}
+-- An order whose status changes, but that doesn't come back: that raises no usage, unless it takes places again that exits set free.
+use Rattle.std.proofs.Common.{◌≡◌, ℕ, ◌+◌, ◌≤◌, ◌⊎◌, inl, inr, Bool, true, false, ◌&&◌, ◌||◌, cond, eqb, List, [], ◌∷◌, Option, Some, refl, sym, ap, ◌∙◌, subst, sum_by, count_by, arith}
+use Rattle.std.specs.Prelude.{if◌then◌else◌, filter}
+use Rattle.std.specs.List.{AllByRecursion, list_any}
 use Rattle.std.proofs.lemmas.Bool.Decides.{nat_tests}
 use Rattle.std.proofs.lemmas.List.Sums.{sum_by-cons}
 use Rattle.bo_sorted.specs.Tables.{AreInOrder}
@@ -14,43 +14,23 @@ use Rattle.bo_lists.specs.declared.rows.OrderPos.{OrderPos}
 use Rattle.bo_lists.specs.declared.rows.Status.{Status}
 use Rattle.bo_lists.specs.declared.rows.Status.TheVariants.{Pending, Paid, Expired, Cancelled}
 use Rattle.bo_lists.specs.declared.changes.Change.TheVariants.{PutOrder}
-use Rattle.bo_lists.specs.Conditions.{is_paid, is_pending, is_in_force}
-use Rattle.bo_lists.specs.Lists.{Lists, State, order_at}
+use Rattle.bo_lists.specs.Conditions.{is_paid, is_in_force}
+use Rattle.bo_lists.specs.Lists.{Lists, State, order_at, positions_of}
 use Rattle.bo_lists.specs.Change.{after_change}
-use Rattle.bo_lists.specs.Usage.{stands_as, is_covered_by, blocked_by, usage_of}
+use Rattle.bo_lists.specs.Passages.{is_out}
+use Rattle.bo_lists.specs.Usage.{stands_as, is_covered_by, is_released, holds_place, blocked_by, usage_of}
+use Rattle.bo_lists.specs.Refills.{blocks_again, refills_by, refills}
 use Rattle.bo_lists.specs.Total.{total}
 use Rattle.bo_lists.specs.Headroom.{AllHaveHeadroom}
 use Rattle.bo_sound.specs.Sound.{IsSound}
+use Rattle.bo_lists.proofs.EachRow.{neither_first, neither_second, key-row_at}
 use Rattle.bo_lists.proofs.Time.{one, same_sums, gated}
-use Rattle.bo_lists.proofs.Orders.{sum_by_swap, counts, of_order, order_step, blocked_linear}
+use Rattle.bo_lists.proofs.Orders.{counts, of_order, order_step, blocked_linear}
 use Rattle.bo_lists.proofs.OrderHeadroom.{headroom_kept_order}
+use Rattle.bo_lists.proofs.Exits.{total_is, held_by, held_if, order_places}
 use Rattle.bo_sound.proofs.Exact.{all_inside, sound_exact}
 
--- neither paid nor pending
-not_paid : (s : Status) → is_in_force s ≡ false → is_paid s ≡ false
-not_paid Pending e = refl
-not_paid Paid e = e
-not_paid Expired e = refl
-not_paid Cancelled e = refl
-
-not_pending : (s : Status) → is_in_force s ≡ false → is_pending s ≡ false
-not_pending Pending e = e
-not_pending Paid e = refl
-not_pending Expired e = refl
-not_pending Cancelled e = refl
-
--- in force is paid or pending
-either : (s : Status) → is_in_force s ≡ (is_paid s || is_pending s)
-either Pending = refl
-either Paid = refl
-either Expired = refl
-either Cancelled = refl
-
-either_stands : (found : Option Order) → stands_as is_in_force found ≡ (stands_as is_paid found || stands_as is_pending found)
-either_stands None = refl
-either_stands (Some order) = either order.status
-
-module _ (row : Order) (lists : Lists) (at : ℕ) (quota : Quota) (ended : is_in_force row.status ≡ false) where
+module _ (row : Order) (lists : Lists) (at : ℕ) (quota : Quota) where
   abbrev after : Lists
   after = after_change (PutOrder row) lists
 
@@ -61,98 +41,216 @@ module _ (row : Order) (lists : Lists) (at : ℕ) (quota : Quota) (ended : is_in
   abbrev covered : OrderPos → Bool
   covered p = is_covered_by lists at quota p.voucher
 
-  -- the order's own positions count no longer
-  none_left : (test : Status → Bool) → test row.status ≡ false → (more : OrderPos → Bool) → count_by (λ p. of_order test more row p && counts test more after p) lists.positions ≡ 0
-  none_left test e more = same_sums (λ p. one (of_order test more row p && counts test more after p)) (λ p. one (false && true)) lists.positions (λ p. ap one (none p)) ∙ gated false (λ p. true) lists.positions
+  abbrev out : OrderPos → Bool
+  out p = is_released lists quota p
+
+  -- the uses of the order's positions that vouchers block again
+  abbrev given : ℕ
+  given = count_by (λ p. of_order is_in_force covered row p && counts is_in_force covered lists p) lists.positions
+
+  module _ (ended : is_in_force row.status ≡ false) where
+    -- the order's own positions count no longer
+    none_left : count_by (λ p. of_order is_in_force covered row p && counts is_in_force covered after p) lists.positions ≡ 0
+    none_left = same_sums (λ p. one (of_order is_in_force covered row p && counts is_in_force covered after p)) (λ p. one (false && true)) lists.positions (λ p. ap one (none p)) ∙ gated false (λ p. true) lists.positions
+      where
+        by_order : (own : Bool) (found : Option Order) (m : Bool) → (own && (stands_as is_in_force (if own then Some row else found) && m)) ≡ false
+        by_order true found m = ap (λ b. b && m) ended
+        by_order false found m = refl
+
+        none : (p : OrderPos) → (of_order is_in_force covered row p && counts is_in_force covered after p) ≡ false
+        none p = ap (λ (o : Option Order). eqb row.id p.order && (stands_as is_in_force o && covered p)) (row_at-with_row (λ r. r.id) p.order row lists.orders) ∙ by_order (eqb row.id p.order) (order_at p.order lists) (covered p)
+
+    no_place : (own i r : Bool) → one (own && (holds_place row.status r && i)) ≡ 0
+    no_place own i r = by_status row.status ended own
+      where
+        by_status : (s : Status) → is_in_force s ≡ false → (own : Bool) → one (own && (holds_place s r && i)) ≡ 0
+        by_status Pending e own = absurd (cc (e))
+        by_status Paid e own = absurd (cc (e))
+        by_status Expired e true = refl
+        by_status Expired e false = refl
+        by_status Cancelled e true = refl
+        by_status Cancelled e false = refl
+
+    holds_none : (ps : List OrderPos) → count_by (λ p. eqb row.id p.order && (holds_place row.status (out p) && in_it p)) ps ≡ 0
+    holds_none [] = refl
+    holds_none (p ∷ ps) = omega (arith, sum_by-cons (λ q. one (eqb row.id q.order && (holds_place row.status (out q) && in_it q))) p ps, no_place (eqb row.id p.order) (in_it p) (out p), holds_none ps)
+
+    -- what each of them gives back it held
+    abbrev IsGiven : Option Order → OrderPos → Type 0
+    IsGiven old p = (covered p ≡ true → in_it p ≡ true) × (eqb row.id p.order ≡ true → (stands_as is_paid old && (out p && covered p)) ≡ false)
+
+    held : (s : Status) (r c i : Bool) → (c ≡ true → i ≡ true) → (is_paid s && (r && c)) ≡ false → one (is_in_force s && c) ≤ one (holds_place s r && i)
+    held Pending r true true h k = omega arith
+    held Pending r true false h k = absurd (cc (h refl))
+    held Pending r false i h k = omega arith
+    held Paid true true i h k = absurd (cc (k))
+    held Paid false true true h k = omega arith
+    held Paid false true false h k = absurd (cc (h refl))
+    held Paid r false i h k = omega arith
+    held Expired r c i h k = omega arith
+    held Cancelled r c i h k = omega arith
+
+    given_le : (old : Order) → order_at row.id lists ≡ Some old → (ps : List OrderPos) → AllByRecursion (IsGiven (Some old)) ps → sum_by (λ p. one (of_order is_in_force covered row p && counts is_in_force covered lists p)) ps ≤ sum_by (λ p. one (eqb row.id p.order && (holds_place old.status (out p) && in_it p))) ps
+    given_le old stood [] h = omega arith
+    given_le old stood (p ∷ ps) h = omega (arith, by_own (eqb row.id p.order) refl, given_le old stood ps h.1, sum_by-cons (λ q. one (of_order is_in_force covered row q && counts is_in_force covered lists q)) p ps, sum_by-cons (λ q. one (eqb row.id q.order && (holds_place old.status (out q) && in_it q))) p ps)
+      where
+        by_own : (b : Bool) → eqb row.id p.order ≡ b → one (b && counts is_in_force covered lists p) ≤ one (b && (holds_place old.status (out p) && in_it p))
+        by_own false e = omega arith
+        by_own true e =
+            let same : p.order ≡ row.id = grind (arith, nat_tests, e) in
+            let found : order_at p.order lists ≡ Some old = ap (λ n. order_at n lists) same ∙ stood in
+            subst (λ (o : Option Order). one (stands_as is_in_force o && covered p) ≤ one (holds_place old.status (out p) && in_it p)) (sym found) (held old.status (out p) (covered p) (in_it p) h.0.0 (h.0.1 e))
+
+    -- where positions whose voucher blocks the quota are in it, and no own one of a paid order has gone out
+    pub ended_order_lowers : (old : Order) → order_at row.id lists ≡ Some old → AreInOrder (λ r. r.id) lists.vouchers → AllHaveHeadroom at lists → AllByRecursion (IsGiven (Some old)) lists.positions → total (usage_of after at quota) ≤ total (usage_of lists at quota)
+    unfolding blocked_by
+    ended_order_lowers old stood vouchers room inside =
+        let room_after = headroom_kept_order row lists at (λ force. absurd (cc (ended, force))) room in
+        omega (
+          arith,
+          total_is lists quota at,
+          total_is after quota at,
+          order_places row lists quota,
+          ap (λ (o : Option Order). held_if row lists quota o) stood,
+          holds_none lists.positions,
+          order_step is_in_force covered row lists,
+          none_left,
+          blocked_linear at quota lists vouchers room,
+          blocked_linear at quota after vouchers room_after,
+          given_le old stood lists.positions inside,
+        )
+
+  module _ (now : is_in_force row.status ≡ true) (old : Order) (stood : order_at row.id lists ≡ Some old) (before : is_in_force old.status ≡ true) where
+    force_now : (id : ℕ) → eqb row.id id ≡ true → stands_as is_in_force (order_at id after) ≡ true
+    force_now id e = ap (stands_as is_in_force) (row_at-with_row (λ r. r.id) id row lists.orders ∙ ap (λ b. if b then Some row else order_at id lists) e) ∙ now
+
+    force_before : (id : ℕ) → eqb row.id id ≡ true → stands_as is_in_force (order_at id lists) ≡ true
+    force_before id e =
+        let same : id ≡ row.id = grind (arith, nat_tests, e) in
+        ap (λ n. stands_as is_in_force (order_at n lists)) same ∙ ap (stands_as is_in_force) stood ∙ before
+
+    same_spent : sum_by (λ p. one (of_order is_in_force covered row p && counts is_in_force covered after p)) lists.positions ≡ given
+    same_spent = same_sums (λ p. one (of_order is_in_force covered row p && counts is_in_force covered after p)) (λ p. one (of_order is_in_force covered row p && counts is_in_force covered lists p)) lists.positions (λ p. by_order p (eqb row.id p.order) refl)
+      where
+        by_order : (p : OrderPos) (own : Bool) → eqb row.id p.order ≡ own → one (own && counts is_in_force covered after p) ≡ one (own && counts is_in_force covered lists p)
+        by_order p false e = refl
+        by_order p true e = ap (λ b. one (b && covered p)) (force_now p.order e ∙ sym (force_before p.order e))
+
+    -- an order that was in force and still is holds other places, by its status
+    pub kept_order_turns : AreInOrder (λ r. r.id) lists.vouchers → AllHaveHeadroom at lists → total (usage_of after at quota) + held_by row lists quota old.status ≡ total (usage_of lists at quota) + held_by row lists quota row.status
+    unfolding blocked_by
+    kept_order_turns vouchers room =
+        let room_after = headroom_kept_order row lists at (λ force. ap (stands_as is_in_force) stood ∙ before) room in
+        omega (
+          arith,
+          total_is lists quota at,
+          total_is after quota at,
+          order_places row lists quota,
+          ap (λ (o : Option Order). held_if row lists quota o) stood,
+          order_step is_in_force covered row lists,
+          same_spent,
+          blocked_linear at quota lists vouchers room,
+          blocked_linear at quota after vouchers room_after,
+        )
+
+    -- it holds no more of them, unless a payment is taken back and the quota releases places
+    fewer : (s t : Status) (r i own releases : Bool) → is_in_force s ≡ true → is_in_force t ≡ true → refills_by s t releases false ≡ false → (releases ≡ false → r ≡ false) → one (own && (holds_place t r && i)) ≤ one (own && (holds_place s r && i))
+    fewer s t r i false releases e f h k = omega arith
+    fewer Pending Pending r i true releases e f h k = omega arith
+    fewer Pending Paid true i true releases e f h k = omega arith
+    fewer Pending Paid false i true releases e f h k = omega arith
+    fewer Paid Paid r i true releases e f h k = omega arith
+    fewer Paid Pending true i true false e f h k = absurd (cc (k refl))
+    fewer Paid Pending true i true true e f h k = absurd (cc (h))
+    fewer Paid Pending false i true releases e f h k = omega arith
+    fewer Pending Expired r i true releases e f h k = absurd (cc (f))
+    fewer Pending Cancelled r i true releases e f h k = absurd (cc (f))
+    fewer Paid Expired r i true releases e f h k = absurd (cc (f))
+    fewer Paid Cancelled r i true releases e f h k = absurd (cc (f))
+    fewer Expired t r i true releases e f h k = absurd (cc (e))
+    fewer Cancelled t r i true releases e f h k = absurd (cc (e))
+
+    holds_fewer : refills_by old.status row.status quota.release_after_exit false ≡ false → (ps : List OrderPos) → count_by (λ p. eqb row.id p.order && (holds_place row.status (out p) && in_it p)) ps ≤ count_by (λ p. eqb row.id p.order && (holds_place old.status (out p) && in_it p)) ps
+    holds_fewer h [] = omega arith
+    holds_fewer h (p ∷ ps) = omega (arith, fewer old.status row.status (out p) (in_it p) (eqb row.id p.order) quota.release_after_exit before now h (λ e. ap (λ b. b && is_out_of p) e), holds_fewer h ps, sum_by-cons (λ q. one (eqb row.id q.order && (holds_place row.status (out q) && in_it q))) p ps, sum_by-cons (λ q. one (eqb row.id q.order && (holds_place old.status (out q) && in_it q))) p ps)
+      where
+        is_out_of : OrderPos → Bool
+        is_out_of q = is_out q.id lists.checkins
+
+    pub kept_order_lowers : refills_by old.status row.status quota.release_after_exit false ≡ false → AreInOrder (λ r. r.id) lists.vouchers → AllHaveHeadroom at lists → total (usage_of after at quota) ≤ total (usage_of lists at quota)
+    kept_order_lowers h vouchers room = omega (arith, kept_order_turns vouchers room, holds_fewer h lists.positions)
+
+-- a quota that keeps its places has none that were set free, so no order takes one again
+module _ (lists : Lists) (at : ℕ) (quota : Quota) (closed : quota.release_after_exit ≡ false) where
+  none_again : (ps : List OrderPos) → list_any (blocks_again lists at quota) ps ≡ false
+  none_again [] = refl
+  none_again (p ∷ ps) = ap (λ (b : Bool). ((b && is_out p.id lists.checkins) && is_covered_by lists at quota p.voucher) || list_any (blocks_again lists at quota) ps) closed ∙ none_again ps
+
+  pub kept_refills_none : (old : Order) (status : Status) → refills lists at quota old status ≡ false
+  kept_refills_none old status = by_statuses old.status status
     where
-      by_order : (own : Bool) (found : Option Order) (m : Bool) → (own && (stands_as test (if own then Some row else found) && m)) ≡ false
-      by_order true found m = ap (λ b. b && m) e
-      by_order false found m = refl
+      by_statuses : (s t : Status) → refills_by s t quota.release_after_exit (list_any (blocks_again lists at quota) (positions_of old.id lists)) ≡ false
+      by_statuses Paid Pending = closed
+      by_statuses Paid Paid = refl
+      by_statuses Paid Expired = none_again (positions_of old.id lists)
+      by_statuses Paid Cancelled = none_again (positions_of old.id lists)
+      by_statuses Pending t = refl
+      by_statuses Expired t = refl
+      by_statuses Cancelled t = refl
 
-      none : (p : OrderPos) → (of_order test more row p && counts test more after p) ≡ false
-      none p = ap (λ (o : Option Order). eqb row.id p.order && (stands_as test o && more p)) (row_at-with_row (λ r. r.id) p.order row lists.orders) ∙ by_order (eqb row.id p.order) (order_at p.order lists) (more p)
-
-  own_le : (own paid pending cover it : Bool) → (cover ≡ true → it ≡ true) → one (own && ((paid || pending) && cover)) ≤ one (own && (paid && it)) + one (own && (pending && it))
-  own_le false paid pending cover it h = omega arith
-  own_le true false false cover it h = omega arith
-  own_le true true pending false it h = omega arith
-  own_le true false true false it h = omega arith
-  own_le true true pending true true h = omega arith
-  own_le true false true true true h = omega arith
-  own_le true true pending true false h = absurd (cc (h refl))
-  own_le true false true true false h = absurd (cc (h refl))
-
-  -- each of them that gives a use back was a place
-  given_le : (ps : List OrderPos) → AllByRecursion (λ p. covered p ≡ true → in_it p ≡ true) ps → sum_by (λ p. one (of_order is_in_force covered row p && counts is_in_force covered lists p)) ps ≤ sum_by (λ p. one (of_order is_paid in_it row p && counts is_paid in_it lists p)) ps + sum_by (λ p. one (of_order is_pending in_it row p && counts is_pending in_it lists p)) ps
-  given_le [] h = omega arith
-  given_le (p ∷ ps) h =
-      let found = order_at p.order lists in
-      let le = subst (λ (b : Bool). one (eqb row.id p.order && (b && covered p)) ≤ one (eqb row.id p.order && (stands_as is_paid found && in_it p)) + one (eqb row.id p.order && (stands_as is_pending found && in_it p))) (sym (either_stands found)) (own_le (eqb row.id p.order) (stands_as is_paid found) (stands_as is_pending found) (covered p) (in_it p) h.0) in
-      omega (arith, le, given_le ps h.1, sum_by-cons (λ q. one (of_order is_in_force covered row q && counts is_in_force covered lists q)) p ps, sum_by-cons (λ q. one (of_order is_paid in_it row q && counts is_paid in_it lists q)) p ps, sum_by-cons (λ q. one (of_order is_pending in_it row q && counts is_pending in_it lists q)) p ps)
-
-  -- where positions whose voucher blocks the quota are in it
-  pub ended_order_lowers : AreInOrder (λ r. r.id) lists.vouchers → AllHaveHeadroom at lists → AllByRecursion (λ p. covered p ≡ true → in_it p ≡ true) lists.positions → total (usage_of after at quota) ≤ total (usage_of lists at quota)
-  unfolding usage_of blocked_by
-  ended_order_lowers vouchers room inside =
-      let room_after = headroom_kept_order row lists at (λ force. absurd (cc (ended, force))) room in
-      omega (arith, order_step is_paid in_it row lists, none_left is_paid (not_paid row.status ended) in_it, order_step is_pending in_it row lists, none_left is_pending (not_pending row.status ended) in_it, order_step is_in_force covered row lists, none_left is_in_force ended covered, blocked_linear at quota lists vouchers room, blocked_linear at quota after vouchers room_after, given_le lists.positions inside)
-
--- in force is one of the two
-one_of : (s : Status) → is_in_force s ≡ true → (m : Bool) → one (is_paid s && m) + one (is_pending s && m) ≡ one m
-one_of Pending e m = omega arith
-one_of Paid e m = omega arith
-one_of Expired e m = absurd (cc)
-one_of Cancelled e m = absurd (cc)
-
-one_that_stands : (found : Option Order) → stands_as is_in_force found ≡ true → (m : Bool) → one (stands_as is_paid found && m) + one (stands_as is_pending found && m) ≡ one m
-one_that_stands None e m = absurd (cc)
-one_that_stands (Some order) e m = one_of order.status e m
-
-module _ (row : Order) (lists : Lists) (at : ℕ) (quota : Quota) (now : is_in_force row.status ≡ true) (before : stands_as is_in_force (order_at row.id lists) ≡ true) where
-  abbrev later : Lists
-  later = after_change (PutOrder row) lists
-
-  abbrev inside : OrderPos → Bool
-  inside p = is_in quota p.product
-
-  abbrev spent : OrderPos → Bool
-  spent p = is_covered_by lists at quota p.voucher
-
-  force_now : (id : ℕ) → eqb row.id id ≡ true → stands_as is_in_force (order_at id later) ≡ true
-  force_now id e = ap (stands_as is_in_force) (row_at-with_row (λ r. r.id) id row lists.orders ∙ ap (λ b. if b then Some row else order_at id lists) e) ∙ now
-
-  force_before : (id : ℕ) → eqb row.id id ≡ true → stands_as is_in_force (order_at id lists) ≡ true
-  force_before id e =
-      let same : id ≡ row.id = grind (arith, nat_tests, e) in
-      ap (λ n. stands_as is_in_force (order_at n lists)) same ∙ before
-
-  -- as many of its positions count as before
-  same_places : sum_by (λ p. one (of_order is_paid inside row p && counts is_paid inside later p)) lists.positions + sum_by (λ p. one (of_order is_pending inside row p && counts is_pending inside later p)) lists.positions ≡ sum_by (λ p. one (of_order is_paid inside row p && counts is_paid inside lists p)) lists.positions + sum_by (λ p. one (of_order is_pending inside row p && counts is_pending inside lists p)) lists.positions
-  same_places = sum_by_swap (λ p. one (of_order is_paid inside row p && counts is_paid inside later p)) (λ p. one (of_order is_pending inside row p && counts is_pending inside later p)) (λ p. one (of_order is_paid inside row p && counts is_paid inside lists p)) (λ p. one (of_order is_pending inside row p && counts is_pending inside lists p)) lists.positions (λ p. by_order p (eqb row.id p.order) refl)
-    where
-      by_order : (p : OrderPos) (own : Bool) → eqb row.id p.order ≡ own → one (own && counts is_paid inside later p) + one (own && counts is_pending inside later p) ≡ one (own && counts is_paid inside lists p) + one (own && counts is_pending inside lists p)
-      by_order p false e = refl
-      by_order p true e = one_that_stands (order_at p.order later) (force_now p.order e) (inside p) ∙ sym (one_that_stands (order_at p.order lists) (force_before p.order e) (inside p))
-
-  same_spent : sum_by (λ p. one (of_order is_in_force spent row p && counts is_in_force spent later p)) lists.positions ≡ sum_by (λ p. one (of_order is_in_force spent row p && counts is_in_force spent lists p)) lists.positions
-  same_spent = same_sums (λ p. one (of_order is_in_force spent row p && counts is_in_force spent later p)) (λ p. one (of_order is_in_force spent row p && counts is_in_force spent lists p)) lists.positions (λ p. by_order p (eqb row.id p.order) refl)
-    where
-      by_order : (p : OrderPos) (own : Bool) → eqb row.id p.order ≡ own → one (own && counts is_in_force spent later p) ≡ one (own && counts is_in_force spent lists p)
-      by_order p false e = refl
-      by_order p true e = ap (λ b. one (b && spent p)) (force_now p.order e ∙ sym (force_before p.order e))
-
-  -- an order that was in force and still is
-  pub kept_order_same : AreInOrder (λ r. r.id) lists.vouchers → AllHaveHeadroom at lists → total (usage_of later at quota) ≡ total (usage_of lists at quota)
-  unfolding usage_of blocked_by
-  kept_order_same vouchers room =
-      let room_after = headroom_kept_order row lists at (λ force. before) room in
-      omega (arith, order_step is_paid inside row lists, order_step is_pending inside row lists, same_places, order_step is_in_force spent row lists, same_spent, blocked_linear at quota lists vouchers room, blocked_linear at quota later vouchers room_after)
-
--- cancelling or expiring an order, its payment, and taking the payment back: no move but a revival raises the usage of a quota that stands
-pub moved_order_lowers : (state : State) (row old : Order) (quota : Quota) → order_at row.id state.lists ≡ Some old → quota_at quota.id state.lists.catalogue ≡ Some quota → (is_in_force row.status ≡ false) ⊎ (is_in_force old.status ≡ true) → IsSound state → total (usage_of (after_change (PutOrder row) state.lists) state.moment quota) ≤ total (usage_of state.lists state.moment quota)
-moved_order_lowers state row old quota stood stands (inl ended) h = ended_order_lowers row state.lists state.moment quota ended h.ids.vouchers.in_order h.headroom (all_inside state.lists state.moment quota stands h.fit.positions (sound_exact state h))
-moved_order_lowers state row old quota stood stands (inr kept) h = by_now (is_in_force row.status) refl
+-- cancelling or expiring an order, its payment, and taking the payment back: no move but a revival raises the usage of a quota that
+-- stands, unless it takes places again that exits set free
+pub moved_order_lowers : (state : State) (row old : Order) (quota : Quota) → order_at row.id state.lists ≡ Some old → quota_at quota.id state.lists.catalogue ≡ Some quota → (is_in_force row.status ≡ false) ⊎ (is_in_force old.status ≡ true) → refills state.lists state.moment quota old row.status ≡ false → IsSound state → total (usage_of (after_change (PutOrder row) state.lists) state.moment quota) ≤ total (usage_of state.lists state.moment quota)
+moved_order_lowers state row old quota stood stands which again h = by_which which
   where
-    by_now : (b : Bool) → is_in_force row.status ≡ b → total (usage_of (after_change (PutOrder row) state.lists) state.moment quota) ≤ total (usage_of state.lists state.moment quota)
-    by_now false ended = ended_order_lowers row state.lists state.moment quota ended h.ids.vouchers.in_order h.headroom (all_inside state.lists state.moment quota stands h.fit.positions (sound_exact state h))
-    by_now true now = omega (arith, kept_order_same row state.lists state.moment quota now (ap (stands_as is_in_force) stood ∙ kept) h.ids.vouchers.in_order h.headroom)
+    lists : Lists
+    lists = state.lists
+
+    same_id : old.id ≡ row.id
+    same_id = key-row_at (λ (o : Order). o.id) row.id lists.orders old stood
+
+    inside : AllByRecursion (λ p. is_covered_by lists state.moment quota p.voucher ≡ true → is_in quota p.product ≡ true) lists.positions
+    inside = all_inside lists state.moment quota stands h.fit.positions (sound_exact state h)
+
+    -- none of its positions blocks a place again
+    none_again : (ps : List OrderPos) → list_any (blocks_again lists state.moment quota) (filter (λ p. eqb row.id p.order) ps) ≡ false → AllByRecursion (λ p. eqb row.id p.order ≡ true → blocks_again lists state.moment quota p ≡ false) ps
+    none_again [] e = tt
+    none_again (p ∷ ps) e = by_own (eqb row.id p.order) refl e (none_again ps)
+      where
+        by_own : (b : Bool) → eqb row.id p.order ≡ b → list_any (blocks_again lists state.moment quota) (cond b (p ∷ filter (λ q. eqb row.id q.order) ps) (filter (λ q. eqb row.id q.order) ps)) ≡ false → (list_any (blocks_again lists state.moment quota) (filter (λ q. eqb row.id q.order) ps) ≡ false → AllByRecursion (λ q. eqb row.id q.order ≡ true → blocks_again lists state.moment quota q ≡ false) ps) → AllByRecursion (λ q. eqb row.id q.order ≡ true → blocks_again lists state.moment quota q ≡ false) (p ∷ ps)
+        by_own true is e more = (λ own. neither_first (blocks_again lists state.moment quota p) (list_any (blocks_again lists state.moment quota) (filter (λ q. eqb row.id q.order) ps)) e, more (neither_second (blocks_again lists state.moment quota p) (list_any (blocks_again lists state.moment quota) (filter (λ q. eqb row.id q.order) ps)) e))
+        by_own false is e more = (λ own. absurd (cc (is, own)), more e)
+
+    both_given : (paid : Bool) → (ps : List OrderPos) → (paid ≡ true → AllByRecursion (λ p. eqb row.id p.order ≡ true → blocks_again lists state.moment quota p ≡ false) ps) → AllByRecursion (λ p. is_covered_by lists state.moment quota p.voucher ≡ true → is_in quota p.product ≡ true) ps → AllByRecursion (λ p. (is_covered_by lists state.moment quota p.voucher ≡ true → is_in quota p.product ≡ true) × (eqb row.id p.order ≡ true → (paid && (is_released lists quota p && is_covered_by lists state.moment quota p.voucher)) ≡ false)) ps
+    both_given paid [] k i = tt
+    both_given true (p ∷ ps) k i = ((i.0, (k refl).0), both_given true ps (λ e. (k refl).1) i.1)
+    both_given false (p ∷ ps) k i = ((i.0, λ own. refl), both_given false ps (λ e. absurd (cc (e))) i.1)
+
+    by_ended : is_in_force row.status ≡ false → total (usage_of (after_change (PutOrder row) lists) state.moment quota) ≤ total (usage_of lists state.moment quota)
+    by_ended ended = ended_order_lowers row lists state.moment quota ended old stood h.ids.vouchers.in_order h.headroom (both_given (is_paid old.status) lists.positions (λ paid. none_again lists.positions (ap (λ (n : ℕ). list_any (blocks_again lists state.moment quota) (positions_of n lists)) (sym same_id) ∙ by_statuses old.status row.status paid ended again)) inside)
+      where
+        by_statuses : (s t : Status) → is_paid s ≡ true → is_in_force t ≡ false → refills_by s t quota.release_after_exit (list_any (blocks_again lists state.moment quota) (positions_of old.id lists)) ≡ false → list_any (blocks_again lists state.moment quota) (positions_of old.id lists) ≡ false
+        by_statuses Paid Expired p e r = r
+        by_statuses Paid Cancelled p e r = r
+        by_statuses Paid Pending p e r = absurd (cc (e))
+        by_statuses Paid Paid p e r = absurd (cc (e))
+        by_statuses Pending t p e r = absurd (cc (p))
+        by_statuses Expired t p e r = absurd (cc (p))
+        by_statuses Cancelled t p e r = absurd (cc (p))
+
+    by_kept : is_in_force old.status ≡ true → (b : Bool) → is_in_force row.status ≡ b → total (usage_of (after_change (PutOrder row) lists) state.moment quota) ≤ total (usage_of lists state.moment quota)
+    by_kept kept false ended = by_ended ended
+    by_kept kept true now = kept_order_lowers row lists state.moment quota now old stood kept (by_statuses old.status row.status kept now again) h.ids.vouchers.in_order h.headroom
+      where
+        by_statuses : (s t : Status) → is_in_force s ≡ true → is_in_force t ≡ true → refills_by s t quota.release_after_exit (list_any (blocks_again lists state.moment quota) (positions_of old.id lists)) ≡ false → refills_by s t quota.release_after_exit false ≡ false
+        by_statuses Paid Pending e f r = r
+        by_statuses Paid Paid e f r = refl
+        by_statuses Pending t e f r = refl
+        by_statuses Paid Expired e f r = absurd (cc (f))
+        by_statuses Paid Cancelled e f r = absurd (cc (f))
+        by_statuses Expired t e f r = absurd (cc (e))
+        by_statuses Cancelled t e f r = absurd (cc (e))
+
+    by_which : (is_in_force row.status ≡ false) ⊎ (is_in_force old.status ≡ true) → total (usage_of (after_change (PutOrder row) lists) state.moment quota) ≤ total (usage_of lists state.moment quota)
+    by_which (inl ended) = by_ended ended
+    by_which (inr kept) = by_kept kept (is_in_force row.status) refl

@@ -1,5 +1,5 @@
 -- The limits of what rows hold: texts, amounts of money, moments and counts.
-use Rattle.std.specs.Prelude.{ℕ, ◌≤◌, IfSome}
+use Rattle.std.specs.Prelude.{◌≡◌, ℕ, ◌≤◌, false, IfSome}
 use Rattle.std.specs.List.{AllByRecursion}
 use Rattle.bo_base.specs.Counts.{IsUses, IsSize, IsPriority}
 use Rattle.bo_base.specs.Moments.{IsMoment}
@@ -38,10 +38,11 @@ pub record IsLimitedVariation (row : Variation) : Type 0 where
   pub name : IsText row.name
   pub price : IfSome row.default_price IsMoney
 
--- a quota's name is a text, and its size, where it has one, at most 1,000,000
+-- a quota's name is a text, its size, where it has one, is at most 1,000,000, and it keeps the places of tickets that went out
 pub record IsLimitedQuota (row : Quota) : Type 0 where
   pub name : IsText row.name
   pub size : IfSome row.size IsSize
+  pub kept : row.release_after_exit ≡ false
 
 -- a voucher's code, tag and comment are texts; it may be used 1 to 1,000,000 times, up to a moment, and has a value by its mode
 pub record IsLimitedVoucher (row : Voucher) : Type 0 where

@@ -1,9 +1,9 @@
 //! Laws of the definitions alone.
 
-ghost use Rattle.std.specs.Prelude.{ℕ, ◌≤◌, ◌↔◌, List};
+ghost use Rattle.std.specs.Prelude.{◌≡◌, ℕ, ◌≤◌, ◌↔◌, false, List};
 ghost use Rattle.bo_catalogue.specs.declared.rows.Quota.{Quota};
 ghost use Rattle.bo_lists.specs.declared.rows.OrderPos.{OrderPos};
-ghost use Rattle.bo_lists.specs.Lists.{State};
+ghost use Rattle.bo_lists.specs.Lists.{Lists, State};
 ghost use Rattle.bo_sound.specs.Positions.{CountFrom, AreEachOnce, by_positionid};
 ghost use Rattle.bo_sound.specs.Secrets.{HaveUnlikeSecrets};
 ghost use Rattle.bo_sound.specs.Sound.{IsSound};
@@ -24,4 +24,11 @@ pub fn secrets_are_unlike()
 /// By number positions count on from 1 exactly where their numbers are 1 to their count, each once.
 pub fn numbers_are_each_once()
     ensures { (positions : List OrderPos) → CountFrom 1 (by_positionid positions) ↔ AreEachOnce positions }
+{}
+
+/// Those who have gone out of a quota are among those who have paid for it. A quota that keeps its places has none of them.
+pub fn exited_are_paid()
+    ensures paid { (lists : Lists) (at : ℕ) (quota : Quota) → (usage_of lists at quota).exited ≤ (usage_of lists at quota).paid }
+    ensures kept { (lists : Lists) (at : ℕ) (quota : Quota) →
+        quota.release_after_exit ≡ false → (usage_of lists at quota).exited ≡ 0 }
 {}

@@ -39,13 +39,15 @@ same_usage_tells a b e =
     let p = and_parts (a.paid == b.paid) _ e in
     let q = and_parts (a.pending == b.pending) _ p.1 in
     let r = and_parts (a.blocked == b.blocked) _ q.1 in
-    let s = and_parts (a.carts == b.carts) (a.waiting == b.waiting) r.1 in
+    let s = and_parts (a.carts == b.carts) _ r.1 in
+    let t = and_parts (a.waiting == b.waiting) (a.exited == b.exited) s.1 in
     let paid : a.paid ≡ b.paid = eqb-true a.paid b.paid p.0 in
     let pending : a.pending ≡ b.pending = eqb-true a.pending b.pending q.0 in
     let blocked : a.blocked ≡ b.blocked = eqb-true a.blocked b.blocked r.0 in
     let carts : a.carts ≡ b.carts = eqb-true a.carts b.carts s.0 in
-    let waiting : a.waiting ≡ b.waiting = eqb-true a.waiting b.waiting s.1 in
-    λ i. record { paid = paid i; pending = pending i; blocked = blocked i; carts = carts i; waiting = waiting i }
+    let waiting : a.waiting ≡ b.waiting = eqb-true a.waiting b.waiting t.0 in
+    let exited : a.exited ≡ b.exited = eqb-true a.exited b.exited t.1 in
+    λ i. record { paid = paid i; pending = pending i; blocked = blocked i; carts = carts i; waiting = waiting i; exited = exited i }
 
 same_quota_tells : (a b : QuotaCount) → same_quota_count a b ≡ true → a ≡ b
 same_quota_tells a b e =

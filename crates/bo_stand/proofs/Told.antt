@@ -42,16 +42,17 @@ quota_ids (x ∷ xs) (y ∷ ys) e =
     let rest : map head_of_quota xs ≡ map head_of_quota ys = cc in
     ap₂ ◌∷◌ (ap (λ (h : QuotaRow). h.id) first) (quota_ids xs ys rest)
 
-same_quotas : (xs ys : List Quota) → map head_of_quota xs ≡ map head_of_quota ys → map (λ (q : Quota). q.items) xs ≡ map (λ (q : Quota). q.items) ys → map (λ (q : Quota). q.variations) xs ≡ map (λ (q : Quota). q.variations) ys → xs ≡ ys
-same_quotas [] [] e f g = refl
-same_quotas [] (y ∷ ys) e f g = absurd cc
-same_quotas (x ∷ xs) [] e f g = absurd cc
-same_quotas (x ∷ xs) (y ∷ ys) e f g =
+same_quotas : (xs ys : List Quota) → AllByRecursion MembersRise xs → AllByRecursion MembersRise ys → map head_of_quota xs ≡ map head_of_quota ys → map (λ (q : Quota). q.items) xs ≡ map (λ (q : Quota). q.items) ys → map (λ (q : Quota). q.variations) xs ≡ map (λ (q : Quota). q.variations) ys → xs ≡ ys
+same_quotas [] [] h k e f g = refl
+same_quotas [] (y ∷ ys) h k e f g = absurd cc
+same_quotas (x ∷ xs) [] h k e f g = absurd cc
+same_quotas (x ∷ xs) (y ∷ ys) h k e f g =
     let first : head_of_quota x ≡ head_of_quota y = cc in
     let items : x.items ≡ y.items = cc in
     let variations : x.variations ≡ y.variations = cc in
-    let rest = same_quotas xs ys (let e : map head_of_quota xs ≡ map head_of_quota ys = cc in e) (let e : map (λ (q : Quota). q.items) xs ≡ map (λ (q : Quota). q.items) ys = cc in e) (let e : map (λ (q : Quota). q.variations) xs ≡ map (λ (q : Quota). q.variations) ys = cc in e) in
-    let is : x ≡ y = λ i. record { id = (first i).id; name = (first i).name; size = (first i).size; items = items i; variations = variations i } in
+    let rest = same_quotas xs ys h.1 k.1 (let e : map head_of_quota xs ≡ map head_of_quota ys = cc in e) (let e : map (λ (q : Quota). q.items) xs ≡ map (λ (q : Quota). q.items) ys = cc in e) (let e : map (λ (q : Quota). q.variations) xs ≡ map (λ (q : Quota). q.variations) ys = cc in e) in
+    let kept : x.release_after_exit ≡ y.release_after_exit = h.0.kept ∙ sym k.0.kept in
+    let is : x ≡ y = λ i. record { id = (first i).id; name = (first i).name; release_after_exit = kept i; size = (first i).size; items = items i; variations = variations i } in
     ap₂ ◌∷◌ is rest
 
 list_ids : (xs ys : List CheckinList) → map head_of_list xs ≡ map head_of_list ys → map (λ (l : CheckinList). l.id) xs ≡ map (λ (l : CheckinList). l.id) ys
@@ -98,7 +99,7 @@ tell_one a b xs ys o p h k same =
     same_order (λ (h : QuotaRow). h.id) (map head_of_quota a.catalogue.quotas) (map head_of_quota b.catalogue.quotas) (order_of_parts (λ r. r.id) head_of_quota (λ h. h.id) (λ r. refl) 0 a.catalogue.quotas o.ids.quotas)
     (order_of_parts (λ r. r.id) head_of_quota (λ h. h.id) (λ r. refl) 0 b.catalogue.quotas p.ids.quotas) (joined xs.quotas ys.quotas _ _ h.quotas k.quotas same.quotas) in
     let ids = quota_ids a.catalogue.quotas b.catalogue.quotas heads in
-    let quotas = same_quotas a.catalogue.quotas b.catalogue.quotas heads
+    let quotas = same_quotas a.catalogue.quotas b.catalogue.quotas o.members p.members heads
     (links_tell (λ q. q.id) (λ q. q.items) a.catalogue.quotas b.catalogue.quotas ids o.ids.quotas p.ids.quotas (all_map MembersRise (λ q. AreInOrder (λ n. n) q.items) (λ q r. r.items) a.catalogue.quotas o.members)
     (all_map MembersRise (λ q. AreInOrder (λ n. n) q.items) (λ q r. r.items) b.catalogue.quotas p.members) (joined xs.quota_items ys.quota_items _ _ h.quota_items k.quota_items same.quota_items))
     (links_tell (λ q. q.id) (λ q. q.variations) a.catalogue.quotas b.catalogue.quotas ids o.ids.quotas p.ids.quotas (all_map MembersRise (λ q. AreInOrder (λ n. n) q.variations) (λ q r. r.variations) a.catalogue.quotas o.members)

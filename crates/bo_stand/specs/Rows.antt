@@ -78,5 +78,6 @@ voucher_of w = record {
 abbrev pub position_of : PositionRow → OrderPos
 position_of w = record { id = w.id; order = w.order; positionid = w.positionid; product = w.product; price = w.price; voucher = w.voucher; secret = w.secret }
 
+-- no ticket has set its place free: no table tells of a quota that releases places
 abbrev pub usage_in : CountRow → QuotaCount
-usage_in w = record { quota = w.quota; usage = record { paid = w.paid; pending = w.pending; blocked = w.blocked; carts = w.carts; waiting = w.waiting } }
+usage_in w = record { quota = w.quota; usage = record { paid = w.paid; pending = w.pending; blocked = w.blocked; carts = w.carts; waiting = w.waiting; exited = 0 } }

@@ -1,5 +1,5 @@
 -- When the rows of a file are those of a box office: lists by id whatever the rows' order, members as links, counts equal to recounts.
-use Rattle.std.specs.Prelude.{◌≡◌, List, [], ◌∷◌, map, IsPermutation}
+use Rattle.std.specs.Prelude.{◌≡◌, false, List, [], ◌∷◌, map, IsPermutation}
 use Rattle.std.specs.List.{AllByRecursion}
 use Rattle.bo_sorted.specs.Tables.{AreInOrder}
 use Rattle.bo_catalogue.specs.declared.rows.Quota.{Quota}
@@ -68,15 +68,17 @@ AreSameRows a b =
     (IsPermutation a.list_items b.list_items)
     (IsPermutation a.checkins b.checkins)
 
--- a quota's items rise, and so do its variations
+-- a quota's items rise, and so do its variations; and it keeps the places of tickets that went out, since no table tells of one that
+-- releases them
 pub record MembersRise (quota : Quota) : Type 0 where
   pub items : AreInOrder (λ n. n) quota.items
   pub variations : AreInOrder (λ n. n) quota.variations
+  pub kept : quota.release_after_exit ≡ false
 
 abbrev pub ItemsRise : CheckinList → Type 0
 ItemsRise row = AreInOrder (λ n. n) row.limit_products
 
--- in each list ids rise, and so do the members of each quota and the items of each check-in list
+-- in each list ids rise, and so do the members of each quota and the items of each check-in list; and no quota releases places
 pub record AreOrdered (lists : Lists) : Type 0 where
   pub ids :
       EachTable
@@ -93,7 +95,7 @@ pub record AreOrdered (lists : Lists) : Type 0 where
   pub members : AllByRecursion MembersRise lists.catalogue.quotas
   pub limits : AllByRecursion ItemsRise lists.checkin_lists
 
--- of a quota or a check-in list that is put, so do they
+-- of a quota or a check-in list that is put, so do they; and the quota keeps its places
 abbrev pub IsRising : Change → Type 0
 IsRising (PutQuota row) = MembersRise row
 IsRising (PutCheckinList row) = ItemsRise row

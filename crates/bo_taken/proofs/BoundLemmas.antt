@@ -8,7 +8,7 @@ use Rattle.bo_catalogue.specs.declared.rows.Quota.{Quota}
 use Rattle.bo_lists.specs.declared.rows.Voucher.{Voucher}
 use Rattle.bo_lists.specs.Conditions.{blocks, is_paid, is_pending}
 use Rattle.bo_lists.specs.Lists.{Lists, State}
-use Rattle.bo_lists.specs.Usage.{blocked_by, cart_counts, position_counts, redeemed, usage_of, uses, waits_for}
+use Rattle.bo_lists.specs.Usage.{blocked_by, cart_counts, exit_counts, position_counts, redeemed, usage_of, uses, waits_for}
 use Rattle.bo_sound.specs.Limits.{IsLimitedVoucher}
 use Rattle.bo_sound.specs.Sound.{IsSound}
 use Rattle.bo_taken.specs.Bounded.{IsBounded}
@@ -39,6 +39,7 @@ quota_bounded state sound quota =
       blocked = omega (arith, all_few IsLimitedVoucher (blocked_by lists state.moment quota) (blocked_few lists state.moment quota) lists.vouchers sound.limits.vouchers, sound.few.vouchers);
       carts = within _ _ (count_by-le-length (cart_counts lists state.moment quota) lists.carts) sound.few.carts;
       waiting = within _ _ (count_by-le-length (waits_for quota) lists.waiting) sound.few.waiting;
+      exited = within _ _ (count_by-le-length (exit_counts lists quota) lists.positions) sound.few.positions;
     }
 
 pub voucher_bounded : (state : State) → IsSound state → (voucher : ℕ) → redeemed voucher state.lists ≤ most_rows

@@ -19,7 +19,8 @@ use Rattle.bo_catalogue.specs.ItemChanged.{item_changed}
 use Rattle.bo_catalogue.specs.VariationAdded.{variation_added}
 use Rattle.bo_catalogue.specs.QuotaAdded.{quota_added}
 use Rattle.bo_catalogue.specs.Resized.{resized}
-use Rattle.bo_catalogue.proofs.Added.{resized_is}
+use Rattle.bo_catalogue.specs.CatalogueLists.{CatalogueLists}
+use Rattle.bo_catalogue.proofs.Added.{quota_added_is, resized_is}
 use Rattle.bo_lists.specs.declared.changes.Change.{Change}
 use Rattle.bo_lists.specs.declared.changes.Change.TheVariants.{PutItem, PutVariation, PutQuota, PutVoucher, PutCart, PutOrder, PutPosition, PutWaiting, DropVoucher as VoucherGoes, DropCart as CartGoes, DropWaiting as EntryGoes, PutCheckinList, PutCheckin}
 use Rattle.bo_lists.specs.declared.rows.CartPos.{CartPos}
@@ -32,6 +33,7 @@ use Rattle.bo_lists.specs.Consumed.{consumed}
 use Rattle.bo_lists.specs.Due.{dead_carts}
 use Rattle.bo_lists.specs.Lists.{State}
 use Rattle.bo_lists.proofs.EachRow.{all-row_at}
+use Rattle.bo_sound.specs.Limits.{IsLimitedQuota}
 use Rattle.bo_sound.specs.Members.{HasMembers}
 use Rattle.bo_sound.specs.Sound.{IsSound}
 use Rattle.bo_vouchers.specs.Changed.{voucher_changed}
@@ -84,7 +86,7 @@ use Rattle.bo_machine.proofs.Members.{added_members}
 use Rattle.bo_runs.specs.Runs.{Arrival, IsFitArrival, stepped, trace}
 use Rattle.bo_runs.proofs.Runs.{sound_at, sound_after}
 use Rattle.bo_stand.specs.Lawful.{puts_come_first}
-use Rattle.bo_stand.specs.Stands.{IsRising}
+use Rattle.bo_stand.specs.Stands.{IsRising, MembersRise}
 use Rattle.bo_taken.specs.Taken.{IsTaken, TakesItsChanges}
 
 -- ---- changes that a file takes whatever they are
@@ -184,16 +186,25 @@ scanned_so list ticket scan state = let_in list scan state (verdict_of list tick
 ordered : (carts : List (List ℕ)) (made : OrderRows) (state : State) → ArePlain (order_changes carts made.order made.positions state.lists)
 ordered carts made state = joined _ _ (mapped CartGoes (λ _. refl) (consumed carts state.lists)) (refl, mapped PutPosition (λ _. refl) made.positions)
 
--- ---- members
+-- ---- quotas
 
--- a quota keeps its members when it is resized
-resized_members : (id : ℕ) (patch : QuotaPatch) (state : State) (row : Quota) → IsSound state → resized id patch state.lists.catalogue ≡ Ok row → AreInOrder (λ n. n) row.items × AreInOrder (λ n. n) row.variations
-resized_members id patch state row sound h =
+-- a new quota's members rise, and it keeps its places
+added_rises : (new : NewQuota) (id : ℕ) (lists : CatalogueLists) (row : Quota) → quota_added new id lists ≡ Ok row → MembersRise row
+added_rises new id lists row h =
+    let its = added_members new id lists row h in
+    record {
+      items = its.items_rise;
+      variations = its.variations_rise;
+      kept = subst (λ (q : Quota). q.release_after_exit ≡ false) (quota_added_is new id lists row h).is_row refl;
+    }
+
+-- so it is of one that is resized, as it was before
+resized_rises : (id : ℕ) (patch : QuotaPatch) (state : State) (row : Quota) → IsSound state → resized id patch state.lists.catalogue ≡ Ok row → MembersRise row
+resized_rises id patch state row sound h =
     let r = resized_is id patch state.lists.catalogue row h in
-    let old = all-row_at (λ (q : Quota). q.id) (HasMembers state.lists.catalogue) id state.lists.catalogue.quotas r.old r.stood sound.members in (
-      subst (λ (q : Quota). AreInOrder (λ n. n) q.items) r.is_row old.items_rise,
-      subst (λ (q : Quota). AreInOrder (λ n. n) q.variations) r.is_row old.variations_rise,
-    )
+    let old = all-row_at (λ (q : Quota). q.id) (HasMembers state.lists.catalogue) id state.lists.catalogue.quotas r.old r.stood sound.members in
+    let was = all-row_at (λ (q : Quota). q.id) IsLimitedQuota id state.lists.catalogue.quotas r.old r.stood sound.limits.quotas in
+    subst MembersRise r.is_row (record { items = old.items_rise; variations = old.variations_rise; kept = was.kept })
 
 -- ---- each step
 
@@ -215,15 +226,11 @@ module _ (draw : Draw) (state : State) where
 
   quota_taken : (new : NewQuota) (r : Result Quota CatalogueRefusal) → quota_added new state.next.quota state.lists.catalogue ≡ r → Taken (AddQuota new) draw state (quota_step state r)
   quota_taken new (Err refusal) h = none
-  quota_taken new (Ok row) h =
-      let its = added_members new state.next.quota state.lists.catalogue row h in
-      record { rising = (record { items = its.items_rise; variations = its.variations_rise }, tt); first = refl }
+  quota_taken new (Ok row) h = record { rising = (added_rises new state.next.quota state.lists.catalogue row h, tt); first = refl }
 
   resize_taken : (id : ℕ) (patch : QuotaPatch) → IsSound state → (r : Result Quota CatalogueRefusal) → resized id patch state.lists.catalogue ≡ r → Taken (ResizeQuota id patch) draw state (resize_step state r)
   resize_taken id patch sound (Err refusal) h = none
-  resize_taken id patch sound (Ok row) h =
-      let its = resized_members id patch state row sound h in
-      record { rising = (record { items = its.0; variations = its.1 }, tt); first = refl }
+  resize_taken id patch sound (Ok row) h = record { rising = (resized_rises id patch state row sound h, tt); first = refl }
 
   voucher_taken : (new : NewVoucher) (r : Result (State × Voucher) VoucherRefusal) → Taken (AddVoucher new) draw state (voucher_step state r)
   unfolding show_voucher

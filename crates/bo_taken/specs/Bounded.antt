@@ -11,3 +11,4 @@ pub record IsBounded (usage : Usage) : Type 0 where
   pub blocked : usage.blocked ≤ most_rows * most_uses
   pub carts : usage.carts ≤ most_rows
   pub waiting : usage.waiting ≤ most_rows
+  pub exited : usage.exited ≤ most_rows

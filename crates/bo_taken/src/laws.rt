@@ -12,7 +12,7 @@ ghost use Rattle.bo_taken.specs.Bounded.{IsBounded};
 ghost use Rattle.bo_taken.specs.Taken.{TakesItsChanges};
 
 /// Whatever commands come to a sound office, a file takes the changes of each step: the members of each quota and the items of each
-/// check-in list rise, and no voucher is put after one was dropped. So no write is refused for its changes.
+/// check-in list rise, no quota releases places, and no voucher is put after one was dropped. So no write is refused for its changes.
 pub fn a_file_takes_what_a_step_changes()
     ensures { (arrivals : List Arrival) (state : State) → AllByRecursion IsFitArrival arrivals → IsSound state → AllByRecursion TakesItsChanges (trace arrivals state) }
 {}

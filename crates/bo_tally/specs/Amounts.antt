@@ -1,14 +1,18 @@
 -- Amounts that come and go: what uses a quota, and how often a voucher is used.
-use Rattle.std.specs.Prelude.{◌+◌}
+use Rattle.std.specs.Prelude.{ℕ, ◌+◌}
 use Rattle.bo_lists.specs.declared.rows.Usage.{Usage}
 use Rattle.bo_tally.specs.declared.amount.Uses.{Uses}
 
 abbrev pub nothing : Usage
-nothing = record { paid = 0; pending = 0; blocked = 0; carts = 0; waiting = 0 }
+nothing = record { paid = 0; pending = 0; blocked = 0; carts = 0; waiting = 0; exited = 0 }
 
 -- both together, count by count
 abbrev pub plus : Usage → Usage → Usage
-plus a b = record { paid = a.paid + b.paid; pending = a.pending + b.pending; blocked = a.blocked + b.blocked; carts = a.carts + b.carts; waiting = a.waiting + b.waiting }
+plus a b = record { paid = a.paid + b.paid; pending = a.pending + b.pending; blocked = a.blocked + b.blocked; carts = a.carts + b.carts; waiting = a.waiting + b.waiting; exited = a.exited + b.exited }
+
+-- what uses places; those of the paid ones that have gone out stand beside it
+abbrev pub adds : Usage → ℕ
+adds usage = usage.paid + usage.pending + usage.blocked + usage.carts + usage.waiting
 
 abbrev pub no_uses : Uses
 no_uses = record { used = 0; held = 0 }

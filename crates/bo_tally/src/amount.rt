@@ -42,6 +42,7 @@ impl Amount for Usage {
             blocked: 0,
             carts: 0,
             waiting: 0,
+            exited: 0,
         }
     }
 
@@ -52,6 +53,7 @@ impl Amount for Usage {
             blocked: sum(self.blocked, more.blocked)?,
             carts: sum(self.carts, more.carts)?,
             waiting: sum(self.waiting, more.waiting)?,
+            exited: sum(self.exited, more.exited)?,
         })
     }
 }

@@ -5,14 +5,14 @@ ghost use Rattle.std.specs.Option.{option_copied};
 ghost use Rattle.bo_lists.specs.Conditions.{is_paid, is_pending, is_in_force, same_id};
 ghost use Rattle.bo_lists.specs.Fits.{fits};
 ghost use Rattle.bo_lists.specs.Over.{ignores};
-ghost use Rattle.bo_lists.specs.Usage.{stands_as, position_counts, uses, blocks_if, is_covered_by, cart_counts};
+ghost use Rattle.bo_lists.specs.Usage.{stands_as, is_released, exit_counts, holds_place, takes_place, position_counts, uses, blocks_if, is_covered_by, cart_counts};
 ghost use Rattle.bo_usage.specs.Covers.{cover_alike};
-ghost use Rattle.bo_usage.specs.Shares.{status_share, cart_share, waiting_share, blocked_share, held_name, used_name};
+ghost use Rattle.bo_usage.specs.Shares.{status_share, exited_share, cart_share, waiting_share, blocked_share, held_name, used_name};
 
-use crate::look_ups::LookUps;
+use crate::look_ups::{Exits, LookUps};
 use bo_base::Moment;
 use bo_catalogue::{Product, Quota};
-use bo_lists::{CartPos, Order, OrderPos, Voucher, Waiting};
+use bo_lists::{CartPos, Order, OrderPos, Status, Voucher, Waiting};
 use bo_stock::Catalogue;
 
 /// Whether an order stands and is paid.
@@ -50,11 +50,43 @@ pub fn is_pending_in<R: LookUps>(rows: &R, quota: &Quota, position: &OrderPos) -
     is_pending(rows.order(position.order)) && quota.has(position.product)
 }
 
-/// Whether it is of a paid or pending order, and for a product of the quota.
-pub fn is_sold_in<R: LookUps>(rows: &R, quota: &Quota, position: &OrderPos) -> bool
-    ensures { result ≡ position_counts is_in_force (R.rows rows.now) quota.now position.now }
+/// Whether an order position has gone out, and the quota lets its place be sold again.
+pub fn is_released<R: Exits>(rows: &R, quota: &Quota, position: &OrderPos) -> bool
+    ensures { result ≡ is_released (R.rows rows.now) quota.now position.now }
 {
-    is_in_force(rows.order(position.order)) && quota.has(position.product)
+    quota.release_after_exit && rows.is_out(position.id)
+}
+
+/// Whether it is of a paid order, for a product of the quota, and its place is released.
+pub fn is_exited_in<R: Exits>(rows: &R, quota: &Quota, position: &OrderPos) -> bool
+    ensures { result ≡ exit_counts (R.rows rows.now) quota.now position.now }
+{
+    is_paid(rows.order(position.order))
+        && (quota.has(position.product) && is_released(rows, quota, position))
+}
+
+// Whether a position of an order of this status takes its place, where it is released or not.
+fn holds_place(status: Status, released: bool) -> bool
+    ensures { result ≡ holds_place status released }
+{
+    match status {
+        Status::Pending => true,
+        Status::Paid => !released,
+        Status::Expired | Status::Cancelled => false,
+    }
+}
+
+/// Whether it takes a place of the quota: its order is pending, or paid and its place isn't released.
+pub fn takes_place<R: Exits>(rows: &R, quota: &Quota, position: &OrderPos) -> bool
+    ensures { result ≡ takes_place (R.rows rows.now) quota.now position.now }
+{
+    match rows.order(position.order) {
+        None => false,
+        Some(order) => {
+            holds_place(order.status, is_released(rows, quota, position))
+                && quota.has(position.product)
+        }
+    }
 }
 
 /// Whether an order position uses the voucher: it names it, and its order is paid or pending.
@@ -167,6 +199,18 @@ pub fn pending_share<R: LookUps>(rows: &R, quota: &Quota, position: Option<&Orde
     match position {
         None => 0,
         Some(row) => u64::from(is_pending_in(rows, quota, row)),
+    }
+}
+
+/// 1 where it is of a paid order, for a product of the quota, and its place is released.
+#[tactic(auto, unfolding(crate::specs::Shares::exited_share))]
+pub fn exited_share<R: Exits>(rows: &R, quota: &Quota, position: Option<&OrderPos>) -> u64
+    ensures value { result ≡ exited_share (R.rows rows.now) quota.now (option_copied position.entry) }
+    ensures small { result ≤ 1 }
+{
+    match position {
+        None => 0,
+        Some(row) => u64::from(is_exited_in(rows, quota, row)),
     }
 }
 

@@ -122,10 +122,11 @@ module _ (draw : Draw) (state : State) (entry : Waiting) (h : CanSend state) whe
         blocked = blocked_more;
         carts = same_carts;
         waiting = omega (arith, sum_by-with_row (λ r. r.id) (λ w. one (waits_for quota w)) 0 (with_its_voucher state entry) state.lists.waiting h.waiting, waiting_share);
+        exited = refl;
       }
 
       pub sent_unwaited : used_unwaited after quota ≡ used_unwaited state quota + place_in quota entry.product
-      sent_unwaited = omega (arith, sent_trades.paid, sent_trades.pending, sent_trades.blocked, sent_trades.carts)
+      sent_unwaited = omega (arith, sent_trades.paid, sent_trades.pending, sent_trades.blocked, sent_trades.carts, sent_trades.exited)
 
       pub sent_used : used after quota ≡ used state quota
-      sent_used = omega (arith, sent_trades.paid, sent_trades.pending, sent_trades.blocked, sent_trades.carts, sent_trades.waiting)
+      sent_used = omega (arith, sent_trades.paid, sent_trades.pending, sent_trades.blocked, sent_trades.carts, sent_trades.waiting, sent_trades.exited)

@@ -1,10 +1,15 @@
 -- The definitions on worked cases.
-use Rattle.std.proofs.Common.{◌≡◌, ℕ, List, [], ◌∷◌, true, false, Some, None, Result, Ok, Err, map, refl}
+use Rattle.std.proofs.Common.{◌≡◌, ℕ, Bool, List, [], ◌∷◌, true, false, Some, None, Result, Ok, Err, map, refl}
 use Rattle.std.specs.Prelude.{ℤ, pos}
 use Rattle.bo_catalogue.specs.declared.rows.Item.{Item}
 use Rattle.bo_catalogue.specs.declared.rows.Quota.{Quota}
+use Rattle.bo_lists.specs.declared.rows.Checkin.{Checkin}
+use Rattle.bo_lists.specs.declared.rows.CheckinKind.{CheckinKind}
+use Rattle.bo_lists.specs.declared.rows.CheckinKind.TheVariants.{Entry, Exit}
+use Rattle.bo_lists.specs.declared.rows.Status.TheVariants.{Paid}
 use Rattle.bo_lists.specs.declared.rows.Waiting.{Waiting}
 use Rattle.bo_lists.specs.Lists.{State, no_rows, first_ids}
+use Rattle.bo_lists.specs.Passages.{is_out, later}
 use Rattle.bo_lists.specs.Usage.{usage_of, blocked_by}
 use Rattle.bo_commands.specs.declared.waiting.NewWaiting.{NewWaiting}
 use Rattle.bo_commands.specs.declared.waiting.WaitingRefusal.{WaitingRefusal}
@@ -17,7 +22,7 @@ abbrev item : ℕ → Item
 item id = record { id = id; name = []; default_price = 0; active = true; varied = false }
 
 abbrev quota : ℕ → ℕ → ℕ → Quota
-quota id size item = record { id = id; name = []; size = Some size; items = item ∷ []; variations = [] }
+quota id size item = record { id = id; name = []; release_after_exit = false; size = Some size; items = item ∷ []; variations = [] }
 
 abbrev waits : ℕ → ℤ → ℕ → Waiting
 waits id priority item = record { id = id; email = []; product = record { item = item; variation = None }; priority = priority; created = 100; voucher = None }
@@ -65,3 +70,29 @@ still_available = refl
 sold_out : map (λ (e : Waiting). e.id) (joined_rows (entry_joined (asks 1) (shop 0 1 []))) ≡ 1 ∷ []
 unfolding entry_joined first_closed usage_of blocked_by
 sold_out = refl
+
+-- one place, of which the only ticket was paid and has gone out, and one who waits for it
+abbrev gone_out : Bool → State
+gone_out releases = record {
+  lists = record no_rows {
+    catalogue = record { items = item 1 ∷ []; variations = []; quotas = record (quota 1 1 1) { release_after_exit = releases } ∷ [] };
+    orders = record { id = 1; email = None; status = Paid; made_at = 50; expires = 60 } ∷ [];
+    positions = record { id = 1; order = 1; positionid = 1; product = record { item = 1; variation = None }; price = 0; voucher = None; secret = [] } ∷ [];
+    waiting = waits 1 (pos 0) 1 ∷ [];
+    checkins = scan 1 Entry 70 ∷ scan 2 Exit 80 ∷ [];
+  };
+  next = first_ids;
+  moment = 100;
+}
+  where
+    scan : ℕ → CheckinKind → ℕ → Checkin
+    scan id kind at = record { id = id; list = 1; position = 1; kind = kind; datetime = at; nonce = None }
+
+-- a quota that releases its places has one for who waits, and one that keeps them has none
+place_set_free : map (λ (e : Waiting). e.id) (served (gone_out true)) ≡ 1 ∷ []
+unfolding served queue is_served usage_of blocked_by is_out later
+place_set_free = refl
+
+place_kept : map (λ (e : Waiting). e.id) (served (gone_out false)) ≡ []
+unfolding served queue is_served usage_of blocked_by is_out later
+place_kept = refl

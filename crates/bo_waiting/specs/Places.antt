@@ -11,7 +11,7 @@ use Rattle.bo_lists.specs.Usage.{usage_of}
 
 -- what is used, without the entries that wait
 abbrev pub without_waiting : Usage → ℕ
-without_waiting usage = usage.paid + usage.pending + usage.blocked + usage.carts
+without_waiting usage = usage.paid - usage.exited + usage.pending + usage.blocked + usage.carts
 
 abbrev pub used_unwaited : State → Quota → ℕ
 used_unwaited state quota = without_waiting (usage_of state.lists state.moment quota)

@@ -85,6 +85,7 @@ pub record TradesPlace (quota : Quota) (product : Product) (before after : Usage
   pub blocked : after.blocked ≡ before.blocked + place_in quota product
   pub carts : after.carts ≡ before.carts
   pub waiting : after.waiting + place_in quota product ≡ before.waiting
+  pub exited : after.exited ≡ before.exited
 
 -- what sending rests on: part of what is sound
 pub record CanSend (state : State) : Type 0 where

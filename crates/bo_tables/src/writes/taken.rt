@@ -1,12 +1,13 @@
 //! Changes that a file takes.
 
-ghost use Rattle.std.specs.Prelude.{◌≡◌, ◌∷◌, true, false, IsTrue, IfSome, IfNone, List};
+ghost use Rattle.std.specs.Prelude.{◌≡◌, ◌↔◌, ◌∷◌, true, false, IsTrue, IfSome, IfNone, List};
 ghost use Rattle.std.specs.List.{AllByRecursion};
 ghost use Rattle.bo_sorted.specs.Tables.{AreInOrder};
 ghost use Rattle.bo_lists.specs.declared.changes.Change.{Change as Made};
 ghost use Rattle.bo_stand.specs.Lawful.{puts_come_first};
-ghost use Rattle.bo_stand.specs.Stands.{IsRising};
+ghost use Rattle.bo_stand.specs.Stands.{IsRising, MembersRise};
 
+use bo_catalogue::Quota;
 use bo_lists::Change;
 
 // Whether ids rise, each above the one before it.
@@ -26,13 +27,20 @@ fn rises(ids: &[u64]) -> bool
     true
 }
 
-// Whether the members of a quota, or the items of a check-in list, rise.
+// Whether a quota's members rise, and it keeps its places.
+fn is_kept(quota: &Quota) -> bool
+    ensures { IsTrue result ↔ MembersRise quota.now }
+{
+    !quota.release_after_exit && rises(quota.items.as_slice()) && rises(quota.variations.as_slice())
+}
+
+// Whether so it is of a quota, and the items of a check-in list rise.
 fn is_rising(change: &Change) -> bool
     ensures yes { IsTrue result → IsRising change.now }
     ensures no { result ≡ false → ¬ IsRising change.now }
 {
     match change {
-        Change::PutQuota(row) => rises(row.items.as_slice()) && rises(row.variations.as_slice()),
+        Change::PutQuota(row) => is_kept(row),
         Change::PutCheckinList(row) => rises(row.limit_products.as_slice()),
         _ => true,
     }
@@ -75,8 +83,8 @@ fn are_puts_first(changes: &[Change]) -> bool
     true
 }
 
-/// Whether a file takes these changes: no voucher is put after one was dropped, and the members of each quota and the items of
-/// each check-in list rise.
+/// Whether a file takes these changes: no voucher is put after one was dropped, the members of each quota and the items of each
+/// check-in list rise, and no quota releases places.
 pub fn takes(changes: &[Change]) -> bool
     ensures rising { IsTrue result → AllByRecursion IsRising changes.now }
     ensures first { IsTrue result → puts_come_first false changes.now ≡ true }

@@ -1,4 +1,4 @@
-use Rattle.std.proofs.Common.{◌<◌, ◌++◌, [], ◌∷◌, length, ap, ◌∙◌, arith}
+use Rattle.std.proofs.Common.{◌++◌, [], ◌∷◌, ap, ◌∙◌, arith}
 use Rattle.bo_tally.proofs.Newest.{blank}
 use Rattle.bo_draft.proofs.HandedLemmas.{keys_more}
 use Rattle.bo_draft.proofs.finish.add_keys.Goals as goal

@@ -1,14 +1,13 @@
-use Rattle.std.proofs.Common.{◌≡◌, List, sym, ap, ◌∙◌, subst, arith}
+use Rattle.std.proofs.Common.{◌≡◌, List, sym, ap, ap₂, ◌∙◌, subst, arith}
 use Rattle.bo_catalogue.specs.declared.rows.Quota.{Quota}
 use Rattle.bo_lists.specs.Lists.{Lists}
 use Rattle.bo_lists.specs.Over.{is_over}
 use Rattle.bo_shares.specs.Logs.{rows_of, rows_at}
-use Rattle.bo_lists.specs.Total.{total}
 use Rattle.bo_tally.specs.Amounts.{nothing}
 use Rattle.bo_tally.proofs.Earlier.{same_at_mark}
 use Rattle.bo_shares.specs.Counts.{value_at}
 use Rattle.bo_draft.specs.Least.{found_at}
-use Rattle.bo_draft.specs.Used.{used}
+use Rattle.bo_draft.specs.Used.{used, raised}
 use Rattle.bo_draft.proofs.Overs.{untouched, least_start, least_end, within_over}
 use Rattle.bo_draft.proofs.over.least_over.Goals as goal
 
@@ -21,9 +20,9 @@ loop-i-init g c =
     let quotas : log.base.catalogue.quotas ≡ c.args.quotas.now = ap (λ (l : Lists). l.catalogue.quotas) c.requires.base ∙ sym c.requires.sold in
     least_start (found_at (λ q. q.id) (is_over before (rows_of log) at c.args.own.now) c.args.quotas.now) counts c.args.mark
     (λ place lt.
-    let come = ap total (same_at_mark nothing (λ r. r.come) counts c.args.mark place c.requires.within lt) in
-    let gone = ap total (same_at_mark nothing (λ r. r.gone) counts c.args.mark place c.requires.within lt) in
-    let same : value_at 0 (used before at) log.base.catalogue.quotas place ≡ value_at 0 (used (rows_of log) at) log.base.catalogue.quotas place = omega (arith, c.requires.counted place, c.requires.counted_before place, come, gone) in
+    let come = same_at_mark nothing (λ r. r.come) counts c.args.mark place c.requires.within lt in
+    let gone = same_at_mark nothing (λ r. r.gone) counts c.args.mark place c.requires.within lt in
+    let same : value_at 0 (used before at) log.base.catalogue.quotas place ≡ value_at 0 (used (rows_of log) at) log.base.catalogue.quotas place = omega (arith, c.requires.counted place, c.requires.counted_before place, ap₂ raised come gone, ap₂ raised gone come) in
     untouched before (rows_of log) at c.args.own.now c.args.quotas.now place (subst (λ (qs : List Quota). value_at 0 (used before at) qs place ≡ value_at 0 (used (rows_of log) at) qs place) quotas same))
 
 pub returns-clause-within : goal.returns-clause-within

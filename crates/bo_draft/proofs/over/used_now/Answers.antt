@@ -1,13 +1,12 @@
-use Rattle.std.proofs.Common.{◌≡◌, List, get_or, Some, sym, ap, ◌∙◌, subst, arith}
+use Rattle.std.proofs.Common.{◌≡◌, List, get_or, Some, sym, ap, ap₂, ◌∙◌, subst, arith}
 use Rattle.bo_sorted.specs.Tables.{AreInOrder, row_at}
 use Rattle.bo_sorted.proofs.Places.{row_at_place, row_at_gap}
 use Rattle.bo_catalogue.specs.declared.rows.Quota.{Quota}
 use Rattle.bo_catalogue.specs.CatalogueLists.{CatalogueLists}
 use Rattle.bo_lists.specs.Lists.{Lists}
-use Rattle.bo_lists.specs.Total.{total}
 use Rattle.bo_shares.specs.Logs.{rows_of}
 use Rattle.bo_shares.specs.Counts.{value_at}
-use Rattle.bo_draft.specs.Used.{used}
+use Rattle.bo_draft.specs.Used.{used, raised}
 use Rattle.bo_shares.proofs.Values.{value_here}
 use Rattle.bo_draft.proofs.over.used_now.Goals as goal
 
@@ -29,7 +28,7 @@ returns-in-Ok g c =
     ap (λ (qs : List Quota). value_at 0 (used l at) qs place) (ap (λ (k : Lists). k.catalogue.quotas) c.requires.base ∙ sym sold)
     ∙ value_here 0 (used l at) quotas place quota c.in-Ok.ensures.found.in_range
     ∙ ap (used l at) here in
-    omega (arith, c.requires.counted place, value (rows_of log), value log.base, base, c.moved.ensures, ap total c.of-count.ensures.come, ap total c.of-count.ensures.gone)
+    omega (arith, c.requires.counted place, value (rows_of log), value log.base, base, c.moved.ensures, ap₂ raised c.of-count.ensures.come c.of-count.ensures.gone, ap₂ raised c.of-count.ensures.gone c.of-count.ensures.come)
 
 pub returns-in-Err : goal.returns-in-Err
 returns-in-Err g c =

@@ -1,4 +1,4 @@
-use Rattle.std.proofs.Common.{count_by, ap, ◌∙◌, arith}
+use Rattle.std.proofs.Common.{count_by, ap, ap₂, ◌∙◌, arith}
 use Rattle.std.proofs.lemmas.List.{take_all}
 use Rattle.std.specs.Option.{option_copied}
 use Rattle.bo_catalogue.specs.Member.{is_in}
@@ -6,6 +6,7 @@ use Rattle.bo_lists.specs.Usage.{is_covered_by, blocks_if}
 use Rattle.bo_overlay.specs.declared.purchases.Purchase.{Purchase}
 use Rattle.bo_overlay.specs.Logs.{rows_of}
 use Rattle.bo_shares.specs.declared.shift.Spot.{Spot}
+use Rattle.bo_shares.specs.Shift.{is_free_in}
 use Rattle.bo_shares.proofs.Values.{pushed_count}
 use Rattle.bo_shares.proofs.orders.spots_of.Goals as goal
 
@@ -16,6 +17,7 @@ loop-purchase-preserved g c =
     record {
       here = λ q. ap (λ spots. count_by (λ (s : Spot). is_in q s.product) spots) c.in_ok-push.ensures.items ∙ pushed_count (λ (s : Spot). is_in q s.product) (λ (t : Purchase). is_in q t.product) c.loop-purchase.spots.items purchases i _ _ (omega arith) (ap (is_in q) c.spot_of.ensures.product) (c.loop-purchase.invariant.here q);
       covered = λ q at. ap (λ spots. count_by (λ (s : Spot). blocks_if at q (option_copied s.voucher)) spots) c.in_ok-push.ensures.items ∙ pushed_count (λ (s : Spot). blocks_if at q (option_copied s.voucher)) (λ (t : Purchase). is_covered_by (rows_of c.args.overlay.now) at q t.voucher) c.loop-purchase.spots.items purchases i _ _ (omega arith) (c.spot_of.ensures.covered q at) (c.loop-purchase.invariant.covered q at);
+      released = λ q. ap (λ spots. count_by (λ (s : Spot). is_free_in q s.product s.out) spots) c.in_ok-push.ensures.items ∙ pushed_count (λ (s : Spot). is_free_in q s.product s.out) (λ (t : Purchase). is_free_in q t.product t.out) c.loop-purchase.spots.items purchases i _ _ (omega arith) (ap₂ (is_free_in q) c.spot_of.ensures.product c.spot_of.ensures.out) (c.loop-purchase.invariant.released q);
     }
 
 pub returns-clause-here : goal.returns-clause-here
@@ -23,3 +25,6 @@ returns-clause-here g c q = c.loop-purchase.invariant.here q ∙ ap (count_by (�
 
 pub returns-clause-covered : goal.returns-clause-covered
 returns-clause-covered g c q at = c.loop-purchase.invariant.covered q at ∙ ap (count_by (λ (t : Purchase). is_covered_by (rows_of c.args.overlay.now) at q t.voucher)) (take_all c.loop-purchase.purchase-index c.args.purchases.now (omega arith))
+
+pub returns-clause-released : goal.returns-clause-released
+returns-clause-released g c q = c.loop-purchase.invariant.released q ∙ ap (count_by (λ (t : Purchase). is_free_in q t.product t.out)) (take_all c.loop-purchase.purchase-index c.args.purchases.now (omega arith))

@@ -1,4 +1,4 @@
-use Rattle.std.proofs.Common.{◌≡◌, true, false, [], length, count_by, Option, Some, sym, ap, ap₂, ◌∙◌}
+use Rattle.std.proofs.Common.{◌≡◌, true, false, [], length, count_by, Option, Some, sym, ap, ◌∙◌}
 use Rattle.std.proofs.Common.{arith}
 use Rattle.std.proofs.lemmas.Bool.Decides.{nat_tests}
 use Rattle.std.proofs.lemmas.List.{nil_from_length}
@@ -10,8 +10,8 @@ use Rattle.bo_lists.specs.Lists.{order_at}
 use Rattle.bo_lists.specs.Usage.{is_covered_by}
 use Rattle.bo_overlay.specs.declared.purchases.Purchase.{Purchase}
 use Rattle.bo_overlay.specs.Logs.{rows_of}
-use Rattle.bo_shares.specs.Shift.{order_counts, order_side, keeps_status, ordered_in, ordered_covered}
-use Rattle.bo_shares.proofs.Sums.{none_ordered, none_kept, some_kept}
+use Rattle.bo_shares.specs.Shift.{order_counts, order_side, keeps_status, ordered_in, ordered_covered, released_in, is_free_in}
+use Rattle.bo_shares.proofs.Sums.{none_ordered, same_counts, none_kept, some_kept}
 use Rattle.bo_shares.proofs.Values.{more_same, none_more}
 use Rattle.bo_shares.proofs.orders.with_order.Goals as goal
 
@@ -37,9 +37,10 @@ returns-then-is_empty-clause-more g c =
     let none : c.args.purchases.now ≡ [] = nil_from_length c.args.purchases.now few in
     let here : (q : Quota) → ordered_in lists q row.id ≡ 0 = λ q. sym (c.requires.turned turns (λ t. is_in q t.product)) ∙ ap (count_by (λ (t : Purchase). is_in q t.product)) none in
     let covered : (q : Quota) → ordered_covered lists at q row.id ≡ 0 = λ q. sym (c.requires.turned turns (λ t. is_covered_by lists at q t.voucher)) ∙ ap (count_by (λ (t : Purchase). is_covered_by lists at q t.voucher)) none in
+    let released : (q : Quota) → released_in lists q row.id ≡ 0 = λ q. sym (c.requires.turned turns (λ t. is_free_in q t.product t.out)) ∙ ap (count_by (λ (t : Purchase). is_free_in q t.product t.out)) none in
     more_same _ _ _ _ c.args.catalogue.now.lists.quotas c.args.counts.now c.args.counts.now
-    (λ q. sym (ap₂ (order_counts (Some row) old) (here q) (covered q) ∙ none_ordered (Some row) old) ∙ some_kept (keeps_status row old) (order_side lists at q row.id (Some row) old) turns)
-    (λ q. sym (ap₂ (order_counts old (Some row)) (here q) (covered q) ∙ none_ordered old (Some row)) ∙ some_kept (keeps_status row old) (order_side lists at q row.id old (Some row)) turns)
+    (λ q. sym (same_counts (Some row) old (here q) (covered q) (released q) ∙ none_ordered (Some row) old) ∙ some_kept (keeps_status row old) (order_side lists at q row.id (Some row) old) turns)
+    (λ q. sym (same_counts old (Some row) (here q) (covered q) (released q) ∙ none_ordered old (Some row)) ∙ some_kept (keeps_status row old) (order_side lists at q row.id old (Some row)) turns)
     (none_more c.args.catalogue.now.lists.quotas c.args.counts.now)
 
 pub returns-clause-more : goal.returns-clause-more
@@ -51,12 +52,13 @@ returns-clause-more g c =
     let turns : keeps_status row old ≡ false = sym (c.keeps_status.ensures ∙ ap (keeps_status row) c.order-gone.ensures) ∙ c.if-keeps_status.false in
     let here = λ (q : Quota). c.in_ok-spots.ensures.here q ∙ c.requires.turned turns (λ t. is_in q t.product) in
     let covered = λ (q : Quota). c.in_ok-spots.ensures.covered q at ∙ c.requires.turned turns (λ t. is_covered_by lists at q t.voucher) in
+    let released = λ (q : Quota). c.in_ok-spots.ensures.released q ∙ c.requires.turned turns (λ t. is_free_in q t.product t.out) in
     on_ok_weaker c.count_each.result
     (more_same _ _ _ _ c.args.catalogue.now.lists.quotas c.args.counts.now c.count_each.new.counts
-    (λ q. ap₂ (order_counts (Some row) _) (here q) (covered q)
-    ∙ ap (λ (o : Option Order). order_counts (Some row) o (ordered_in lists q row.id) (ordered_covered lists at q row.id)) c.order-gone.ensures
+    (λ q. same_counts (Some row) _ (here q) (covered q) (released q)
+    ∙ ap (λ (o : Option Order). order_counts (Some row) o (ordered_in lists q row.id) (ordered_covered lists at q row.id) (released_in lists q row.id)) c.order-gone.ensures
     ∙ some_kept (keeps_status row old) (order_side lists at q row.id (Some row) old) turns)
-    (λ q. ap₂ (order_counts _ (Some row)) (here q) (covered q)
-    ∙ ap (λ (o : Option Order). order_counts o (Some row) (ordered_in lists q row.id) (ordered_covered lists at q row.id)) c.order-gone.ensures
+    (λ q. same_counts _ (Some row) (here q) (covered q) (released q)
+    ∙ ap (λ (o : Option Order). order_counts o (Some row) (ordered_in lists q row.id) (ordered_covered lists at q row.id) (released_in lists q row.id)) c.order-gone.ensures
     ∙ some_kept (keeps_status row old) (order_side lists at q row.id old (Some row)) turns))
     c.count_each.ensures.more

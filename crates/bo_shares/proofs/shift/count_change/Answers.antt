@@ -1,6 +1,6 @@
 use Rattle.std.proofs.Common.{sym, subst, OnOk}
 use Rattle.bo_lists.specs.declared.changes.Change.{Change}
-use Rattle.bo_overlay.specs.Logs.{rows_of}
+use Rattle.bo_overlay.specs.Logs.{rows_of, IsSale}
 use Rattle.bo_usage.specs.Shares.{cart_share, waiting_share}
 use Rattle.bo_shares.specs.Counts.{IsMore}
 use Rattle.bo_shares.specs.Shift.{come_of, gone_of}
@@ -49,5 +49,13 @@ returns-in-PutPosition-clause-more g c =
     let lists = rows_of c.args.overlay.now in
     subst (λ (change : Change). OnOk c.with_position.result (IsMore (come_of lists c.args.at change) (gone_of lists c.args.at change) c.args.catalogue.now.lists.quotas c.args.counts.now c.with_position.new.counts)) (sym c.in-PutPosition.is) c.with_position.ensures.more
 
+pub returns-in-PutCheckin-clause-more : goal.returns-in-PutCheckin-clause-more
+returns-in-PutCheckin-clause-more g c =
+    let lists = rows_of c.args.overlay.now in
+    subst (λ (change : Change). OnOk c.with_checkin.result (IsMore (come_of lists c.args.at change) (gone_of lists c.args.at change) c.args.catalogue.now.lists.quotas c.args.counts.now c.with_checkin.new.counts)) (sym c.in-PutCheckin.is) c.with_checkin.ensures.more
+
+pub with_checkin-requires : goal.with_checkin-requires
+with_checkin-requires g c = record { new = subst (λ (change : Change). IsSale change (rows_of c.args.overlay.now)) c.in-PutCheckin.is c.requires.sale }
+
 pub returns-in_default-clause-more : goal.returns-in_default-clause-more
-returns-in_default-clause-more g c = let d = c.in_default in unsold (rows_of c.args.overlay.now) c.args.at c.args.catalogue.now.lists.quotas c.args.counts.now c.args.change.now d.not-PutVoucher d.not-PutCart d.not-PutOrder d.not-PutPosition d.not-PutWaiting d.not-DropVoucher d.not-DropCart d.not-DropWaiting
+returns-in_default-clause-more g c = let d = c.in_default in unsold (rows_of c.args.overlay.now) c.args.at c.args.catalogue.now.lists.quotas c.args.counts.now c.args.change.now d.not-PutVoucher d.not-PutCart d.not-PutOrder d.not-PutPosition d.not-PutWaiting d.not-DropVoucher d.not-DropCart d.not-DropWaiting d.not-PutCheckin

@@ -4,7 +4,7 @@ use Rattle.bo_catalogue.specs.Member.{is_in}
 use Rattle.bo_lists.specs.declared.rows.Usage.{Usage}
 use Rattle.bo_lists.specs.Lists.{order_at}
 use Rattle.bo_lists.specs.Conditions.{is_paid, is_pending, is_in_force}
-use Rattle.bo_lists.specs.Usage.{stands_as, is_covered_by}
+use Rattle.bo_lists.specs.Usage.{stands_as, is_covered_by, is_released}
 use Rattle.bo_overlay.specs.Logs.{rows_of}
 use Rattle.bo_tally.specs.Amounts.{nothing}
 use Rattle.bo_shares.specs.Shift.{once, sold_as}
@@ -23,7 +23,7 @@ returns-then-not-is_in_force-clause-more g c =
     let order = order_at row.order lists in
     let ended : stands_as is_in_force order ≡ false = sym (c.is_in_force.ensures ∙ ap (stands_as is_in_force) c.order-order.ensures) ∙ c.if-not-is_in_force.true in
     more_same _ _ _ _ c.args.catalogue.now.lists.quotas c.args.counts.now c.args.counts.now
-    (λ q. ended_sold order (is_in q row.product) ended)
+    (λ q. ended_sold order (is_in q row.product) (is_released lists q row) ended)
     (λ q. sym (ap (λ (b : Bool). blocked_as (b && is_covered_by lists c.args.at q row.voucher)) ended))
     (none_more c.args.catalogue.now.lists.quotas c.args.counts.now)
 
@@ -35,6 +35,7 @@ returns-clause-more g c =
     let force : stands_as is_in_force order ≡ true = sym (c.is_in_force.ensures ∙ ap (stands_as is_in_force) c.order-order.ensures) ∙ c.if-not-is_in_force.false in
     on_ok_weaker c.count_each.result
     (more_same _ _ _ _ c.args.catalogue.now.lists.quotas c.args.counts.now c.count_each.new.counts
-    (λ q. ap₂ (λ (a b : Bool). sold_as a b (is_in q row.product)) (c.is_paid.ensures ∙ ap (stands_as is_paid) c.order-order.ensures) (c.is_pending.ensures ∙ ap (stands_as is_pending) c.order-order.ensures))
+    (λ q. ap (λ (b : Bool). sold_as c.is_paid.result c.is_pending.result (is_in q row.product) (q.release_after_exit && b)) c.is_out.ensures
+    ∙ ap₂ (λ (a b : Bool). sold_as a b (is_in q row.product) (is_released lists q row)) (c.is_paid.ensures ∙ ap (stands_as is_paid) c.order-order.ensures) (c.is_pending.ensures ∙ ap (stands_as is_pending) c.order-order.ensures))
     (λ q. ap blocked_as (c.voucher_of-voucher.ensures q c.args.at) ∙ sym (ap (λ (b : Bool). blocked_as (b && is_covered_by lists c.args.at q row.voucher)) force)))
     c.count_each.ensures.more

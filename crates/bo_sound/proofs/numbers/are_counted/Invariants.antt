@@ -1,4 +1,4 @@
-use Rattle.std.proofs.Common.{◌≡◌, ◌+◌, ◌↔◌, drop}
+use Rattle.std.proofs.Common.{◌+◌, ◌↔◌, drop}
 use Rattle.bo_sound.specs.Positions.{CountFrom}
 use Rattle.bo_sound.proofs.numbers.are_counted.Given as goal
 

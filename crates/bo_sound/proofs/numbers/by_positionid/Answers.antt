@@ -1,5 +1,4 @@
-use Rattle.std.proofs.Common.{◌≡◌, List, sym, ◌∙◌, subst, rules}
-use Rattle.bo_lists.specs.declared.rows.OrderPos.{OrderPos}
+use Rattle.std.proofs.Common.{sym, subst}
 use Rattle.bo_sound.specs.Positions.{CountFrom}
 use Rattle.bo_sound.proofs.ByNumber.{counted_is}
 use Rattle.bo_sound.proofs.numbers.by_positionid.Goals as goal

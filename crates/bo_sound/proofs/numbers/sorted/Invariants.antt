@@ -1,4 +1,4 @@
-use Rattle.std.proofs.Common.{◌≡◌, ◌≤◌, ℕ, length, drop}
+use Rattle.std.proofs.Common.{◌≡◌, ◌≤◌, length, drop}
 use Rattle.bo_sound.specs.Positions.{by_positionid}
 use Rattle.bo_sound.proofs.numbers.sorted.Given as goal
 

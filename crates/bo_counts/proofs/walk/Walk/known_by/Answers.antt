@@ -16,4 +16,4 @@ returns-then-has_same_members-clause-base g c =
     let lists = (g.B.Book.state c.args.self.now.book.now).lists in
     c.known_as.ensures.base
     ∙ like_usage lists c.args.self.now.at c.args.old.now c.args.quota.now (key-row_at (λ (r : Quota). r.id) c.args.quota.now.id lists.catalogue.quotas c.args.old.now c.requires.stood)
-    (c.has_same_members.ensures.items c.if-has_same_members.true) (c.has_same_members.ensures.variations c.if-has_same_members.true)
+    (c.has_same_members.ensures.items c.if-has_same_members.true) (c.has_same_members.ensures.variations c.if-has_same_members.true) (c.has_same_members.ensures.release c.if-has_same_members.true)
