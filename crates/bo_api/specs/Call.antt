@@ -39,6 +39,7 @@ refused_by false response = calls.ReadRefused response
 abbrev pub refused_body : BodyFault → Call
 refused_body fault = calls.WriteRefused (fault_response fault)
 
+-- a write with the command that its body says
 abbrev pub written : Result Command BodyFault → Call
 written (Ok command) = calls.Write command
 written (Err fault) = refused_body fault
@@ -69,6 +70,7 @@ call_by m ticket target (Some endpoints.ReadMissing) = calls.ReadRefused not_fou
 call_by m ticket target (Some (endpoints.MoveMissing name)) = missing (read_move name m.body)
 call_by m ticket target (Some (endpoints.Redeem door)) = redeemed door ticket (read_scan m.body)
 
+-- at a target, by what the message's method asks for there
 abbrev pub call_at : Message → Option (List ℕ) → Target → Call
 call_at m ticket target = call_by m ticket target (endpoint_of target (verb_of m.method))
 

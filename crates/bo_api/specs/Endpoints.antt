@@ -40,6 +40,7 @@ drop_form resources.Carts id = Some (forms.DropCart id)
 drop_form resources.WaitingEntries id = Some (forms.DropWaiting id)
 drop_form _ id = None
 
+-- a write with a body of this form; where there is none the target hasn't the method
 abbrev pub write_of : Option Form → Option Endpoint
 write_of None = None
 write_of (Some form) = Some (endpoints.Write form)
@@ -54,6 +55,8 @@ abbrev pub move_order : Option ℕ → MoveName → Endpoint
 move_order None name = endpoints.MoveMissing name
 move_order (Some number) name = endpoints.Write (forms.Move number name)
 
+-- a list has GET and perhaps POST, a row GET and perhaps PATCH and DELETE;
+-- each other target has one method, and what isn't here no target has
 abbrev pub endpoint_of : Target → Verb → Option Endpoint
 endpoint_of (targets.All resource) verbs.Get = Some (endpoints.Page resource)
 endpoint_of (targets.All resource) verbs.Post = write_of (new_form resource)

@@ -19,6 +19,7 @@ bytes_of s = s.now
 
 -- the next step, where there is one
 infixl 10 ◌>>=◌
+-- where one step gives nothing, neither does the whole
 abbrev pub ◌>>=◌ : {A B : Type 0} → Option A → (A → Option B) → Option B
 (Some x) >>= f = f x
 None >>= f = None

@@ -11,9 +11,11 @@ use Rattle.bo_api.specs.declared.routes.Route.{Route}
 use Rattle.bo_api.specs.declared.routes.Route.TheVariants as routes
 use Rattle.bo_bodies.specs.declared.form.MoveName.TheVariants as names
 
+-- the rows of the router, each with a pattern of names and one of the shop's routes
 abbrev pub Rows : Type 0
 Rows = RowsOf (RouteOf Route)
 
+-- the rows with one more route, in its place among them; a text that is no pattern adds none
 abbrev pub with_read : Result Scan InsertError → Route → Rows → Rows
 with_read (Ok s) route rows = placed ((route_from s route).pattern, route_from s route) rows
 with_read (Err e) route rows = rows

@@ -15,6 +15,7 @@ abbrev pub ticket_by : List ℕ → Option ℕ → Ticket
 ticket_by text None = secret_in text
 ticket_by text (Some id) = tickets.Position id
 
+-- an id or a secret, by the text; a path without that text shows no ticket
 unfoldable pub ticket_in : Option (List ℕ) → Ticket
 ticket_in None = tickets.Unreadable
 ticket_in (Some text) = ticket_by text (number_of text)

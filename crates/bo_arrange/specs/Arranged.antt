@@ -21,15 +21,19 @@ use Rattle.bo_arrange.specs.Members.{members_of}
 
 -- ---- rows as they were read
 
+-- the row by which a quota has an item
 abbrev pub item_link : QuotaItem → Link
 item_link row = record { owner = row.quota; member = row.item }
 
+-- the row by which a quota has a variation
 abbrev pub variation_link : QuotaVariation → Link
 variation_link row = record { owner = row.quota; member = row.variation }
 
+-- the row by which a check-in list has an item
 abbrev pub list_link : ListItem → Link
 list_link row = record { owner = row.list; member = row.item }
 
+-- how often a voucher is redeemed, as its row says
 abbrev pub count_in : VoucherRow → VoucherCount
 count_in row = record { voucher = row.voucher.id; redeemed = row.redeemed }
 

@@ -20,6 +20,7 @@ use Rattle.bo_bodies.specs.DoorBodies.{scan_of}
 abbrev pub body_text : List ℕ → List ℕ
 body_text bytes = if length bytes == 0 then codes "{}" else bytes
 
+-- what was read of a text, which isn't JSON where nothing could be
 abbrev pub json_from : Option Data → Result Data BodyFault
 json_from None = Err faults.NotJson
 json_from (Some d) = Ok d

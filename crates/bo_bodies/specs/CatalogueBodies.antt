@@ -28,6 +28,7 @@ variation_of d = do
 abbrev pub variation_entry : Data → Result NewVariation BodyFault
 variation_entry d = entry_object fields.Variations d >>= λ v. renamed fields.Variations (variation_of v)
 
+-- the variations of a list, in its order, or the fault of the first that has one
 abbrev pub variation_list : Data → Result (List NewVariation) BodyFault
 variation_list v = list fields.Variations v >>= all_of variation_entry
 

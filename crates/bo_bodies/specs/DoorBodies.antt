@@ -40,6 +40,7 @@ kind_named word =
     if same_text word (codes "entry") then Some kinds.Entry
     else (if same_text word (codes "exit") then Some kinds.Exit else None)
 
+-- what a word names, or the field's fault where it names neither kind
 abbrev pub kind_from : Option CheckinKind → Result CheckinKind BodyFault
 kind_from None = Err (fault fields.Type problems.Invalid)
 kind_from (Some kind) = Ok kind

@@ -54,10 +54,12 @@ start_named word =
     if same_text word (codes "n") then Some starts.Pending
     else (if same_text word (codes "p") then Some starts.Paid else None)
 
+-- what a word names, or the field's fault where it names neither
 abbrev pub start_from : Option Start → Result Start BodyFault
 start_from None = Err (fault fields.Status problems.Invalid)
 start_from (Some s) = Ok s
 
+-- what an order starts as: one of the words `n` and `p`
 abbrev pub start : Data → Result Start BodyFault
 start v = start_from (option_and_then start_named (as_str v))
 

@@ -26,6 +26,7 @@ abbrev pub list_from : Option Items → Result Items BodyFault
 list_from None = Err faults.InvalidData
 list_from (Some ds) = Ok ds
 
+-- the entries of a body, which has to be a list
 abbrev pub list_of : Data → Result Items BodyFault
 list_of d = list_from (as_array d)
 

@@ -15,6 +15,7 @@ use Rattle.bo_fields.specs.Patched.{patched_signed}
 abbrev pub lowest : ℤ
 lowest = negsuc 999999
 
+-- the highest priority, 1,000,000
 abbrev pub highest : ℤ
 highest = pos 1000000
 

@@ -10,6 +10,7 @@ use Rattle.bo_lists.specs.declared.rows.Status.TheVariants as statuses
 use Rattle.bo_lists.specs.declared.rows.CheckinKind.{CheckinKind}
 use Rattle.bo_lists.specs.declared.rows.CheckinKind.TheVariants as kinds
 
+-- ids, counts, amounts in cents and moments are integers
 abbrev pub number : ℕ → Value
 number n = Int (pos n)
 
@@ -17,6 +18,7 @@ number n = Int (pos n)
 abbrev pub truth : Bool → Value
 truth b = Int (if b then pos 1 else pos 0)
 
+-- the words by which price modes are called everywhere
 abbrev pub mode : PriceMode → Value
 mode modes.None = Text (codes "none")
 mode modes.Set = Text (codes "set")
@@ -30,6 +32,7 @@ status statuses.Paid = Text (codes "p")
 status statuses.Expired = Text (codes "e")
 status statuses.Cancelled = Text (codes "c")
 
+-- the words by which a door says what a scan is for
 abbrev pub kind : CheckinKind → Value
 kind kinds.Entry = Text (codes "entry")
 kind kinds.Exit = Text (codes "exit")

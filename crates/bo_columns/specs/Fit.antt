@@ -39,14 +39,17 @@ pub record IsFitShop (w : ShopRow) : Type 0 where
   pub event : IsSlug w.event
   pub moment : IsMoment w.moment
 
+-- an item has a text as its name, and costs an amount of money
 pub record IsFitItem (w : Item) : Type 0 where
   pub name : IsStored w.name
   pub price : IsMoney w.default_price
 
+-- a variation has a text as its name, and may have an amount of money as its own price
 pub record IsFitVariation (w : Variation) : Type 0 where
   pub name : IsStored w.name
   pub price : IfSome w.default_price IsMoney
 
+-- a quota has a text as its name, and may have a size of at most 1,000,000 places
 pub record IsFitQuota (w : QuotaRow) : Type 0 where
   pub name : IsStored w.name
   pub size : IfSome w.size IsSize
@@ -60,37 +63,45 @@ pub record IsFitVoucher (w : VoucherRow) : Type 0 where
   pub tag : IsStored w.voucher.tag
   pub comment : IsStored w.voucher.comment
 
+-- the id of a cart position's cart is a text, its price an amount of money, and its making and its end are moments
 pub record IsFitCart (w : CartPos) : Type 0 where
   pub cart_id : IsStored w.cart_id
   pub price : IsMoney w.price
   pub made_at : IsMoment w.made_at
   pub expires : IsMoment w.expires
 
+-- an order's address, if it has one, is a text, and its making and its end are moments
 pub record IsFitOrder (w : Order) : Type 0 where
   pub email : IfSome w.email IsStored
   pub made_at : IsMoment w.made_at
   pub expires : IsMoment w.expires
 
+-- an order position has a number of 32 bits in its order, costs an amount of money, and has a text as its secret
 pub record IsFitPosition (w : PositionRow) : Type 0 where
   pub positionid : w.positionid < 2 ^ 32
   pub price : IsMoney w.price
   pub secret : IsStored w.secret
 
+-- the address of an entry of the waiting list is a text, its priority is in range, and its making is a moment
 pub record IsFitWaiting (w : Waiting) : Type 0 where
   pub email : IsStored w.email
   pub priority : IsPriority w.priority
   pub created : IsMoment w.created
 
+-- a check-in list has a text as its name
 pub record IsFitList (w : ListRow) : Type 0 where
   pub name : IsStored w.name
 
+-- a check-in is of a moment, and may have a text as its nonce
 pub record IsFitCheckin (w : Checkin) : Type 0 where
   pub datetime : IsMoment w.datetime
   pub nonce : IfSome w.nonce IsStored
 
+-- of a token the digest is kept, which has 32 bytes
 pub record IsFitToken (w : Token) : Type 0 where
   pub digest : IsDigest w.digest
 
+-- an answer is kept since a moment, and has a status of three digits
 pub record IsFitKept (w : KeptRow) : Type 0 where
   pub at : IsMoment w.kept.at
   pub status : IsStatus w.kept.response.status

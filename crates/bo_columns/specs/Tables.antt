@@ -45,6 +45,7 @@ pub record Tables : Type 0 where
   pub tokens : List Token
   pub kept : List KeptRow
 
+-- what the table in the tree of this number shows
 abbrev part : ℕ → List Row → Part
 part tree rows = record { tree = tree; rows = rows }
 
@@ -82,5 +83,6 @@ pub record HoldsAt (version : ℕ) (db : Trees) (t : Tables) : Type 0 where
   pub shown : HoldParts (schema_of_version version) db (take (tables_of version) (parts t))
   pub none : AllByRecursion (λ (p : Part). p.rows ≡ []) (drop (tables_of version) (parts t))
 
+-- no table has a row, not even the shop's own
 abbrev pub no_rows : Tables
 no_rows = record { shop = []; items = []; variations = []; quotas = []; quota_items = []; quota_variations = []; vouchers = []; carts = []; orders = []; positions = []; waiting = []; checkin_lists = []; list_items = []; checkins = []; counts = []; tokens = []; kept = [] }

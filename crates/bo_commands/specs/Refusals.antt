@@ -12,6 +12,7 @@ use Rattle.bo_commands.specs.declared.doors.DoorRefusal.TheVariants as door
 use Rattle.bo_commands.specs.declared.replies.Refusal.{Refusal}
 use Rattle.bo_commands.specs.declared.replies.Refusal.TheVariants.{Catalogue, Voucher, Order, Waiting, Door, NoPage}
 
+-- 2, 20 to 28 and 33 are a voucher's own, and 6 is want of memory; what it names has the catalogue's numbers
 abbrev pub number_of_voucher_refusal : VoucherRefusal → ℕ
 number_of_voucher_refusal voucher.Memory = 6
 number_of_voucher_refusal (voucher.Catalogue refusal) = number_of_catalogue_refusal refusal
@@ -27,6 +28,7 @@ number_of_voucher_refusal voucher.InUse = 27
 number_of_voucher_refusal (voucher.SoldOut quota) = 28
 number_of_voucher_refusal voucher.ReservedCode = 33
 
+-- 40 to 45 are an order's and a cart's own, and 6 is want of memory; a position has a voucher's numbers
 abbrev pub number_of_order_refusal : OrderRefusal → ℕ
 number_of_order_refusal order.Memory = 6
 number_of_order_refusal (order.Voucher refusal) = number_of_voucher_refusal refusal
@@ -37,6 +39,7 @@ number_of_order_refusal order.Empty = 43
 number_of_order_refusal order.TooMany = 44
 number_of_order_refusal order.BadCart = 45
 
+-- 29 to 32 are the waiting list's own, 28 is sold out, and 6 is want of memory; a product has the catalogue's numbers
 abbrev pub number_of_waiting_refusal : WaitingRefusal → ℕ
 number_of_waiting_refusal waiting.Memory = 6
 number_of_waiting_refusal (waiting.Catalogue refusal) = number_of_catalogue_refusal refusal
@@ -46,6 +49,7 @@ number_of_waiting_refusal waiting.AlreadyWaiting = 30
 number_of_waiting_refusal waiting.AlreadySent = 31
 number_of_waiting_refusal waiting.NoEntry = 32
 
+-- 50 to 55 are a door's own, and 6 is want of memory; an item of a list has the catalogue's numbers
 abbrev pub number_of_door_refusal : DoorRefusal → ℕ
 number_of_door_refusal door.Memory = 6
 number_of_door_refusal (door.Catalogue refusal) = number_of_catalogue_refusal refusal
@@ -56,6 +60,7 @@ number_of_door_refusal door.Product = 53
 number_of_door_refusal door.Unpaid = 54
 number_of_door_refusal door.AlreadyRedeemed = 55
 
+-- by the part of the shop that it is of; 59 is a page that isn't there
 abbrev pub number_of_refusal : Refusal → ℕ
 number_of_refusal (Catalogue refusal) = number_of_catalogue_refusal refusal
 number_of_refusal (Voucher refusal) = number_of_voucher_refusal refusal

@@ -25,9 +25,11 @@ abbrev pub is_text_field : Option (List ℕ) → Bool
 is_text_field None = false
 is_text_field (Some field) = is_utf8 field
 
+-- there is a column at a place, and it is a text
 abbrev pub is_column : List (List ℕ) → ℕ → Bool
 is_column fields at = is_text_field (field_at fields at)
 
+-- the column at a place has this name
 abbrev pub is_named : List (List ℕ) → ℕ → List ℕ → Bool
 is_named fields at name = same_text (column fields at) name
 
@@ -35,6 +37,7 @@ is_named fields at name = same_text (column fields at) name
 abbrev pub is_code : List ℕ → Bool
 is_code text = nat_lt 0 (length text) && is_text text
 
+-- a number of uses that a voucher may have
 abbrev pub uses_within : Option ℕ → Option ℕ
 uses_within None = None
 uses_within (Some n) = if nat_le 1 n && nat_le n 1000000 then Some n else None
@@ -72,6 +75,7 @@ fits_mode modes.Set value = true
 fits_mode modes.Subtract value = true
 fits_mode modes.Percent value = nat_le value 10000
 
+-- an amount, where it can be read and the mode takes one of that size
 abbrev pub value_if : PriceMode → Result ℕ ValueRefusal → Option (Option ℕ)
 value_if mode (Ok value) = if fits_mode mode value then Some (Some value) else None
 value_if mode (Err refusal) = None

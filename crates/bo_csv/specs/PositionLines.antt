@@ -15,6 +15,7 @@ use Rattle.bo_csv.specs.Lines.{number_or_empty}
 abbrev pub header : List (List ℕ)
 header = codes "order" ∷ codes "positionid" ∷ codes "status" ∷ codes "item" ∷ codes "variation" ∷ codes "price" ∷ codes "voucher" ∷ codes "secret" ∷ []
 
+-- the code of a position's voucher, or an empty column
 abbrev pub code_or_empty : Option (List ℕ) → List ℕ
 code_or_empty None = []
 code_or_empty (Some code) = code
@@ -25,9 +26,11 @@ row_fields row =
     order_code row.order ∷ decimal row.positionid ∷ status_letter row.status ∷ decimal row.item ∷ number_or_empty row.variation ∷ cents_text row.price
     ∷ code_or_empty row.voucher ∷ row.secret ∷ []
 
+-- a row as one line of CSV
 abbrev pub row_line : ExportRow → List ℕ
 row_line row = row_text default_writer (row_fields row)
 
+-- the first line of the export
 abbrev pub header_line : List ℕ
 header_line = row_text default_writer header
 

@@ -21,6 +21,7 @@ is_header fields =
     && (names_four fields 4 (codes "allow_ignore_quota") (codes "price_mode") (codes "value") (codes "item")
     && names_four fields 8 (codes "variation") (codes "quota") (codes "tag") (codes "comment")))
 
+-- the four columns from a place on are there, and are texts
 abbrev pub are_columns : List (List ℕ) → ℕ → Bool
 are_columns fields at = is_column fields at && (is_column fields (at + 1) && (is_column fields (at + 2) && is_column fields (at + 3)))
 

@@ -18,6 +18,7 @@ use Rattle.bo_deliveries.specs.declared.arrival.Request.TheVariants.{Write, Writ
 
 -- ---- one request
 
+-- a command is a write, and a query a read; a request that was refused is marked as one of both
 abbrev pub is_write : Request → Bool
 is_write (Write command) = true
 is_write (WriteRefused response) = true
@@ -49,6 +50,7 @@ pub record Delivery : Type 0 where
 abbrev pub came : Arrival → Delivery
 came a = record { arrival = a; unavailable = false }
 
+-- an arrival that is answered 503, and isn't executed
 abbrev pub turned_away : Arrival → Delivery
 turned_away a = record { arrival = a; unavailable = true }
 
@@ -80,9 +82,11 @@ is_repeat p fs a = list_any (λ k. repeats a (now p fs a) k.token k.key k.at) p.
 abbrev pub is_first : Opening → List First → Delivery → Bool
 is_first p fs d = is_write d.arrival.request && not d.unavailable && not (is_repeat p fs d.arrival)
 
+-- the executed writes, and this arrival behind them at its moment, where it is one more
 abbrev pub with_next : Opening → List First → Delivery → List First
 with_next p fs d = if is_first p fs d then fs ++ record { arrival = d.arrival; at = now p fs d.arrival } ∷ [] else fs
 
+-- the executed writes, and behind them those that these arrivals add, one after another
 abbrev pub firsts_after : Opening → List First → List Delivery → List First
 firsts_after p fs [] = fs
 firsts_after p fs (d ∷ ds) = firsts_after p (with_next p fs d) ds
@@ -97,6 +101,7 @@ firsts p ds = firsts_after p [] ds
 abbrev pub held_for : Arrival → ℕ → List Kept → Option Kept
 held_for a now ks = find (λ k. repeats a now k.token k.key k.at) ks
 
+-- the answer that is kept for a repeat, or else a fresh one
 abbrev pub told_once : Response → Option Kept → Response
 told_once fresh None = fresh
 told_once fresh (Some k) = k.response
@@ -104,9 +109,11 @@ told_once fresh (Some k) = k.response
 -- ---- the small box office run once on each of them
 
 module _ (words : Reply → Response) where
+  -- the office after an executed write, and its answer, at the moment and with the draw of that arrival
   abbrev pub executed : First → State → State × Response
   executed f state = done words f.arrival.request f.at f.arrival.draw state
 
+  -- the office after these writes, each executed in the office that the one before it left
   abbrev pub office_after : State → List First → State
   office_after state [] = state
   office_after state (f ∷ fs) = office_after (executed f state).0 fs
@@ -116,6 +123,7 @@ module _ (words : Reply → Response) where
   answers state [] = []
   answers state (f ∷ fs) = record { token = f.arrival.token; key = f.arrival.key; at = f.at; response = (executed f state).1 } ∷ answers (executed f state).0 fs
 
+  -- the office after all executed writes, from the one of the opening on
   abbrev pub office : Opening → List First → State
   office p fs = office_after p.state fs
 
@@ -134,6 +142,7 @@ module _ (words : Reply → Response) where
       let at = now p fs a in
       told_once (done words a.request at a.draw (office p fs)).1 (if is_write a.request then held_for a at (ever_kept p fs) else None)
 
+  -- the answer to an arrival behind others: 503 where it was turned away, else by the writes executed till then
   abbrev pub told : Opening → List Delivery → Delivery → Answer
   told p ds d = if d.unavailable then Unavailable else Decided (told_in p (firsts p ds) d.arrival)
 

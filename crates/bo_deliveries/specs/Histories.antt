@@ -13,6 +13,7 @@ use Rattle.bo_deliveries.specs.Deliveries.{Opening, Delivery, came, turned_away,
 use Rattle.bo_deliveries.specs.Shops.{Views, executes, served}
 use Rattle.bo_kept.specs.ShopView.{ShopView, IsSame}
 
+-- what a history has one after another: an arrival, answered or not, or a crash
 pub data Event : Type 0 where
   -- an arrival, and what it was told
   Answered : Arrival → Response → Event
@@ -21,6 +22,7 @@ pub data Event : Type 0 where
   -- a crash; the shop was opened again
   Crashed : Event
 
+-- the arrival is one of these
 abbrev pub IsAmong : Arrival → List Arrival → Type 0
 IsAmong a [] = ⊥
 IsAmong a (x ∷ xs) = (x ≡ a) ⊎ IsAmong a xs
@@ -43,12 +45,15 @@ module _ (words : Reply → Response) where
   abbrev pub MayLeave : Running → ShopView → Type 0
   MayLeave r left = (left ≡ r.shop) ⊎ ((a : Arrival) × IsAmong a r.undecided × (left ≡ (served words a r.shop).0))
 
+  -- the shop as an answered arrival leaves it; once a write is executed no older one is undecided
   abbrev pub after_answer : Arrival → Running → Running
   after_answer a r = record { shop = (served words a r.shop).0; undecided = if executes a r.shop then [] else r.undecided }
 
+  -- an arrival that isn't answered, or with 503, leaves the shop; where it is a write, that is undecided
   abbrev pub after_none : Arrival → Running → Running
   after_none a r = record r { undecided = also_undecided a r.undecided }
 
+  -- a shop that was opened has no undecided writes
   abbrev pub opened : ShopView → Running
   opened left = record { shop = left; undecided = [] }
 

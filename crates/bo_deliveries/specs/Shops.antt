@@ -25,6 +25,7 @@ abbrev pub delivered : Arrival → Answer → Delivery
 delivered a (Decided told) = came a
 delivered a Unavailable = turned_away a
 
+-- arrivals beside their answers, in order, as far as there are both
 abbrev pub delivered_all : List Arrival → List Answer → List Delivery
 delivered_all [] answers = []
 delivered_all (a ∷ more) [] = []
@@ -47,6 +48,7 @@ module _ (words : Reply → Response) where
       let made = done words a.request at a.draw shop.state in
       (record { state = made.0; kept = with_kept at shop.kept (own a at made.1) }, made.1)
 
+  -- a write that is executed at the moment of its arrival
   abbrev pub execute : Arrival → ShopView → ShopView × Response
   execute a shop = executed_at a (moment_of shop a) shop
 
@@ -55,6 +57,7 @@ module _ (words : Reply → Response) where
   acted_by (Some k) a shop = (shop, k.response)
   acted_by None a shop = execute a shop
 
+  -- a write: a repeat gets the answer that is kept for its key, and any other is executed
   abbrev pub acted : Arrival → ShopView → ShopView × Response
   acted a shop = acted_by (held_for a (moment_of shop a) shop.kept) a shop
 
@@ -96,6 +99,7 @@ module _ (words : Reply → Response) where
   abbrev pub StandsFor : {T : Type 0} → (T → State → List Kept → Type 0) → T → State → Opening → List Delivery → Type 0
   StandsFor holds tables state p ds = Views holds tables state (stood p (firsts p ds))
 
+-- this holds, unless the answer is 503
 abbrev pub IsDecided : Answer → Type 0 → Type 0
 IsDecided (Decided told) P = P
 IsDecided Unavailable P = ⊤

@@ -20,6 +20,7 @@ feed_tokens digest = if bytes_eq feed_digest digest then Some 1 else None
 abbrev pub bare_house : House
 bare_house = record { organizer = codes "house"; event = codes "hall"; tokens = λ digest. None; next_token = 1 }
 
+-- the organizer `house` and the event `hall`, where the token `feed` is known
 abbrev pub feed_house : House
 feed_house = record { organizer = codes "house"; event = codes "hall"; tokens = feed_tokens; next_token = 2 }
 

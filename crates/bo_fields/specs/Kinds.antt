@@ -19,6 +19,7 @@ abbrev pub truth_of : Field → Option Bool → Result Bool BodyFault
 truth_of f None = Err (fault f problems.Invalid)
 truth_of f (Some b) = Ok b
 
+-- `true` or `false`, and no word or number for it
 abbrev pub truth : Field → Data → Result Bool BodyFault
 truth f v = truth_of f (as_bool v)
 
@@ -36,6 +37,7 @@ count_in v = option_and_then as_u64 (as_number v)
 abbrev pub is_signed : Data → Bool
 is_signed v = is_some (option_and_then as_i64 (as_number v))
 
+-- a number without a sign between two bounds, both of them allowed
 abbrev pub whole : Field → ℕ → ℕ → Data → Result ℕ BodyFault
 whole f low high v = whole_of f low high (count_in v) (is_signed v)
 
@@ -44,6 +46,7 @@ abbrev pub signed_of : Field → ℤ → ℤ → Option ℤ → Result ℤ BodyF
 signed_of f low high None = Err (fault f problems.Invalid)
 signed_of f low high (Some n) = if int_le low n && int_le n high then Ok n else Err (fault f problems.OutOfRange)
 
+-- a number that may have a sign between two bounds, both of them allowed
 abbrev pub signed : Field → ℤ → ℤ → Data → Result ℤ BodyFault
 signed f low high v = signed_of f low high (option_and_then as_integer (as_number v))
 
@@ -60,6 +63,7 @@ abbrev pub loose_text_from : Field → Option (List ℕ) → Result (List ℕ) B
 loose_text_from f None = Err (fault f problems.Invalid)
 loose_text_from f (Some s) = fit f s
 
+-- a string of at most 254 bytes and with no control byte, perhaps an empty one
 abbrev pub loose_text : Field → Data → Result (List ℕ) BodyFault
 loose_text f v = loose_text_from f (as_str v)
 
@@ -68,6 +72,7 @@ abbrev pub text_from : Field → Option (List ℕ) → Result (List ℕ) BodyFau
 text_from f None = Err (fault f problems.Invalid)
 text_from f (Some s) = if length s == 0 then Err (fault f problems.Blank) else fit f s
 
+-- a string of 1 to 254 bytes and with no control byte
 abbrev pub text : Field → Data → Result (List ℕ) BodyFault
 text f v = text_from f (as_str v)
 
@@ -86,6 +91,7 @@ abbrev pub name_from : Field → Data → Option Members → Result (List ℕ) B
 name_from f v None = text f v
 name_from f v (Some languages) = first_name f (first_member languages)
 
+-- a text that isn't empty, or an object of languages, of which the first one's text counts
 abbrev pub name : Field → Data → Result (List ℕ) BodyFault
 name f v = name_from f v (as_object v)
 
@@ -105,6 +111,7 @@ abbrev pub money_from : Field → Data → Option (List ℕ) → Result ℕ Body
 money_from f v (Some s) = money_read f (money_of s)
 money_from f v None = units_from f (count_in v)
 
+-- an amount in cents, from its text or from a number of units
 abbrev pub money : Field → Data → Result ℕ BodyFault
 money f v = money_from f v (as_str v)
 
@@ -114,10 +121,12 @@ moment_read f (Ok seconds) = Ok seconds
 moment_read f (Err refusals.OutOfRange) = Err (fault f problems.OutOfRange)
 moment_read f (Err _) = Err (fault f problems.Invalid)
 
+-- a moment, where there is a text to read it from
 abbrev pub moment_from : Field → Option (List ℕ) → Result ℕ BodyFault
 moment_from f None = Err (fault f problems.Invalid)
 moment_from f (Some s) = moment_read f (moment_of s)
 
+-- a moment, which has to be written as a text
 abbrev pub moment : Field → Data → Result ℕ BodyFault
 moment f v = moment_from f (as_str v)
 
@@ -130,6 +139,7 @@ abbrev pub end_from : Field → Option (List ℕ) → Result ℕ BodyFault
 end_from f None = Err (fault f problems.Invalid)
 end_from f (Some s) = moment_read f (end_in s)
 
+-- a moment or a day at which something ends, which has to be written as a text
 abbrev pub end : Field → Data → Result ℕ BodyFault
 end f v = end_from f (as_str v)
 
@@ -146,5 +156,6 @@ abbrev pub price_mode_from : Field → Option PriceMode → Result PriceMode Bod
 price_mode_from f None = Err (fault f problems.Invalid)
 price_mode_from f (Some mode) = Ok mode
 
+-- one of the words `none`, `set`, `subtract` and `percent`
 abbrev pub price_mode : Field → Data → Result PriceMode BodyFault
 price_mode f v = price_mode_from f (option_and_then mode_named (as_str v))

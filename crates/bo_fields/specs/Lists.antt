@@ -14,6 +14,7 @@ abbrev pub list_from : Field → Option Items → Result Items BodyFault
 list_from f None = Err (fault f problems.Invalid)
 list_from f (Some ds) = Ok ds
 
+-- the entries of a list; any other value is of another kind
 abbrev pub list : Field → Data → Result Items BodyFault
 list f d = list_from f (as_array d)
 
@@ -31,6 +32,7 @@ abbrev pub object_from : Field → Data → Option Members → Result Data BodyF
 object_from f v None = Err (fault f problems.Invalid)
 object_from f v (Some _) = Ok v
 
+-- an entry that is an object, and not null; its faults are the list's
 abbrev pub entry_object : Field → Data → Result Data BodyFault
 entry_object f d = not_null f d >>= λ v. object_from f v (as_object v)
 

@@ -17,6 +17,7 @@ abbrev pub required_from : Field → Option Data → Result Data BodyFault
 required_from f None = Err (fault f problems.Required)
 required_from f (Some v) = not_null f v
 
+-- the value of a field that has to be there, and may not be null
 abbrev pub required : Field → Data → Result Data BodyFault
 required f d = required_from f (get (field_name f) d)
 
@@ -29,6 +30,7 @@ abbrev pub nullable_from : Field → Option Data → Result (Option Data) BodyFa
 nullable_from f None = Err (fault f problems.Required)
 nullable_from f (Some v) = Ok (unless_null v)
 
+-- the value of a field that has to be there, or none where it is null
 abbrev pub nullable : Field → Data → Result (Option Data) BodyFault
 nullable f d = nullable_from f (get (field_name f) d)
 
@@ -37,6 +39,7 @@ abbrev pub optional_from : Option Data → Option Data
 optional_from None = None
 optional_from (Some v) = unless_null v
 
+-- the value of a field, or none where it is absent or null
 abbrev pub optional : Field → Data → Option Data
 optional f d = optional_from (get (field_name f) d)
 
@@ -45,6 +48,7 @@ abbrev pub present_from : Field → Option Data → Result (Option Data) BodyFau
 present_from f None = Ok None
 present_from f (Some v) = not_null f v >>= λ x. Ok (Some x)
 
+-- the value of a field that may not be null, or none where it is absent
 abbrev pub present : Field → Data → Result (Option Data) BodyFault
 present f d = present_from f (get (field_name f) d)
 
@@ -53,5 +57,6 @@ abbrev pub maybe_from : Option Data → Option (Option Data)
 maybe_from None = None
 maybe_from (Some v) = Some (unless_null v)
 
+-- the value of a field: none where it is absent, and an inner none where it is null
 abbrev pub maybe : Field → Data → Option (Option Data)
 maybe f d = maybe_from (get (field_name f) d)

@@ -13,6 +13,7 @@ use Rattle.bo_fields.specs.declared.error.ReadError.TheVariants as errors
 
 -- the next step, where there was no fault
 infixl 10 ◌>>=◌
+-- the first fault is the whole reading's, and no step after it is taken
 abbrev pub ◌>>=◌ : {A B : Type 0} → Result A BodyFault → (A → Result B BodyFault) → Result B BodyFault
 (Ok x) >>= f = f x
 (Err e) >>= f = Err e

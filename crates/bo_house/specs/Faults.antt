@@ -11,11 +11,13 @@ use Rattle.bo_tables.specs.declared.error.TokenError.TheVariants as tokens
 use Rattle.bo_opens.specs.declared.error.OpenError.{OpenError}
 use Rattle.bo_opens.specs.declared.error.OpenError.TheVariants as opening
 
+-- a file that isn't blank is at fault as one that is no shop's; want of memory and the store keep their faults
 abbrev pub fault_of_making : CreateError → RunFault
 fault_of_making making.NotBlank = faults.NotAShop
 fault_of_making making.Memory = faults.Memory
 fault_of_making making.Store = faults.Store
 
+-- each reason not to open a file is a fault of its own, but the version that was found isn't kept
 abbrev pub fault_of_opening : OpenError → RunFault
 fault_of_opening opening.Memory = faults.Memory
 fault_of_opening opening.NotAShop = faults.NotAShop
@@ -23,6 +25,7 @@ fault_of_opening (opening.Version version) = faults.Version
 fault_of_opening (opening.Damaged rule) = faults.Damaged rule
 fault_of_opening opening.Store = faults.Store
 
+-- a shop that has all the tokens it may have, want of memory and the store are each a fault of their own
 abbrev pub fault_of_token : TokenError → RunFault
 fault_of_token tokens.Full = faults.Full
 fault_of_token tokens.Memory = faults.Memory
@@ -33,6 +36,7 @@ abbrev pub told_of_token : Result ℕ TokenError → Result ℕ RunFault
 told_of_token (Ok number) = Ok number
 told_of_token (Err error) = Err (fault_of_token error)
 
+-- a voucher file's first line, any other line, a column of one, too many lines and want of memory are each a fault
 abbrev pub fault_of_file : FileFault → RunFault
 fault_of_file files.Memory = faults.Memory
 fault_of_file files.Header = faults.Header

@@ -25,6 +25,7 @@ abbrev pub import_body : List (List ℕ) → Reply → List ℕ
 import_body given (replies.Imported verdicts) = verdict_lines given verdicts
 import_body given _ = untold
 
+-- what the program says of an import, carried as the body of a response
 abbrev pub import_words : List (List ℕ) → Reply → Response
 import_words given reply = record { status = 200; allow = None; body = import_body given reply }
 

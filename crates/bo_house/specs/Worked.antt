@@ -25,6 +25,7 @@ abbrev pub work_body : Reply → List ℕ
 work_body (replies.Periodic counts) = work_text counts
 work_body _ = untold
 
+-- what the program says of periodic work, carried as the body of a response
 abbrev pub work_words : Reply → Response
 work_words reply = record { status = 200; allow = None; body = work_body reply }
 

@@ -23,6 +23,7 @@ abbrev pub plain_behind : Bool → List Text → List Text
 plain_behind is_number [] = []
 plain_behind is_number (word ∷ rest) = (if is_number && is_signed word then [] else word) ∷ plain_behind (takes_number word) rest
 
+-- all words of a line, as they are read
 abbrev pub plain_words : List Text → List Text
 plain_words words = plain_behind false words
 
@@ -48,6 +49,7 @@ pub data Asked : Type 0 where
 abbrev pub text_of : Text → List Row → Text
 text_of name rows = unwrap_or (first_of name rows) []
 
+-- there is a text, and it is `true`
 abbrev pub is_true : Option Text → Bool
 is_true (Some text) = bytes_eq text (codes "true")
 is_true None = false
@@ -74,6 +76,8 @@ asked_of command rows =
     else (if bytes_eq command (codes "import-vouchers") then imports (text_of (codes "file") rows) (text_of (codes "csv") rows)
     else asked_of_few command rows))))
 
+-- a line that breaks no rule asks for what its command does, and without a command for a run with empty texts;
+-- any other asks for nothing, for the reasons that were found
 abbrev pub asked_by : Kinds → Option (Text × List Row) → Asked
 asked_by [] None = runs [] []
 asked_by [] (Some (command, rows)) = asked_of command rows
@@ -95,6 +99,7 @@ asked_by_line (lines.Export line) = exports line.file.now
 asked_by_line (lines.Import line) = imports line.file.now line.csv.now
 asked_by_line (lines.Migrate line) = migrates line.file.now
 
+-- it asks for nothing, and this is one of the reasons
 abbrev pub HasReason : Asked → ErrorKind → Type 0
 HasReason (none kinds) kind = IsAmong kind kinds
 HasReason _ kind = ⊥

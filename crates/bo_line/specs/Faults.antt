@@ -5,6 +5,8 @@ use Rattle.bo_connection.specs.Failures.{failure_number}
 use Rattle.bo_line.specs.declared.fault.RunFault.{RunFault}
 use Rattle.bo_line.specs.declared.fault.RunFault.TheVariants as faults
 
+-- 6 is want of memory, 16 a token too many, 50 an unknown list; 60 to 63 are of a shop's file, 70 to 74 of a voucher
+-- file or an export, 80 is of opening a file, 81 of an address, 84 of an argument; a failed run has its failure's
 abbrev pub fault_number : RunFault → ℕ
 fault_number faults.Memory = 6
 fault_number faults.Full = 16

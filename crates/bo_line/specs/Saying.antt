@@ -39,6 +39,7 @@ Making = List ℕ → List ℕ → List ℕ → Result (Unit {0}) RunFault → T
 abbrev pub Adding : Type 1
 Adding = List ℕ → List ℕ → Result ℕ RunFault → Type 0
 
+-- where both names can be read a shop is made, and that is said; else the argument is at fault, and nothing is said
 abbrev pub MakesWhere : Bool → Making → List ℕ → List ℕ → List ℕ → Page → Page → Result (Unit {0}) RunFault → Type 0
 MakesWhere true made file organizer event old new result = (came : Result (Unit {0}) RunFault) × made file organizer event came × Tells ready_line came old new result
 MakesWhere false made file organizer event old new result = (result ≡ Err faults.Argument) × (new ≡ old)
@@ -47,6 +48,7 @@ MakesWhere false made file organizer event old new result = (result ≡ Err faul
 abbrev pub MakesShop : Making → List ℕ → List ℕ → List ℕ → Page → Page → Result (Unit {0}) RunFault → Type 0
 MakesShop made file organizer event = MakesWhere (is_slug organizer && is_slug event) made file organizer event
 
+-- where the token can be read it is added, and its number said; else the argument is at fault, and nothing is said
 abbrev pub AddsWhere : Bool → Adding → List ℕ → List ℕ → Page → Page → Result (Unit {0}) RunFault → Type 0
 AddsWhere true added file token old new result = (came : Result ℕ RunFault) × added file token came × Tells token_line came old new result
 AddsWhere false added file token old new result = (result ≡ Err faults.Argument) × (new ≡ old)
@@ -99,6 +101,7 @@ abbrev pub CountsCut : RunFault → ℕ → ℕ → Type 0
 CountsCut faults.Unwritten before after = after ≡ before + 1
 CountsCut _ before after = after ≡ before
 
+-- how many calls of the writer failed: none where the export was written to its end
 abbrev pub CountsEnd : Result (Unit {0}) RunFault → ℕ → ℕ → Type 0
 CountsEnd (Ok u) before after = after ≡ before
 CountsEnd (Err fault) before after = CountsCut fault before after

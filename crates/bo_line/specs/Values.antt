@@ -17,6 +17,7 @@ abbrev pub step_within : Option ℕ → Option ℕ
 step_within None = None
 step_within (Some step) = if nat_le step 31536000 then Some step else None
 
+-- both, where each can be read
 abbrev pub both_values : Result ℕ ValueRefusal → Option ℕ → Option (ℕ × ℕ)
 both_values (Ok from) (Some step) = Some (from, step)
 both_values (Ok from) None = None
@@ -46,6 +47,7 @@ abbrev pub sales_by : Option (List ℕ) → Result Report ReportFault
 sales_by None = Ok Sales
 sales_by (Some text) = Err Unknown
 
+-- the report on the list of this number; a text that is no number is the argument's fault
 abbrev pub door_if : Option ℕ → Result Report ReportFault
 door_if None = Err Argument
 door_if (Some number) = Ok (Door number)
@@ -67,5 +69,6 @@ is_token_byte b = nat_le 33 b && nat_le b 126
 unfoldable pub is_token : List ℕ → Bool
 is_token text = nat_le 1 (length text) && (nat_le (length text) 254 && list_all is_token_byte text)
 
+-- the text can be a token
 abbrev pub IsToken : List ℕ → Type 0
 IsToken text = is_token text ≡ true

@@ -16,6 +16,7 @@ abbrev pub is_accepted : Schema → Command → Bool
 is_accepted schema (Select q names) = accepts_program schema (lets_of q) q.body []
 is_accepted schema command = false
 
+-- the statement ends where the text does, has no parameters, and is a query that isn't refused for types
 abbrev pub is_alone : Schema → List ℕ → Result Compiled CompileError → Bool
 is_alone schema sql (Ok c) = nat_le (length sql) c.tail && ((length c.names == 0) && is_accepted schema c.command)
 is_alone schema sql (Err e) = false

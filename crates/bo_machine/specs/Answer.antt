@@ -45,30 +45,37 @@ list_of WaitingEntries number lists = listed WaitingEntries show_waiting number 
 list_of CheckinLists number lists = listed CheckinLists show_checkin_list number lists.checkin_lists
 list_of (Tickets id) number lists = tickets_listed id number lists (checkin_list_at id lists)
 
+-- an item with its variations, or a refusal where there is none
 abbrev pub item_found : Lists → Option Item → Reply
 item_found lists None = Refused kinds.One (refusals.Catalogue NoItem)
 item_found lists (Some item) = Found (show_item lists item)
 
+-- a quota, or a refusal where there is none
 abbrev pub quota_found : Option Quota → Reply
 quota_found None = Refused kinds.One (refusals.Catalogue NoQuota)
 quota_found (Some quota) = Found (show_quota quota)
 
+-- a voucher with the number of its uses in orders, or a refusal where there is none
 abbrev pub voucher_found : Lists → Option Voucher → Reply
 voucher_found lists None = Refused kinds.One (refusals.Voucher NoVoucher)
 voucher_found lists (Some voucher) = Found (show_voucher lists voucher)
 
+-- a cart position, dead ones too, or a refusal where there is none
 abbrev pub cart_found : Option CartPos → Reply
 cart_found None = Refused kinds.One (refusals.Order NoPosition)
 cart_found (Some cart) = Found (show_cart cart)
 
+-- an order with its positions, or a refusal where there is none
 abbrev pub order_found : Lists → Option Order → Reply
 order_found lists None = Refused kinds.One (refusals.Order NoOrder)
 order_found lists (Some order) = Found (show_order lists order)
 
+-- an entry of the waiting list, or a refusal where there is none
 abbrev pub entry_found : Option Waiting → Reply
 entry_found None = Refused kinds.One (refusals.Waiting NoEntry)
 entry_found (Some entry) = Found (show_waiting entry)
 
+-- a check-in list, or a refusal where there is none
 abbrev pub checkin_list_found : Option CheckinList → Reply
 checkin_list_found None = Refused kinds.One (refusals.Door NoList)
 checkin_list_found (Some list) = Found (show_checkin_list list)
@@ -77,6 +84,7 @@ checkin_list_found (Some list) = Found (show_checkin_list list)
 abbrev pub ticket_if : CheckinList → Lists → OrderPos → Reply
 ticket_if list lists position = if belongs list lists position then Found (show_ticket list lists position) else Refused kinds.One (refusals.Door Invalid)
 
+-- a position, where there is one and it belongs to the list; else the ticket is invalid there
 abbrev pub ticket_found : CheckinList → Lists → Option OrderPos → Reply
 ticket_found list lists None = Refused kinds.One (refusals.Door Invalid)
 ticket_found list lists (Some position) = ticket_if list lists position
@@ -97,6 +105,7 @@ one_of WaitingEntries id lists = entry_found (waiting_at id lists)
 one_of CheckinLists id lists = checkin_list_found (checkin_list_at id lists)
 one_of (Tickets list) id lists = ticket_in id lists (checkin_list_at list lists)
 
+-- what is left of a quota at the moment of the query, or a refusal where there is no such quota
 abbrev pub availability_of : Lists → ℕ → Option Quota → Reply
 availability_of lists at None = Refused kinds.Availability (refusals.Catalogue NoQuota)
 availability_of lists at (Some quota) = TheAvailability (availability lists at quota)

@@ -19,6 +19,7 @@ use Rattle.bo_commands.specs.declared.replies.Shown.TheVariants as rows
 abbrev pub show_item : Lists → Item → Shown
 show_item lists item = rows.Item (with_variations lists.catalogue item)
 
+-- a quota as its row, with its members and without what is used of it
 abbrev pub show_quota : Quota → Shown
 show_quota quota = rows.Quota quota
 
@@ -26,6 +27,7 @@ show_quota quota = rows.Quota quota
 unfoldable pub show_voucher : Lists → Voucher → Shown
 show_voucher lists voucher = rows.Voucher voucher (redeemed voucher.id lists)
 
+-- a cart position as its row, alive or dead
 abbrev pub show_cart : CartPos → Shown
 show_cart cart = rows.Cart cart
 
@@ -33,9 +35,11 @@ show_cart cart = rows.Cart cart
 abbrev pub show_order : Lists → Order → Shown
 show_order lists order = rows.Order (record { order = order; positions = by_positionid (positions_of order.id lists) })
 
+-- an entry of the waiting list as its row
 abbrev pub show_waiting : Waiting → Shown
 show_waiting entry = rows.Waiting entry
 
+-- a check-in list as its row, without the positions that belong to it
 abbrev pub show_checkin_list : CheckinList → Shown
 show_checkin_list list = rows.CheckinList list
 

@@ -64,84 +64,106 @@ no_change state = record { list = []; next = state.next }
 abbrev pub RefusesWithoutChange : State → Changed × Reply → Type 0
 RefusesWithoutChange state answer = (kind : Kind) (refusal : Refusal) → answer.1 ≡ Refused kind refusal → answer.0 ≡ no_change state
 
+-- a new item is stored with its variations, and shown with them; a refusal leaves the office as it was
 abbrev pub item_step : State → Result ItemRows CatalogueRefusal → State × Reply
 item_step state (Ok made) = (with_item made state, Made (rows.Item made))
 item_step state (Err refusal) = (state, Refused kinds.AddItem (refusals.Catalogue refusal))
 
+-- the changed item takes its own place, and is shown with its variations; a refusal leaves the office as it was
 abbrev pub item_change_step : State → Result Item CatalogueRefusal → State × Reply
 item_change_step state (Ok row) = (changed (PutItem row) state, Found (show_item state.lists row))
 item_change_step state (Err refusal) = (state, Refused kinds.ChangeItem (refusals.Catalogue refusal))
 
+-- a new variation is stored, and shown with its price; a refusal leaves the office as it was
 abbrev pub variation_step : State → Result PricedVariation CatalogueRefusal → State × Reply
 variation_step state (Ok made) = (with_variation made.row state, Made (rows.Variation made))
 variation_step state (Err refusal) = (state, Refused kinds.AddVariation (refusals.Catalogue refusal))
 
+-- a new quota is stored, and shown; a refusal leaves the office as it was
 abbrev pub quota_step : State → Result Quota CatalogueRefusal → State × Reply
 quota_step state (Ok row) = (with_quota row state, Made (rows.Quota row))
 quota_step state (Err refusal) = (state, Refused kinds.AddQuota (refusals.Catalogue refusal))
 
+-- the quota with its new size takes its own place, and is shown; a refusal leaves the office as it was
 abbrev pub resize_step : State → Result Quota CatalogueRefusal → State × Reply
 resize_step state (Ok row) = (changed (PutQuota row) state, Found (rows.Quota row))
 resize_step state (Err refusal) = (state, Refused kinds.ResizeQuota (refusals.Catalogue refusal))
 
+-- a new voucher is shown with its uses in the office that has it; a refusal leaves the office as it was
 abbrev pub voucher_step : State → Result (State × Voucher) VoucherRefusal → State × Reply
 voucher_step state (Ok (new, row)) = (new, Made (show_voucher new.lists row))
 voucher_step state (Err refusal) = (state, Refused kinds.AddVoucher (refusals.Voucher refusal))
 
+-- a changed voucher is shown with its uses in the office that has it; a refusal leaves the office as it was
 abbrev pub voucher_change_step : State → Result (State × Voucher) VoucherRefusal → State × Reply
 voucher_change_step state (Ok (new, row)) = (new, Found (show_voucher new.lists row))
 voucher_change_step state (Err refusal) = (state, Refused kinds.ChangeVoucher (refusals.Voucher refusal))
 
+-- a voucher is gone, and nothing is shown; a refusal leaves the office as it was
 abbrev pub voucher_drop_step : State → Result State VoucherRefusal → State × Reply
 voucher_drop_step state (Ok new) = (new, Gone)
 voucher_drop_step state (Err refusal) = (state, Refused kinds.DropVoucher (refusals.Voucher refusal))
 
+-- an import is never refused as a whole: its reply is what became of each row
 abbrev pub import_step : State × List Verdict → State × Reply
 import_step imported = (imported.0, Imported imported.1)
 
+-- a new cart position is in the office, and shown; a refusal leaves the office as it was
 abbrev pub cart_step : State → Result (State × CartPos) OrderRefusal → State × Reply
 cart_step state (Ok (new, row)) = (new, Made (rows.Cart row))
 cart_step state (Err refusal) = (state, Refused kinds.AddCart (refusals.Order refusal))
 
+-- a cart position is gone, and nothing is shown; a refusal leaves the office as it was
 abbrev pub cart_drop_step : State → Result State OrderRefusal → State × Reply
 cart_drop_step state (Ok new) = (new, Gone)
 cart_drop_step state (Err refusal) = (state, Refused kinds.DropCart (refusals.Order refusal))
 
+-- what could be added is in the office, and the reply is what became of each entry;
+-- a call that is refused as a whole leaves the office as it was
 abbrev pub bulk_step : State → Result (State × List Outcome) OrderRefusal → State × Reply
 bulk_step state (Ok (new, outcomes)) = (new, Results outcomes)
 bulk_step state (Err refusal) = (state, Refused kinds.AddCarts (refusals.Order refusal))
 
+-- a new order is in the office, and shown with its positions; a refusal leaves the office as it was
 abbrev pub order_step : State → Result (State × OrderRows) OrderRefusal → State × Reply
 order_step state (Ok (new, made)) = (new, Made (rows.Order made))
 order_step state (Err refusal) = (state, Refused kinds.AddOrder (refusals.Order refusal))
 
+-- a moved order is in the office, and shown with its positions; a refusal leaves the office as it was
 abbrev pub move_step : State → Result (State × OrderRows) OrderRefusal → State × Reply
 move_step state (Ok (new, moved)) = (new, Found (rows.Order moved))
 move_step state (Err refusal) = (state, Refused kinds.MoveOrder (refusals.Order refusal))
 
+-- a new entry of the waiting list is in the office, and shown; a refusal leaves the office as it was
 abbrev pub join_step : State → Result (State × Waiting) WaitingRefusal → State × Reply
 join_step state (Ok (new, row)) = (new, Made (rows.Waiting row))
 join_step state (Err refusal) = (state, Refused kinds.AddWaiting (refusals.Waiting refusal))
 
+-- an entry with its new priority is in the office, and shown; a refusal leaves the office as it was
 abbrev pub priority_step : State → Result (State × Waiting) WaitingRefusal → State × Reply
 priority_step state (Ok (new, row)) = (new, Found (rows.Waiting row))
 priority_step state (Err refusal) = (state, Refused kinds.ChangeWaiting (refusals.Waiting refusal))
 
+-- an entry of the waiting list is gone, and nothing is shown; a refusal leaves the office as it was
 abbrev pub leave_step : State → Result State WaitingRefusal → State × Reply
 leave_step state (Ok new) = (new, Gone)
 leave_step state (Err refusal) = (state, Refused kinds.DropWaiting (refusals.Waiting refusal))
 
+-- an entry was sent its voucher, and nothing is shown; a refusal leaves the office as it was
 abbrev pub send_step : State → Result (State × Waiting) WaitingRefusal → State × Reply
 send_step state (Ok (new, row)) = (new, Gone)
 send_step state (Err refusal) = (state, Refused kinds.SendVoucher (refusals.Waiting refusal))
 
+-- periodic work is never refused: its reply is how many orders expired, cart positions were deleted, vouchers were sent
 abbrev pub periodic_step : State × PeriodicCounts → State × Reply
 periodic_step (new, counts) = (new, TheCounts counts)
 
+-- a new check-in list is in the office, and shown; a refusal leaves the office as it was
 abbrev pub checkin_list_step : State → Result (State × CheckinList) DoorRefusal → State × Reply
 checkin_list_step state (Ok (new, row)) = (new, Made (rows.CheckinList row))
 checkin_list_step state (Err refusal) = (state, Refused kinds.AddCheckinList (refusals.Door refusal))
 
+-- a ticket was let in or out, and the reply is its position; a refusal leaves the office as it was
 abbrev pub redeem_step : State → Result (State × OrderPos) DoorRefusal → State × Reply
 redeem_step state (Ok (new, position)) = (new, Admitted position)
 redeem_step state (Err refusal) = (state, Refused kinds.Redeem (refusals.Door refusal))

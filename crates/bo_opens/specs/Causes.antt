@@ -30,15 +30,19 @@ use Rattle.bo_columns.specs.declared.table_rows.TableRows.{TableRows}
 
 -- ---- the file lacks one of these tables, or one of its columns
 
+-- a table of the catalogue, or a column of it, isn't there: items, variations, quotas or members of quotas
 abbrev pub LacksCatalogue : Schema → Type 0
 LacksCatalogue s = HasNoMeaning s items_text ⊎ (HasNoMeaning s variations_text ⊎ (HasNoMeaning s quotas_text ⊎ (HasNoMeaning s quota_items_text ⊎ HasNoMeaning s quota_variations_text)))
 
+-- a table of the sales, or a column of it, isn't there: vouchers, carts, orders, their positions or the waiting list
 abbrev pub LacksSales : Schema → Type 0
 LacksSales s = HasNoMeaning s vouchers_text ⊎ (HasNoMeaning s carts_text ⊎ (HasNoMeaning s orders_text ⊎ (HasNoMeaning s positions_text ⊎ HasNoMeaning s waiting_text)))
 
+-- a table of the doors, or a column of it, isn't there: check-in lists, their items or check-ins
 abbrev pub LacksDoors : Schema → Type 0
 LacksDoors s = HasNoMeaning s checkin_lists_text ⊎ (HasNoMeaning s list_items_text ⊎ HasNoMeaning s checkins_text)
 
+-- one of the other tables, or a column of it, isn't there: counts, tokens or kept answers
 abbrev pub LacksOthers : Schema → Type 0
 LacksOthers s = HasNoMeaning s counts_text ⊎ (HasNoMeaning s tokens_text ⊎ HasNoMeaning s kept_text)
 
@@ -48,15 +52,19 @@ LacksTable s = LacksCatalogue s ⊎ (LacksSales s ⊎ (LacksDoors s ⊎ LacksOth
 
 -- ---- the file has all of these tables with their columns
 
+-- the tables of the catalogue are there with their columns: items, variations, quotas and members of quotas
 abbrev pub HasCatalogue : Schema → Type 0
 HasCatalogue s = HasMeaning s items_text × (HasMeaning s variations_text × (HasMeaning s quotas_text × (HasMeaning s quota_items_text × HasMeaning s quota_variations_text)))
 
+-- the tables of the sales are there with their columns: vouchers, carts, orders, their positions and the waiting list
 abbrev pub HasSales : Schema → Type 0
 HasSales s = HasMeaning s vouchers_text × (HasMeaning s carts_text × (HasMeaning s orders_text × (HasMeaning s positions_text × HasMeaning s waiting_text)))
 
+-- the tables of the doors are there with their columns: check-in lists, their items and check-ins
 abbrev pub HasDoors : Schema → Type 0
 HasDoors s = HasMeaning s checkin_lists_text × (HasMeaning s list_items_text × HasMeaning s checkins_text)
 
+-- the other tables are there with their columns: counts, tokens and kept answers
 abbrev pub HasOthers : Schema → Type 0
 HasOthers s = HasMeaning s counts_text × (HasMeaning s tokens_text × HasMeaning s kept_text)
 
@@ -70,15 +78,19 @@ HasTables s = HasCatalogue s × (HasSales s × (HasDoors s × HasOthers s))
 abbrev pub rows_at : Trees → ℕ → List Row
 rows_at trees tree = map (shown schema tree) (trees tree)
 
+-- a row of items, variations or quotas is of no value within its limits, or one of members of quotas is of no link
 abbrev pub IsDamagedCatalogue : Trees → Type 0
 IsDamagedCatalogue db = IsDamaged item_row IsFitItem (rows_at db 1) ⊎ (IsDamaged variation_row IsFitVariation (rows_at db 2) ⊎ (IsDamaged quota_row IsFitQuota (rows_at db 3) ⊎ (IsDamaged quota_item_row (λ w. Unit {0}) (rows_at db 4) ⊎ IsDamaged quota_variation_row (λ w. Unit {0}) (rows_at db 6))))
 
+-- a row of vouchers, cart positions, orders, order positions or the waiting list is of no value within its limits
 abbrev pub AreDamagedSales : Trees → Type 0
 AreDamagedSales db = IsDamaged voucher_row IsFitVoucher (rows_at db 8) ⊎ (IsDamaged cart_row IsFitCart (rows_at db 10) ⊎ (IsDamaged order_row IsFitOrder (rows_at db 11) ⊎ (IsDamaged position_row IsFitPosition (rows_at db 12) ⊎ IsDamaged waiting_row IsFitWaiting (rows_at db 15))))
 
+-- a row of check-in lists or check-ins is of no value within its limits, or one of a list's items is of no link
 abbrev pub AreDamagedDoors : Trees → Type 0
 AreDamagedDoors db = IsDamaged list_row IsFitList (rows_at db 16) ⊎ (IsDamaged list_item_row (λ w. Unit {0}) (rows_at db 17) ⊎ IsDamaged checkin_row IsFitCheckin (rows_at db 19))
 
+-- a row of tokens or kept answers is of no value within its limits, or one of counts is of no numbers
 abbrev pub AreDamagedOthers : Trees → Type 0
 AreDamagedOthers db = IsDamaged count_row (λ w. Unit {0}) (rows_at db 21) ⊎ (IsDamaged token_row IsFitToken (rows_at db 22) ⊎ IsDamaged kept_row IsFitKept (rows_at db 24))
 
@@ -93,11 +105,13 @@ pub record HasNextIds (shop : ShopRow) : Type 0 where
   pub ids : AllNextIds shop.next
   pub token : IsNextId last_id shop.next_token
 
+-- the values of items, variations and quotas are within their limits
 pub record IsFitCatalogue (rows : CatalogueRows) : Type 0 where
   pub items : All IsFitItem rows.items.items
   pub variations : All IsFitVariation rows.variations.items
   pub quotas : All IsFitQuota rows.quotas.items
 
+-- the values of vouchers, cart positions, orders, order positions and the waiting list are within their limits
 pub record AreFitSales (rows : SaleRows) : Type 0 where
   pub vouchers : All IsFitVoucher rows.vouchers.items
   pub carts : All IsFitCart rows.carts.items
@@ -105,20 +119,24 @@ pub record AreFitSales (rows : SaleRows) : Type 0 where
   pub positions : All IsFitPosition rows.positions.items
   pub waiting : All IsFitWaiting rows.waiting.items
 
+-- the values of check-in lists and check-ins are within their limits
 pub record AreFitDoors (rows : DoorRows) : Type 0 where
   pub checkin_lists : All IsFitList rows.checkin_lists.items
   pub checkins : All IsFitCheckin rows.checkins.items
 
+-- the values of tokens and kept answers are within their limits
 pub record AreFitOthers (rows : OtherRows) : Type 0 where
   pub tokens : All IsFitToken rows.tokens.items
   pub kept : All IsFitKept rows.kept.items
 
+-- the values of all tables beside the shop's own are within their limits
 pub record AreFitTables (rows : TableRows) : Type 0 where
   pub catalogue : IsFitCatalogue rows.catalogue
   pub sales : AreFitSales rows.sales
   pub doors : AreFitDoors rows.doors
   pub others : AreFitOthers rows.others
 
+-- the values of all tables are within their limits, and the shop's next ids are in range
 pub record IsFitFile (file : FileTables) : Type 0 where
   pub shop : IsFitShop file.shop
   pub ids : HasNextIds file.shop
@@ -134,6 +152,7 @@ ShowsBy sql db rows = (c : Compiled) × (understood db.schema sql ≡ Ok c) × (
 abbrev pub HasOtherVersion : ℕ → ℤ → List Row → Type 0
 HasOtherVersion own version rows = (row : Row) × (rows ≡ row ∷ []) × (column row 1 ≡ Int version) × (version ≢ pos own)
 
+-- these rows aren't one row with a version other than the one that is asked for
 abbrev pub HasNoOtherVersion : ℕ → List Row → Type 0
 HasNoOtherVersion own rows = (version : ℤ) → HasOtherVersion own version rows → ⊥
 
@@ -168,5 +187,6 @@ IsCauseAs own db (Damaged rule.Limits) = OfTheShop db (λ rows. IsOneShop own ro
 IsCauseAs own db (Damaged _) = ⊥
 IsCauseAs own db Store = Unit {0}
 
+-- why a file isn't opened where this program's version is asked for
 abbrev pub IsCause : Database → OpenError → Type 0
 IsCause db error = IsCauseAs this_version db error

@@ -13,6 +13,7 @@ use Rattle.bo_columns.specs.declared.table_rows.TableRows.{TableRows}
 
 -- ---- the trees show these rows
 
+-- the trees show these items, variations, quotas and members of quotas, each table in some order
 pub record HoldsCatalogue (db : Trees) (rows : CatalogueRows) : Type 0 where
   pub items : IsPermutation (map item_row rows.items.items) (rows_at db 1)
   pub variations : IsPermutation (map variation_row rows.variations.items) (rows_at db 2)
@@ -20,6 +21,7 @@ pub record HoldsCatalogue (db : Trees) (rows : CatalogueRows) : Type 0 where
   pub quota_items : IsPermutation (map quota_item_row rows.quota_items.items) (rows_at db 4)
   pub quota_variations : IsPermutation (map quota_variation_row rows.quota_variations.items) (rows_at db 6)
 
+-- the trees show these vouchers, carts, orders, their positions and waiting entries, each table in some order
 pub record HoldsSales (db : Trees) (rows : SaleRows) : Type 0 where
   pub vouchers : IsPermutation (map voucher_row rows.vouchers.items) (rows_at db 8)
   pub carts : IsPermutation (map cart_row rows.carts.items) (rows_at db 10)
@@ -27,16 +29,19 @@ pub record HoldsSales (db : Trees) (rows : SaleRows) : Type 0 where
   pub positions : IsPermutation (map position_row rows.positions.items) (rows_at db 12)
   pub waiting : IsPermutation (map waiting_row rows.waiting.items) (rows_at db 15)
 
+-- the trees show these check-in lists, items of them and check-ins, each table in some order
 pub record HoldsDoors (db : Trees) (rows : DoorRows) : Type 0 where
   pub checkin_lists : IsPermutation (map list_row rows.checkin_lists.items) (rows_at db 16)
   pub list_items : IsPermutation (map list_item_row rows.list_items.items) (rows_at db 17)
   pub checkins : IsPermutation (map checkin_row rows.checkins.items) (rows_at db 19)
 
+-- the trees show these counts, tokens and kept answers, each table in some order
 pub record HoldsOthers (db : Trees) (rows : OtherRows) : Type 0 where
   pub counts : IsPermutation (map count_row rows.counts.items) (rows_at db 21)
   pub tokens : IsPermutation (map token_row rows.tokens.items) (rows_at db 22)
   pub kept : IsPermutation (map kept_row rows.kept.items) (rows_at db 24)
 
+-- the trees show these rows in all tables beside the shop's own, each table in some order
 pub record HoldsRows (db : Trees) (rows : TableRows) : Type 0 where
   pub catalogue : HoldsCatalogue db rows.catalogue
   pub sales : HoldsSales db rows.sales
@@ -67,6 +72,7 @@ tables_of file = record {
 
 -- ---- tables hold these rows
 
+-- the tables hold these items, variations, quotas and members of quotas, each in some order
 pub record AreCatalogueRows (t : Tables) (rows : CatalogueRows) : Type 0 where
   pub items : IsPermutation t.items rows.items.items
   pub variations : IsPermutation t.variations rows.variations.items
@@ -74,6 +80,7 @@ pub record AreCatalogueRows (t : Tables) (rows : CatalogueRows) : Type 0 where
   pub quota_items : IsPermutation t.quota_items rows.quota_items.items
   pub quota_variations : IsPermutation t.quota_variations rows.quota_variations.items
 
+-- the tables hold these vouchers, carts, orders, their positions and waiting entries, each in some order
 pub record AreSaleRows (t : Tables) (rows : SaleRows) : Type 0 where
   pub vouchers : IsPermutation t.vouchers rows.vouchers.items
   pub carts : IsPermutation t.carts rows.carts.items
@@ -81,16 +88,19 @@ pub record AreSaleRows (t : Tables) (rows : SaleRows) : Type 0 where
   pub positions : IsPermutation t.positions rows.positions.items
   pub waiting : IsPermutation t.waiting rows.waiting.items
 
+-- the tables hold these check-in lists, items of them and check-ins, each in some order
 pub record AreDoorRows (t : Tables) (rows : DoorRows) : Type 0 where
   pub checkin_lists : IsPermutation t.checkin_lists rows.checkin_lists.items
   pub list_items : IsPermutation t.list_items rows.list_items.items
   pub checkins : IsPermutation t.checkins rows.checkins.items
 
+-- the tables hold these counts, tokens and kept answers, each in some order
 pub record AreOtherRows (t : Tables) (rows : OtherRows) : Type 0 where
   pub counts : IsPermutation t.counts rows.counts.items
   pub tokens : IsPermutation t.tokens rows.tokens.items
   pub kept : IsPermutation t.kept rows.kept.items
 
+-- all tables beside the shop's own hold these rows, each in some order
 pub record AreTableRows (t : Tables) (rows : TableRows) : Type 0 where
   pub catalogue : AreCatalogueRows t rows.catalogue
   pub sales : AreSaleRows t rows.sales

@@ -41,6 +41,7 @@ WhereDamaged Foreign holds = Unit {0}
 WhereDamaged Damaged holds = holds
 WhereDamaged Store holds = Unit {0}
 
+-- this holds where the rows of a table were read, and where one of them has a value that can't be read
 abbrev pub WhereShown : {A : Type 0} → Result A RowError → Type 0 → Type 0
 WhereShown (Ok a) holds = holds
 WhereShown (Err e) holds = WhereDamaged e holds

@@ -14,6 +14,7 @@ use Rattle.bo_commands.specs.declared.carts.Outcome.TheVariants as outcomes
 use Rattle.bo_commands.specs.declared.orders.OrderRefusal.{OrderRefusal}
 use Rattle.bo_commands.specs.declared.orders.OrderRefusal.TheVariants.{TooMany}
 
+-- the row that was added, or the refusal, which leaves the box office as it was
 abbrev pub outcome_of : State → Result (State × CartPos) OrderRefusal → State × Outcome
 outcome_of state (Ok (after, row)) = (after, outcomes.Added row)
 outcome_of state (Err refusal) = (state, outcomes.Refused refusal)
@@ -23,6 +24,7 @@ abbrev pub entry_added : Entry → Draw → State → State × Outcome
 entry_added (entries.New new) draw state = outcome_of state (position_added new draw state)
 entry_added (entries.Faulty fault) draw state = (state, outcomes.Faulty fault)
 
+-- an outcome in front of those of the rest
 abbrev pub with_outcome : Outcome → State × List Outcome → State × List Outcome
 with_outcome outcome rest = (rest.0, outcome ∷ rest.1)
 
@@ -35,6 +37,7 @@ abbrev pub all_added : List Entry → Draw → State → State × List Outcome
 all_added [] draw state = (state, [])
 all_added (entry ∷ more) draw state = with_outcome (entry_added entry draw state).1 (all_added more draw (entry_added entry draw state).0)
 
+-- a bulk call with more is refused as a whole
 abbrev pub most_entries : ℕ
 most_entries = 500
 

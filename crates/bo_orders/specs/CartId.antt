@@ -12,6 +12,7 @@ use Rattle.bo_commands.specs.declared.orders.OrderRefusal.TheVariants.{BadCart}
 abbrev pub is_cart_id : List ℕ → Bool
 is_cart_id text = ends_with nat_eq text (codes "@api")
 
+-- an id that is given has to be a cart's; where none is given one is made
 abbrev pub cart_id_test : Option (List ℕ) → Result (Unit {0}) OrderRefusal
 cart_id_test None = Ok tt
 cart_id_test (Some given) = check (is_cart_id given) BadCart

@@ -110,6 +110,7 @@ order_placed row rows carts state = do
   check (takes_order state && takes_positions (length rows) state) (OfVoucher (Catalogue Full))
   Ok (with_ids_used (length rows) after, record { order = row; positions = rows })
 
+-- a new order has 1 to 500 positions, and consumes 500 carts at most
 abbrev pub counts_test : NewOrder → Result (Unit {0}) OrderRefusal
 counts_test new = do
   refuse_if (length new.positions == 0) Empty

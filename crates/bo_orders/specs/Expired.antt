@@ -9,6 +9,7 @@ use Rattle.bo_lists.specs.Lists.{Lists, State}
 use Rattle.bo_sorted.specs.Tables.{row_at, with_row}
 use Rattle.bo_lists.specs.Due.{is_due, dead_carts}
 
+-- an order with the status expired, and all else as it was
 abbrev pub expired_row : Order → Order
 expired_row order = record order { status = Expired }
 
@@ -24,6 +25,7 @@ orders_expired state = record state { lists = record state.lists { orders = map 
 abbrev pub expired_rows : ℕ → Lists → List Order
 expired_rows at lists = map expired_row (filter (is_due at) lists.orders)
 
+-- each overdue order is put with the status expired, in their order
 abbrev pub expired_changes : State → List Change
 expired_changes state = map PutOrder (expired_rows state.moment state.lists)
 
@@ -42,9 +44,11 @@ abbrev pub put_expired : List Order → Option Order → List Order
 put_expired orders None = orders
 put_expired orders (Some order) = with_row (λ o. o.id) (expired_row order) orders
 
+-- orders, with the one of this number expired where there is one
 abbrev pub expired_in : ℕ → List Order → List Order
 expired_in id orders = put_expired orders (row_at (λ o. o.id) id orders)
 
+-- the box office with these orders instead of its own
 abbrev pub with_orders : List Order → State → State
 with_orders orders state = record state { lists = record state.lists { orders = orders } }
 
@@ -52,6 +56,7 @@ with_orders orders state = record state { lists = record state.lists { orders = 
 abbrev pub expired_at : ℕ → State → State
 expired_at id state = with_orders (expired_in id state.lists.orders) state
 
+-- the orders of these numbers are expired, one after another
 abbrev pub each_expired : List ℕ → State → State
 each_expired [] state = state
 each_expired (id ∷ ids) state = each_expired ids (expired_at id state)
@@ -61,6 +66,7 @@ abbrev pub expiry_of : Option Order → List Change
 expiry_of None = []
 expiry_of (Some order) = PutOrder (expired_row order) ∷ []
 
+-- what is changed for these numbers, one after another
 abbrev pub each_expiry : List ℕ → List Order → List Change
 each_expiry [] orders = []
 each_expiry (id ∷ ids) orders = expiry_of (row_at (λ o. o.id) id orders) ++ each_expiry ids (expired_in id orders)

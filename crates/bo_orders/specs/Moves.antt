@@ -20,9 +20,11 @@ use Rattle.bo_orders.specs.declared.moves.Transition.{Transition}
 use Rattle.bo_commands.specs.declared.orders.OrderRefusal.{OrderRefusal}
 use Rattle.bo_commands.specs.declared.orders.OrderRefusal.TheVariants.{Voucher as OfVoucher, NoOrder, WrongStatus}
 
+-- this status follows, without a test of uses and places
 abbrev pub to : Status → Option Transition
 to status = Some (record { status = status; revival = false })
 
+-- this status follows, and the order comes back to life: the uses and places that it takes again are tested
 abbrev pub revived : Status → Option Transition
 revived status = Some (record { status = status; revival = true })
 
@@ -50,6 +52,7 @@ abbrev pub end_after : Move → ℕ → ℕ
 end_after (Extend end) old = end
 end_after change old = old
 
+-- an order with the status that follows, and with another end where the move sets one
 abbrev pub moved_row : Order → Status → Move → Order
 moved_row order status change = record order { status = status; expires = end_after change order.expires }
 
@@ -57,9 +60,11 @@ moved_row order status change = record order { status = status; expires = end_af
 abbrev pub have_uses_again : Order → State → Bool
 have_uses_again row state = have_room state.moment (after_change (PutOrder row) state.lists) (positions_of row.id state.lists)
 
+-- an order, and the positions that the box office has of it, by their numbers
 abbrev pub order_rows : Order → State → OrderRows
 order_rows row state = record { order = row; positions = by_positionid (positions_of row.id state.lists) }
 
+-- the box office with this row of the order, and that order with its positions
 abbrev pub moved_to : Order → State → State × OrderRows
 moved_to row state = (changed (PutOrder row) state, order_rows row state)
 
@@ -74,6 +79,7 @@ revival row state = do
   refuse_some (λ quota. OfVoucher (SoldOut quota)) (over_again row state)
   Ok (moved_to row state)
 
+-- one transition: where the order comes back to life it is tested first
 abbrev pub moved_as : Order → Move → State → Transition → Result (State × OrderRows) OrderRefusal
 moved_as order change state turn =
     let row = moved_row order turn.status change in

@@ -10,6 +10,7 @@ use Rattle.bo_door.specs.Status.{has_entered, is_inside}
 use Rattle.bo_reports.specs.declared.entries.Entries.{Entries}
 use Rattle.bo_reports.specs.declared.entries.ItemEntries.{ItemEntries}
 
+-- no position is counted yet
 abbrev pub nobody : Entries
 nobody = record { positions = 0; entered = 0; inside = 0 }
 
@@ -17,6 +18,7 @@ nobody = record { positions = 0; entered = 0; inside = 0 }
 abbrev pub unvisited : Item → ItemEntries
 unvisited item = record { item = item.id; entries = nobody }
 
+-- 1 where it is true, and else 0
 abbrev pub one_if : Bool → ℕ
 one_if b = if b then 1 else 0
 
@@ -43,5 +45,6 @@ pub record AreAtMost (n : ℕ) (e : Entries) : Type 0 where
   pub entered : e.entered ≤ n
   pub inside : e.inside ≤ n
 
+-- no count of any item is above n
 abbrev pub AllAtMost : ℕ → List ItemEntries → Type 0
 AllAtMost n rows = AllByRecursion (λ r. AreAtMost n r.entries) rows

@@ -32,5 +32,6 @@ abbrev pub door_text_if : Option CheckinList → Lists → Option (List ℕ)
 door_text_if None lists = None
 door_text_if (Some list) lists = Some (door_text list lists)
 
+-- the report on the list that has this number in the shop, or none
 abbrev pub door_text_of : ℕ → Lists → Option (List ℕ)
 door_text_of id lists = door_text_if (checkin_list_at id lists) lists

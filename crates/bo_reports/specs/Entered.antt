@@ -25,8 +25,10 @@ entries_of list lists item = record {
 abbrev pub items_on : CheckinList → Lists → List Item
 items_on list lists = filter (λ i. is_for list i.id) lists.catalogue.items
 
+-- an item's number, beside who came in with a ticket for it
 abbrev pub item_entries : CheckinList → Lists → Item → ItemEntries
 item_entries list lists item = record { item = item.id; entries = entries_of list lists item }
 
+-- each item that the list is for, by id, beside who came in with a ticket for it
 abbrev pub all_entries : CheckinList → Lists → List ItemEntries
 all_entries list lists = map (item_entries list lists) (items_on list lists)

@@ -22,6 +22,7 @@ sales_line item s = right 6 (decimal item.id) ++ (sales_columns s ++ (codes "  "
 abbrev pub total_line : Sales → List ℕ
 total_line s = codes " total" ++ (sales_columns s ++ 10 ∷ [])
 
+-- two sums in one: counts and amounts added up
 abbrev pub with_sales : Sales → Sales → Sales
 with_sales a b = record {
   paid = a.paid + b.paid;
@@ -31,6 +32,7 @@ with_sales a b = record {
   amount = a.amount + b.amount;
 }
 
+-- what was sold of all these items together; of none it is nothing
 abbrev pub total_of : List ItemSales → Sales
 total_of [] = nothing
 total_of (r ∷ rs) = with_sales r.sales (total_of rs)

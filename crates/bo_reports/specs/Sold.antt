@@ -10,18 +10,21 @@ use Rattle.bo_lists.specs.Lists.{Lists, order_at}
 use Rattle.bo_reports.specs.declared.sales.Sales.{Sales}
 use Rattle.bo_reports.specs.declared.sales.ItemSales.{ItemSales}
 
+-- of the four statuses, this one alone
 abbrev pub is_expired : Status → Bool
 is_expired Pending = false
 is_expired Paid = false
 is_expired Expired = true
 is_expired Cancelled = false
 
+-- of the four statuses, this one alone
 abbrev pub is_cancelled : Status → Bool
 is_cancelled Pending = false
 is_cancelled Paid = false
 is_cancelled Expired = false
 is_cancelled Cancelled = true
 
+-- there is an order, and its status passes
 abbrev pub status_passes : (Status → Bool) → Option Order → Bool
 status_passes test None = false
 status_passes test (Some order) = test order.status
@@ -48,6 +51,7 @@ sales_of lists item = record {
   amount = earned item.id lists lists.positions;
 }
 
+-- an item's number, beside what was sold of it
 abbrev pub item_sales : Lists → Item → ItemSales
 item_sales lists item = record { item = item.id; sales = sales_of lists item }
 
@@ -55,5 +59,6 @@ item_sales lists item = record { item = item.id; sales = sales_of lists item }
 abbrev pub all_sales : Lists → List ItemSales
 all_sales lists = map (item_sales lists) lists.catalogue.items
 
+-- no position is counted yet
 abbrev pub nothing : Sales
 nothing = record { paid = 0; pending = 0; expired = 0; cancelled = 0; amount = 0 }

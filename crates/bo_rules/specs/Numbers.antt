@@ -3,6 +3,7 @@ use Rattle.std.specs.Prelude.{ℕ}
 use Rattle.bo_rules.specs.declared.rule.Rule.{Rule}
 use Rattle.bo_rules.specs.declared.rule.Rule.TheVariants.{Shop, Limits, Ids, Names, Positions, Headroom, Counters}
 
+-- of several broken rules the one with the least number counts
 abbrev pub number : Rule → ℕ
 number Shop = 1
 number Limits = 2

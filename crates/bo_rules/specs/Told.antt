@@ -3,6 +3,7 @@ use Rattle.bo_lists.specs.Lists.{Lists, State}
 use Rattle.bo_rules.specs.declared.file_rows.FileRows.{FileRows}
 use Rattle.bo_rules.specs.Rules.{File}
 
+-- each list of the office is the rows of its table, as they are
 abbrev pub lists_of : FileRows → Lists
 lists_of rows = record {
   catalogue = record { items = rows.items.items; variations = rows.variations.items; quotas = rows.quotas.items };
@@ -15,6 +16,7 @@ lists_of rows = record {
   checkins = rows.checkins.items;
 }
 
+-- the office that has these lists, with the next ids and the moment of the shop's row
 abbrev pub state_of : FileRows → State
 state_of rows = record { lists = lists_of rows; next = rows.next; moment = rows.moment }
 

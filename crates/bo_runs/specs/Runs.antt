@@ -52,6 +52,7 @@ pub record Stepped : Type 0 where
   pub after : State
   pub reply : Reply
 
+-- what a command makes of the office, at the moment that the clock and the office give it
 abbrev pub stepped : Arrival → State → Stepped
 stepped arrival state =
     let at = moment_at arrival.clock state in
@@ -165,6 +166,7 @@ pub record IsItsRows (vouchers : List NewVoucher) (s : Stepped) : Type 0 where
   pub reply : s.reply ≡ Imported told
   pub each : (s.after, map (λ verdict. Some verdict) told) ≡ rows_alone s.at s.draw vouchers (office_at s)
 
+-- a bulk call that isn't too long is its entries, an import its rows; of any other command nothing is said
 abbrev pub RunsEntries : Command → Stepped → Type 0
 RunsEntries (AddCarts entries) s = length entries ≤ most_entries → IsItsEntries entries s
 RunsEntries (ImportVouchers vouchers) s = IsItsRows vouchers s
@@ -178,14 +180,18 @@ RunsItsEntries s = RunsEntries s.command s
 abbrev pub GivesNewIds : Stepped → Type 0
 GivesNewIds s = AllIdsGoOn s.before s.after
 
+-- every rule of a sound office holds after the step
 abbrev pub LeavesSound : Stepped → Type 0
 LeavesSound s = IsSound s.after
 
+-- the office after a step has no earlier moment than before it
 abbrev pub NeverGoesBack : Stepped → Type 0
 NeverGoesBack s = s.before.moment ≤ s.after.moment
 
+-- the office has the step's moment afterwards, whatever the reply
 abbrev pub StoresItsMoment : Stepped → Type 0
 StoresItsMoment s = s.after.moment ≡ s.at
 
+-- where the reply is a refusal, the office is as it was, but for its moment
 abbrev pub ChangesNothingElse : Stepped → Type 0
 ChangesNothingElse s = (kind : Kind) (refusal : Refusal) → s.reply ≡ Refused kind refusal → s.after ≡ office_at s

@@ -35,9 +35,11 @@ pub record OwnRow : Type 0 where
   pub own : Own
   pub voucher : Option ℕ
 
+-- a cart position as an own row, with the voucher that it names
 abbrev pub cart_own : CartPos → OwnRow
 cart_own row = record { own = OwnCart row.id; voucher = row.voucher }
 
+-- an order position as an own row, with the voucher that it names
 abbrev pub position_own : OrderPos → OwnRow
 position_own row = record { own = OwnPosition row.id; voucher = row.voucher }
 
@@ -62,6 +64,7 @@ revives Expired MarkPaid = true
 revives Expired (Extend end) = true
 revives status change = false
 
+-- there is such an order, and the move brings it back into force
 abbrev pub revives_found : Option Order → Move → Bool
 revives_found None change = false
 revives_found (Some order) change = revives order.status change
@@ -104,6 +107,7 @@ abbrev pub refills_turned : State → Quota → Order → Option Transition → 
 refills_turned state quota old None = false
 refills_turned state quota old (Some turn) = refills state.lists state.moment quota old turn.status
 
+-- there is such an order, and what the move makes of it takes places of the quota again
 abbrev pub refills_found : State → Quota → Option Order → Move → Bool
 refills_found state quota None change = false
 refills_found state quota (Some old) change = refills_turned state quota old (turned old.status change)

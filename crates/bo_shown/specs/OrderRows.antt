@@ -25,6 +25,7 @@ position_members position =
     (member (codes "voucher") (count_or_null position.voucher)
     no_members)))))))
 
+-- an order position as an object, as its order has it in its list
 abbrev pub position_body : OrderPos → Data
 position_body position = object (position_members position)
 

@@ -6,6 +6,7 @@ use Rattle.serde_json.specs.View.{items_of}
 use Rattle.bo_base.specs.Money.{cents_text}
 use Rattle.bo_times.specs.Civil.{moment_text}
 
+-- an id or any other whole number without a sign
 abbrev pub count : ℕ → Data
 count n = number (unsigned n)
 
@@ -13,6 +14,7 @@ count n = number (unsigned n)
 abbrev pub integer : ℤ → Data
 integer n = number (of_integer n)
 
+-- a whole number without a sign, or null where there is none
 abbrev pub count_or_null : Option ℕ → Data
 count_or_null None = null
 count_or_null (Some n) = count n
@@ -21,6 +23,7 @@ count_or_null (Some n) = count n
 abbrev pub money : ℕ → Data
 money cents = string (cents_text cents)
 
+-- an amount as a text, or null where there is none
 abbrev pub money_or_null : Option ℕ → Data
 money_or_null None = null
 money_or_null (Some cents) = money cents
@@ -29,6 +32,7 @@ money_or_null (Some cents) = money cents
 abbrev pub moment : ℕ → Data
 moment seconds = string (moment_text seconds)
 
+-- a moment as a text, or null where there is none
 abbrev pub moment_or_null : Option ℕ → Data
 moment_or_null None = null
 moment_or_null (Some seconds) = moment seconds
@@ -38,8 +42,10 @@ abbrev pub text_or_null : Option (List ℕ) → Data
 text_or_null None = null
 text_or_null (Some text) = string text
 
+-- values one after another, in their order
 abbrev pub list : List Data → Data
 list values = array (items_of values)
 
+-- whole numbers without a sign one after another, in their order
 abbrev pub counts : List ℕ → Data
 counts numbers = list (map count numbers)

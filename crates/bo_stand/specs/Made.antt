@@ -19,24 +19,30 @@ use Rattle.bo_stand.specs.RowsAfter.{redeemed_of}
 
 -- ---- vouchers, whose rows have a counter
 
+-- a voucher takes the place of the one of its id, and keeps the counter; a new one begins with 0
 abbrev pub put_voucher : Voucher → Tables → Tables
 put_voucher w t = record t { vouchers = record { voucher = head_of_voucher w; redeemed = redeemed_of w.id (redeemed_in t) } ∷ filter (λ r. not (r.voucher.id == w.id)) t.vouchers }
 
+-- no voucher has this id any more; its counter goes with it
 abbrev pub without_voucher : ℕ → Tables → Tables
 without_voucher id t = record t { vouchers = filter (λ r. not (r.voucher.id == id)) t.vouchers }
 
+-- the counter of one voucher is set, and all else in the tables stays
 abbrev pub set_redeemed : VoucherCount → Tables → Tables
 set_redeemed c t = record t { vouchers = map (λ r. if r.voucher.id == c.voucher then record { voucher = r.voucher; redeemed = c.redeemed } else r) t.vouchers }
 
 -- ---- links, whose rows are numbered from this number on
 
+-- a link to each of these ids, with one row number after another, beside the links that are there
 abbrev pub numbered : {R : Type 0} → (ℕ → ℕ → R) → ℕ → List ℕ → List R → List R
 numbered row from [] rows = rows
 numbered row from (id ∷ ids) rows = numbered row (from + 1) ids (row from id ∷ rows)
 
+-- new links from a check-in list to each of these items
 abbrev pub with_limits : ℕ → ℕ → List ℕ → Tables → Tables
 with_limits list from ids t = record t { list_items = numbered (λ n id. record { rowid = n; list = list; item = id }) from ids t.list_items }
 
+-- no link of this check-in list is left
 abbrev pub without_limits : ℕ → Tables → Tables
 without_limits list t = record t { list_items = filter (λ r. not (r.list == list)) t.list_items }
 
@@ -44,9 +50,11 @@ without_limits list t = record t { list_items = filter (λ r. not (r.list == lis
 abbrev pub put_links : {R : Type 0} → (owner member : R → ℕ) → (ℕ → ℕ → R) → ℕ → ℕ → List ℕ → List R → List R
 put_links owner member row id from ids rows = if are_just ids (map member (filter (λ r. owner r == id) rows)) then rows else numbered row from ids (filter (λ r. not (owner r == id)) rows)
 
+-- a quota's links to items are put to be just those of its members
 abbrev pub put_items : ℕ → ℕ → List ℕ → Tables → Tables
 put_items quota from ids t = record t { quota_items = put_links (λ r. r.quota) (λ r. r.item) (λ n id. record { rowid = n; quota = quota; item = id }) quota from ids t.quota_items }
 
+-- a quota's links to variations are put to be just those of its members
 abbrev pub put_variations : ℕ → ℕ → List ℕ → Tables → Tables
 put_variations quota from ids t = record t { quota_variations = put_links (λ r. r.quota) (λ r. r.variation) (λ n id. record { rowid = n; quota = quota; variation = id }) quota from ids t.quota_variations }
 
@@ -54,11 +62,13 @@ put_variations quota from ids t = record t { quota_variations = put_links (λ r.
 abbrev pub put_quota : Quota → ℕ → Tables → Tables
 put_quota w from t = put_variations w.id (from + length w.items) w.variations (put_items w.id from w.items (with_quota w (without_quota w.id t)))
 
+-- a check-in list takes the place of the one of its id, and new links to its items the place of the old ones
 abbrev pub put_list : CheckinList → ℕ → Tables → Tables
 put_list w from t = with_limits w.id from w.limit_products (without_limits w.id (with_list w (without_list w.id t)))
 
 -- ---- changes
 
+-- what is put takes the place of its id, and what is dropped is gone; new links are numbered from this number on
 abbrev pub made_by : Change → ℕ → Tables → Tables
 made_by (PutItem w) from t = with_item w (without_item w.id t)
 made_by (PutVariation w) from t = with_variation w (without_variation w.id t)
@@ -80,19 +90,23 @@ next_by (PutQuota w) from = from + length w.items + length w.variations
 next_by (PutCheckinList w) from = from + length w.limit_products
 next_by _ from = from
 
+-- the changes, one after another, each with the row numbers that those before it left free
 abbrev pub made : List Change → ℕ → Tables → Tables
 made [] from t = t
 made (change ∷ changes) from t = made changes (next_by change from) (made_by change from t)
 
+-- the row number that is free after these changes
 abbrev pub next_after : List Change → ℕ → ℕ
 next_after [] from = from
 next_after (change ∷ changes) from = next_after changes (next_by change from)
 
 -- ---- the rest of a commit
 
+-- the shop's row takes the place of its only one
 abbrev pub put_shop : ShopRow → Tables → Tables
 put_shop w t = with_shop w (without_shop 1 t)
 
+-- what is used of a quota takes the place of what was
 abbrev pub put_count : QuotaCount → Tables → Tables
 put_count c t = with_count c (without_count c.quota t)
 
@@ -101,13 +115,16 @@ abbrev pub each : {X : Type 0} → (X → Tables → Tables) → List X → Tabl
 each step [] t = t
 each step (x ∷ xs) t = each step xs (step x t)
 
+-- the counters of these quotas and vouchers are set, and all others stay
 abbrev pub counted : CountRows → Tables → Tables
 counted counts t = each put_count counts.quotas (each set_redeemed counts.vouchers t)
 
+-- the answer that a commit keeps, if it keeps one, in a row of this number
 abbrev pub with_listed : ℕ → List Kept → Tables → Tables
 with_listed rowid [] t = t
 with_listed rowid (k ∷ ks) t = with_kept (record { rowid = rowid; kept = k }) t
 
+-- the answers that are past at this moment are kept no more
 abbrev pub without_past : ℕ → Tables → Tables
 without_past at t = record t { kept = filter (λ r. lasts at r.kept.at) t.kept }
 

@@ -58,6 +58,7 @@ redeemed_in t = map (λ r. record { voucher = r.voucher.id; redeemed = r.redeeme
 
 -- ---- what a row tells
 
+-- a voucher as its row says, without the counter beside it
 abbrev pub voucher_of : VoucherHead → Voucher
 voucher_of w = record {
   id = w.id;
@@ -75,6 +76,7 @@ voucher_of w = record {
   comment = w.comment;
 }
 
+-- an order position as its row says, which is all of it
 abbrev pub position_of : PositionRow → OrderPos
 position_of w = record { id = w.id; order = w.order; positionid = w.positionid; product = w.product; price = w.price; voucher = w.voucher; secret = w.secret }
 

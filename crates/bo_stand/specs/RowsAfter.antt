@@ -35,6 +35,7 @@ rows_after (PutCheckinList row) rows = record rows {
 }
 rows_after (PutCheckin row) rows = record rows { checkins = put_row (λ r. r.id) row rows.checkins }
 
+-- how often it is redeemed by this count; without one 0 times
 abbrev pub redeemed_by : Option VoucherCount → ℕ
 redeemed_by None = 0
 redeemed_by (Some count) = count.redeemed

@@ -75,6 +75,7 @@ pub record MembersRise (quota : Quota) : Type 0 where
   pub variations : AreInOrder (λ n. n) quota.variations
   pub kept : quota.release_after_exit ≡ false
 
+-- a check-in list's items rise
 abbrev pub ItemsRise : CheckinList → Type 0
 ItemsRise row = AreInOrder (λ n. n) row.limit_products
 

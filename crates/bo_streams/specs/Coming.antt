@@ -14,6 +14,7 @@ use Rattle.bo_deliveries.specs.declared.arrival.Request.{Request}
 use Rattle.bo_deliveries.specs.declared.arrival.Request.TheVariants as requests
 use Rattle.bo_streams.specs.DeskView.{House}
 
+-- the number of the token with this digest; none where no token is shown, or it isn't known
 abbrev pub number_by : (List ℕ → Option ℕ) → Option (List ℕ) → Option ℕ
 number_by tokens None = None
 number_by tokens (Some digest) = tokens digest
@@ -22,6 +23,7 @@ number_by tokens (Some digest) = tokens digest
 abbrev pub number_of : (List ℕ → Option ℕ) → Message → Option ℕ
 number_of tokens m = number_by tokens (option_map sha256 (token_of m))
 
+-- a request at a tick, under the number of a token and a key
 abbrev pub arriving : Tick → ℕ → List ℕ → Request → Arrival
 arriving tick token key request = record { clock = tick.clock; draw = tick.draw; token = token; key = key; request = request }
 

@@ -22,6 +22,7 @@ pub record Meaning (T : Type 0) : Type 1 where
   pub knows : T → House → Type 0
   pub may_leave : T → ShopView → Type 0
 
+-- what is said of tables, by its four parts
 abbrev pub meaning : {T : Type 0} → (T → Type 0) → (T → State → List Kept → Type 0) → (T → House → Type 0) → (T → ShopView → Type 0) → Meaning T
 meaning sure holds knows may_leave = record { sure = sure; holds = holds; knows = knows; may_leave = may_leave }
 

@@ -10,9 +10,11 @@ pub record Act : Type 0 where
   pub message : Message
   pub answer : Answer
 
+-- at which tick a message was answered
 abbrev pub tick_of : Act → Tick
 tick_of a = a.tick
 
+-- the ticks of acts, in their order; each act takes one
 abbrev pub ticks : List Act → List Tick
 ticks acts = map tick_of acts
 
@@ -30,6 +32,7 @@ pub record Between (D : Type 0) : Type 0 where
   pub told : Option (List Tick)
   pub desk : D
 
+-- a desk, and the ticks that the house was given till then, where that is known
 abbrev pub between : {D : Type 0} → Option (List Tick) → D → Between D
 between told desk = record { told = told; desk = desk }
 

@@ -20,6 +20,7 @@ pub record Caller : Type 0 where
   pub number : ℕ
   pub seat : Seat
 
+-- the caller who has this number, with its conversation
 abbrev pub caller : ℕ → Seat → Caller
 caller number seat = record { number = number; seat = seat }
 
@@ -33,6 +34,7 @@ pub record Callers : Type 0 where
   pub came : ℕ
   pub places : List (Option Caller)
 
+-- how many came in all, and who is at each place now
 abbrev pub callers : ℕ → List (Option Caller) → Callers
 callers came places = record { came = came; places = places }
 
@@ -111,9 +113,11 @@ pub record Heard : Type 0 where
   pub caller : ℕ
   pub act : Act
 
+-- what was done, whoever it was for
 abbrev pub act_of : Heard → Act
 act_of h = h.act
 
+-- what was done for all callers, in order
 abbrev pub acts_of : List Heard → List Act
 acts_of heard = map act_of heard
 
@@ -138,6 +142,7 @@ pub record Story : Type 0 where
   pub lasts : List Seat
   pub heard : List Heard
 
+-- callers as they began, the same as they are now, and what was done for all of them
 abbrev pub story : List Seat → List Seat → List Heard → Story
 story firsts lasts heard = record { firsts = firsts; lasts = lasts; heard = heard }
 

@@ -92,6 +92,7 @@ Came stages.Goes old new = (piece : List ℕ) × Gives old.coming piece new.comi
 Came stages.Ends old new = Gives old.coming [] new.coming × (new.left ≡ old.left) × IsAtEnd new.coming
 Came stages.Lost old new = (piece : List ℕ) × Gives old.coming piece new.coming × (length piece ≤ 65536)
 
+-- a conversation in whose bytes no message is whole reads some more, and sends nothing meanwhile
 pub record Hears (old new : Seat) : Type 0 where
   pub came : Came new.stage old new
   pub none : HasNone old.left

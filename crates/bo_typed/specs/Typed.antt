@@ -27,30 +27,39 @@ use Rattle.bo_columns.specs.Tables.{Tables}
 
 -- ---- a row
 
+-- an item's name is UTF-8
 abbrev pub IsTypedItem : Item → Type 0
 IsTypedItem w = IsUtf8 w.name
 
+-- a variation's name is UTF-8
 abbrev pub IsTypedVariation : Variation → Type 0
 IsTypedVariation w = IsUtf8 w.name
 
+-- a voucher's code, tag and comment are UTF-8
 abbrev pub IsTypedVoucher : VoucherHead → Type 0
 IsTypedVoucher w = IsUtf8 w.code × IsUtf8 w.tag × IsUtf8 w.comment
 
+-- the id of a cart position's cart is UTF-8
 abbrev pub IsTypedCart : CartPos → Type 0
 IsTypedCart w = IsUtf8 w.cart_id
 
+-- an order's address, if it has one, is UTF-8
 abbrev pub IsTypedOrder : Order → Type 0
 IsTypedOrder w = IfSome w.email IsUtf8
 
+-- an order position's number in its order has 32 bits, and its secret is UTF-8
 abbrev pub IsTypedPosition : PositionRow → Type 0
 IsTypedPosition w = (w.positionid < 2 ^ 32) × IsUtf8 w.secret
 
+-- the address of an entry of the waiting list is UTF-8
 abbrev pub IsTypedWaiting : Waiting → Type 0
 IsTypedWaiting w = IsUtf8 w.email
 
+-- a check-in's nonce, if it has one, is UTF-8
 abbrev pub IsTypedCheckin : Checkin → Type 0
 IsTypedCheckin w = IfSome w.nonce IsUtf8
 
+-- an answer is kept since a moment, and its status has three digits
 abbrev pub IsTypedKept : Kept → Type 0
 IsTypedKept k = IsMoment k.at × IsStatus k.response.status
 
@@ -87,6 +96,7 @@ pub record EachTyped (of_items of_variations of_quotas of_vouchers of_carts of_o
   pub tokens : of_tokens
   pub kept : of_kept
 
+-- each row of each of these tables has what its type promises
 abbrev pub AreTyped : Tables → Type 0
 AreTyped t =
     EachTyped

@@ -22,10 +22,12 @@ abbrev pub namesake : Option (List ℕ) → Lists → Option Voucher
 namesake None lists = None
 namesake (Some code) lists = voucher_of code lists
 
+-- both are set, or neither is
 abbrev pub same_flag : Bool → Bool → Bool
 same_flag true b = b
 same_flag false b = not b
 
+-- both are the same one of the four modes
 abbrev pub same_mode : PriceMode → PriceMode → Bool
 same_mode modes.None modes.None = true
 same_mode modes.Set modes.Set = true
@@ -48,13 +50,16 @@ has_target new row = (same_id new.item row.item && same_id new.variation row.var
 abbrev pub is_as_given : NewVoucher → Voucher → Bool
 is_as_given new row = has_terms new row && has_target new row
 
+-- a row beside the voucher that has its code: it says the same, or something else
 abbrev pub verdict_on : NewVoucher → Voucher → Verdict
 verdict_on new row = if is_as_given new row then verdicts.Same else verdicts.Other
 
+-- the voucher that was added, or the refusal, which leaves the box office as it was
 abbrev pub made_verdict : State → Result (State × Voucher) VoucherRefusal → State × Verdict
 made_verdict state (Ok (after, row)) = (after, verdicts.Added row)
 made_verdict state (Err refusal) = (state, verdicts.Refused refusal)
 
+-- a row beside the voucher that has its code, if there is one: only without one a voucher is made
 abbrev pub imported_beside : Option Voucher → NewVoucher → Draw → State → State × Verdict
 imported_beside None new draw state = made_verdict state (voucher_made new draw state)
 imported_beside (Some row) new draw state = (state, verdict_on new row)
@@ -63,6 +68,7 @@ imported_beside (Some row) new draw state = (state, verdict_on new row)
 abbrev pub row_imported : NewVoucher → Draw → State → State × Verdict
 row_imported new draw state = imported_beside (namesake new.code state.lists) new draw state
 
+-- a verdict in front of those of the rest
 abbrev pub with_verdict : Verdict → State × List Verdict → State × List Verdict
 with_verdict verdict rest = (rest.0, verdict ∷ rest.1)
 

@@ -13,6 +13,7 @@ use Rattle.bo_lists.specs.Usage.{usage_of}
 abbrev pub without_waiting : Usage → ℕ
 without_waiting usage = usage.paid - usage.exited + usage.pending + usage.blocked + usage.carts
 
+-- the places of a quota that are used at the box office's moment, without the entries that wait
 abbrev pub used_unwaited : State → Quota → ℕ
 used_unwaited state quota = without_waiting (usage_of state.lists state.moment quota)
 
@@ -37,6 +38,7 @@ abbrev pub is_full_by : State → Option Quota → Bool
 is_full_by state None = false
 is_full_by state (Some quota) = is_full state quota
 
+-- there is a quota of this id, and it is full
 abbrev pub is_full_at : State → ℕ → Bool
 is_full_at state id = is_full_by state (quota_at id state.lists.catalogue)
 
@@ -44,6 +46,7 @@ is_full_at state id = is_full_by state (quota_at id state.lists.catalogue)
 abbrev pub places_left : State → Quota → Option ℕ
 places_left state quota = available_number quota.size (used_unwaited state quota)
 
+-- there is a limit, and no place is left below it
 abbrev pub has_none_left : Option ℕ → Bool
 has_none_left None = false
 has_none_left (Some left) = left == 0
@@ -59,9 +62,11 @@ abbrev pub one_less : Option ℕ → Option ℕ
 one_less None = None
 one_less (Some left) = Some (left - 1)
 
+-- what is left of a quota once a place is taken for the product: one less, where the product is in it
 abbrev pub after_one : Product → Quota → Option ℕ → Option ℕ
 after_one product quota left = if is_in quota product then one_less left else left
 
+-- what is left of each quota once a place is taken for the product
 abbrev pub all_after_one : Product → List (Option ℕ) → List Quota → List (Option ℕ)
 all_after_one product [] quotas = []
 all_after_one product (left ∷ lefts) [] = []

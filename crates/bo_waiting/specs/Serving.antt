@@ -25,6 +25,7 @@ use Rattle.bo_waiting.specs.Sending.{with_sent, with_its_voucher, sent_changes, 
 abbrev pub turn : Waiting → Waiting → Ordering
 turn a b = ordering_then (int_cmp b.priority a.priority) (ordering_then (nat_cmp a.created b.created) (nat_cmp a.id b.id))
 
+-- the first has its turn before the second
 abbrev pub goes_before : Waiting → Waiting → Bool
 goes_before a b = is_lt (turn a b)
 
@@ -33,6 +34,7 @@ abbrev pub in_place : Waiting → List Waiting → List Waiting
 in_place entry [] = entry ∷ []
 in_place entry (e ∷ es) = if goes_before entry e then entry ∷ e ∷ es else e ∷ in_place entry es
 
+-- entries put in their turn, whatever their order was
 abbrev pub in_turn : List Waiting → List Waiting
 in_turn [] = []
 in_turn (e ∷ es) = in_place e (in_turn es)
@@ -83,6 +85,7 @@ abbrev pub all_changes : Draw → List Waiting → State → List Change
 all_changes draw [] state = []
 all_changes draw (e ∷ es) state = sent_changes draw state (with_its_voucher state e) ++ all_changes draw es (with_sent draw e state)
 
+-- the changes that lead there, for all who are sent a voucher
 unfoldable pub served_changes : Draw → State → List Change
 served_changes draw state = all_changes draw (served state) state
 
@@ -111,9 +114,11 @@ each_sent draw (id ∷ ids) state =
     if takes_voucher state then run_with draw state (voucher_sent id draw state) (each_sent draw ids (state_after state (voucher_sent id draw state)))
     else record { state = state; ids = []; changes = [] }
 
+-- the run through the whole queue, as it is before the first sending
 abbrev pub run_in_turn : Draw → State → Run
 run_in_turn draw state = each_sent draw (map (λ e. e.id) (queue state.lists)) state
 
+-- the box office after that run, and the ids of those who were sent to
 unfoldable pub served_in_turn : Draw → State → State × List ℕ
 served_in_turn draw state = ((run_in_turn draw state).state, (run_in_turn draw state).ids)
 

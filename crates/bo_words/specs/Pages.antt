@@ -40,5 +40,6 @@ page_members organizer event page rest =
     (member (codes "previous") (previous_path organizer event page)
     rest))
 
+-- `{"count":N,"next":P,"previous":P,"results":[..]}`, with the rows of this page alone
 abbrev pub page_body : List ℕ → List ℕ → Page → Data
 page_body organizer event page = object (page_members organizer event page (member (codes "results") (list (map shown_body page.rows)) no_members))

@@ -33,6 +33,7 @@ use Rattle.bo_words.specs.Faults.{not_found_body, invalid_page_body, fault_body}
 abbrev pub manner_by : KindRefusals → ℕ → Manner
 manner_by row number = if has number row.missing then Missing else (if has number row.others then Told else Untold)
 
+-- how a request of a kind is refused with that refusal, by the table
 abbrev pub manner_of : Kind → Refusal → Manner
 manner_of kind refusal = manner_by (row_of kind) (number_of_refusal refusal)
 
@@ -49,6 +50,7 @@ catalogue_detail catalogue.Full = Some (codes "Shop is full.")
 catalogue_detail catalogue.Plain = Some (codes "Item has no variations.")
 catalogue_detail catalogue.NotSold = Some (codes "In no quota.")
 
+-- the sentence for a voucher; a refusal of what it names has the catalogue's
 abbrev pub voucher_detail : VoucherRefusal → Option (List ℕ)
 voucher_detail voucher.Memory = None
 voucher_detail (voucher.Catalogue refusal) = catalogue_detail refusal
@@ -64,6 +66,7 @@ voucher_detail voucher.InUse = Some (codes "In use.")
 voucher_detail (voucher.SoldOut quota) = Some (codes "Sold out.")
 voucher_detail voucher.ReservedCode = Some (codes "Code is reserved.")
 
+-- the sentence for an order or a cart; a refusal of a position or of its voucher has a voucher's
 abbrev pub order_detail : OrderRefusal → Option (List ℕ)
 order_detail order.Memory = None
 order_detail (order.Voucher refusal) = voucher_detail refusal
@@ -74,6 +77,7 @@ order_detail order.Empty = Some (codes "No positions.")
 order_detail order.TooMany = Some (codes "Too many.")
 order_detail order.BadCart = Some (codes "Wrong cart.")
 
+-- the sentence for the waiting list; a refusal of what is waited for has the catalogue's
 abbrev pub waiting_detail : WaitingRefusal → Option (List ℕ)
 waiting_detail waiting.Memory = None
 waiting_detail (waiting.Catalogue refusal) = catalogue_detail refusal
@@ -88,6 +92,7 @@ abbrev pub door_detail : DoorRefusal → Option (List ℕ)
 door_detail (door.Catalogue refusal) = catalogue_detail refusal
 door_detail refusal = None
 
+-- the sentence for any refusal, by the part of the shop that it is of
 abbrev pub detail : Refusal → Option (List ℕ)
 detail (refusals.Catalogue refusal) = catalogue_detail refusal
 detail (refusals.Voucher refusal) = voucher_detail refusal
@@ -101,6 +106,7 @@ abbrev pub quota_of : VoucherRefusal → Option ℕ
 quota_of (voucher.SoldOut quota) = Some quota
 quota_of refusal = None
 
+-- the quota that is sold out, where the refusal says that; a cart or an order is sold out as a voucher is
 abbrev pub quota_named : Refusal → Option ℕ
 quota_named (refusals.Voucher refusal) = quota_of refusal
 quota_named (refusals.Order (order.Voucher refusal)) = quota_of refusal
@@ -188,6 +194,7 @@ body_in Missing refusal = not_found_body
 body_in Told refusal = told_body refusal
 body_in Untold refusal = empty_body
 
+-- the body by which a request of this kind is refused with that refusal
 unfoldable pub refusal_data : Kind → Refusal → Data
 refusal_data kind refusal = body_in (manner_of kind refusal) refusal
 

@@ -48,12 +48,15 @@ is_row_of resources.CheckinLists (shown.CheckinList door) = true
 is_row_of (resources.Tickets door) (shown.Ticket ticket) = true
 is_row_of resource row = false
 
+-- 201 and the row that was made; a position of a check-in list never is
 abbrev pub made : Shown → Response
 made row = if is_made row then response 201 None (shown_body row) else untold
 
+-- 200 and the row that was asked for or changed, of a kind that is shown by itself
 abbrev pub found : Shown → Response
 found row = if stands_alone row then response 200 None (shown_body row) else untold
 
+-- 200 and a page, whose rows are all of the list's kind
 abbrev pub listed : List ℕ → List ℕ → Page → Response
 listed organizer event page =
     if list_all (is_row_of page.resource) page.rows then response 200 None (page_body organizer event page) else untold

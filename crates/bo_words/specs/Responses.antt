@@ -5,6 +5,7 @@ use Rattle.serde_json.specs.Written.{compact_text}
 use Rattle.bo_base.specs.declared.answer.Methods.{Methods}
 use Rattle.bo_base.specs.declared.answer.Response.{Response}
 
+-- a response with a status, perhaps with methods, whose body is this value
 abbrev pub response : ℕ → Option Methods → Data → Response
 response status allow value = record { status = status; allow = allow; body = compact_text value }
 

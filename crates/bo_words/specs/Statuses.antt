@@ -7,5 +7,6 @@ use Rattle.std.specs.List.{list_any}
 abbrev pub statuses : List ℕ
 statuses = 200 ∷ 201 ∷ 204 ∷ 400 ∷ 401 ∷ 403 ∷ 404 ∷ 405 ∷ 413 ∷ 431 ∷ 501 ∷ 503 ∷ []
 
+-- some answer has this status
 abbrev pub is_given : ℕ → Bool
 is_given status = list_any (λ s. s == status) statuses

@@ -8,6 +8,7 @@ pub record KindRefusals : Type 0 where
   pub missing : List ℕ
   pub others : List ℕ
 
+-- what the path names isn't there by the first numbers; the others are in the order of the tests
 abbrev pub numbers : List ℕ → List ℕ → KindRefusals
 numbers missing others = record { missing = missing; others = others }
 
