@@ -34,6 +34,8 @@ class Drawn:
 
     def __init__(self, seed, commands, step=None):
         self.draw, self.step = random.Random(seed), step
+        # Of its own, so that with budgets all else is drawn as it was without.
+        self.coins = random.Random(f"budgets of {seed}")
         self.at, self.commands, self.kinds = FROM, [], []
         # Of each item its variations, and the guessed rows of the other tables.
         self.items, self.variations = [], 0
@@ -92,7 +94,7 @@ class Drawn:
             code, meant, _ = chosen
             body = dict(self.draw.choice(meant)) if meant and not self.one_in(12) else body
             body["voucher"] = code
-        if self.one_in(8):
+        if self.one_in(4 if chosen else 8):
             body["price"] = self.price()
         return body
 
@@ -160,6 +162,8 @@ class Drawn:
         self.quotas.append(meant)
         size = self.size() if size is None else size
         body = {"name": f"q{self.rows['quotas']}", "size": size, "items": [it + 1 for it in chosen], "variations": of}
+        if self.rows["quotas"] % 3 == 1:
+            body["release_after_exit"] = True
         self.ask("add quota", "POST", "/quotas/", body)
 
     def resize_quota(self):
@@ -171,6 +175,10 @@ class Drawn:
         """Most vouchers end within seconds, while cart positions that name them live."""
         return self.draw.choice([3, 8, 15, 30, 30, 60, 2_500, 20_000])
 
+    def budget(self):
+        """Some budgets last for a part of one position's discount, some for several."""
+        return f"{self.coins.randrange(self.coins.choice([1, 10, 50]))}.{self.coins.randrange(100):02d}"
+
     def add_voucher(self):
         self.rows["vouchers"] += SEEN["vouchers"]
         body = {"max_usages": self.draw.randint(1, 8), "block_quota": not self.one_in(3), "allow_ignore_quota": self.one_in(6)}
@@ -181,9 +189,13 @@ class Drawn:
         if not self.one_in(8):
             lasts = self.draw.randint(1, self.voucher_end())
             body["valid_until"] = moment(self.at + lasts)
-        if self.one_in(2):
+        if self.one_in(3):
             mode = self.draw.choice(["set", "subtract", "percent"])
             body["price_mode"], body["value"] = mode, self.price()
+        if self.coins.randrange(3) == 0:
+            body["budget"] = self.budget()
+            body.setdefault("price_mode", "percent")
+            body.setdefault("value", f"{self.coins.randrange(100)}.00")
         whom, meant = self.draw.randrange(6), []
         if whom < 3:
             body["quota"] = self.draw.randint(1, len(self.quotas))
@@ -211,6 +223,8 @@ class Drawn:
             body["quota"] = self.id("quotas")
         if self.one_in(6):
             body["code"] = self.code()
+        if self.coins.randrange(3) == 0:
+            body["budget"] = None if self.coins.randrange(4) == 0 else self.budget()
         self.ask("change voucher", "PATCH", f"/vouchers/{self.id('vouchers', 15)}/", body)
 
     def drop_voucher(self):

@@ -1,4 +1,5 @@
 pub mod Telling
 pub mod Parts
 pub mod Offices
+pub mod Amounts
 pub mod Joined

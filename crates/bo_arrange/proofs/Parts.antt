@@ -1,10 +1,11 @@
 -- Of which links the members of rows are told, and when of all.
-use Rattle.std.proofs.Common.{◌≡◌, ◌↔◌, ℕ, zero, suc, ◌+◌, ◌<◌, ◌==◌, Bool, true, false, cond, not, List, [], ◌∷◌, ◌++◌, length, get_or, map, filter, flat_map, refl, sym, ap, ap₂, subst, ◌∙◌, arith, append-nil, append_assoc}
-use Rattle.std.specs.List.{AllByRecursion}
+use Rattle.std.proofs.Common.{◌≡◌, ◌↔◌, ℕ, zero, suc, ◌+◌, ◌<◌, ◌==◌, Bool, true, false, cond, not, List, [], ◌∷◌, ◌++◌, length, get_or, map, filter, flat_map, refl, sym, ap, ap₂, subst, ◌∙◌, arith, append-nil, append_assoc, ◌⊎◌, inl, inr}
+use Rattle.std.specs.List.{All, AllByRecursion}
 use Rattle.std.specs.List.Sorted.{IsPermutation, IsStrictlyIncreasing}
 use Rattle.std.proofs.lemmas.Bool.Decides.{nat_tests}
 use Rattle.std.proofs.lemmas.List.{map-append, length-append, length-map}
-use Rattle.std.proofs.lemmas.List.Sorted.{IsPermutation-refl, IsPermutation-sym, IsPermutation-trans, IsPermutation-cons, IsPermutation-map, IsPermutation-middle, IsPermutation-append, IsPermutation-append_left, IsPermutation-append_right, IsPermutation-append_comm, length_permutation, Contains-permutation}
+use Rattle.std.proofs.lemmas.List.Elements.{All-nil, All-cons, All-head}
+use Rattle.std.proofs.lemmas.List.Sorted.{IsPermutation-refl, IsPermutation-sym, IsPermutation-trans, IsPermutation-cons, IsPermutation-map, IsPermutation-middle, IsPermutation-append, IsPermutation-append_left, IsPermutation-append_right, IsPermutation-append_comm, length_permutation, All-permutation, Contains-permutation}
 use Rattle.sqlite_trees.proofs.ListLemmas.{IsPermutation-filter}
 use Rattle.bo_sorted.specs.Rising.{with_ids, rising}
 use Rattle.bo_sorted.specs.Tables.{with_row, InOrderFrom, AreInOrder}
@@ -145,6 +146,25 @@ told_none : (id other : ℕ) (ms : List ℕ) → (other == id) ≡ false → tol
 told_none id other [] e = refl
 told_none id other (m ∷ ms) e = rw e (told_none id other ms e)
 
+-- one or none
+abbrev pub IsFew : List ℕ → Type 0
+IsFew ms = (ms ≡ []) ⊎ ((m : ℕ) × (ms ≡ m ∷ []))
+
+same_few : (ms xs : List ℕ) → IsFew ms → IsPermutation xs ms → xs ≡ ms
+same_few ms xs (inl none) same = nothing xs (sym (length_permutation xs [] (subst (IsPermutation xs) none same))) ∙ sym none
+  where
+    nothing : (xs : List ℕ) → length xs ≡ 0 → xs ≡ []
+    nothing [] e = refl
+    nothing (x ∷ xs) e = absurd (omega (arith, e))
+same_few ms xs (inr one) same =
+    let this = subst (IsPermutation xs) one.1 same in
+    single xs (sym (length_permutation xs (one.0 ∷ []) this)) (All-permutation (λ n. n ≡ one.0) (one.0 ∷ []) xs (IsPermutation-sym xs (one.0 ∷ []) this) (All-cons (λ n. n ≡ one.0) one.0 [] refl (All-nil (λ n. n ≡ one.0)))) ∙ sym one.1
+  where
+    single : (xs : List ℕ) → length xs ≡ 1 → All (λ n. n ≡ one.0) xs → xs ≡ one.0 ∷ []
+    single [] e h = absurd (omega (arith, e))
+    single (x ∷ []) e h = ap (λ n. n ∷ []) (All-head (λ n. n ≡ one.0) x [] h)
+    single (x ∷ y ∷ xs) e h = absurd (omega (arith, e))
+
 module _ {T : Type 0} (key : T → ℕ) (members : T → List ℕ) where
   told_above : (id n : ℕ) (rows : List T) → id < n → InOrderFrom key n rows → told id (all_links key members rows) ≡ []
   told_above id n [] lt h = refl
@@ -170,6 +190,18 @@ module _ {T : Type 0} (key : T → ℕ) (members : T → List ℕ) where
       let more : map (λ s. told (key s) all) rows ≡ map members rows = cc in
       let mine : IsPermutation (told (key r) ls) (told (key r) all) = IsPermutation-map (λ (l : Link). l.member) _ _ (IsPermutation-filter (λ (l : Link). l.owner == key r) ls all same) in
       ap₂ ◌∷◌ (rising_same (told (key r) ls) (members r) (subst (IsPermutation (told (key r) ls)) first mine) rise.0) (each_told rows all ls more rise.1 same)
+
+  each_few : (rows : List T) (all ls : List Link) → map (λ r. told (key r) all) rows ≡ map members rows → ((r : T) → IsFew (members r)) → IsPermutation ls all → map (λ r. told (key r) ls) rows ≡ map members rows
+  each_few [] all ls e alone same = refl
+  each_few (r ∷ rows) all ls e alone same =
+      let first : told (key r) all ≡ members r = cc in
+      let more : map (λ s. told (key s) all) rows ≡ map members rows = cc in
+      let mine : IsPermutation (told (key r) ls) (told (key r) all) = IsPermutation-map (λ (l : Link). l.member) _ _ (IsPermutation-filter (λ (l : Link). l.owner == key r) ls all same) in
+      ap₂ ◌∷◌ (same_few (members r) (told (key r) ls) (alone r) (subst (IsPermutation (told (key r) ls)) first mine)) (each_few rows all ls more alone same)
+
+  -- links of rows that have a member each, or none, tell it and nothing else
+  pub few_back : (rows : List T) (ls : List Link) → AreInOrder key rows → ((r : T) → IsFew (members r)) → IsPermutation ls (all_links key members rows) → map (λ r. told (key r) ls) rows ≡ map members rows
+  few_back rows ls h alone same = each_few rows (all_links key members rows) ls (told_each 0 rows h) alone same
 
   -- links of rows in order tell their members
   pub members_back : (rows : List T) (ls : List Link) → AreInOrder key rows → AllByRecursion (λ r. AreInOrder (λ n. n) (members r)) rows → IsPermutation ls (all_links key members rows) → map (λ r. members_of (key r) ls) rows ≡ map members rows

@@ -1,6 +1,6 @@
 //! Which box office do the rows of a file make?
 //!
-//! Members are put beside the rows that they are of, and counts beside vouchers.
+//! Members, budgets and discounts are put beside the rows that they are of.
 #![tactic(auto)]
 
 pub mod arranging;
@@ -12,6 +12,8 @@ pub mod lists;
 pub mod members;
 pub mod positions;
 pub mod quotas;
+pub mod sales;
+pub mod values;
 pub mod vouchers;
 
 pub use arranging::{Arranged, arrange};

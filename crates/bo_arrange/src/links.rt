@@ -2,9 +2,9 @@
 
 ghost use Rattle.std.specs.Prelude.{◌≡◌};
 ghost use Rattle.bo_stand.specs.Links.{Link};
-ghost use Rattle.bo_arrange.specs.Arranged.{item_link, variation_link, list_link};
+ghost use Rattle.bo_arrange.specs.Arranged.{item_link, variation_link, release_link, list_link};
 
-use bo_columns::{ListItem, QuotaItem, QuotaVariation};
+use bo_columns::{ListItem, QuotaItem, QuotaVariation, ReleaseRow};
 
 /// A row that tells one member of another row.
 pub trait Linking {
@@ -40,6 +40,18 @@ impl Linking for QuotaVariation {
 
     fn member(&self) -> u64 {
         self.variation
+    }
+}
+
+impl Linking for ReleaseRow {
+    ghost link = { release_link };
+
+    fn owner(&self) -> u64 {
+        self.quota
+    }
+
+    fn member(&self) -> u64 {
+        self.quota
     }
 }
 

@@ -1,5 +1,5 @@
 -- What a product costs with a voucher.
-use Rattle.std.specs.Prelude.{ℕ, ◌-◌, Option, Some, None}
+use Rattle.std.specs.Prelude.{ℕ, ◌-◌, min, nat_le, Option, Some, None, if◌then◌else◌}
 use Rattle.bo_base.specs.Percent.{left_of}
 use Rattle.bo_base.specs.declared.price_mode.PriceMode.{PriceMode}
 use Rattle.bo_base.specs.declared.price_mode.PriceMode.TheVariants as modes
@@ -15,3 +15,12 @@ price_with modes.Percent value base = left_of value base
 abbrev pub price : PriceMode → Option ℕ → ℕ → ℕ
 price mode None base = base
 price mode (Some value) base = price_with mode value base
+
+-- the price, but no more is taken off the base price than is left, where there is a limit
+abbrev pub within_left : Option ℕ → ℕ → ℕ → ℕ
+within_left None base price = price
+within_left (Some left) base price = if nat_le base price then price else base - min (base - price) left
+
+-- the price by the mode, of a voucher of whose budget so much is left; none where it has no budget
+abbrev pub price_within : PriceMode → Option ℕ → ℕ → Option ℕ → ℕ
+price_within mode value base left = within_left left base (price mode value base)

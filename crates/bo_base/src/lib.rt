@@ -30,7 +30,7 @@ pub use known::Known;
 pub use list::List;
 pub use moment::Moment;
 pub use percent::Percent;
-pub use price_mode::{PriceMode, price};
+pub use price_mode::{PriceMode, price_within};
 pub use refusal::ValueRefusal;
 pub use secrets::secret;
 pub use slug::{Slug, is_slug};

@@ -1,7 +1,7 @@
 //! How a voucher changes a price.
 
 ghost use Rattle.std.specs.Prelude.{◌≡◌};
-ghost use Rattle.bo_base.specs.Price.{price, price_with};
+ghost use Rattle.bo_base.specs.Price.{price, price_with, within_left, price_within};
 
 use crate::cents::Cents;
 use crate::percent::Percent;
@@ -19,15 +19,42 @@ pub enum PriceMode {
     Percent,
 }
 
-/// The price by a voucher's mode and value, where it has a value, else the base price.
-/// The value is cents, and in the mode `Percent` hundredths of a percent (above 10,000 the price is 0).
-pub fn price(mode: PriceMode, value: Option<Cents>, base: Cents) -> Cents
+/// The price by a voucher's mode and value, of which no more is taken off than `left`: what is left of its budget.
+/// Where `left` is none, the voucher has no budget, and any amount may be taken off.
+pub fn price_within(
+    mode: PriceMode,
+    value: Option<Cents>,
+    base: Cents,
+    left: Option<Cents>,
+) -> Cents
+    ensures { result ≡ price_within mode value base left }
+{
+    within_left(left, base, price(mode, value, base))
+}
+
+// The price by a voucher's mode and value, where it has a value, else the base price.
+// The value is cents, and in the mode `Percent` hundredths of a percent (above 10,000 the price is 0).
+fn price(mode: PriceMode, value: Option<Cents>, base: Cents) -> Cents
     ensures { result ≡ price mode value base }
 {
     match value {
         None => base,
         Some(value) => price_with(mode, value, base),
     }
+}
+
+// The price, but at most `left` below the base price. A price that takes nothing off stays.
+fn within_left(left: Option<Cents>, base: Cents, price: Cents) -> Cents
+    ensures { result ≡ within_left left base price }
+{
+    let Some(left) = left else {
+        return price;
+    };
+    if base.get() <= price.get() {
+        return price;
+    }
+    let off = (base.get() - price.get()).min(left.get());
+    Cents::new(base.get() - off)
 }
 
 fn price_with(mode: PriceMode, value: Cents, base: Cents) -> Cents

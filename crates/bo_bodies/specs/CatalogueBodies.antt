@@ -1,5 +1,5 @@
 -- The bodies of items, variations and quotas, field by field in the order of their tests.
-use Rattle.std.specs.Prelude.{ℕ, true, List, [], Option, Result, Ok}
+use Rattle.std.specs.Prelude.{ℕ, true, false, List, [], Option, Result, Ok}
 use Rattle.serde_json.specs.Data.{Data}
 use Rattle.bo_catalogue.specs.declared.requests.NewItem.{NewItem}
 use Rattle.bo_catalogue.specs.declared.requests.ItemPatch.{ItemPatch}
@@ -59,7 +59,7 @@ item_patch_of d = do
 abbrev pub size_of : Data → Result (Option ℕ) BodyFault
 size_of d = nullable fields.Size d >>= each (whole fields.Size 0 1000000)
 
--- a new quota
+-- a new quota; where nothing says that it releases places, it keeps them
 unfoldable pub quota_of : Data → Result NewQuota BodyFault
 quota_of d = do
   n ← required fields.Name d
@@ -67,7 +67,8 @@ quota_of d = do
   size ← size_of d
   items ← ids_or_none fields.Items d
   variations ← ids_or_none fields.Variations d
-  Ok (record { name = given; size = size; items = items; variations = variations })
+  releases ← truth_or fields.ReleaseAfterExit false d
+  Ok (record { name = given; release_after_exit = releases; size = size; items = items; variations = variations })
 
 -- the new size of a quota: absent it stays, and null is no limit
 abbrev pub new_size : Data → Result (Option (Option ℕ)) BodyFault

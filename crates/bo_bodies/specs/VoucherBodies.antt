@@ -14,7 +14,7 @@ use Rattle.bo_fields.specs.Patched.{patched_truth, patched_whole, patched_text, 
 abbrev pub max_usages : Data → Result ℕ BodyFault
 max_usages d = whole_or fields.MaxUsages 1 1 1000000 d
 
--- a new voucher; without a code the shop makes one
+-- a new voucher; without a code the shop makes one, and without a budget it may take off any amount
 unfoldable pub voucher_of : Data → Result NewVoucher BodyFault
 voucher_of d = do
   code ← optional_text fields.Code d
@@ -29,6 +29,7 @@ voucher_of d = do
   quota ← optional_id fields.Quota d
   tag ← text_or_empty fields.Tag d
   comment ← text_or_empty fields.Comment d
+  budget ← optional_money fields.Budget d
   Ok (record {
     code = code;
     max_usages = usages;
@@ -42,6 +43,7 @@ voucher_of d = do
     quota = quota;
     tag = tag;
     comment = comment;
+    budget = budget;
   })
 
 -- the new number of uses, where it is given
@@ -63,6 +65,7 @@ voucher_patch_of d = do
   quota ← patched_id_or_null fields.Quota d
   tag ← patched_loose_text fields.Tag d
   comment ← patched_loose_text fields.Comment d
+  budget ← patched_money_or_null fields.Budget d
   Ok (record {
     code = code;
     max_usages = usages;
@@ -76,4 +79,5 @@ voucher_patch_of d = do
     quota = quota;
     tag = tag;
     comment = comment;
+    budget = budget;
   })

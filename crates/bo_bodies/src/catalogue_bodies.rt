@@ -112,7 +112,7 @@ fn size_of(body: &Value) -> Result<Option<Size>, BodyFault>
     }
 }
 
-/// A new quota.
+/// A new quota. Where nothing says that it releases places, it keeps them.
 #[tactic(auto, unfolding(crate::specs::CatalogueBodies::quota_of))]
 pub fn quota_of(alloc: Global, body: &Value) -> Result<NewQuota, ReadError>
     ensures { Reads result (quota_of (view body.now)) }
@@ -121,8 +121,10 @@ pub fn quota_of(alloc: Global, body: &Value) -> Result<NewQuota, ReadError>
     let size = size_of(body)?;
     let items = ids_or_none(alloc, Field::Items, body)?;
     let variations = ids_or_none(alloc, Field::Variations, body)?;
+    let release_after_exit = truth_or(Field::ReleaseAfterExit, false, body)?;
     Ok(NewQuota {
         name: Text::copy_of(alloc, name)?,
+        release_after_exit,
         size,
         items,
         variations,

@@ -43,6 +43,7 @@ pub fn voucher_of(alloc: Global, body: &Value) -> Result<NewVoucher, ReadError>
     let quota = optional_id(Field::Quota, body)?;
     let tag = text_or_empty(Field::Tag, body)?;
     let comment = text_or_empty(Field::Comment, body)?;
+    let budget = optional_money(Field::Budget, body)?;
     Ok(NewVoucher {
         code: copied(alloc, code)?,
         max_usages,
@@ -56,6 +57,7 @@ pub fn voucher_of(alloc: Global, body: &Value) -> Result<NewVoucher, ReadError>
         quota,
         tag: Text::copy_of(alloc, tag)?,
         comment: Text::copy_of(alloc, comment)?,
+        budget,
     })
 }
 
@@ -86,6 +88,7 @@ pub fn voucher_patch_of(alloc: Global, body: &Value) -> Result<VoucherPatch, Rea
     let quota = patched_id_or_null(Field::Quota, body)?;
     let tag = patched_loose_text(Field::Tag, body)?;
     let comment = patched_loose_text(Field::Comment, body)?;
+    let budget = patched_money_or_null(Field::Budget, body)?;
     Ok(VoucherPatch {
         code: copied(alloc, code)?,
         max_usages,
@@ -99,5 +102,6 @@ pub fn voucher_patch_of(alloc: Global, body: &Value) -> Result<VoucherPatch, Rea
         quota,
         tag: copied(alloc, tag)?,
         comment: copied(alloc, comment)?,
+        budget,
     })
 }

@@ -21,7 +21,7 @@ five_places = record { id = 1; name = []; release_after_exit = false; size = Som
 
 -- it blocks two of them, for ten minutes
 abbrev pub ten_minutes : Voucher
-ten_minutes = record { id = 1; code = 86 ∷ []; max_usages = 2; valid_until = Some (start + 600); block_quota = true; allow_ignore_quota = false; price_mode = modes.None; value = None; item = None; variation = None; quota = Some 1; tag = []; comment = [] }
+ten_minutes = record { id = 1; code = 86 ∷ []; max_usages = 2; valid_until = Some (start + 600); block_quota = true; allow_ignore_quota = false; price_mode = modes.None; value = None; item = None; variation = None; quota = Some 1; tag = []; comment = []; budget = None }
 
 -- it names the voucher, and is held for half an hour
 abbrev pub half_an_hour : CartPos

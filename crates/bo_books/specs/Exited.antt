@@ -29,7 +29,7 @@ abbrev pub order_of : Status → Order
 order_of status = record { id = 1; email = None; status = status; made_at = doors - 86400; expires = doors - 3600 }
 
 abbrev pub ticket : OrderPos
-ticket = record { id = 1; order = 1; positionid = 1; product = record { item = 1; variation = None }; price = 2300; voucher = None; secret = [] }
+ticket = record { id = 1; order = 1; positionid = 1; product = record { item = 1; variation = None }; price = 2300; voucher = None; secret = []; discount = 0 }
 
 -- the ticket comes in or goes out, by a check-in list and at a moment
 abbrev pub seen : ℕ → ℕ → CheckinKind → ℕ → Checkin

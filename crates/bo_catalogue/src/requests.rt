@@ -45,10 +45,12 @@ pub struct QuotaPatch {
     pub size: Option<Option<Size>>,
 }
 
-/// A new quota, with the ids as they are given. Without a size it is unlimited.
+/// A new quota, with the ids as they are given. Without a size it is unlimited. Where it releases places, those of
+/// tickets that went out can be sold again; that never changes.
 #[derive(Drop)]
 pub struct NewQuota {
     pub name: Text,
+    pub release_after_exit: bool,
     pub size: Option<Size>,
     pub items: List<u64>,
     pub variations: List<u64>,
@@ -112,7 +114,7 @@ impl NewQuota {
         Ok(Quota {
             id,
             name: self.name.copy(alloc)?,
-            release_after_exit: false,
+            release_after_exit: self.release_after_exit,
             size: self.size,
             items: Ids::rising(alloc, self.items.as_slice())?,
             variations: Ids::rising(alloc, self.variations.as_slice())?,

@@ -1,3 +1,4 @@
 pub mod Room
+pub mod Spent
 pub mod Counted
 pub mod Last

@@ -21,16 +21,6 @@ fn quota_count<B: Book>(book: &B, quota: &Quota) -> QuotaCount
     }
 }
 
-// The count of a voucher of the book.
-fn voucher_count<B: Book>(book: &B, voucher: &Voucher) -> VoucherCount
-    ensures { result ≡ voucher_count (B.state book.now) voucher.now }
-{
-    VoucherCount {
-        voucher: voucher.id,
-        redeemed: book.redeemed(voucher.id),
-    }
-}
-
 // Whether this is the count of a quota of the book.
 fn is_quota_count<B: Book>(book: &B, quota: &Quota, count: QuotaCount) -> bool
     requires stands { quota_at quota.now.id (B.state book.now).lists.catalogue ≡ Some quota.now }
@@ -43,7 +33,9 @@ fn is_quota_count<B: Book>(book: &B, quota: &Quota, count: QuotaCount) -> bool
 fn is_voucher_count<B: Book>(book: &B, voucher: &Voucher, count: VoucherCount) -> bool
     ensures { Decides result (count ≡ voucher_count (B.state book.now) voucher.now) }
 {
-    count == voucher_count(book, voucher)
+    count.voucher == voucher.id
+        && count.redeemed == book.redeemed(voucher.id)
+        && u128::from(count.spent) == book.spent(voucher.id)
 }
 
 // Whether the counts of quotas are those of the book's, in their order.
@@ -83,7 +75,7 @@ fn are_redeemed<B: Book>(book: &B, redeemed: &[VoucherCount]) -> bool
 }
 
 /// Whether counters are what a book counts afresh at its moment: of each quota its usage, of each voucher how often it is
-/// redeemed, by id.
+/// redeemed and what is spent of it, by id.
 pub fn keeps_counters<B: Book>(book: &B, used: &[QuotaCount], redeemed: &[VoucherCount]) -> bool
     ensures { IsTrue result ↔ AreCounted (B.state book.now) used.now redeemed.now }
 {

@@ -3,6 +3,7 @@
 ghost use Rattle.std.specs.Prelude.{IfNone, IfSome, IfOk};
 ghost use Rattle.bo_checks.specs.Last.{file_with, KeepsAll, IsLeastOf};
 
+use crate::budgets::keeps_budgets;
 use crate::counters::keeps_counters;
 use crate::headroom::keeps_headroom;
 use crate::names::keeps_names;
@@ -12,8 +13,8 @@ use bo_rules::Rule;
 use bo_usage::Book;
 use std::alloc::{AllocError, Global};
 
-/// The least rule that a file breaks of which the first three are kept: 4 names, 5 positions, 6 headroom, 7 counters. The
-/// book is built of its rows at its moment; its counters stand beside it, by id. None where all seven are kept.
+/// The least rule that a file breaks of which the first three are kept: 4 names, 5 positions, 6 headroom, 7 counters, 8 budgets. The
+/// book is built of its rows at its moment; its counters stand beside it, by id. None where all eight are kept.
 pub fn last_broken<B: Book>(
     alloc: Global,
     book: &B,
@@ -34,6 +35,9 @@ pub fn last_broken<B: Book>(
     }
     if !keeps_counters(book, used, redeemed) {
         return Ok(Some(Rule::Counters));
+    }
+    if !keeps_budgets(book) {
+        return Ok(Some(Rule::Budgets));
     }
     Ok(None)
 }

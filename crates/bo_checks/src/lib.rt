@@ -1,6 +1,7 @@
 //! Which rule do the rows of a file break first?
 #![tactic(auto)]
 
+mod budgets;
 mod counters;
 mod door;
 mod first;
@@ -15,6 +16,7 @@ mod orders;
 mod products;
 mod vouchers;
 
+pub use budgets::keeps_budgets;
 pub use counters::keeps_counters;
 pub use door::is_door;
 pub use first::first_broken;

@@ -50,7 +50,7 @@ impl Limited for Quota {
     fn is_limited(&self) -> bool {
         self.name.known();
         self.size.known();
-        !self.release_after_exit
+        true
     }
 }
 
@@ -74,6 +74,7 @@ impl Limited for Voucher {
         self.valid_until.known();
         self.tag.known();
         self.comment.known();
+        self.budget.known();
         is_value(self.price_mode, self.value)
     }
 }
@@ -107,6 +108,7 @@ impl Limited for OrderPos {
     fn is_limited(&self) -> bool {
         self.price.known();
         self.secret.known();
+        self.discount.known();
         true
     }
 }

@@ -21,9 +21,15 @@ use Rattle.bo_lists.specs.declared.rows.CheckinList.{CheckinList}
 use Rattle.bo_columns.specs.declared.rows.ListItem.{ListItem}
 use Rattle.bo_lists.specs.declared.rows.Checkin.{Checkin}
 use Rattle.bo_lists.specs.declared.count_rows.QuotaCount.{QuotaCount}
+use Rattle.bo_lists.specs.declared.count_rows.VoucherCount.{VoucherCount}
 use Rattle.bo_columns.specs.declared.rows.CountRow.{CountRow}
 use Rattle.bo_columns.specs.declared.rows.Token.{Token}
 use Rattle.bo_columns.specs.declared.rows.KeptRow.{KeptRow}
+use Rattle.bo_columns.specs.declared.rows.ReleaseRow.{ReleaseRow}
+use Rattle.bo_columns.specs.declared.rows.ExitRow.{ExitRow}
+use Rattle.bo_columns.specs.declared.rows.BudgetRow.{BudgetRow}
+use Rattle.bo_columns.specs.declared.rows.SpentRow.{SpentRow}
+use Rattle.bo_columns.specs.declared.rows.DiscountRow.{DiscountRow}
 use Rattle.bo_schema.specs.Tables.{schema}
 use Rattle.bo_columns.specs.Tables.{Tables, Holds}
 
@@ -207,3 +213,51 @@ without_token id t = record t { tokens = filter (λ r. not (r.id == id)) t.token
 -- the tables with one more kept answer
 abbrev pub with_kept : KeptRow → Tables → Tables
 with_kept w t = record t { kept = w ∷ t.kept }
+
+-- the tables with one more quota that releases places
+abbrev pub with_release : ReleaseRow → Tables → Tables
+with_release w t = record t { releases = w ∷ t.releases }
+
+-- the tables in which the quota of this id releases no places
+abbrev pub without_release : ℕ → Tables → Tables
+without_release id t = record t { releases = filter (λ r. not (r.quota == id)) t.releases }
+
+-- of a quota's usage what its row of exits has
+abbrev pub head_of_exit : QuotaCount → ExitRow
+head_of_exit w = record { quota = w.quota; exited = w.usage.exited }
+
+-- the tables with the exits of one more quota
+abbrev pub with_exit : ExitRow → Tables → Tables
+with_exit w t = record t { exits = w ∷ t.exits }
+
+-- the tables without the exits of the quota of this id
+abbrev pub without_exit : ℕ → Tables → Tables
+without_exit id t = record t { exits = filter (λ r. not (r.quota == id)) t.exits }
+
+-- the tables with the budget of one more voucher
+abbrev pub with_budget : BudgetRow → Tables → Tables
+with_budget w t = record t { budgets = w ∷ t.budgets }
+
+-- the tables without a budget of the voucher of this id
+abbrev pub without_budget : ℕ → Tables → Tables
+without_budget id t = record t { budgets = filter (λ r. not (r.voucher_id == id)) t.budgets }
+
+-- of a voucher's counts what its row of `voucher_spent` has
+abbrev pub head_of_spent : VoucherCount → SpentRow
+head_of_spent w = record { voucher_id = w.voucher; spent = w.spent }
+
+-- the tables with what is spent of one more voucher
+abbrev pub with_spent : SpentRow → Tables → Tables
+with_spent w t = record t { spents = w ∷ t.spents }
+
+-- the tables without what is spent of the voucher of this id
+abbrev pub without_spent : ℕ → Tables → Tables
+without_spent id t = record t { spents = filter (λ r. not (r.voucher_id == id)) t.spents }
+
+-- the tables with the discount of one more order position
+abbrev pub with_discount : DiscountRow → Tables → Tables
+with_discount w t = record t { discounts = w ∷ t.discounts }
+
+-- the tables without a discount of the order position of this id
+abbrev pub without_discount : ℕ → Tables → Tables
+without_discount id t = record t { discounts = filter (λ r. not (r.position_id == id)) t.discounts }

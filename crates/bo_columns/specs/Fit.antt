@@ -16,6 +16,8 @@ use Rattle.bo_lists.specs.declared.rows.Checkin.{Checkin}
 use Rattle.bo_columns.specs.declared.rows.ShopRow.{ShopRow}
 use Rattle.bo_columns.specs.declared.rows.QuotaRow.{QuotaRow}
 use Rattle.bo_columns.specs.declared.rows.VoucherRow.{VoucherRow}
+use Rattle.bo_columns.specs.declared.rows.BudgetRow.{BudgetRow}
+use Rattle.bo_columns.specs.declared.rows.DiscountRow.{DiscountRow}
 use Rattle.bo_columns.specs.declared.rows.ListRow.{ListRow}
 use Rattle.bo_columns.specs.declared.rows.Token.{Token}
 use Rattle.bo_columns.specs.declared.rows.KeptRow.{KeptRow}
@@ -63,6 +65,10 @@ pub record IsFitVoucher (w : VoucherRow) : Type 0 where
   pub tag : IsStored w.voucher.tag
   pub comment : IsStored w.voucher.comment
 
+-- a budget is an amount of money
+pub record IsFitBudget (w : BudgetRow) : Type 0 where
+  pub budget : IsMoney w.budget
+
 -- the id of a cart position's cart is a text, its price an amount of money, and its making and its end are moments
 pub record IsFitCart (w : CartPos) : Type 0 where
   pub cart_id : IsStored w.cart_id
@@ -81,6 +87,10 @@ pub record IsFitPosition (w : PositionRow) : Type 0 where
   pub positionid : w.positionid < 2 ^ 32
   pub price : IsMoney w.price
   pub secret : IsStored w.secret
+
+-- a discount is an amount of money
+pub record IsFitDiscount (w : DiscountRow) : Type 0 where
+  pub discount : IsMoney w.discount
 
 -- the address of an entry of the waiting list is a text, its priority is in range, and its making is a moment
 pub record IsFitWaiting (w : Waiting) : Type 0 where

@@ -20,6 +20,11 @@ use Rattle.bo_lists.specs.declared.rows.Checkin.{Checkin}
 use Rattle.bo_columns.specs.declared.rows.CountRow.{CountRow}
 use Rattle.bo_columns.specs.declared.rows.Token.{Token}
 use Rattle.bo_columns.specs.declared.rows.KeptRow.{KeptRow}
+use Rattle.bo_columns.specs.declared.rows.ReleaseRow.{ReleaseRow}
+use Rattle.bo_columns.specs.declared.rows.ExitRow.{ExitRow}
+use Rattle.bo_columns.specs.declared.rows.BudgetRow.{BudgetRow}
+use Rattle.bo_columns.specs.declared.rows.SpentRow.{SpentRow}
+use Rattle.bo_columns.specs.declared.rows.DiscountRow.{DiscountRow}
 use Rattle.bo_columns.specs.Cells.{number, truth, mode, status, kind, methods}
 
 -- the shop itself: one row
@@ -89,3 +94,23 @@ token_row w = number w.id ∷ Blob w.digest ∷ []
 -- kept answers
 abbrev pub kept_row : KeptRow → Row
 kept_row w = number w.rowid ∷ number w.kept.token ∷ Blob w.kept.key ∷ number w.kept.at ∷ number w.kept.response.status ∷ methods w.kept.response.allow ∷ Blob w.kept.response.body ∷ []
+
+-- the quotas that release places
+abbrev pub release_row : ReleaseRow → Row
+release_row w = number w.quota ∷ []
+
+-- how many tickets of each quota are out
+abbrev pub exit_row : ExitRow → Row
+exit_row w = number w.quota ∷ number w.exited ∷ []
+
+-- the vouchers that have a budget
+abbrev pub budget_row : BudgetRow → Row
+budget_row w = number w.voucher_id ∷ number w.budget ∷ []
+
+-- how much of each voucher is spent
+abbrev pub spent_row : SpentRow → Row
+spent_row w = number w.voucher_id ∷ number w.spent ∷ []
+
+-- what was taken off the prices of order positions
+abbrev pub discount_row : DiscountRow → Row
+discount_row w = number w.position_id ∷ number w.discount ∷ []

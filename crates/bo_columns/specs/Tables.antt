@@ -20,10 +20,15 @@ use Rattle.bo_lists.specs.declared.rows.Checkin.{Checkin}
 use Rattle.bo_columns.specs.declared.rows.CountRow.{CountRow}
 use Rattle.bo_columns.specs.declared.rows.Token.{Token}
 use Rattle.bo_columns.specs.declared.rows.KeptRow.{KeptRow}
+use Rattle.bo_columns.specs.declared.rows.ReleaseRow.{ReleaseRow}
+use Rattle.bo_columns.specs.declared.rows.ExitRow.{ExitRow}
+use Rattle.bo_columns.specs.declared.rows.BudgetRow.{BudgetRow}
+use Rattle.bo_columns.specs.declared.rows.SpentRow.{SpentRow}
+use Rattle.bo_columns.specs.declared.rows.DiscountRow.{DiscountRow}
 use Rattle.bo_schema.specs.Tables.{schema}
 use Rattle.bo_schema.specs.Parts.{Part, HoldParts}
 use Rattle.bo_schema.specs.Versions.{schema_of_version}
-use Rattle.bo_columns.specs.Rows.{shop_row, item_row, variation_row, quota_row, quota_item_row, quota_variation_row, voucher_row, cart_row, order_row, position_row, waiting_row, list_row, list_item_row, checkin_row, count_row, token_row, kept_row}
+use Rattle.bo_columns.specs.Rows.{shop_row, item_row, variation_row, quota_row, quota_item_row, quota_variation_row, voucher_row, cart_row, order_row, position_row, waiting_row, list_row, list_item_row, checkin_row, count_row, token_row, kept_row, release_row, exit_row, budget_row, spent_row, discount_row}
 
 -- the rows of each table, in some order
 pub record Tables : Type 0 where
@@ -44,6 +49,11 @@ pub record Tables : Type 0 where
   pub counts : List CountRow
   pub tokens : List Token
   pub kept : List KeptRow
+  pub releases : List ReleaseRow
+  pub exits : List ExitRow
+  pub budgets : List BudgetRow
+  pub spents : List SpentRow
+  pub discounts : List DiscountRow
 
 -- what the table in the tree of this number shows
 abbrev part : ℕ → List Row → Part
@@ -68,7 +78,12 @@ parts t =
     ∷ part 19 (map checkin_row t.checkins)
     ∷ part 21 (map count_row t.counts)
     ∷ part 22 (map token_row t.tokens)
-    ∷ part 24 (map kept_row t.kept) ∷ []
+    ∷ part 24 (map kept_row t.kept)
+    ∷ part 27 (map release_row t.releases)
+    ∷ part 28 (map exit_row t.exits)
+    ∷ part 29 (map budget_row t.budgets)
+    ∷ part 30 (map spent_row t.spents)
+    ∷ part 31 (map discount_row t.discounts) ∷ []
 
 -- the file's trees show these rows
 abbrev pub Holds : Trees → Tables → Type 0
@@ -85,4 +100,4 @@ pub record HoldsAt (version : ℕ) (db : Trees) (t : Tables) : Type 0 where
 
 -- no table has a row, not even the shop's own
 abbrev pub no_rows : Tables
-no_rows = record { shop = []; items = []; variations = []; quotas = []; quota_items = []; quota_variations = []; vouchers = []; carts = []; orders = []; positions = []; waiting = []; checkin_lists = []; list_items = []; checkins = []; counts = []; tokens = []; kept = [] }
+no_rows = record { shop = []; items = []; variations = []; quotas = []; quota_items = []; quota_variations = []; vouchers = []; carts = []; orders = []; positions = []; waiting = []; checkin_lists = []; list_items = []; checkins = []; counts = []; tokens = []; kept = []; releases = []; exits = []; budgets = []; spents = []; discounts = [] }

@@ -13,7 +13,7 @@ pub mod words;
 pub use column::Column;
 pub use members::{Member, Numbered};
 pub use rows::{
-    CountRow, KeptRow, ListItem, ListRow, PositionRow, QuotaItem, QuotaRow, QuotaVariation,
-    ShopRow, Token, VoucherHead, VoucherRow,
+    BudgetRow, CountRow, DiscountRow, ExitRow, KeptRow, ListItem, ListRow, PositionRow, QuotaItem,
+    QuotaRow, QuotaVariation, ReleaseRow, ShopRow, SpentRow, Token, VoucherHead, VoucherRow,
 };
 pub use table_rows::{CatalogueRows, DoorRows, OtherRows, SaleRows, TableRows};

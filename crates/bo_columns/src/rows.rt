@@ -4,6 +4,7 @@ use bo_base::{Cents, Moment, PriceMode, Size, Slug, Text, Uses};
 use bo_catalogue::Product;
 use bo_kept::Kept;
 use bo_lists::NextIds;
+use bo_sorted::Row;
 
 /// The row of the shop itself: the version of its tables, whose it is, the moment up to which it has got, and the ids that
 /// the next rows get.
@@ -52,6 +53,19 @@ pub struct CountRow {
     pub waiting: u64,
 }
 
+/// A quota that releases the places of tickets that went out.
+#[derive(Clone, Copy, PartialEq, Eq)]
+pub struct ReleaseRow {
+    pub quota: u64,
+}
+
+/// What the table `quota_exited` has of a quota's usage: how many of its tickets are out.
+#[derive(Clone, Copy, PartialEq, Eq)]
+pub struct ExitRow {
+    pub quota: u64,
+    pub exited: u64,
+}
+
 /// What the table `vouchers` has of a voucher. Its `value` is in cents, or in hundredths of a percent where the mode is
 /// percent.
 #[derive(Drop)]
@@ -78,6 +92,20 @@ pub struct VoucherRow {
     pub redeemed: u64,
 }
 
+/// A voucher that has a budget, in cents.
+#[derive(Clone, Copy, PartialEq, Eq)]
+pub struct BudgetRow {
+    pub voucher_id: u64,
+    pub budget: Cents,
+}
+
+/// How much of a voucher is spent, in cents.
+#[derive(Clone, Copy, PartialEq, Eq)]
+pub struct SpentRow {
+    pub voucher_id: u64,
+    pub spent: u64,
+}
+
 /// What the table `order_positions` has of an order position.
 #[derive(Drop)]
 pub struct PositionRow {
@@ -88,6 +116,13 @@ pub struct PositionRow {
     pub price: Cents,
     pub voucher: Option<u64>,
     pub secret: Text,
+}
+
+/// What a voucher took off the price of an order position, in cents, where it took any off.
+#[derive(Clone, Copy, PartialEq, Eq)]
+pub struct DiscountRow {
+    pub position_id: u64,
+    pub discount: Cents,
 }
 
 /// A check-in list without its items.
@@ -121,4 +156,28 @@ pub struct Token {
 pub struct KeptRow {
     pub rowid: u64,
     pub kept: Kept,
+}
+
+impl Row for BudgetRow {
+    ghost key = { λ r. r.voucher_id };
+
+    fn id(&self) -> u64 {
+        self.voucher_id
+    }
+}
+
+impl Row for SpentRow {
+    ghost key = { λ r. r.voucher_id };
+
+    fn id(&self) -> u64 {
+        self.voucher_id
+    }
+}
+
+impl Row for DiscountRow {
+    ghost key = { λ r. r.position_id };
+
+    fn id(&self) -> u64 {
+        self.position_id
+    }
 }

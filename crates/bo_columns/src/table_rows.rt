@@ -1,8 +1,8 @@
 //! The rows of all tables together.
 
 use crate::rows::{
-    CountRow, KeptRow, ListItem, ListRow, PositionRow, QuotaItem, QuotaRow, QuotaVariation, Token,
-    VoucherRow,
+    BudgetRow, CountRow, DiscountRow, ExitRow, KeptRow, ListItem, ListRow, PositionRow, QuotaItem,
+    QuotaRow, QuotaVariation, ReleaseRow, SpentRow, Token, VoucherRow,
 };
 use bo_catalogue::{Item, Variation};
 use bo_lists::{CartPos, Checkin, Order, Waiting};
@@ -15,6 +15,7 @@ pub struct CatalogueRows {
     pub quotas: Vec<QuotaRow>,
     pub quota_items: Vec<QuotaItem>,
     pub quota_variations: Vec<QuotaVariation>,
+    pub releases: Vec<ReleaseRow>,
 }
 
 /// What is sold, held and waited for.
@@ -25,6 +26,8 @@ pub struct SaleRows {
     pub orders: Vec<Order>,
     pub positions: Vec<PositionRow>,
     pub waiting: Vec<Waiting>,
+    pub budgets: Vec<BudgetRow>,
+    pub discounts: Vec<DiscountRow>,
 }
 
 /// What the doors have.
@@ -41,6 +44,8 @@ pub struct OtherRows {
     pub counts: Vec<CountRow>,
     pub tokens: Vec<Token>,
     pub kept: Vec<KeptRow>,
+    pub exits: Vec<ExitRow>,
+    pub spents: Vec<SpentRow>,
 }
 
 /// All rows of all tables but the shop's own.

@@ -19,7 +19,7 @@ use Rattle.bo_commands.specs.declared.waiting.WaitingPatch.{WaitingPatch}
 use Rattle.bo_commands.specs.declared.doors.NewCheckinList.{NewCheckinList}
 use Rattle.bo_commands.specs.declared.doors.Scan.{Scan}
 
--- a new voucher's texts and uses, and the end and the value, if they are given, are within their limits
+-- a new voucher's texts and uses, and the end, the value and the budget, if they are given, are within their limits
 pub record IsFitVoucher (new : NewVoucher) : Type 0 where
   pub code : IfSome new.code IsText
   pub uses : IsUses new.max_usages
@@ -27,8 +27,9 @@ pub record IsFitVoucher (new : NewVoucher) : Type 0 where
   pub value : IfSome new.value IsMoney
   pub tag : IsText new.tag
   pub comment : IsText new.comment
+  pub budget : IfSome new.budget IsMoney
 
--- what a change gives of a voucher's texts, uses, end and value is within its limits
+-- what a change gives of a voucher's texts, uses, end, value and budget is within its limits
 pub record IsFitVoucherPatch (patch : VoucherPatch) : Type 0 where
   pub code : IfSome patch.code IsText
   pub uses : IfSome patch.max_usages IsUses
@@ -36,6 +37,7 @@ pub record IsFitVoucherPatch (patch : VoucherPatch) : Type 0 where
   pub value : IfSome patch.value (λ value. IfSome value IsMoney)
   pub tag : IfSome patch.tag IsText
   pub comment : IfSome patch.comment IsText
+  pub budget : IfSome patch.budget (λ budget. IfSome budget IsMoney)
 
 -- the price that is asked for a position, if one is given, is an amount of money
 pub record IsFitAsked (asked : Asked) : Type 0 where

@@ -12,7 +12,7 @@ use Rattle.bo_commands.specs.declared.doors.DoorRefusal.TheVariants as door
 use Rattle.bo_commands.specs.declared.replies.Refusal.{Refusal}
 use Rattle.bo_commands.specs.declared.replies.Refusal.TheVariants.{Catalogue, Voucher, Order, Waiting, Door, NoPage}
 
--- 2, 20 to 28 and 33 are a voucher's own, and 6 is want of memory; what it names has the catalogue's numbers
+-- 2, 20 to 28, 33 and 34 are a voucher's own, and 6 is want of memory; what it names has the catalogue's numbers
 abbrev pub number_of_voucher_refusal : VoucherRefusal → ℕ
 number_of_voucher_refusal voucher.Memory = 6
 number_of_voucher_refusal (voucher.Catalogue refusal) = number_of_catalogue_refusal refusal
@@ -27,6 +27,7 @@ number_of_voucher_refusal voucher.WrongProduct = 26
 number_of_voucher_refusal voucher.InUse = 27
 number_of_voucher_refusal (voucher.SoldOut quota) = 28
 number_of_voucher_refusal voucher.ReservedCode = 33
+number_of_voucher_refusal voucher.OverBudget = 34
 
 -- 40 to 45 are an order's and a cart's own, and 6 is want of memory; a position has a voucher's numbers
 abbrev pub number_of_order_refusal : OrderRefusal → ℕ

@@ -12,7 +12,8 @@ use std::alloc::AllocError;
 use thiserror::Error;
 
 /// A new voucher. Without a code it gets one that is made.
-/// Its value is in cents, or in hundredths of a percent where the mode is percent.
+/// Its value is in cents, or in hundredths of a percent where the mode is percent. Its budget is in cents; without one
+/// it may take off any amount.
 #[derive(Drop)]
 pub struct NewVoucher {
     pub code: Option<Text>,
@@ -27,6 +28,7 @@ pub struct NewVoucher {
     pub quota: Option<u64>,
     pub tag: Text,
     pub comment: Text,
+    pub budget: Option<Cents>,
 }
 
 /// What is to change of a voucher. What isn't given stays; what is given as none becomes none.
@@ -44,6 +46,7 @@ pub struct VoucherPatch {
     pub quota: Option<Option<u64>>,
     pub tag: Option<Text>,
     pub comment: Option<Text>,
+    pub budget: Option<Option<Cents>>,
 }
 
 /// What became of a row of a voucher file.
@@ -101,6 +104,9 @@ pub enum VoucherRefusal {
     /// 33: the code has the form of those that the shop makes.
     #[error("code is reserved")]
     ReservedCode,
+    /// 34: more would be taken off than the voucher's budget.
+    #[error("voucher budget is spent")]
+    OverBudget,
 }
 
 impl From<AllocError> for VoucherRefusal {
@@ -138,6 +144,7 @@ impl VoucherRefusal {
             VoucherRefusal::InUse => 27,
             VoucherRefusal::SoldOut(_) => 28,
             VoucherRefusal::ReservedCode => 33,
+            VoucherRefusal::OverBudget => 34,
         }
     }
 }
@@ -152,6 +159,7 @@ impl Known for NewVoucher {
         self.value.known();
         self.tag.known();
         self.comment.known();
+        self.budget.known();
     }
 }
 
@@ -165,5 +173,6 @@ impl Known for VoucherPatch {
         self.value.known();
         self.tag.known();
         self.comment.known();
+        self.budget.known();
     }
 }

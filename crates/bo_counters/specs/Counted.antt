@@ -1,11 +1,17 @@
 -- What a book keeps beside its rows: the counts of its lists at its moment.
-use Rattle.std.specs.Prelude.{ℕ, List}
+use Rattle.std.specs.Prelude.{◌≡◌, ℕ, List, map}
 use Rattle.bo_lists.specs.declared.rows.Usage.{Usage}
 use Rattle.bo_lists.specs.Lists.{Lists}
+use Rattle.bo_lists.specs.Usage.{spent}
 use Rattle.bo_shifts.specs.Held.{AreHeld}
 use Rattle.bo_shifts.specs.Later.{IsCounted}
+use Rattle.bo_shifts.specs.Spends.{ArePriced}
 
 -- all that is kept is that of the lists at the moment
-pub record IsAllCounted (lists : Lists) (at : ℕ) (used : List Usage) (spent holds : List ℕ) : Type 0 where
-  pub counted : IsCounted lists at used spent
+pub record IsAllCounted (lists : Lists) (at : ℕ) (used : List Usage) (redeems spents holds : List ℕ) : Type 0 where
+  pub counted : IsCounted lists at used redeems
+  -- what is spent of each voucher's budget
+  pub spent : spents ≡ map (λ v. spent v.id lists) lists.vouchers
+  -- no discount is larger than an amount of money can be
+  pub priced : ArePriced lists
   pub held : AreHeld lists at holds

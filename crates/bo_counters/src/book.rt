@@ -164,6 +164,10 @@ impl Book for Counters {
         self.redeemed_by(voucher)
     }
 
+    fn spent(&self, voucher: u64) -> u128 {
+        self.spent_by(voucher)
+    }
+
     fn held(&self, voucher: u64, at: Moment) -> u64 {
         self.held_at(voucher, at)
     }

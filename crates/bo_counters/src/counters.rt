@@ -5,7 +5,7 @@ ghost use Rattle.std.specs.List.{list_all};
 ghost use Rattle.bo_catalogue.specs.CatalogueLists.{quota_at};
 ghost use Rattle.bo_lists.specs.Lists.{empty};
 ghost use Rattle.bo_lists.specs.Headroom.{held};
-ghost use Rattle.bo_lists.specs.Usage.{redeemed, usage_of};
+ghost use Rattle.bo_lists.specs.Usage.{redeemed, spent, usage_of};
 ghost use Rattle.bo_lists.specs.Change.{applied};
 ghost use Rattle.bo_lists.specs.Weight.{weight};
 ghost use Rattle.bo_lists.specs.CameDue.{came_due, naming_due};
@@ -19,6 +19,7 @@ use bo_settle::again::count_again;
 use bo_settle::settle::settle;
 use bo_settle::spared::spare_used;
 use bo_shifts::holds::held_by;
+use bo_shifts::spends::spent_in;
 use bo_shifts::turns::redeemed_in;
 use bo_shifts::usage_later::later;
 use bo_sorted::place_of;
@@ -27,13 +28,14 @@ use std::alloc::{AllocError, Global};
 use std::marker::Model;
 use std::sync::ledger::Ledger;
 
-/// A book that keeps the usage of each quota at its moment, how often each voucher is redeemed, and how many live cart
-/// positions name it.
+/// A book that keeps the usage of each quota at its moment, how often each voucher is redeemed, what is spent of its budget,
+/// and how many live cart positions name it.
 #[derive(Drop)]
 pub struct Counters {
     store: Store,
     usages: Vec<Usage>,
     redeems: Vec<u64>,
+    spents: Vec<u128>,
     holds: Vec<u64>,
 }
 
@@ -46,10 +48,10 @@ impl Model for Counters {
 
     ghost view = { λ c. record {
       state = c.store.state;
-      room = min c.store.room (min (vec_capacity c.usages - length c.usages.items) (min (vec_capacity c.redeems - length c.redeems.items) (vec_capacity c.holds - length c.holds.items)));
+      room = min c.store.room (min (vec_capacity c.usages - length c.usages.items) (min (vec_capacity c.redeems - length c.redeems.items) (min (vec_capacity c.spents - length c.spents.items) (vec_capacity c.holds - length c.holds.items))));
     } };
 
-    ghost invariant = { λ c. IsAllCounted c.store.state.lists c.store.state.moment c.usages.items c.redeems.items c.holds.items };
+    ghost invariant = { λ c. IsAllCounted c.store.state.lists c.store.state.moment c.usages.items c.redeems.items c.spents.items c.holds.items };
 }
 
 impl Counters {
@@ -66,6 +68,14 @@ impl Counters {
         ensures few { result ≤ 4294967296 }
     {
         redeemed_in(&self.store, &self.redeems, voucher)
+    }
+
+    /// What is spent of the voucher's budget, in cents.
+    pub fn spent_by(&self, voucher: u64) -> u128
+        ensures value { result ≡ spent voucher self.now.state.lists }
+        ensures few { result ≤ 42949672955705032704 }
+    {
+        spent_in(&self.store, &self.spents, voucher)
     }
 
     /// How many cart positions that are live at a moment name the voucher.
@@ -133,6 +143,7 @@ impl Counters {
             &mut self.store,
             &mut self.usages,
             &mut self.redeems,
+            &mut self.spents,
             &mut self.holds,
             changes,
             at,
@@ -172,6 +183,7 @@ impl Counters {
             &mut self.store,
             &mut self.usages,
             &mut self.redeems,
+            &mut self.spents,
             &mut self.holds,
             changes,
             counts,
@@ -202,6 +214,7 @@ impl Counters {
             store: Store::new(alloc),
             usages: Vec::new(alloc),
             redeems: Vec::new(alloc),
+            spents: Vec::new(alloc),
             holds: Vec::new(alloc),
         }
     }
@@ -216,6 +229,7 @@ impl Counters {
         };
         self.usages.reserve(count)?;
         self.redeems.reserve(count)?;
+        self.spents.reserve(count)?;
         self.holds.reserve(count)?;
         self.store.reserve(count)
     }
@@ -226,8 +240,10 @@ impl Counters {
     {
         let usages = self.usages.capacity() - self.usages.len();
         let redeems = self.redeems.capacity() - self.redeems.len();
+        let spents = self.spents.capacity() - self.spents.len();
         let holds = self.holds.capacity() - self.holds.len();
-        self.store.room().min(usages.min(redeems.min(holds)))
+        let beside = redeems.min(spents.min(holds));
+        self.store.room().min(usages.min(beside))
     }
 
     /// Whether these changes can be made without taking memory.

@@ -1,5 +1,5 @@
 -- When an office has a count.
-use Rattle.std.proofs.Common.{◌≡◌, ℕ, Bool, false, eqb, Option, Some, None, sym, ap, ◌∙◌}
+use Rattle.std.proofs.Common.{◌≡◌, ℕ, Bool, false, ◌&&◌, eqb, Option, Some, None, sym, ap, ap₂, ◌∙◌}
 use Rattle.std.specs.List.{list_any}
 use Rattle.bo_sorted.specs.Tables.{AreInOrder}
 use Rattle.bo_catalogue.specs.declared.rows.Quota.{Quota}
@@ -10,7 +10,7 @@ use Rattle.bo_lists.specs.declared.count_rows.QuotaCount.{QuotaCount}
 use Rattle.bo_lists.specs.declared.count_rows.VoucherCount.{VoucherCount}
 use Rattle.bo_lists.specs.CountRows.{same_usage, quota_count, voucher_count, same_quota_count, same_voucher_count}
 use Rattle.bo_lists.specs.Lists.{State, voucher_at}
-use Rattle.bo_lists.specs.Usage.{usage_of, redeemed}
+use Rattle.bo_lists.specs.Usage.{usage_of, redeemed, spent}
 use Rattle.bo_lists.proofs.EachRow.{key-row_at}
 use Rattle.bo_counts.specs.Told.{has_count, has_voucher}
 use Rattle.bo_counts.proofs.Picked.{passes_if, one_passes, any_mapped}
@@ -33,16 +33,23 @@ module _ (state : State) (count : QuotaCount) (cat : CatalogueLists) (same : cat
   pub had_some : (q : Quota) (at : ℕ) (usage : Usage) (b : Bool) → quota_at count.quota cat ≡ Some q → at ≡ state.moment → usage ≡ usage_of state.lists at q → b ≡ same_usage count.usage usage → b ≡ has_count state count
   had_some q at usage b found now used is = is ∙ ap (same_usage count.usage) (used ∙ ap (λ n. usage_of state.lists n q) now) ∙ sym (counted_is (Some q) found)
 
--- and a count of a voucher, where the voucher of that id stands and is redeemed so often
+-- and a count of a voucher, where the voucher of that id stands, is redeemed so often, and so much is spent of it
 module _ (state : State) (count : VoucherCount) (order : AreInOrder (λ v. v.id) state.lists.vouchers) where
-  voucher_is : (o : Option Voucher) → voucher_at count.voucher state.lists ≡ o → has_voucher state count ≡ passes_if (λ v. eqb count.redeemed (redeemed v.id state.lists)) o
+  abbrev has : ℕ → Bool
+  has id = eqb count.redeemed (redeemed id state.lists) && eqb count.spent (spent id state.lists)
+
+  voucher_is : (o : Option Voucher) → voucher_at count.voucher state.lists ≡ o → has_voucher state count ≡ passes_if (λ v. has v.id) o
   voucher_is o found =
       any_mapped (same_voucher_count count) (voucher_count state) state.lists.vouchers
-      ∙ one_passes (λ (v : Voucher). v.id) (λ v. eqb count.redeemed (redeemed v.id state.lists)) count.voucher 0 state.lists.vouchers order
-      ∙ ap (passes_if (λ v. eqb count.redeemed (redeemed v.id state.lists))) found
+      ∙ one_passes (λ (v : Voucher). v.id) (λ v. has v.id) count.voucher 0 state.lists.vouchers order
+      ∙ ap (passes_if (λ v. has v.id)) found
 
   pub no_voucher : voucher_at count.voucher state.lists ≡ None → false ≡ has_voucher state count
   no_voucher found = sym (voucher_is None found)
 
-  pub some_voucher : (v : Voucher) (n : ℕ) (b : Bool) → voucher_at count.voucher state.lists ≡ Some v → n ≡ redeemed count.voucher state.lists → b ≡ eqb count.redeemed n → b ≡ has_voucher state count
-  some_voucher v n b found used is = is ∙ ap (eqb count.redeemed) (used ∙ ap (λ k. redeemed k state.lists) (sym (key-row_at (λ (r : Voucher). r.id) count.voucher state.lists.vouchers v found))) ∙ sym (voucher_is (Some v) found)
+  pub some_voucher : (v : Voucher) (n cents : ℕ) (b : Bool) → voucher_at count.voucher state.lists ≡ Some v → n ≡ redeemed count.voucher state.lists → cents ≡ spent count.voucher state.lists → b ≡ (eqb count.redeemed n && eqb count.spent cents) → b ≡ has_voucher state count
+  some_voucher v n cents b found used given is =
+      is
+      ∙ ap₂ (λ (k m : ℕ). eqb count.redeemed k && eqb count.spent m) used given
+      ∙ ap has (sym (key-row_at (λ (r : Voucher). r.id) count.voucher state.lists.vouchers v found))
+      ∙ sym (voucher_is (Some v) found)

@@ -20,13 +20,13 @@ use Rattle.bo_lists.specs.Change.{after_change, after_all}
 use Rattle.bo_lists.specs.CountRows.{CountRows, same_usage, quota_count, voucher_count, counts_after}
 use Rattle.bo_lists.specs.Kept.{IsKept}
 use Rattle.bo_lists.specs.Lists.{Lists, State, voucher_at}
-use Rattle.bo_lists.specs.Usage.{usage_of, redeemed}
+use Rattle.bo_lists.specs.Usage.{usage_of, redeemed, spent}
 use Rattle.bo_lists.proofs.EachRow.{all_weaker, key-row_at}
 use Rattle.bo_lists.proofs.Found.{each_found}
 use Rattle.bo_tally.specs.declared.shifts.QuotaShift.{QuotaShift}
 use Rattle.bo_tally.specs.declared.shifts.VoucherShift.{VoucherShift}
 use Rattle.bo_tally.specs.declared.shifts.Shifts.{Shifts}
-use Rattle.bo_tally.specs.Shifts.{AreShifts, come_by, gone_by, come_used, gone_used, stands_by, quota_shift_at, voucher_shift_at}
+use Rattle.bo_tally.specs.Shifts.{AreShifts, come_by, gone_by, come_used, gone_used, come_spent, gone_spent, stands_by, quota_shift_at, voucher_shift_at}
 use Rattle.bo_tally.specs.Amounts.{nothing, plus}
 use Rattle.bo_tally.proofs.AmountLemmas.{same_usage as same_amounts, alone as none_more}
 use Rattle.bo_counts.specs.Due.{due_quotas}
@@ -175,6 +175,15 @@ module _ (state : State) (changes : List Change) (next : NextIds) (at : ℕ) (pa
         let shift : redeemed s.voucher after + s.gone ≡ redeemed s.voucher before + s.come = subst (λ (o : Option VoucherShift). redeemed s.voucher after + gone_used o ≡ redeemed s.voucher before + come_used o) given (are.vouchers s.voucher) in
         omega (arith, shift)
 
+    given_out : (spent s.voucher before + s.spent_come) - s.spent_gone ≡ spent s.voucher after
+    given_out =
+        let shift : spent s.voucher after + s.spent_gone ≡ spent s.voucher before + s.spent_come = subst (λ (o : Option VoucherShift). spent s.voucher after + gone_spent o ≡ spent s.voucher before + come_spent o) given (are.spent s.voucher) in
+        omega (arith, shift)
+
+    -- what is told of a voucher of these counts
+    abbrev told_of : ℕ → ℕ → ℕ → List VoucherCount
+    told_of id n cents = told_unless (has_voucher state (record { voucher = id; redeemed = n; spent = cents })) (record { voucher = id; redeemed = n; spent = cents })
+
     one_voucher : (o : Option Voucher) → voucher_at s.voucher after ≡ o → voucher_told_by state s ≡ told_if (voucher_told both) o
     one_voucher None found =
         let gone : s.stands ≡ false = sym stands_as_told ∙ ap is_some found in
@@ -183,8 +192,8 @@ module _ (state : State) (changes : List Change) (next : NextIds) (at : ℕ) (pa
         let stays : s.stands ≡ true = sym stands_as_told ∙ ap is_some found in
         let id : s.voucher ≡ v.id = sym (key-row_at (λ (r : Voucher). r.id) s.voucher after.vouchers v found) in
         ap (λ b. if b then told_unless (has_voucher state (voucher_by_shift state s)) (voucher_by_shift state s) else []) stays
-        ∙ ap (λ n. told_unless (has_voucher state (record { voucher = s.voucher; redeemed = n })) (record { voucher = s.voucher; redeemed = n })) used
-        ∙ ap (λ k. told_unless (has_voucher state (record { voucher = k; redeemed = redeemed k after })) (record { voucher = k; redeemed = redeemed k after })) id
+        ∙ ap₂ (λ (n cents : ℕ). told_of s.voucher n cents) used given_out
+        ∙ ap (λ (k : ℕ). told_of k (redeemed k after) (spent k after)) id
 
     one_gone : (o : Option Voucher) → voucher_at s.voucher before ≡ o → gone_told_by state s ≡ told_if (gone_told both) o
     one_gone None found = ap (λ (o : Option Voucher). if not s.stands && is_some o then s.voucher ∷ [] else []) found ∙ ap (λ b. if b then s.voucher ∷ [] else []) (and_false (not s.stands))
@@ -203,7 +212,7 @@ module _ (state : State) (changes : List Change) (next : NextIds) (at : ℕ) (pa
         by_row None = refl
         by_row (Some v) = refl
 
-  -- a voucher that no shift names stands where it stood, and is redeemed as often
+  -- a voucher that no shift names stands where it stood, is redeemed as often, and as much is spent of it
   module _ (id : ℕ) (absent : has id (map (λ s. s.voucher) vouchers) ≡ false) where
     none : voucher_shift_at id vouchers ≡ None
     none = absent_none (λ (s : VoucherShift). s.voucher) id vouchers absent
@@ -216,6 +225,11 @@ module _ (state : State) (changes : List Change) (next : NextIds) (at : ℕ) (pa
         let shift : redeemed id after + 0 ≡ redeemed id before + 0 = subst (λ (o : Option VoucherShift). redeemed id after + gone_used o ≡ redeemed id before + come_used o) none (are.vouchers id) in
         omega (arith, shift)
 
+    spent_as_before : spent id after ≡ spent id before
+    spent_as_before =
+        let shift : spent id after + 0 ≡ spent id before + 0 = subst (λ (o : Option VoucherShift). spent id after + gone_spent o ≡ spent id before + come_spent o) none (are.spent id) in
+        omega (arith, shift)
+
   unnamed : (v : Voucher) → voucher_at v.id after ≡ Some v → has v.id (map (λ s. s.voucher) vouchers) ≡ false → voucher_told both v ≡ []
   unnamed v found absent = by_row (voucher_at v.id before) refl
     where
@@ -223,7 +237,9 @@ module _ (state : State) (changes : List Change) (next : NextIds) (at : ℕ) (pa
       by_row None stood = absurd (false≢true (sym (ap is_some stood) ∙ sym (as_it_stood v.id absent) ∙ ap is_some found))
       by_row (Some old) stood =
           let known : true ≡ has_voucher state (voucher_count later v) =
-          some_voucher state (voucher_count later v) order.vouchers old (redeemed v.id before) true stood refl (sym (ap (λ n. eqb n (redeemed v.id before)) (used_as_before v.id absent) ∙ own_id (redeemed v.id before))) in
+          some_voucher state (voucher_count later v) order.vouchers old (redeemed v.id before) (spent v.id before) true stood refl refl
+          (sym (ap₂ (λ (n cents : ℕ). eqb n (redeemed v.id before) && eqb cents (spent v.id before)) (used_as_before v.id absent) (spent_as_before v.id absent)
+          ∙ ap₂ (λ (a b : Bool). a && b) (own_id (redeemed v.id before)) (own_id (spent v.id before)))) in
           ap (λ b. told_unless b (voucher_count later v)) (sym known)
 
   ungone : (v : Voucher) → voucher_at v.id before ≡ Some v → has v.id (map (λ s. s.voucher) vouchers) ≡ false → gone_told both v ≡ []

@@ -35,7 +35,7 @@ told_unless known row = if not known then row ∷ [] else []
 abbrev pub quota_told : Passage → Quota → List QuotaCount
 quota_told both quota = told_unless (has_count both.before (quota_count both.after quota)) (quota_count both.after quota)
 
--- how often a voucher is redeemed that stands afterwards, unless it was the same before
+-- the count of a voucher that stands afterwards, unless it was the same before
 abbrev pub voucher_told : Passage → Voucher → List VoucherCount
 voucher_told both voucher = told_unless (has_voucher both.before (voucher_count both.after voucher)) (voucher_count both.after voucher)
 

@@ -12,7 +12,7 @@ use Rattle.bo_lists.specs.declared.count_rows.VoucherCount.{VoucherCount}
 use Rattle.bo_lists.specs.Change.{after_all}
 use Rattle.bo_lists.specs.CountRows.{same_usage}
 use Rattle.bo_lists.specs.Lists.{State, voucher_at}
-use Rattle.bo_lists.specs.Usage.{usage_of, redeemed}
+use Rattle.bo_lists.specs.Usage.{usage_of, redeemed, spent}
 use Rattle.bo_tally.specs.declared.shifts.QuotaShift.{QuotaShift}
 use Rattle.bo_tally.specs.declared.shifts.VoucherShift.{VoucherShift}
 use Rattle.bo_tally.specs.Amounts.{plus}
@@ -60,9 +60,13 @@ told_by_shift state at shifts quota = told_unless (has_count state (count_by_shi
 abbrev pub told_at : State → List Change → ℕ → List QuotaShift → ℕ → List QuotaCount
 told_at state changes at shifts id = told_if (told_by_shift state at shifts) (quota_at id (after_all changes state.lists).catalogue)
 
--- how often a voucher is redeemed, by the rows before and what changes shift
+-- how often a voucher is redeemed, and what is spent of it, by the rows before and what changes shift
 abbrev pub voucher_by_shift : State → VoucherShift → VoucherCount
-voucher_by_shift state shift = record { voucher = shift.voucher; redeemed = (redeemed shift.voucher state.lists + shift.come) - shift.gone }
+voucher_by_shift state shift = record {
+  voucher = shift.voucher;
+  redeemed = (redeemed shift.voucher state.lists + shift.come) - shift.gone;
+  spent = (spent shift.voucher state.lists + shift.spent_come) - shift.spent_gone;
+}
 
 -- that is told, if the voucher stands, unless it was the same before
 abbrev pub voucher_told_by : State → VoucherShift → List VoucherCount

@@ -6,7 +6,7 @@ ghost use Rattle.bo_lists.specs.CountRows.{counts_after};
 ghost use Rattle.bo_counts.specs.Told.{quota_told, voucher_told, gone_told};
 
 use crate::recounts::recount;
-use crate::told::{add_unless, has_count, has_voucher};
+use crate::told::{add_unless, fitting, has_count, has_voucher};
 use bo_catalogue::Quota;
 use bo_lists::{CountRows, QuotaCount, Voucher, VoucherCount};
 use bo_usage::Book;
@@ -14,7 +14,7 @@ use std::alloc::{AllocError, Global};
 
 /// The counts that are to be written where one book comes after another, whatever lies between them: those of the quotas and
 /// vouchers that are new or whose counts differ, and the ids of the vouchers that are gone.
-/// It is refused where there is no memory.
+/// It is refused where there is no memory, and where a count doesn't fit in 64 bits.
 /// Each quota of the later book is counted over all its rows, and each voucher of both is looked up. So it is for changes
 /// that no draft has counted, which are made in a second book first.
 pub fn counts_between<A: Book, C: Book>(
@@ -61,7 +61,7 @@ fn add_quota<A: Book, C: Book>(
     add_unless(has_count(before, count), count, rows)
 }
 
-// How often the vouchers are redeemed of which that differs.
+// The counts of the vouchers that differ.
 fn vouchers<A: Book, C: Book>(
     alloc: Global,
     before: &A,
@@ -76,7 +76,7 @@ fn vouchers<A: Book, C: Book>(
     Ok(rows)
 }
 
-// Adds how often a voucher is redeemed, if that differs.
+// Adds the count of a voucher, if it differs. It is refused where what is spent doesn't fit in 64 bits.
 fn add_voucher<A: Book, C: Book>(
     before: &A,
     after: &C,
@@ -88,6 +88,7 @@ fn add_voucher<A: Book, C: Book>(
     let count = VoucherCount {
         voucher: voucher.id,
         redeemed: after.redeemed(voucher.id),
+        spent: fitting(after.spent(voucher.id))?,
     };
     add_unless(has_voucher(before, count), count, rows)
 }

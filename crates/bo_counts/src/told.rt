@@ -1,8 +1,9 @@
 //! Counts that are shifted, and whether a book has them.
 
-ghost use Rattle.std.specs.Prelude.{◌≡◌, ◌+◌, ◌-◌, ◌++◌, IfOk, OnOk, Some};
+ghost use Rattle.std.specs.Prelude.{◌≡◌, ◌≤◌, ◌+◌, ◌-◌, ◌++◌, ◌==◌, ◌&&◌, IfOk, OnOk, Some};
 ghost use Rattle.std.specs.Option.{option_copied};
 ghost use Rattle.bo_lists.specs.CountRows.{same_usage};
+ghost use Rattle.bo_lists.specs.Usage.{redeemed, spent};
 ghost use Rattle.bo_counts.specs.Told.{has_count, has_voucher, told_unless};
 ghost use Rattle.bo_counts.specs.Walked.{shifted, same_as};
 
@@ -29,6 +30,25 @@ fn add(a: u64, b: u64) -> Result<u64, AllocError>
     match a.checked_add(b) {
         None => Err(AllocError),
         Some(sum) => Ok(sum),
+    }
+}
+
+/// What is spent of a voucher, where some more is spent and some isn't any more, in cents. It is refused where it doesn't fit
+/// in 64 bits.
+pub fn moved_cents(spent: u128, come: u64, gone: u64) -> Result<u64, AllocError>
+    requires few { spent ≤ 42949672955705032704 }
+    ensures { IfOk result (λ n. n ≡ (spent + come) - gone) }
+{
+    fitting((spent + u128::from(come)).saturating_sub(u128::from(gone)))
+}
+
+/// An amount as a number of 64 bits. It is refused where it doesn't fit.
+pub fn fitting(amount: u128) -> Result<u64, AllocError>
+    ensures { IfOk result (λ n. n ≡ amount) }
+{
+    match u64::try_from(amount) {
+        Err(_) => Err(AllocError),
+        Ok(fits) => Ok(fits),
     }
 }
 
@@ -101,8 +121,16 @@ pub fn has_voucher<B: Book>(book: &B, count: VoucherCount) -> bool
     book.known();
     match book.voucher(count.voucher) {
         None => false,
-        Some(_) => count.redeemed == book.redeemed(count.voucher),
+        Some(_) => has_numbers(book, count),
     }
+}
+
+// Whether a voucher is redeemed as often in the book, and as much is spent of it.
+fn has_numbers<B: Book>(book: &B, count: VoucherCount) -> bool
+    ensures { result ≡ (count.redeemed == redeemed count.voucher (B.state book.now).lists && count.spent == spent count.voucher (B.state book.now).lists) }
+{
+    count.redeemed == book.redeemed(count.voucher)
+        && u128::from(count.spent) == book.spent(count.voucher)
 }
 
 /// Adds a row, unless it is known.

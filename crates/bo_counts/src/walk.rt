@@ -13,7 +13,7 @@ ghost use Rattle.bo_counts.specs.Due.{due_quotas};
 ghost use Rattle.bo_counts.specs.Walked.{quotas_by, quota_with, quota_after, told_by_shift, told_at, voucher_told_by, gone_told_by, IsWalk};
 
 use crate::recounts::recount;
-use crate::told::{add_unless, has_voucher, moved, same_as, shifted};
+use crate::told::{add_unless, has_voucher, moved, moved_cents, same_as, shifted};
 use bo_base::Moment;
 use bo_catalogue::Quota;
 use bo_lists::{Change, QuotaCount, Usage, VoucherCount};
@@ -156,7 +156,7 @@ impl<'w, B: Book> Walk<'w, B> {
         }
     }
 
-    /// How often the vouchers are redeemed that are new, or that were redeemed less or more often.
+    /// The counts of the vouchers that are new or whose counts differ.
     pub fn vouchers(&self, alloc: Global) -> Result<Vec<VoucherCount>, AllocError>
         ensures { IfOk result (λ rows. rows.items ≡ flat_map (voucher_told_by (B.state self.now.book.now)) self.now.shifts.now.vouchers.items) }
     {
@@ -257,7 +257,7 @@ fn same(a: &[u64], b: &[u64]) -> bool
     a == b
 }
 
-// Adds how often a voucher is redeemed, if it stands and that differs.
+// Adds the count of a voucher, if it stands and its count differs.
 fn add_voucher<B: Book>(
     book: &B,
     shift: &VoucherShift,
@@ -268,9 +268,11 @@ fn add_voucher<B: Book>(
     if !shift.stands {
         return Ok(());
     }
+    let spent = book.spent(shift.voucher);
     let count = VoucherCount {
         voucher: shift.voucher,
         redeemed: moved(book.redeemed(shift.voucher), shift.come, shift.gone)?,
+        spent: moved_cents(spent, shift.spent_come, shift.spent_gone)?,
     };
     add_unless(has_voucher(book, count), count, rows)
 }

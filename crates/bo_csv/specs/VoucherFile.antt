@@ -34,7 +34,7 @@ abbrev pub known : {A : Type 0} → ℕ → ℕ → Option A → Result A FileFa
 known line at None = Err (Column line at)
 known line at (Some value) = Ok value
 
--- the voucher that a line of these fields asks for
+-- the voucher that a line of these fields asks for; a file gives no budget
 unfoldable pub voucher_of : ℕ → List (List ℕ) → Result NewVoucher FileFault
 voucher_of line fields = do
   check (is_line fields) (Line line)
@@ -63,6 +63,7 @@ voucher_of line fields = do
     quota = quota;
     tag = column fields 10;
     comment = column fields 11;
+    budget = None;
   })
 
 -- vouchers in front of others

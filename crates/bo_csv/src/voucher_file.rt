@@ -164,7 +164,7 @@ fn known<T>(line: u64, at: u64, value: Option<T>) -> Result<T, FileFault>
     }
 }
 
-// The voucher that a line asks for.
+// The voucher that a line asks for. A file gives no budget.
 #[tactic(auto, unfolding(crate::specs::VoucherFile::voucher_of))]
 fn voucher_of(alloc: Global, line: u64, row: &ByteRecord) -> Result<NewVoucher, FileFault>
     ensures done { IfOk result (λ new. voucher_of line (fields_of row.now) ≡ Ok new) }
@@ -207,5 +207,6 @@ fn voucher_of(alloc: Global, line: u64, row: &ByteRecord) -> Result<NewVoucher, 
         quota,
         tag: Text::copy_of(alloc, tag)?,
         comment: Text::copy_of(alloc, comment)?,
+        budget: None,
     })
 }

@@ -16,7 +16,7 @@ abbrev pub plain : CheckinList
 plain = door false false
 
 abbrev pub seat : OrderPos
-seat = record { id = 1; order = 1; positionid = 1; product = record { item = 1; variation = None }; price = 2300; voucher = None; secret = 97 ∷ [] }
+seat = record { id = 1; order = 1; positionid = 1; product = record { item = 1; variation = None }; price = 2300; voucher = None; secret = 97 ∷ []; discount = 0 }
 
 -- at the moment 1000, with these check-ins and the next one's id
 abbrev pub house : Status → CheckinList → List Checkin → ℕ → State

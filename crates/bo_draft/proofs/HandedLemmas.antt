@@ -19,7 +19,7 @@ use Rattle.bo_lists.specs.declared.rows.Usage.{Usage}
 use Rattle.bo_lists.specs.declared.rows.Voucher.{Voucher}
 use Rattle.bo_lists.specs.Change.{after_change, after_all}
 use Rattle.bo_lists.specs.Lists.{Lists, voucher_at}
-use Rattle.bo_lists.specs.Usage.{usage_of, redeemed}
+use Rattle.bo_lists.specs.Usage.{usage_of, redeemed, spent}
 use Rattle.bo_shares.specs.Counts.{value_at}
 use Rattle.bo_shares.specs.Logs.{Log, rows_of}
 use Rattle.bo_shares.proofs.Values.{value_here}
@@ -30,7 +30,7 @@ use Rattle.bo_tally.specs.declared.shifts.Shifts.{Shifts}
 use Rattle.bo_tally.specs.declared.tally.Count.{Count}
 use Rattle.bo_tally.specs.Amounts.{nothing, plus, no_uses}
 use Rattle.bo_tally.specs.Counts.{newest, came, went, part_at}
-use Rattle.bo_tally.specs.Shifts.{come_by, gone_by, come_used, gone_used, stands_by, quota_shift_at, voucher_shift_at, AreShifts}
+use Rattle.bo_tally.specs.Shifts.{come_by, gone_by, come_used, gone_used, come_spent, gone_spent, stands_by, quota_shift_at, voucher_shift_at, AreShifts}
 use Rattle.bo_draft.specs.DraftState.{IsCounted, AreKept}
 use Rattle.bo_draft.specs.Handed.{vouchers_by, AreNoted, quota_shift, voucher_shift}
 
@@ -167,7 +167,14 @@ module _ (quotas : List Quota) (counts : List (Count Usage)) where
 -- ---- the vouchers
 module _ (lists : Lists) (uses : List (Count Uses)) where
   abbrev of_voucher : ℕ → VoucherShift
-  of_voucher id = record { voucher = id; come = (came no_uses id uses).used; gone = (went no_uses id uses).used; stands = is_some (voucher_at id lists) }
+  of_voucher id = record {
+    voucher = id;
+    come = (came no_uses id uses).used;
+    gone = (went no_uses id uses).used;
+    spent_come = (came no_uses id uses).spent;
+    spent_gone = (went no_uses id uses).spent;
+    stands = is_some (voucher_at id lists);
+  }
 
   pub uses_rise : (n : ℕ) (ids : List ℕ) → InOrderFrom (λ k. k) n ids → InOrderFrom (λ s. s.voucher) n (flat_map (voucher_shift lists uses) ids)
   uses_rise n [] h = tt
@@ -217,6 +224,7 @@ module _ (log : Log) (at : ℕ) (counts : List (Count Usage)) (uses : List (Coun
       record {
         quotas = λ q stands. quota_is q (place_of q.id quotas q (ap (quota_at q.id) (sym same) ∙ stands));
         vouchers = λ v. use_is v (has v ids) refl;
+        spent = λ v. spent_is v (has v ids) refl;
         stands = λ v. stands_is v (has v ids) refl;
         quota_order = rw quotas_are (shifts_rise quotas counts 0 places 0 0 order (rw places_are (rising_in_order (map (λ c. c.id) counts))) (λ p d le within. omega arith));
         voucher_order = rw vouchers_are (uses_rise (rows_of log) uses 0 ids (rw ids_are (rising_in_order (noted ++ map (λ c. c.id) uses))));
@@ -251,6 +259,19 @@ module _ (log : Log) (at : ℕ) (counts : List (Count Usage)) (uses : List (Coun
               let came_none : (came no_uses v uses).used ≡ 0 = ap (λ (o : Option ℕ). (part_at no_uses (λ (c : Count Uses). c.come) uses o).used) none in
               let went_none : (went no_uses v uses).used ≡ 0 = ap (λ (o : Option ℕ). (part_at no_uses (λ (c : Count Uses). c.gone) uses o).used) none in
               omega (arith, ap (λ (u : Uses). u.used) (kept v), came_none, went_none)
+
+      spent_is : (v : ℕ) (b : Bool) → has v ids ≡ b → spent v (rows_of log) + gone_spent (voucher_shift_at v shifts.vouchers.items) ≡ spent v log.base + come_spent (voucher_shift_at v shifts.vouchers.items)
+      spent_is v b is =
+          let found : voucher_shift_at v shifts.vouchers.items ≡ (if b then Some (of_voucher (rows_of log) uses v) else None) = ap (voucher_shift_at v) vouchers_are ∙ use_found (rows_of log) uses ids v ∙ ap (λ (x : Bool). if x then Some (of_voucher (rows_of log) uses v) else None) is in
+          rw found (by_test b is)
+        where
+          by_test : (b : Bool) → has v ids ≡ b → spent v (rows_of log) + gone_spent (if b then Some (of_voucher (rows_of log) uses v) else None) ≡ spent v log.base + come_spent (if b then Some (of_voucher (rows_of log) uses v) else None)
+          by_test true is = ap (λ (u : Uses). u.spent) (kept v)
+          by_test false is =
+              let none = (absent v is).1 in
+              let came_none : (came no_uses v uses).spent ≡ 0 = ap (λ (o : Option ℕ). (part_at no_uses (λ (c : Count Uses). c.come) uses o).spent) none in
+              let went_none : (went no_uses v uses).spent ≡ 0 = ap (λ (o : Option ℕ). (part_at no_uses (λ (c : Count Uses). c.gone) uses o).spent) none in
+              omega (arith, ap (λ (u : Uses). u.spent) (kept v), came_none, went_none)
 
       stands_is : (v : ℕ) (b : Bool) → has v ids ≡ b → is_some (voucher_at v (rows_of log)) ≡ stands_by (is_some (voucher_at v log.base)) (voucher_shift_at v shifts.vouchers.items)
       stands_is v b is =

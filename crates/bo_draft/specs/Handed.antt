@@ -28,6 +28,13 @@ AreNoted changes noted = (v : ℕ) → has v noted ≡ false → has v (flat_map
 abbrev pub quota_shift : List Quota → List (Count Usage) → ℕ → List QuotaShift
 quota_shift quotas counts place = value_at [] (λ q. record { quota = q.id; come = came nothing place counts; gone = went nothing place counts } ∷ []) quotas place
 
--- what came and went of a voucher's uses in orders, and whether it stands
+-- what came and went of a voucher's uses in orders, what they spend of it, and whether it stands
 abbrev pub voucher_shift : Lists → List (Count Uses) → ℕ → List VoucherShift
-voucher_shift lists uses id = record { voucher = id; come = (came no_uses id uses).used; gone = (went no_uses id uses).used; stands = is_some (voucher_at id lists) } ∷ []
+voucher_shift lists uses id = record {
+  voucher = id;
+  come = (came no_uses id uses).used;
+  gone = (went no_uses id uses).used;
+  spent_come = (came no_uses id uses).spent;
+  spent_gone = (went no_uses id uses).spent;
+  stands = is_some (voucher_at id lists);
+} ∷ []

@@ -151,6 +151,8 @@ fn add_voucher<B: Book>(
         voucher: id,
         come: count.come.used,
         gone: count.gone.used,
+        spent_come: count.come.spent,
+        spent_gone: count.gone.spent,
         stands: overlay.voucher(id).is_some(),
     })?)
 }

@@ -4,6 +4,7 @@
 mod bases;
 pub mod draft;
 mod finish;
+mod ids;
 mod over;
 mod weighed;
 

@@ -1,5 +1,5 @@
 -- The least rule that is broken.
-use Rattle.std.proofs.Common.{◌≡◌, ◌<◌, List, inl, inr, subst, sym, arith}
+use Rattle.std.proofs.Common.{◌≡◌, ◌<◌, ◌↔◌, Bool, IsTrue, List, inl, inr, refl, subst, sym, arith}
 use Rattle.sqlite.specs.Effect.{Database}
 use Rattle.bo_schema.specs.Tables.{schema}
 use Rattle.bo_stand.specs.Rows.{OfficeRows}
@@ -8,12 +8,6 @@ use Rattle.bo_rules.specs.declared.rule.Rule.{Rule}
 use Rattle.bo_rules.specs.declared.rule.Rule.TheVariants as rules
 use Rattle.bo_rules.specs.Numbers.{number}
 use Rattle.bo_rules.specs.Rules.{File, Keeps, IsLeastBroken}
-use Rattle.bo_lists.specs.declared.count_rows.QuotaCount.{QuotaCount}
-use Rattle.bo_lists.specs.declared.count_rows.VoucherCount.{VoucherCount}
-use Rattle.bo_lists.specs.Lists.{State}
-use Rattle.bo_rules.specs.declared.file_rows.FileRows.{FileRows}
-use Rattle.bo_rules.specs.Told.{state_of, file_of}
-use Rattle.bo_checks.specs.Last.{KeepsFirst, IsLeastOf, file_with}
 use Rattle.bo_columns.specs.declared.rows.ShopRow.{ShopRow}
 use Rattle.bo_columns.specs.declared.rows.Token.{Token}
 use Rattle.bo_columns.specs.Tables.{Holds}
@@ -23,13 +17,13 @@ use Rattle.bo_opens.specs.declared.file.FileTables.{FileTables}
 use Rattle.bo_opens.specs.Causes.{IsReadable, IsCause}
 use Rattle.bo_opens.specs.Lawful.{IsOfMachine}
 use Rattle.bo_opens.specs.Read.{tables_of}
-use Rattle.bo_arrange.specs.Arranged.{arranged, rows_in, IsInOrder}
+use Rattle.bo_arrange.specs.Arranged.{arranged, rows_in, ArePaired, AreReadInOrder}
 use Rattle.bo_typed.specs.Typed.{AreBelowNext}
 use Rattle.bo_file.specs.Opened.{KeepsIn, IsLeastIn, IsDamagedBy, IsWhy, IsBroken, IsReason}
 
-module _ (shop : ShopRow) (tokens : List Token) (rows : OfficeRows) (file : File) where
+module _ (shop : ShopRow) (tokens : List Token) (rows : OfficeRows) (paired : Type 0) (file : File) where
   -- the first two rules speak of nothing beside the office
-  early : (rule : Rule) → number rule < 3 → Keeps rule file → KeepsIn shop tokens rows file rule
+  early : (rule : Rule) → number rule < 3 → Keeps rule file → KeepsIn shop tokens rows paired file rule
   early rules.Shop lt k = k
   early rules.Limits lt k = k
   early rules.Ids lt k = absurd (omega (arith, lt))
@@ -37,45 +31,74 @@ module _ (shop : ShopRow) (tokens : List Token) (rows : OfficeRows) (file : File
   early rules.Positions lt k = absurd (omega (arith, lt))
   early rules.Headroom lt k = absurd (omega (arith, lt))
   early rules.Counters lt k = absurd (omega (arith, lt))
+  early rules.Budgets lt k = absurd (omega (arith, lt))
 
-  pub kept_in : (rule : Rule) → AreBelowNext shop tokens → AreRowsOf file.state.lists rows → Keeps rule file → KeepsIn shop tokens rows file rule
-  kept_in rules.Shop below whole k = k
-  kept_in rules.Limits below whole k = k
-  kept_in rules.Ids below whole k = (below, k)
-  kept_in rules.Names below whole k = (whole, k)
-  kept_in rules.Positions below whole k = k
-  kept_in rules.Headroom below whole k = k
-  kept_in rules.Counters below whole k = k
+  pub kept_in : (rule : Rule) → AreBelowNext shop tokens → AreRowsOf file.state.lists rows → paired → Keeps rule file → KeepsIn shop tokens rows paired file rule
+  kept_in rules.Shop below whole pairs k = k
+  kept_in rules.Limits below whole pairs k = k
+  kept_in rules.Ids below whole pairs k = (below, k)
+  kept_in rules.Names below whole pairs k = (whole, k)
+  kept_in rules.Positions below whole pairs k = k
+  kept_in rules.Headroom below whole pairs k = k
+  kept_in rules.Counters below whole pairs k = (pairs, k)
+  kept_in rules.Budgets below whole pairs k = k
 
-  kept : (rule : Rule) → KeepsIn shop tokens rows file rule → Keeps rule file
+  kept : (rule : Rule) → KeepsIn shop tokens rows paired file rule → Keeps rule file
   kept rules.Shop k = k
   kept rules.Limits k = k
   kept rules.Ids k = k.1
   kept rules.Names k = k.1
   kept rules.Positions k = k
   kept rules.Headroom k = k
-  kept rules.Counters k = k
+  kept rules.Counters k = k.1
+  kept rules.Budgets k = k
+
+  -- before that of counters nothing is asked of pairs
+  kept_before : (rule : Rule) → number rule < 7 → AreBelowNext shop tokens → AreRowsOf file.state.lists rows → Keeps rule file → KeepsIn shop tokens rows paired file rule
+  kept_before rules.Shop lt below whole k = k
+  kept_before rules.Limits lt below whole k = k
+  kept_before rules.Ids lt below whole k = (below, k)
+  kept_before rules.Names lt below whole k = (whole, k)
+  kept_before rules.Positions lt below whole k = k
+  kept_before rules.Headroom lt below whole k = k
+  kept_before rules.Counters lt below whole k = absurd (omega (arith, lt))
+  kept_before rules.Budgets lt below whole k = absurd (omega (arith, lt))
+
+  -- that of budgets is told where counters are paired
+  kept_under : (rule other : Rule) → number other < number rule → AreBelowNext shop tokens → AreRowsOf file.state.lists rows → (rule ≡ rules.Budgets → paired) → Keeps other file → KeepsIn shop tokens rows paired file other
+  kept_under rules.Shop other lt below whole pairs k = kept_before other (omega (arith, lt)) below whole k
+  kept_under rules.Limits other lt below whole pairs k = kept_before other (omega (arith, lt)) below whole k
+  kept_under rules.Ids other lt below whole pairs k = kept_before other (omega (arith, lt)) below whole k
+  kept_under rules.Names other lt below whole pairs k = kept_before other (omega (arith, lt)) below whole k
+  kept_under rules.Positions other lt below whole pairs k = kept_before other (omega (arith, lt)) below whole k
+  kept_under rules.Headroom other lt below whole pairs k = kept_before other (omega (arith, lt)) below whole k
+  kept_under rules.Counters other lt below whole pairs k = kept_before other (omega (arith, lt)) below whole k
+  kept_under rules.Budgets other lt below whole pairs k = kept_in other below whole (pairs refl) k
 
   -- any other, where each link tells a member
-  pub least_later : (rule : Rule) → AreBelowNext shop tokens → AreRowsOf file.state.lists rows → IsLeastBroken rule file → IsLeastIn shop tokens rows file rule
-  least_later rule below whole h = record { before = λ other lt. kept_in other below whole (h.before other lt); broken = λ k. h.broken (kept rule k) }
+  pub least_later : (rule : Rule) → AreBelowNext shop tokens → AreRowsOf file.state.lists rows → (rule ≡ rules.Budgets → paired) → IsLeastBroken rule file → IsLeastIn shop tokens rows paired file rule
+  least_later rule below whole pairs h = record { before = λ other lt. kept_under rule other lt below whole pairs (h.before other lt); broken = λ k. h.broken (kept rule k) }
 
--- a book that was filled with rows stands for their file
-filled_file : (rows : FileRows) (s : State) (used : List QuotaCount) (redeemed : List VoucherCount) → s ≡ state_of rows → used ≡ rows.used.items → redeemed ≡ rows.redeemed.items → file_with s used redeemed rows.organizer rows.event ≡ file_of rows
-filled_file rows s used redeemed a b d = λ i. record { organizer = rows.organizer; event = rows.event; state = a i; used = b i; redeemed = d i }
-
-pub broken_of : (rows : FileRows) (s : State) (used : List QuotaCount) (redeemed : List VoucherCount) → s ≡ state_of rows → used ≡ rows.used.items → redeemed ≡ rows.redeemed.items → (rule : Rule) → KeepsFirst (file_of rows) → IsLeastOf (file_with s used redeemed) rule → IsLeastBroken rule (file_of rows)
-broken_of rows s used redeemed a b d rule first h =
-    let is = filled_file rows s used redeemed a b d in
-    subst (IsLeastBroken rule) is (h rows.organizer rows.event (subst KeepsFirst (sym is) first))
+  -- that of counters, where they aren't paired
+  pub least_unpaired : AreBelowNext shop tokens → AreRowsOf file.state.lists rows → (¬ paired) → ((other : Rule) → number other < number rules.Counters → Keeps other file) → IsLeastIn shop tokens rows paired file rules.Counters
+  least_unpaired below whole none before = record { before = λ other lt. kept_before other lt below whole (before other lt); broken = λ k. none k.0 }
 
 -- why the rows of an office are broken is why the file isn't opened
-pub why : (read : FileTables) (file : File) (e : OpenError) → file ≡ arranged read.shop read.tables → IsInOrder (arranged read.shop read.tables) → AreBelowNext read.shop read.tables.others.tokens.items → AreRowsOf (arranged read.shop read.tables).state.lists (rows_in read.tables) → IsBroken file e → IsWhy read e
-why read file Memory is order below whole h = tt
-why read file (Damaged rule) is order below whole h = (order, least_later read.shop read.tables.others.tokens.items (rows_in read.tables) (arranged read.shop read.tables) rule below whole (subst (IsLeastBroken rule) is h))
-why read file NotAShop is order below whole h = absurd h
-why read file (Version version) is order below whole h = absurd h
-why read file Store is order below whole h = absurd h
+pub why : (read : FileTables) (file : File) (paired : Bool) (e : OpenError) → file ≡ arranged read.shop read.tables → AreReadInOrder read.shop read.tables → AreBelowNext read.shop read.tables.others.tokens.items → AreRowsOf (arranged read.shop read.tables).state.lists (rows_in read.tables)
+    → (IsTrue paired ↔ ArePaired read.tables) → IsBroken paired file e → IsWhy read e
+why read file paired Memory is order below whole pairs h = tt
+why read file paired (Damaged rule) is order below whole pairs (inl h) = (
+  order,
+  least_later read.shop read.tables.others.tokens.items (rows_in read.tables) (ArePaired read.tables) (arranged read.shop read.tables) rule below whole (λ last. pairs.0 (h.1 last)) (subst (IsLeastBroken rule) is h.0),
+)
+why read file paired (Damaged rule) is order below whole pairs (inr (seventh, none, before)) = (
+  order,
+  subst (IsLeastIn read.shop read.tables.others.tokens.items (rows_in read.tables) (ArePaired read.tables) (arranged read.shop read.tables)) (sym seventh)
+      (least_unpaired read.shop read.tables.others.tokens.items (rows_in read.tables) (ArePaired read.tables) (arranged read.shop read.tables) below whole (λ are. none (pairs.1 are)) (λ other lt. subst (Keeps other) is (before other lt))),
+)
+why read file paired NotAShop is order below whole pairs h = absurd h
+why read file paired (Version version) is order below whole pairs h = absurd h
+why read file paired Store is order below whole pairs h = absurd h
 
 -- and so it is told of what was read
 pub reason : (db : Database) (read : FileTables) → IsReadable db → (db.schema ≡ schema → Holds db.trees (tables_of read)) → (e : OpenError) → IsWhy read e → IsReason db e

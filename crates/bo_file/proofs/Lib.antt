@@ -9,3 +9,10 @@ pub mod Damage
 pub mod Tokens
 pub mod Upgraded
 pub mod OfVersion
+pub mod Paired
+pub mod Supplied
+pub mod Reasons
+pub mod ItsVersion
+pub mod Raised
+pub mod Alike
+pub mod Whole

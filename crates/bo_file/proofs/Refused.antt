@@ -9,23 +9,23 @@ use Rattle.bo_schema.specs.Tables.{schema}
 use Rattle.bo_lists.specs.Lists.{State}
 use Rattle.bo_columns.specs.declared.rows.ShopRow.{ShopRow}
 use Rattle.bo_columns.specs.declared.rows.VoucherRow.{VoucherRow}
-use Rattle.bo_columns.specs.Changes.{head_of_count}
+use Rattle.bo_columns.specs.Changes.{head_of_count, head_of_exit, head_of_spent}
 use Rattle.bo_columns.specs.Tables.{Tables, Holds}
 use Rattle.bo_stand.specs.Free.{IsFree}
-use Rattle.bo_stand.specs.Rows.{rows_of, redeemed_in, usage_in}
+use Rattle.bo_stand.specs.Rows.{head_of_redeemed, rows_of, redeemed_in}
 use Rattle.bo_stand.specs.Stands.{AreRowsOf, AreSameRows, Stand}
 use Rattle.bo_stand.proofs.Follow.{rows_along}
-use Rattle.bo_stand.proofs.Told.{map_back}
 use Rattle.bo_rules.specs.Rules.{File, IsCounted}
 use Rattle.bo_opens.specs.declared.file.FileTables.{FileTables}
 use Rattle.bo_columns.specs.declared.table_rows.TableRows.{TableRows}
 use Rattle.bo_opens.specs.Read.{AreTableRows, IsFileOf}
 use Rattle.bo_opens.specs.Rests.{IsAt, StaysOpen}
-use Rattle.bo_arrange.specs.Arranged.{arranged, rows_in, told_by, count_in, item_link, variation_link, list_link, IsInOrder}
+use Rattle.bo_arrange.specs.Arranged.{arranged, rows_in, told_by, item_link, variation_link, release_link, budget_link, discount_link, list_link, ArePaired, AreReadInOrder}
 use Rattle.bo_typed.specs.Typed.{IsTypedShop}
 use Rattle.bo_tables.proofs.ShopLemmas.{declared}
 use Rattle.bo_tables.proofs.Told.{shop_again}
 use Rattle.bo_file.specs.Opened.{IsOpened}
+use Rattle.bo_file.proofs.Paired.{counts_paired, exits_paired, spents_paired, uses_of, uses_paired}
 
 -- the rows that were read are those of the tables
 pub same_rows : (t : Tables) (rows : TableRows) → AreTableRows t rows → AreSameRows (rows_of t) (rows_in rows)
@@ -35,34 +35,44 @@ same_rows t rows h = record {
   quotas = h.catalogue.quotas;
   quota_items = IsPermutation-map item_link _ _ h.catalogue.quota_items;
   quota_variations = IsPermutation-map variation_link _ _ h.catalogue.quota_variations;
+  quota_release = IsPermutation-map release_link _ _ h.catalogue.releases;
   vouchers = IsPermutation-map (λ (r : VoucherRow). r.voucher) _ _ h.sales.vouchers;
+  voucher_budget = IsPermutation-map budget_link _ _ h.sales.budgets;
   carts = h.sales.carts;
   orders = h.sales.orders;
   positions = h.sales.positions;
+  position_discount = IsPermutation-map discount_link _ _ h.sales.discounts;
   waiting = h.sales.waiting;
   checkin_lists = h.doors.checkin_lists;
   list_items = IsPermutation-map list_link _ _ h.doors.list_items;
   checkins = h.doors.checkins;
 }
 
-pub stand_read : (t : Tables) (read : FileTables) → IsFileOf t read → IsInOrder (arranged read.shop read.tables) → AreRowsOf (told_by (rows_in read.tables)) (rows_in read.tables) → IsCounted (arranged read.shop read.tables)
+pub stand_read : (t : Tables) (read : FileTables) → IsFileOf t read → AreReadInOrder read.shop read.tables → AreRowsOf (told_by (rows_in read.tables)) (rows_in read.tables) → ArePaired read.tables → IsCounted (arranged read.shop read.tables)
     → Stand read.shop t (arranged read.shop read.tables).state (map (λ r. r.kept) t.kept)
-stand_read t read of order whole counted = record {
-  shop_is = of.shop;
-  moment = refl;
-  next = refl;
-  rows = rows_along (told_by (rows_in read.tables)) (rows_of t) (rows_in read.tables) (same_rows t read.tables of.tables) whole;
-  ordered = order.lists;
-  used = subst (IsPermutation t.counts) (sym (map_back usage_in head_of_count (λ w. refl) read.tables.others.counts.items) ∙ ap (map head_of_count) counted.used) of.tables.others.counts;
-  redeemed = subst (IsPermutation (redeemed_in t)) counted.redeemed (IsPermutation-map count_in _ _ of.tables.sales.vouchers);
-  kept = IsPermutation-refl _;
-}
+stand_read t read of order whole pairs counted =
+    let counts = read.tables.others.counts.items in
+    let exits = read.tables.others.exits.items in
+    let vouchers = read.tables.sales.vouchers.items in
+    let spents = read.tables.others.spents.items in
+    record {
+      shop_is = of.shop;
+      moment = refl;
+      next = refl;
+      rows = rows_along (told_by (rows_in read.tables)) (rows_of t) (rows_in read.tables) (same_rows t read.tables of.tables) whole;
+      ordered = order.file.lists;
+      used = subst (IsPermutation t.counts) (sym (counts_paired counts exits pairs.exits) ∙ ap (map head_of_count) counted.used) of.tables.others.counts;
+      exits = subst (IsPermutation t.exits) (sym (exits_paired counts exits pairs.exits) ∙ ap (map head_of_exit) counted.used) of.tables.others.exits;
+      redeemed = subst (IsPermutation (redeemed_in t)) (sym (uses_paired vouchers spents pairs.spents) ∙ ap (map head_of_redeemed) counted.redeemed) (IsPermutation-map uses_of _ _ of.tables.sales.vouchers);
+      spents = subst (IsPermutation t.spents) (sym (spents_paired vouchers spents pairs.spents) ∙ ap (map head_of_spent) counted.redeemed) of.tables.others.spents;
+      kept = IsPermutation-refl _;
+    }
 
 -- it is told by a state that is the file's
-pub stand_as : (t : Tables) (read : FileTables) (file : File) (s : State) → file ≡ arranged read.shop read.tables → s ≡ file.state → IsFileOf t read → IsInOrder (arranged read.shop read.tables) → AreRowsOf (told_by (rows_in read.tables)) (rows_in read.tables)
-    → IsCounted file → Stand read.shop t s (map (λ r. r.kept) t.kept)
-stand_as t read file s is state of order whole counted =
-    subst (λ z. Stand read.shop t z (map (λ r. r.kept) t.kept)) (sym (state ∙ ap (λ (f : File). f.state) is)) (stand_read t read of order whole (subst IsCounted is counted))
+pub stand_as : (t : Tables) (read : FileTables) (file : File) (s : State) → file ≡ arranged read.shop read.tables → s ≡ file.state → IsFileOf t read → AreReadInOrder read.shop read.tables → AreRowsOf (told_by (rows_in read.tables)) (rows_in read.tables)
+    → ArePaired read.tables → IsCounted file → Stand read.shop t s (map (λ r. r.kept) t.kept)
+stand_as t read file s is state of order whole pairs counted =
+    subst (λ z. Stand read.shop t z (map (λ r. r.kept) t.kept)) (sym (state ∙ ap (λ (f : File). f.state) is)) (stand_read t read of order whole pairs (subst IsCounted is counted))
 
 -- of an open connection a crash leaves the last commit
 pub is_opened : (t : Tables) (head : ShopRow) (next : ℕ) (s : State) (old new : Connected) → ((db : Trees) → IsTrue new.is_open → new.may_leave db → db ≡ new.committed.trees) → IsTrue new.is_open → new.in_transaction ≡ false → StaysOpen old new

@@ -2,7 +2,7 @@
 use Rattle.std.proofs.Common.{◌≡◌, ◌≢◌, ◌⊎◌, ℕ, pos, List, map, inl, inr, refl, sym, ap, subst, ◌∙◌}
 use Rattle.sqlite_trees.specs.Tree.{Trees}
 use Rattle.sqlite.specs.Effect.{Database, IsDatabase}
-use Rattle.sqlite.specs.State.{State as Connected, IsLive, Survives}
+use Rattle.sqlite.specs.State.{State as Connected}
 use Rattle.bo_schema.specs.Tables.{schema, this_version}
 use Rattle.bo_schema.specs.Versions.{schema_of_version}
 use Rattle.bo_schema.specs.Whole.{MayBeWritten}
@@ -16,11 +16,13 @@ use Rattle.bo_opens.specs.declared.error.OpenError.TheVariants.{Memory, NotAShop
 use Rattle.bo_opens.specs.Lawful.{IsOfMachine}
 use Rattle.bo_opens.proofs.FitLemmas.{of_machine, told_as, unreadable}
 use Rattle.bo_opens.proofs.LimitLemmas.{sound_fits}
+use Rattle.bo_opens.specs.Rests.{IsOpenAt}
 use Rattle.bo_tables.specs.Begun.{IsUpgraded, of_this_version, with_head}
 use Rattle.bo_tables.specs.Shops.{Tells, house_of_rows}
 use Rattle.bo_tables.proofs.Upgrades.{upgraded_stands}
-use Rattle.bo_file.specs.Found.{IsFound}
+use Rattle.bo_file.specs.Migrated.{IsOfVersion, MayBeMigrated}
 use Rattle.bo_file.specs.Opened.{IsReason}
+use Rattle.bo_file.specs.Supplied.{lacking_exits, lacking_spents, supplied}
 use Rattle.bo_file.specs.Upgraded.{HoldsShopAt, IsOpenedAsBefore}
 use Rattle.bo_file.proofs.Least.{clear}
 use Rattle.bo_file.proofs.Tokens.{known_as}
@@ -31,11 +33,11 @@ module _ (from : ℕ) (head : ShopRow) (t : Tables) (s : State) (answers : List 
   row = of_this_version head
 
   abbrev tables : Tables
-  tables = with_head row t
+  tables = with_head row (supplied from t)
 
-  as_before : (db : Database) → db.schema ≡ schema → Holds db.trees tables → IsOpenedAsBefore head t s answers db opened
+  pub as_before : (db : Database) → db.schema ≡ schema → Holds db.trees tables → IsOpenedAsBefore head t s answers db opened
   as_before db known held =
-      let stand = upgraded_stands head t s answers its.stand in
+      let stand = upgraded_stands head (supplied from t) s answers its.stand in
       let is = its.typed in
       let fit = sound_fits row tables s answers is.first is.organizer is.event is.token stand its.sound is.rows in
       let tells : Tells db.trees row (house_of_rows head t.tokens) = record { tables = tables; held = held; shop_is = stand.shop_is; told = refl } in
@@ -46,7 +48,7 @@ module _ (from : ℕ) (head : ShopRow) (t : Tables) (s : State) (answers : List 
         house = λ shop next z o. (known_as db.trees row shop next z opened (house_of_rows head t.tokens) tells o).0;
       }
 
-  pub upgraded_opens : (after : Database) → IsUpgraded row from old.now after → IsOpenedAsBefore head t s answers after opened
+  pub upgraded_opens : (after : Database) → IsUpgraded row (lacking_exits from t.counts) (lacking_spents from t.vouchers) from old.now after → IsOpenedAsBefore head t s answers after opened
   upgraded_opens after h = as_before after h.known (h.holds t its.held)
 
   -- as it is it isn't opened: its version is told, unless memory is refused or the store fails
@@ -59,14 +61,26 @@ module _ (from : ℕ) (head : ShopRow) (t : Tables) (s : State) (answers : List 
   told_as_it_is other Store h = inr tt
 
   -- what may have been written is found as what it was turned into
-  pub found_upgraded : (fresh : Connected) → IsDatabase fresh.now → MayBeWritten (schema_of_version from) (λ (_ : Unit {0}). IsUpgraded row from) old fresh.now.trees → IsOpenedAsBefore head t s answers fresh.now opened
+  pub found_upgraded : (fresh : Connected) → IsDatabase fresh.now → MayBeWritten (schema_of_version from) (λ (_ : Unit {0}). IsUpgraded row (lacking_exits from t.counts) (lacking_spents from t.vouchers) from) old fresh.now.trees → IsOpenedAsBefore head t s answers fresh.now opened
   found_upgraded fresh listed may =
       let turned = may.turned its.known in
       as_before fresh.now (one_schema fresh.now may.after listed (may.listed its.known) may.is ∙ turned.known) (subst (λ (d : Trees). Holds d tables) (sym may.is) (turned.holds t its.held))
 
-  -- and what wasn't is found as it was
-  pub found_as_it_was : (fresh : Connected) → IsDatabase fresh.now → IsDatabase old.now → fresh.now.trees ≡ old.committed.trees → fresh.now ≡ old.now
-  found_as_it_was fresh listed live is =
-      let trees : fresh.now.trees ≡ old.now.trees = is ∙ sym (ap (λ (d : Database). d.trees) its.settled) in
-      let known = one_schema fresh.now old.now listed live trees in
-      λ i. record { schema = known i; trees = trees i }
+-- what wasn't written is found as it was
+pub found_as_it_was : (old fresh : Connected) → old.now ≡ old.committed → IsDatabase fresh.now → IsDatabase old.now → fresh.now.trees ≡ old.committed.trees → fresh.now ≡ old.now
+found_as_it_was old fresh settled listed live is =
+    let trees : fresh.now.trees ≡ old.now.trees = is ∙ sym (ap (λ (d : Database). d.trees) settled) in
+    let known = one_schema fresh.now old.now listed live trees in
+    λ i. record { schema = known i; trees = trees i }
+
+-- what was brought to this version holds a shop, and is opened as it
+pub found_brought : (from : ℕ) (old fresh opened : Connected) → IsOpenAt old.now old → IsOfVersion from old.now → IsDatabase fresh.now → MayBeMigrated old fresh.now.trees
+    → (head : ShopRow) × (t : Tables) × (s : State) × HoldsShopAt from head t s (map (λ r. r.kept) t.kept) old × IsOpenedAsBefore head t s (map (λ r. r.kept) t.kept) fresh.now opened
+found_brought from old fresh opened at of listed may =
+    let is : from ≡ may.from = may.version_is at from of in
+    let known : old.now.schema ≡ schema_of_version may.from = of.known ∙ ap schema_of_version is in
+    let ks = map (λ r. r.kept) may.tables.kept in
+    let its = may.held at known in
+    let holds = may.holds at known in
+    let declared : fresh.now.schema ≡ schema = one_schema fresh.now (record { schema = schema; trees = fresh.now.trees }) listed holds.0 refl in
+    (may.head, may.tables, may.office, subst (λ v. HoldsShopAt v may.head may.tables may.office ks old) (sym is) its, as_before may.from may.head may.tables may.office ks old opened its fresh.now declared holds.1)

@@ -1,5 +1,5 @@
 -- A shop's file that was opened, and what is wrong with one that isn't.
-use Rattle.std.specs.Prelude.{◌≡◌, ◌⊎◌, ℕ, ◌<◌, ◌≤◌, List, IsTrue, map}
+use Rattle.std.specs.Prelude.{◌≡◌, ◌⊎◌, ℕ, ◌<◌, ◌≤◌, Bool, List, IsTrue, map}
 use Rattle.sqlite_trees.specs.Tree.{Trees}
 use Rattle.sqlite.specs.Effect.{Database}
 use Rattle.sqlite.specs.State.{State as Connected}
@@ -25,7 +25,7 @@ use Rattle.bo_opens.specs.Read.{tables_of}
 use Rattle.bo_opens.specs.Stopped.{IsStopped}
 use Rattle.bo_opens.specs.Numbers.{Rise}
 use Rattle.bo_columns.specs.declared.table_rows.TableRows.{TableRows}
-use Rattle.bo_arrange.specs.Arranged.{arranged, rows_in, IsInOrder}
+use Rattle.bo_arrange.specs.Arranged.{arranged, rows_in, ArePaired, AreReadInOrder}
 use Rattle.bo_tables.specs.Shops.{HoldsWhileOpen, IsOfHouse, Leaves, house_of_rows}
 
 -- ---- what is wrong
@@ -36,27 +36,29 @@ RowsRise rows =
     Rise (map (λ r. r.rowid) rows.catalogue.quota_items.items) × Rise (map (λ r. r.rowid) rows.catalogue.quota_variations.items) × Rise (map (λ r. r.rowid) rows.doors.list_items.items)
     × Rise (map (λ r. r.rowid) rows.others.kept.items)
 
--- the rows keep the rule; to that of ids it belongs that each token's is below the next one, and to that of names that each member of a
--- quota or a check-in list is of one that stands
-abbrev pub KeepsIn : ShopRow → List Token → OfficeRows → File → Rule → Type 0
-KeepsIn shop tokens rows file rules.Ids = AreBelowNext shop tokens × Keeps rules.Ids file
-KeepsIn shop tokens rows file rules.Names = AreRowsOf file.state.lists rows × Keeps rules.Names file
-KeepsIn shop tokens rows file rule = Keeps rule file
+-- the rows keep the rule; to that of ids it belongs that each token's is below the next one, to that of names that each member of a
+-- quota or a check-in list is of one that stands, and so is each budget and discount, and to that of counters that each count has its exits
+-- and each voucher what is spent of it, and no other has any
+abbrev pub KeepsIn : ShopRow → List Token → OfficeRows → Type 0 → File → Rule → Type 0
+KeepsIn shop tokens rows paired file rules.Ids = AreBelowNext shop tokens × Keeps rules.Ids file
+KeepsIn shop tokens rows paired file rules.Names = AreRowsOf file.state.lists rows × Keeps rules.Names file
+KeepsIn shop tokens rows paired file rules.Counters = paired × Keeps rules.Counters file
+KeepsIn shop tokens rows paired file rule = Keeps rule file
 
 -- all rules before it are kept, and it isn't
-pub record IsLeastIn (shop : ShopRow) (tokens : List Token) (rows : OfficeRows) (file : File) (rule : Rule) : Type 0 where
-  pub before : (other : Rule) → number other < number rule → KeepsIn shop tokens rows file other
-  pub broken : ¬ KeepsIn shop tokens rows file rule
+pub record IsLeastIn (shop : ShopRow) (tokens : List Token) (rows : OfficeRows) (paired : Type 0) (file : File) (rule : Rule) : Type 0 where
+  pub before : (other : Rule) → number other < number rule → KeepsIn shop tokens rows paired file other
+  pub broken : ¬ KeepsIn shop tokens rows paired file rule
 
 -- the least rule that what was read breaks
 abbrev pub IsLeastOf : FileTables → Rule → Type 0
-IsLeastOf read rule = IsLeastIn read.shop read.tables.others.tokens.items (rows_in read.tables) (arranged read.shop read.tables) rule
+IsLeastOf read rule = IsLeastIn read.shop read.tables.others.tokens.items (rows_in read.tables) (ArePaired read.tables) (arranged read.shop read.tables) rule
 
 -- what trees show was read, and of the rows by id it is the least rule that is broken
 pub record IsDamagedBy (rule : Rule) (db : Trees) : Type 0 where
   pub read : FileTables
   pub held : Holds db (tables_of read)
-  pub order : IsInOrder (arranged read.shop read.tables)
+  pub order : AreReadInOrder read.shop read.tables
   pub least : IsLeastOf read rule
 
 -- why rows that were read are no office: 62 because of that rule, 63 because they don't rise by their numbers, and neither 60 nor 61
@@ -64,16 +66,18 @@ abbrev pub IsWhy : FileTables → OpenError → Type 0
 IsWhy read Memory = Unit {0}
 IsWhy read NotAShop = ⊥
 IsWhy read (Version version) = ⊥
-IsWhy read (Damaged rule) = IsInOrder (arranged read.shop read.tables) × IsLeastOf read rule
-IsWhy read Store = ¬ (RowsRise read.tables × IsInOrder (arranged read.shop read.tables))
+IsWhy read (Damaged rule) = AreReadInOrder read.shop read.tables × IsLeastOf read rule
+IsWhy read Store = ¬ (RowsRise read.tables × AreReadInOrder read.shop read.tables)
 
--- why rows that keep the first rules are no office: for want of memory, or because of the least rule that they break
-abbrev pub IsBroken : File → OpenError → Type 0
-IsBroken file Memory = Unit {0}
-IsBroken file NotAShop = ⊥
-IsBroken file (Version version) = ⊥
-IsBroken file (Damaged rule) = IsLeastBroken rule file
-IsBroken file Store = ⊥
+-- why rows that keep the first rules are no office: for want of memory; because of the least rule that they break, which isn't that of budgets
+-- where counters aren't paired; or because of that of counters, where they aren't paired and each rule before it is kept
+abbrev pub IsBroken : Bool → File → OpenError → Type 0
+IsBroken paired file Memory = Unit {0}
+IsBroken paired file NotAShop = ⊥
+IsBroken paired file (Version version) = ⊥
+IsBroken paired file (Damaged rule) =
+    (IsLeastBroken rule file × (rule ≡ rules.Budgets → IsTrue paired)) ⊎ ((rule ≡ rules.Counters) × (¬ IsTrue paired) × ((other : Rule) → number other < number rules.Counters → Keeps other file))
+IsBroken paired file Store = ⊥
 
 -- Why each refusal is told: 60, 61, and 62 by the first two rules, as where the file is read; or all could be read, and 62 is told by the
 -- least rule that the rows by id break, where the tables are declared as ours.

@@ -17,21 +17,22 @@ use Rattle.bo_opens.specs.Lawful.{IsOfMachine}
 use Rattle.bo_tables.specs.Begun.{of_this_version}
 use Rattle.bo_tables.specs.Shops.{IsOfHouse, house_of_rows}
 use Rattle.bo_file.specs.Opened.{IsOpened, IsReason}
+use Rattle.bo_file.specs.Supplied.{supplied}
 
--- An open connection shows what was committed, in tables of that version, which hold this sound box office with these answers. All values
--- but the version are what their types promise.
+-- tables hold an office with the answers that they have, and are what their types promise
+abbrev pub StandTyped : ShopRow → State → Tables → Type 0
+StandTyped head s t = Stand head t s (map (λ r. r.kept) t.kept) × IsTypedShop (of_this_version head) t
+
+-- An open connection shows what was committed, in tables of that version, which hold this sound box office with these answers, where the rows
+-- that they lack are supplied. All values but the version are what their types promise.
 pub record HoldsShopAt (version : ℕ) (head : ShopRow) (t : Tables) (s : State) (answers : List Kept) (c : Connected) : Type 0 where
   pub is_open : IsTrue c.is_open
   pub settled : c.now ≡ c.committed
   pub known : c.now.schema ≡ schema_of_version version
   pub held : HoldsAt version c.now.trees t
-  pub stand : Stand head t s answers
-  pub typed : IsTypedShop (of_this_version head) t
+  pub stand : Stand head (supplied version t) s answers
+  pub typed : IsTypedShop (of_this_version head) (supplied version t)
   pub sound : IsSound s
-
--- some tables of it, with the answers that stand in them
-abbrev pub HoldsAShopAt : ℕ → ShopRow → State → Connected → Type 0
-HoldsAShopAt version head s c = (t : Tables) × HoldsShopAt version head t s (map (λ r. r.kept) t.kept) c
 
 -- The tables are declared as ours, and the file is refused for want of memory or because the store fails, and never with 60, 61 or 62.
 -- What it is opened as is that shop, of this version: its row, its box office, its answers, and its house with the numbers of its tokens.

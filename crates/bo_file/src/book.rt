@@ -1,12 +1,13 @@
 //! A book of the rows of a file.
 
-ghost use Rattle.std.specs.Prelude.{◌≡◌, ◌≤◌, ℕ, map, IfOk, IfErr, OnOk};
+ghost use Rattle.std.specs.Prelude.{◌≡◌, ◌≤◌, ◌⊎◌, ℕ, Some, None, map, IfOk, IfErr, IfSome, IfNone, OnOk, IsTrue};
 ghost use Rattle.bo_lists.specs.Lists.{empty};
 ghost use Rattle.bo_sound.specs.Sound.{IsSound};
 ghost use Rattle.bo_columns.specs.Tables.{Tables};
 ghost use Rattle.bo_stand.specs.Free.{IsFree};
 ghost use Rattle.bo_stand.specs.Stands.{Stand};
 ghost use Rattle.bo_rules.specs.declared.rule.Rule.{Rule};
+ghost use Rattle.bo_rules.specs.declared.rule.Rule.TheVariants.{Counters, Budgets};
 ghost use Rattle.bo_rules.specs.Rules.{Keeps};
 ghost use Rattle.bo_rules.specs.Told.{state_of, file_of};
 ghost use Rattle.bo_checks.specs.Last.{KeepsFirst};
@@ -20,7 +21,7 @@ use bo_checks::last_broken;
 use bo_columns::ShopRow;
 use bo_fill::fill;
 use bo_opens::{FileTables, OpenError};
-use bo_rules::FileRows;
+use bo_rules::{FileRows, Rule};
 use bo_usage::Book;
 use std::alloc::Global;
 
@@ -35,19 +36,36 @@ pub struct Reopened<B: Book + Drop> {
     pub book: B,
 }
 
+// The least rule that is broken, where that of counters is too if they aren't paired. That of budgets comes behind it.
+fn with_pairs(broken: Option<Rule>, paired: bool) -> Option<Rule>
+    ensures kept { IfNone result ((broken ≡ None) × IsTrue paired) }
+    ensures told { IfSome result (λ rule. ((broken ≡ Some rule) × (rule ≡ Budgets → IsTrue paired)) ⊎ ((rule ≡ Counters) × (¬ IsTrue paired) × ((broken ≡ None) ⊎ (broken ≡ Some Budgets)))) }
+{
+    if paired {
+        return broken;
+    }
+    match broken {
+        None | Some(Rule::Budgets) => Some(Rule::Counters),
+        Some(rule) => Some(rule),
+    }
+}
+
 // An empty book, filled with rows that keep the first rules, where they keep the others too; and whose shop it is.
-// Refusals: 6, and 62 by rules 4 to 7.
+// The counts have to be paired with their exits, and the vouchers with what is spent of them.
+// Refusals: 6, and 62 by rules 4 to 8.
 fn book_of<B: Book + Drop>(
     alloc: Global,
     book: B,
     rows: FileRows,
+    paired: bool,
 ) -> Result<(B, (Slug, Slug)), OpenError>
     requires empty { B.state book ≡ empty }
     requires first { KeepsFirst (file_of rows) }
     ensures state { IfOk result (λ it. B.state it.0 ≡ state_of rows) }
     ensures names { IfOk result (λ it. (it.1.0 ≡ rows.organizer) × (it.1.1 ≡ rows.event)) }
     ensures kept { OnOk result ((rule : Rule) → Keeps rule (file_of rows)) }
-    ensures refused { IfErr result (IsBroken (file_of rows)) }
+    ensures paired { OnOk result (IsTrue paired) }
+    ensures refused { IfErr result (IsBroken paired (file_of rows)) }
 {
     let mut book = book;
     match fill(alloc, &mut book, rows) {
@@ -58,8 +76,10 @@ fn book_of<B: Book + Drop>(
                 aside.used.as_slice(),
                 aside.redeemed.as_slice(),
             ) {
-                Ok(None) => Ok((book, (aside.organizer, aside.event))),
-                Ok(Some(rule)) => Err(OpenError::Damaged(rule)),
+                Ok(broken) => match with_pairs(broken, paired) {
+                    None => Ok((book, (aside.organizer, aside.event))),
+                    Some(rule) => Err(OpenError::Damaged(rule)),
+                },
                 Err(_) => Err(OpenError::Memory),
             }
         }
@@ -87,7 +107,7 @@ pub(crate) fn open_rows<B: Book + Drop>(
         return Err(OpenError::Store);
     };
     match first_kept(alloc, &shop, tables) {
-        Ok(rows) => match book_of(alloc, book, rows) {
+        Ok((rows, paired)) => match book_of(alloc, book, rows, paired) {
             Ok((book, (organizer, event))) => Ok(Reopened {
                 head: shop,
                 organizer,

@@ -24,7 +24,10 @@ ghost use Rattle.bo_deliveries.specs.Shops.{Stands, stood};
 ghost use Rattle.bo_deliveries.specs.Histories.{Event, Crashed, Running, MayLeave, Happens, ComesTo, IsRunning, Reopened, opened};
 ghost use Rattle.bo_tables.specs.Made.{IsMade};
 ghost use Rattle.bo_tables.specs.Tokens.{house_with, raised, next_one};
+ghost use Rattle.bo_opens.specs.Rests.{IsOpenAt};
 ghost use Rattle.bo_file.specs.Found.{IsFound};
+ghost use Rattle.bo_file.specs.Migrated.{IsMigrated, IsOfVersion, MayBeMigrated};
+ghost use Rattle.bo_file.specs.Supplied.{lacking_exits, lacking_spents};
 ghost use Rattle.bo_file.specs.Upgraded.{HoldsShopAt, IsOpenedAsBefore};
 
 use bo_kept::Tables;
@@ -154,11 +157,31 @@ pub fn an_upgrade_is_in_or_out<S: Alter>(
     opened: &Connection<S>,
 )
     ensures done { (from : ℕ) (head : ShopRow) (t : Held) (s : State) (ks : List Kept) → HoldsShopAt from head t s ks (state S.Store old.now)
-        → IsWritten (IsUpgraded (of_this_version head) from) (state S.Store old.now) (state S.Store new.now) → IsOpenedAsBefore head t s ks (state S.Store new.now).now (state S.Store opened.now) }
+        → IsWritten (IsUpgraded (of_this_version head) (lacking_exits from t.counts) (lacking_spents from t.vouchers) from) (state S.Store old.now) (state S.Store new.now) → IsOpenedAsBefore head t s ks (state S.Store new.now).now (state S.Store opened.now) }
     ensures crash { (from : ℕ) (head : ShopRow) (t : Held) (s : State) (ks : List Kept) → HoldsShopAt from head t s ks (state S.Store old.now)
-        → Survives (state S.Store old.now) (state S.Store new.now) (MayBeWritten (schema_of_version from) (λ (_ : Unit {0}). IsUpgraded (of_this_version head) from) (state S.Store old.now))
+        → Survives (state S.Store old.now) (state S.Store new.now) (MayBeWritten (schema_of_version from) (λ (_ : Unit {0}). IsUpgraded (of_this_version head) (lacking_exits from t.counts) (lacking_spents from t.vouchers) from) (state S.Store old.now))
         → IsFound (state S.Store new.now) (state S.Store fresh.now)
         → ((state S.Store fresh.now).now ≡ (state S.Store old.now).now) ⊎ IsOpenedAsBefore head t s ks (state S.Store fresh.now).now (state S.Store opened.now) }
+{
+    schema_known(old);
+    let _ = new;
+    schema_known(fresh);
+    let _ = opened;
+}
+
+/// A file that was brought to this program's version is opened as the shop that it held, with its answers and its tokens. After a crash
+/// while it was, it is as it was, or it is opened as the shop that it held.
+pub fn a_migration_is_in_or_out<S: Alter>(
+    old: &Connection<S>,
+    new: &Connection<S>,
+    fresh: &Connection<S>,
+    opened: &Connection<S>,
+)
+    ensures done { (from : ℕ) (it : IsMigrated from (state S.Store old.now) (state S.Store new.now)) → IsOpenedAsBefore it.head it.tables it.office (map (λ r. r.kept) it.tables.kept) (state S.Store new.now).now (state S.Store opened.now) }
+    ensures crash { (from : ℕ) → IsOpenAt (state S.Store old.now).now (state S.Store old.now) → IsOfVersion from (state S.Store old.now).now
+        → Survives (state S.Store old.now) (state S.Store new.now) (MayBeMigrated (state S.Store old.now)) → IsFound (state S.Store new.now) (state S.Store fresh.now)
+        → ((state S.Store fresh.now).now ≡ (state S.Store old.now).now)
+        ⊎ ((head : ShopRow) × (t : Held) × (s : State) × HoldsShopAt from head t s (map (λ r. r.kept) t.kept) (state S.Store old.now) × IsOpenedAsBefore head t s (map (λ r. r.kept) t.kept) (state S.Store fresh.now).now (state S.Store opened.now)) }
 {
     schema_known(old);
     let _ = new;

@@ -1,6 +1,6 @@
 //! Laws of a shop's file.
 
-ghost use Rattle.std.specs.Prelude.{◌≡◌, ◌≢◌, ◌⊎◌, ℕ, pos, List, map};
+ghost use Rattle.std.specs.Prelude.{◌≡◌, ◌≢◌, ◌≤◌, ◌⊎◌, ℕ, pos, List, map};
 ghost use Rattle.sqlite.specs.Held.{state};
 ghost use Rattle.bo_schema.specs.Tables.{schema, this_version};
 ghost use Rattle.bo_lists.specs.Lists.{State, empty};
@@ -17,6 +17,7 @@ ghost use Rattle.bo_opens.specs.Lawful.{IsOfMachine};
 ghost use Rattle.bo_tables.specs.Shops.{Keeps};
 ghost use Rattle.bo_tables.specs.Made.{first_shop, IsMade};
 ghost use Rattle.bo_file.specs.Opened.{IsDamagedBy, IsReason, IsOpened};
+ghost use Rattle.bo_file.specs.Refusals.{IsUnmigrated};
 ghost use Rattle.bo_file.specs.Upgraded.{HoldsShopAt};
 
 use sqlite::{Alter, Connection};
@@ -56,6 +57,15 @@ pub fn what_is_made_is_opened<S: Alter>(
 pub fn another_version_is_told<S: Alter>(held: &Connection<S>)
     ensures { (from : ℕ) (head : ShopRow) (t : Tables) (s : State) (ks : List Kept) → HoldsShopAt from head t s ks (state S.Store held.now) → head.version ≢ this_version
         → (error : OpenError) → IsReason (state S.Store held.now).now error → (error ≡ Version (pos head.version)) ⊎ IsOfMachine error }
+{
+    let _ = held;
+}
+
+/// A file that holds a shop of a version of ours, which the shop's row tells, is brought to this program's, or refused for want of memory or
+/// because the store fails, and never with 60, 61 or 62.
+pub fn what_is_whole_is_migrated<S: Alter>(held: &Connection<S>)
+    ensures { (from : ℕ) (head : ShopRow) (t : Tables) (s : State) (ks : List Kept) → HoldsShopAt from head t s ks (state S.Store held.now) → head.version ≡ from → 1 ≤ from → from ≤ this_version
+        → (error : OpenError) → IsUnmigrated (state S.Store held.now).now error → IsOfMachine error }
 {
     let _ = held;
 }

@@ -7,8 +7,11 @@ mod book;
 pub mod crashes;
 mod earlier;
 pub mod laws;
+pub mod migrating;
 pub mod opening;
 mod reopening;
 mod rows;
+mod supply;
 
+pub use migrating::migrate;
 pub use opening::open_file;

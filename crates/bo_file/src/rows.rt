@@ -3,6 +3,7 @@
 ghost use Rattle.std.specs.Prelude.{◌≡◌, ◌⊎◌, ◌↔◌, ◌≤◌, ℕ, List, IfOk, IfErr, IfSome, IfNone, OnOk, IsTrue};
 ghost use Rattle.bo_columns.specs.declared.rows.ShopRow.{ShopRow as Head};
 ghost use Rattle.bo_columns.specs.declared.rows.Token.{Token as TokenRow};
+ghost use Rattle.bo_columns.specs.declared.table_rows.TableRows.{TableRows};
 ghost use Rattle.bo_columns.specs.Tables.{Tables};
 ghost use Rattle.bo_stand.specs.Free.{IsFree};
 ghost use Rattle.bo_stand.specs.Rows.{OfficeRows};
@@ -13,7 +14,7 @@ ghost use Rattle.bo_checks.specs.Last.{KeepsFirst};
 ghost use Rattle.bo_opens.specs.declared.file.FileTables.{FileTables};
 ghost use Rattle.bo_opens.specs.Read.{AreTableRows};
 ghost use Rattle.bo_arrange.specs.declared.error.ArrangeError.TheVariants.{Order};
-ghost use Rattle.bo_arrange.specs.Arranged.{arranged, rows_in, told_by, IsInOrder};
+ghost use Rattle.bo_arrange.specs.Arranged.{arranged, rows_in, told_by, ArePaired, AreReadInOrder};
 ghost use Rattle.bo_typed.specs.Typed.{AreBelowNext};
 ghost use Rattle.bo_file.specs.Opened.{IsLeastIn, IsWhy, RowsRise};
 
@@ -61,7 +62,7 @@ fn broken_beside(numbered: bool, whole: bool) -> Option<Rule>
 fn broken_in(rows: &FileRows, numbered: bool, whole: bool) -> Option<Rule>
     ensures whole { IfNone result (IsTrue numbered × IsTrue whole) }
     ensures kept { IfNone result (KeepsFirst (file_of rows.now)) }
-    ensures broken { IfSome result (λ rule. (shop : Head) (tokens : List TokenRow) (links : OfficeRows) → (IsTrue numbered ↔ AreBelowNext shop tokens) → (AreRowsOf (file_of rows.now).state.lists links → IsTrue whole) → IsLeastIn shop tokens links (file_of rows.now) rule) }
+    ensures broken { IfSome result (λ rule. (shop : Head) (tokens : List TokenRow) (links : OfficeRows) (tables : TableRows) → (IsTrue numbered ↔ AreBelowNext shop tokens) → (AreRowsOf (file_of rows.now).state.lists links → IsTrue whole) → IsLeastIn shop tokens links (ArePaired tables) (file_of rows.now) rule) }
 {
     match first_broken(rows) {
         Some(rule) => Some(rule),
@@ -71,7 +72,7 @@ fn broken_in(rows: &FileRows, numbered: bool, whole: bool) -> Option<Rule>
 
 // What a refusal to arrange rows means.
 fn unarranged(error: ArrangeError) -> OpenError
-    ensures { (read : FileTables) → (error ≡ Order → ¬ IsInOrder (arranged read.shop read.tables)) → IsWhy read result }
+    ensures { (read : FileTables) → (error ≡ Order → ¬ AreReadInOrder read.shop read.tables) → IsWhy read result }
 {
     match error {
         ArrangeError::Memory => OpenError::Memory,
@@ -86,19 +87,26 @@ pub(crate) fn first_kept(
     alloc: Global,
     shop: &ShopRow,
     tables: TableRows,
-) -> Result<FileRows, OpenError>
-    ensures told { IfOk result (λ rows. file_of rows ≡ arranged shop.now tables) }
-    ensures order { OnOk result (IsInOrder (arranged shop.now tables)) }
+) -> Result<(FileRows, bool), OpenError>
+    ensures told { IfOk result (λ it. file_of it.0 ≡ arranged shop.now tables) }
+    ensures paired { IfOk result (λ it. IsTrue it.1 ↔ ArePaired tables) }
+    ensures order { OnOk result (AreReadInOrder shop.now tables) }
     ensures numbered { OnOk result (AreBelowNext shop.now tables.others.tokens.items) }
     ensures whole { OnOk result (AreRowsOf (told_by (rows_in tables)) (rows_in tables)) }
-    ensures kept { IfOk result (λ rows. KeepsFirst (file_of rows)) }
+    ensures kept { IfOk result (λ it. KeepsFirst (file_of it.0)) }
     ensures refused { IfErr result (IsWhy (record { shop = shop.now; tables = tables })) }
 {
     let numbered = are_below(shop, tables.others.tokens.as_slice());
     match arrange(alloc, shop, tables) {
-        Ok(Arranged { rows, whole }) => match broken_in(&rows, numbered, whole) {
+        Ok(
+            Arranged {
+                rows,
+                whole,
+                paired,
+            },
+        ) => match broken_in(&rows, numbered, whole) {
             Some(rule) => Err(OpenError::Damaged(rule)),
-            None => Ok(rows),
+            None => Ok((rows, paired)),
         },
         Err(error) => Err(unarranged(error)),
     }

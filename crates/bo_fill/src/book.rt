@@ -1,8 +1,7 @@
 //! The book of a file: its rows are put, table by table.
 
-ghost use Rattle.std.specs.Prelude.{◌≡◌, ◌≤◌, ℕ, IfOk, OnOk};
+ghost use Rattle.std.specs.Prelude.{◌≡◌, ◌≤◌, OnOk};
 ghost use Rattle.bo_lists.specs.Change.{applied};
-ghost use Rattle.bo_lists.specs.Lists.{empty};
 
 use bo_base::Moment;
 use bo_lists::{Change, Changes, NextIds};

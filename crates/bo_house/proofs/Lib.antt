@@ -3,3 +3,4 @@ mod TokenLemmas
 mod ActLemmas
 mod ImportLemmas
 mod ExportLemmas
+pub mod MigrateLemmas

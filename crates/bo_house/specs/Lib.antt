@@ -8,3 +8,5 @@ pub mod Reported
 pub mod Exported
 pub mod Shelved
 pub mod Evening
+pub mod Migrated
+pub mod Asked

@@ -11,6 +11,7 @@ use crate::exporting::export_shop;
 use crate::filed::Filed;
 use crate::importing::import_shop;
 use crate::making::make_new_shop;
+use crate::migrating::migrate_shop;
 use crate::reporting::report_shop;
 use crate::serving::serve_shop;
 use crate::shelf::Shelf;
@@ -110,7 +111,7 @@ impl<
     ghost use Rattle.bo_house.specs.Exported.{IsExported};
     ghost use Rattle.bo_house.specs.Filed.{AddsTokenIn, MakesShopIn};
     ghost use Rattle.bo_house.specs.Imported.{IsOpenedAndImported};
-    ghost use Rattle.bo_house.specs.Reported.{IsOpenedAndReported};
+    ghost use Rattle.bo_house.specs.Asked.{TellsOf};
     ghost use Rattle.bo_house.specs.Served.{IsOpenedAndServed, StaysUnopened};
     ghost use Rattle.bo_house.specs.Shelved.{IsGiven, IsMissing, IsShelved, IsTaken};
     ghost use Rattle.bo_house.specs.Worked.{IsOpenedAndWorked};
@@ -130,7 +131,7 @@ impl<
         (state S.Store connection) left came ⊎ StaysUnopened S.Store (state S.Store connection) left came) file outcome };
 
     ghost reported = { λ file report outcome. IsShelved (IsGiven F.stood F.gives true) (IsMissing F.stood F.refuses) (λ connection left came.
-        IsOpenedAndReported S.Store report (state S.Store connection) left came ⊎ StaysUnopened S.Store (state S.Store connection) left came) file outcome };
+        TellsOf S.Store report (state S.Store connection) left came) file outcome };
 
     ghost exported = { λ file text outcome. IsShelved (IsGiven F.stood F.gives true) (λ file fault. IsMissing F.stood F.refuses file fault × (text ≡ [])) (λ connection left came.
         IsExported S.Store text (state S.Store connection) left came) file outcome };
@@ -179,7 +180,10 @@ impl<
 
     fn report(&self, alloc: Global, file: &str, report: Report) -> Result<Body, RunFault> {
         let connection = self.found(file)?;
-        self.ended(report_shop(self.rt, alloc, connection, report))
+        match report {
+            Report::Version => self.ended(migrate_shop(self.rt, alloc, connection)),
+            _ => self.ended(report_shop(self.rt, alloc, connection, report)),
+        }
     }
 
     fn export<W: Drain>(&self, alloc: Global, file: &str, writer: &mut W) -> Result<(), RunFault> {

@@ -13,6 +13,7 @@ pub mod house;
 pub mod importing;
 pub mod laws;
 pub mod making;
+pub mod migrating;
 mod opening;
 mod progress;
 pub mod reporting;

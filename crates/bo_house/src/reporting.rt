@@ -50,8 +50,8 @@ fn version_text(alloc: Global, version: u64) -> Result<Vec<u8>, AllocError>
     Ok(text)
 }
 
-// The version of tables.
-fn version_of(alloc: Global, version: u64) -> Result<Body, RunFault>
+/// The version of tables.
+pub(crate) fn version_of(alloc: Global, version: u64) -> Result<Body, RunFault>
     ensures { (lists : Lists) → IsReport Report.Version version lists result }
 {
     match version_text(alloc, version) {
@@ -80,10 +80,9 @@ fn report_opened<S: Alter + Drop, B: Dues + Drop>(
     }
 }
 
-/// `report` and `migrate`: opens the shop in a database, and tells what was sold, item by item, or who came in by a check-in list, or that its
-/// tables are of version 1, as a text. Faults: 60, 61 and 62 where the database holds no shop that
-/// is whole, each for its cause alone, 50 where it has no list of that number, 63 and 6. Nothing has changed in the database, whose tables
-/// have been of no other version so far.
+/// `report`: opens the shop in a database, and tells what was sold, item by item, or who came in by a check-in list, as a text. Faults:
+/// 60, 61 and 62 where the database holds no shop that is whole, each for its cause alone, 50 where it has no list of that number, 63 and 6.
+/// Nothing has changed in the database.
 pub fn report_shop<O: Console, S: Alter + Drop>(
     rt: &O,
     alloc: Global,

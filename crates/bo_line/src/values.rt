@@ -61,7 +61,7 @@ pub enum Report {
     Sales,
     /// Who came in by the check-in list of this number.
     Door(u64),
-    /// Of which version its tables are: what `migrate` prints.
+    /// Of which version its tables are, once `migrate` has brought them to this program's.
     Version,
 }
 

@@ -14,7 +14,7 @@ const SHOPS_FILE: &str = "The shop's file";
 
 // What follows the program's name where its version is asked for: the version, whose first number is that of the tables which it opens; that
 // of the tables; and the kit by which it is proved and compiled, as `rt version` prints it.
-const VERSION: &str = "1.0.0\ntables: version 1\nkit: rattle-kit-13f logic dac8208d650f15bf";
+const VERSION: &str = "3.0.0\ntables: version 3\nkit: rattle-kit-13f logic dac8208d650f15bf";
 
 /// The version of the program, as `--version` names it first.
 pub fn program_version() -> &'static str {
@@ -43,7 +43,7 @@ pub enum Line<'a> {
     Export(FileLine<'a>),
     /// `import-vouchers`: vouchers of a CSV file for the shop in a file.
     Import(ImportLine<'a>),
-    /// `migrate`: the version of the tables of the shop in a file.
+    /// `migrate`: the shop in a file is brought to this program's version.
     Migrate(FileLine<'a>),
 }
 
@@ -337,7 +337,7 @@ fn migrate_command<'a>(alloc: Global) -> Result<Command<'a>, AllocError>
     file_command(
         alloc,
         "migrate",
-        "Checks that a shop's file has the tables of this program's version, and prints it",
+        "Brings a shop's file to this program's version, and prints the version",
         "Example:\n  boxoffice migrate hall.db",
         SHOPS_FILE,
     )

@@ -9,15 +9,15 @@ use Rattle.bo_lists.specs.declared.rows.Voucher.{Voucher}
 use Rattle.bo_lists.specs.declared.count_rows.QuotaCount.{QuotaCount}
 use Rattle.bo_lists.specs.declared.count_rows.VoucherCount.{VoucherCount}
 use Rattle.bo_lists.specs.Lists.{State, voucher_at}
-use Rattle.bo_lists.specs.Usage.{usage_of, redeemed}
+use Rattle.bo_lists.specs.Usage.{usage_of, redeemed, spent}
 
 -- what uses a quota now
 abbrev pub quota_count : State → Quota → QuotaCount
 quota_count state quota = record { quota = quota.id; usage = usage_of state.lists state.moment quota }
 
--- how often a voucher is redeemed
+-- how often a voucher is redeemed, and what is spent of its budget
 abbrev pub voucher_count : State → Voucher → VoucherCount
-voucher_count state voucher = record { voucher = voucher.id; redeemed = redeemed voucher.id state.lists }
+voucher_count state voucher = record { voucher = voucher.id; redeemed = redeemed voucher.id state.lists; spent = spent voucher.id state.lists }
 
 abbrev pub quota_counts : State → List QuotaCount
 quota_counts state = map (quota_count state) state.lists.catalogue.quotas
@@ -32,7 +32,7 @@ abbrev pub same_quota_count : QuotaCount → QuotaCount → Bool
 same_quota_count a b = a.quota == b.quota && same_usage a.usage b.usage
 
 abbrev pub same_voucher_count : VoucherCount → VoucherCount → Bool
-same_voucher_count a b = a.voucher == b.voucher && a.redeemed == b.redeemed
+same_voucher_count a b = a.voucher == b.voucher && (a.redeemed == b.redeemed && a.spent == b.spent)
 
 -- the counts that are to be written where an office comes after another one: those of the quotas and vouchers that are new,
 -- or whose counts differ; and the vouchers that are gone

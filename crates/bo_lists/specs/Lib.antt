@@ -10,6 +10,7 @@ pub mod Kept
 pub mod Over
 pub mod Refills
 pub mod Headroom
+pub mod Budgets
 pub mod Fits
 pub mod Named
 pub mod Ordered

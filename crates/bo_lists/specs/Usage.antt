@@ -30,6 +30,14 @@ uses id lists position = names id position.voucher && stands_as is_in_force (ord
 abbrev pub redeemed : ℕ → Lists → ℕ
 redeemed id lists = count_by (uses id lists) lists.positions
 
+-- what an order position that uses the voucher takes of its budget
+abbrev pub spends : ℕ → Lists → OrderPos → ℕ
+spends id lists position = if uses id lists position then position.discount else 0
+
+-- what is spent of the voucher's budget, in cents
+abbrev pub spent : ℕ → Lists → ℕ
+spent id lists = sum_by (spends id lists) lists.positions
+
 -- the places that it blocks there
 unfoldable pub blocked_by : Lists → ℕ → Quota → Voucher → ℕ
 blocked_by lists at quota voucher = if blocks at quota voucher then voucher.max_usages - redeemed voucher.id lists else 0

@@ -12,11 +12,12 @@ pub struct QuotaCount {
     pub usage: Usage,
 }
 
-/// How often a voucher is redeemed.
+/// How often a voucher is redeemed, and what is spent of its budget, in cents.
 #[derive(Clone, Copy, PartialEq, Eq)]
 pub struct VoucherCount {
     pub voucher: u64,
     pub redeemed: u64,
+    pub spent: u64,
 }
 
 /// The counts that are to be written: of the quotas and vouchers that are new or whose counts differ, and the ids of the

@@ -19,6 +19,7 @@ use std::alloc::{AllocError, Global};
 
 /// A voucher. Its `value` is in cents, or in hundredths of a percent where the mode is percent.
 /// It is live up to and at `valid_until`. Tag and comment may be empty.
+/// `budget` is what its positions may take off prices together; none is no limit.
 #[derive(Drop)]
 pub struct Voucher {
     pub id: u64,
@@ -34,6 +35,7 @@ pub struct Voucher {
     pub quota: Option<u64>,
     pub tag: Text,
     pub comment: Text,
+    pub budget: Option<Cents>,
 }
 
 /// A place that is held in a cart, up to and at the moment `expires`.
@@ -68,6 +70,7 @@ pub struct Order {
 }
 
 /// One ticket of an order. `positionid` counts an order's positions from 1.
+/// `discount` is what its voucher took off the base price; without a voucher it is 0.
 #[derive(Drop)]
 pub struct OrderPos {
     pub id: u64,
@@ -77,6 +80,7 @@ pub struct OrderPos {
     pub price: Cents,
     pub voucher: Option<u64>,
     pub secret: Text,
+    pub discount: Cents,
 }
 
 /// An order with its positions, by their numbers.
@@ -338,6 +342,7 @@ impl Voucher {
             quota: self.quota,
             tag: self.tag.copy(alloc)?,
             comment: self.comment.copy(alloc)?,
+            budget: self.budget,
         })
     }
 
@@ -458,6 +463,7 @@ impl OrderPos {
             price: self.price,
             voucher: self.voucher,
             secret: self.secret.copy(alloc)?,
+            discount: self.discount,
         })
     }
 }

@@ -30,8 +30,13 @@ use Rattle.bo_lists.specs.declared.rows.Checkin.{Checkin}
 use Rattle.bo_columns.specs.declared.rows.CountRow.{CountRow}
 use Rattle.bo_columns.specs.declared.rows.Token.{Token}
 use Rattle.bo_columns.specs.declared.rows.KeptRow.{KeptRow}
+use Rattle.bo_columns.specs.declared.rows.ReleaseRow.{ReleaseRow}
+use Rattle.bo_columns.specs.declared.rows.ExitRow.{ExitRow}
+use Rattle.bo_columns.specs.declared.rows.BudgetRow.{BudgetRow}
+use Rattle.bo_columns.specs.declared.rows.SpentRow.{SpentRow}
+use Rattle.bo_columns.specs.declared.rows.DiscountRow.{DiscountRow}
 use Rattle.bo_columns.specs.Cells.{number, truth, mode, status, kind, methods, methods_text}
-use Rattle.bo_columns.specs.Rows.{shop_row, item_row, variation_row, quota_row, quota_item_row, quota_variation_row, voucher_row, cart_row, order_row, position_row, waiting_row, list_row, list_item_row, checkin_row, count_row, token_row, kept_row}
+use Rattle.bo_columns.specs.Rows.{shop_row, item_row, variation_row, quota_row, quota_item_row, quota_variation_row, voucher_row, cart_row, order_row, position_row, waiting_row, list_row, list_item_row, checkin_row, count_row, token_row, kept_row, release_row, exit_row, budget_row, spent_row, discount_row}
 
 -- ---- one column
 
@@ -247,6 +252,36 @@ kept_in r = record { rowid = number_in (column r 0); kept = record { token = num
 
 pub kept_back : (w : KeptRow) → kept_in (kept_row w) ≡ w
 kept_back w = rw (methods_back w.kept.response.allow)
+
+abbrev pub release_in : Row → ReleaseRow
+release_in r = record { quota = number_in (column r 0) }
+
+pub release_back : (w : ReleaseRow) → release_in (release_row w) ≡ w
+release_back w = refl
+
+abbrev pub exit_in : Row → ExitRow
+exit_in r = record { quota = number_in (column r 0); exited = number_in (column r 1) }
+
+pub exit_back : (w : ExitRow) → exit_in (exit_row w) ≡ w
+exit_back w = refl
+
+abbrev pub budget_in : Row → BudgetRow
+budget_in r = record { voucher_id = number_in (column r 0); budget = number_in (column r 1) }
+
+pub budget_back : (w : BudgetRow) → budget_in (budget_row w) ≡ w
+budget_back w = refl
+
+abbrev pub spent_in : Row → SpentRow
+spent_in r = record { voucher_id = number_in (column r 0); spent = number_in (column r 1) }
+
+pub spent_back : (w : SpentRow) → spent_in (spent_row w) ≡ w
+spent_back w = refl
+
+abbrev pub discount_in : Row → DiscountRow
+discount_in r = record { position_id = number_in (column r 0); discount = number_in (column r 1) }
+
+pub discount_back : (w : DiscountRow) → discount_in (discount_row w) ≡ w
+discount_back w = refl
 
 -- ---- lists of values of which a table shows the rows
 

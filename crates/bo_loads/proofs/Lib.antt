@@ -19,6 +19,11 @@ pub mod CheckinsLemmas
 pub mod CountsLemmas
 pub mod TokensLemmas
 pub mod KeptLemmas
+pub mod ReleasesLemmas
+pub mod ExitsLemmas
+pub mod BudgetsLemmas
+pub mod SpentsLemmas
+pub mod DiscountsLemmas
 pub mod Back
 pub mod LookupLemmas
 pub mod SinceLemmas

@@ -1,5 +1,5 @@
 -- What the SELECTs of all columns of `quota_items` show.
-use Rattle.std.proofs.Common.{◌≡◌, ◌∷◌, ℕ, List, [], codes, true, false, refl}
+use Rattle.std.proofs.Common.{◌≡◌, ◌∷◌, ℕ, List, [], codes, true, false, refl, arith}
 use Rattle.sqlite_schema.specs.declared.command.Command.TheVariants.{Select}
 use Rattle.sqlite_schema.specs.declared.schema.Schema.{Schema}
 use Rattle.sqlite_resolve.specs.Compile.{first}
@@ -13,11 +13,11 @@ use Rattle.bo_columns.specs.declared.rows.QuotaItem.{QuotaItem}
 use Rattle.bo_columns.specs.Rows.{quota_item_row}
 use Rattle.bo_columns.proofs.OwnedLemmas.{quota_items_are}
 use Rattle.bo_loads.specs.Damage.{IsForReading}
-use Rattle.bo_loads.specs.Alone.{RunsAlone, RunsAloneIn, RunsAloneSince}
-use Rattle.bo_loads.specs.Select.{IsSelect, IsSelectIn, IsSelectSince, IsSelectByOwner}
+use Rattle.bo_loads.specs.Alone.{RunsAloneIn, RunsAloneSince}
+use Rattle.bo_loads.specs.Select.{AsksForIn, IsSelect, IsSelectSince, IsSelectByOwner}
 use Rattle.bo_loads.proofs.Back.{quota_item_in, quota_item_back}
 use Rattle.bo_loads.proofs.Queries.{is_query, query_reads}
-use Rattle.bo_loads.proofs.SinceLemmas.{since_first}
+use Rattle.bo_loads.proofs.SinceLemmas.{Throughout, since_held, since_this}
 
 abbrev pub select_text : List ℕ
 select_text = quota_items_text
@@ -25,9 +25,13 @@ select_text = quota_items_text
 abbrev project : List Term
 project = col 1 0 ∷ col 1 1 ∷ col 1 2 ∷ []
 
-select_reads : AsksFor (Select (plainly (over 4 [] project id_order)) (codes "rowid" ∷ codes "quota_id" ∷ codes "item_id" ∷ [])) select_text × (reads_listing schema select_text ≡ false)
+-- over tables of a schema it is this SELECT, and runs alone
+abbrev Asks : Schema → Type 0
+Asks s = AsksForIn s (Select (plainly (over 4 [] project id_order)) (codes "rowid" ∷ codes "quota_id" ∷ codes "item_id" ∷ [])) select_text × (reads_listing s select_text ≡ false) × RunsAloneIn s select_text
+
+asked : Throughout 1 Asks
 unfolding understood everything
-select_reads = ((refl, (refl, refl)), refl)
+asked = (((refl, (refl, refl)), refl, refl), (((refl, (refl, refl)), refl, refl), (((refl, (refl, refl)), refl, refl), tt)))
 
 asks : is_query (first select_text) ≡ true
 unfolding everything
@@ -36,19 +40,17 @@ asks = refl
 pub reads_only : (s : Schema) → IsForReading s select_text
 reads_only = query_reads select_text asks
 
-pub alone_is : RunsAlone select_text
-unfolding understood everything
-alone_is = refl
+-- so it is over the tables of each version that has them
+pub select_since : IsSelectSince 1 select_text 4 []
+select_since s h =
+    let it = since_held 1 Asks asked s h in
+    record { project = project; order = id_order; names = codes "rowid" ∷ codes "quota_id" ∷ codes "item_id" ∷ []; asks = it.0; unlisted = it.1; shows = λ params r. refl; reads = reads_only }
 
 pub select_is : IsSelect select_text 4 []
-select_is = record { project = project; order = id_order; names = codes "rowid" ∷ codes "quota_id" ∷ codes "item_id" ∷ []; asks = select_reads.0; unlisted = select_reads.1; shows = λ params r. refl; reads = reads_only }
-
--- so it is over the tables of each version
-pub select_since : IsSelectSince 1 select_text 4 []
-select_since = since_first (λ s. IsSelectIn s select_text 4 []) select_is
+select_is = select_since schema (since_this 1 (omega arith) schema refl)
 
 pub alone_since : RunsAloneSince 1 select_text
-alone_since = since_first (λ s. RunsAloneIn s select_text) alone_is
+alone_since s h = (since_held 1 Asks asked s h).2
 
 -- ---- by the quota
 

@@ -68,3 +68,23 @@ tokens_text = codes "SELECT id, digest FROM tokens ORDER BY id"
 -- the kept answers, by the number of the row, each under its token and key
 abbrev pub kept_text : List ℕ
 kept_text = codes "SELECT rowid, token_id, request_key, first_moment, status, allow, body FROM kept ORDER BY rowid"
+
+-- the quotas that release the places of tickets that went out, by id
+abbrev pub releases_text : List ℕ
+releases_text = codes "SELECT quota_id FROM quota_release ORDER BY quota_id"
+
+-- how many tickets of each quota are out, by the quota's id
+abbrev pub exits_text : List ℕ
+exits_text = codes "SELECT quota_id, exited FROM quota_exited ORDER BY quota_id"
+
+-- the budgets of vouchers, by the voucher's id
+abbrev pub budgets_text : List ℕ
+budgets_text = codes "SELECT voucher_id, budget FROM voucher_budget ORDER BY voucher_id"
+
+-- how much of each voucher is spent, by the voucher's id
+abbrev pub spents_text : List ℕ
+spents_text = codes "SELECT voucher_id, spent FROM voucher_spent ORDER BY voucher_id"
+
+-- the discounts of order positions, by the position's id
+abbrev pub discounts_text : List ℕ
+discounts_text = codes "SELECT position_id, discount FROM position_discount ORDER BY position_id"

@@ -98,12 +98,12 @@ variation_sound item new state made h fit sound =
 pub quota_sound : (new : NewQuota) (state : State) (row : Quota) → quota_added new state.next.quota state.lists.catalogue ≡ Ok row → IsFitQuota new → IsSound state → IsSound (with_quota row state)
 quota_sound new state row h fit sound =
     let a = quota_added_is new state.next.quota state.lists.catalogue row h in
-    sound_quota state row (sym (ap (λ (r : Quota). r.id) a.is_row)) (takes_it state.next.quota state.lists.catalogue.quotas a.has_room) (added_members new state.next.quota state.lists.catalogue row h) (subst IsLimitedQuota a.is_row (record { name = fit.name; size = fit.size; kept = refl })) sound
+    sound_quota state row (sym (ap (λ (r : Quota). r.id) a.is_row)) (takes_it state.next.quota state.lists.catalogue.quotas a.has_room) (added_members new state.next.quota state.lists.catalogue row h) (subst IsLimitedQuota a.is_row (record { name = fit.name; size = fit.size })) sound
 
 pub resize_sound : (id : ℕ) (patch : QuotaPatch) (state : State) (row : Quota) → resized id patch state.lists.catalogue ≡ Ok row → IsFitQuotaPatch patch → IsSound state → IsSound (changed (PutQuota row) state)
 resize_sound id patch state row h fit sound =
     let c = resized_is id patch state.lists.catalogue row h in
     let own : row.id ≡ id = sym (ap (λ (r : Quota). r.id) c.is_row) ∙ key-row_at (λ (r : Quota). r.id) id state.lists.catalogue.quotas c.old c.stood in
     let was = all-row_at (λ (r : Quota). r.id) IsLimitedQuota id state.lists.catalogue.quotas c.old c.stood sound.limits.quotas in
-    let limits : IsLimitedQuota (patched_quota patch c.old) = record { name = was.name; size = given_or (λ size. IfSome size IsSize) patch.size c.old.size fit.size was.size; kept = was.kept } in
+    let limits : IsLimitedQuota (patched_quota patch c.old) = record { name = was.name; size = given_or (λ size. IfSome size IsSize) patch.size c.old.size fit.size was.size } in
     sound_resized state row c.old (ap (λ (n : ℕ). quota_at n state.lists.catalogue) own ∙ c.stood) (sym (ap (λ (r : Quota). r.items) c.is_row)) (sym (ap (λ (r : Quota). r.variations) c.is_row)) (subst IsLimitedQuota c.is_row limits) sound

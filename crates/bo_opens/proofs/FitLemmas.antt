@@ -2,6 +2,7 @@
 use Rattle.std.proofs.Common.{◌≡◌, ◌≢◌, ◌⊎◌, ◌≤◌, ℕ, zero, suc, inl, inr, ℤ, pos, List, [], ◌∷◌, Option, Some, Result, Ok, Err, IfOk, IfSome, OnOk, map, refl, sym, ap, subst, ◌∙◌, arith}
 use Rattle.std.specs.List.{All}
 use Rattle.std.proofs.lemmas.List.Elements.{All-nil, All-cons}
+use Rattle.std.specs.Prelude.{take}
 use Rattle.std.specs.List.Sorted.{IsPermutation}
 use Rattle.std.proofs.lemmas.List.Sorted.{IsPermutation-sym, IsPermutation-trans}
 use Rattle.sqlite_value.specs.Order.{Row}
@@ -11,13 +12,14 @@ use Rattle.sqlite.specs.Effect.{Database}
 use Rattle.sqlite.proofs.Callers.{one_permutation}
 use Rattle.bo_schema.specs.Tables.{schema, this_version}
 use Rattle.bo_schema.specs.Versions.{schema_of_version}
+use Rattle.bo_schema.specs.Parts.{HoldParts}
 use Rattle.bo_columns.specs.declared.rows.ShopRow.{ShopRow}
-use Rattle.bo_columns.specs.Rows.{shop_row, item_row, variation_row, quota_row, quota_item_row, quota_variation_row, voucher_row, cart_row, order_row, position_row, waiting_row, list_row, list_item_row, checkin_row, count_row, token_row, kept_row}
-use Rattle.bo_columns.specs.Fit.{IsFitItem, IsFitVariation, IsFitQuota, IsFitVoucher, IsFitCart, IsFitOrder, IsFitPosition, IsFitWaiting, IsFitList, IsFitCheckin, IsFitToken, IsFitKept}
-use Rattle.bo_columns.specs.Tables.{Tables, Holds, HoldsAt}
+use Rattle.bo_columns.specs.Rows.{shop_row, item_row, variation_row, quota_row, quota_item_row, quota_variation_row, voucher_row, cart_row, order_row, position_row, waiting_row, list_row, list_item_row, checkin_row, count_row, token_row, kept_row, release_row, exit_row, budget_row, spent_row, discount_row}
+use Rattle.bo_columns.specs.Fit.{IsFitItem, IsFitVariation, IsFitQuota, IsFitVoucher, IsFitBudget, IsFitCart, IsFitOrder, IsFitPosition, IsFitDiscount, IsFitWaiting, IsFitList, IsFitCheckin, IsFitToken, IsFitKept}
+use Rattle.bo_columns.specs.Tables.{Tables, Holds, HoldsAt, parts}
 use Rattle.bo_loads.specs.Since.{IsSince}
 use Rattle.bo_loads.proofs.Causes.{lacks_none, undamaged}
-use Rattle.bo_loads.proofs.SinceLemmas.{since_one}
+use Rattle.bo_loads.proofs.SinceLemmas.{since_one, since_this, since_before}
 use Rattle.bo_loads.proofs.ShopLemmas as of_shop
 use Rattle.bo_loads.proofs.ItemsLemmas as of_items
 use Rattle.bo_loads.proofs.VariationsLemmas as of_variations
@@ -35,13 +37,18 @@ use Rattle.bo_loads.proofs.CheckinsLemmas as of_checkins
 use Rattle.bo_loads.proofs.CountsLemmas as of_counts
 use Rattle.bo_loads.proofs.TokensLemmas as of_tokens
 use Rattle.bo_loads.proofs.KeptLemmas as of_kept
+use Rattle.bo_loads.proofs.ReleasesLemmas as of_releases
+use Rattle.bo_loads.proofs.ExitsLemmas as of_exits
+use Rattle.bo_loads.proofs.BudgetsLemmas as of_budgets
+use Rattle.bo_loads.proofs.SpentsLemmas as of_spents
+use Rattle.bo_loads.proofs.DiscountsLemmas as of_discounts
 use Rattle.bo_opens.specs.declared.error.OpenError.{OpenError}
 use Rattle.bo_opens.specs.declared.error.OpenError.TheVariants.{Memory, NotAShop, Version, Damaged, Store}
 use Rattle.bo_rules.specs.declared.rule.Rule.TheVariants as rule
 use Rattle.bo_opens.specs.declared.file.FileTables.{FileTables}
 use Rattle.bo_columns.specs.declared.table_rows.TableRows.{TableRows}
-use Rattle.bo_opens.specs.Read.{HoldsRows, tables_of}
-use Rattle.bo_opens.specs.Causes.{rows_at, LacksCatalogue, LacksSales, LacksDoors, LacksOthers, LacksTable, IsDamagedCatalogue, AreDamagedSales, AreDamagedDoors, AreDamagedOthers, HasTables, HasDamage, IsFitFile, IsReadable, IsReadableAs, ShowsBy, OfTheShop, HasNoOtherVersion, IsOneShop, IsCause}
+use Rattle.bo_opens.specs.Read.{HoldsFirst, HoldsSides, HoldsSums, HoldsRows, tables_of}
+use Rattle.bo_opens.specs.Causes.{rows_at, LacksCatalogue, LacksSales, LacksDoors, LacksOthers, LacksSides, LacksSums, LacksTable, IsDamagedCatalogue, AreDamagedSales, AreDamagedDoors, AreDamagedOthers, AreDamagedSides, AreDamagedSums, HasTables, HasDamage, IsFitFile, IsReadable, IsReadableAs, ShowsBy, OfTheShop, HasNoOtherVersion, IsOneShop, IsCause}
 use Rattle.bo_opens.specs.Lawful.{AreFit, AreFitAt, IsOfMachine}
 use Rattle.bo_opens.proofs.CauseLemmas.{shows_rows, one_is_ours, version_told}
 use Rattle.bo_opens.proofs.ReadLemmas.{one_shown, was_some}
@@ -51,35 +58,75 @@ all_free : {T : Type 0} (xs : List T) → All (λ w. Unit {0}) xs
 all_free [] = All-nil (λ w. Unit {0})
 all_free (x ∷ xs) = All-cons (λ w. Unit {0}) x xs tt (all_free xs)
 
-whole_catalogue : {own : ℕ} (t : Tables) (db : Trees) → Holds db t → AreFitAt own t → IsDamagedCatalogue db → ⊥
+-- the trees show the rows of the tables of the first version
+abbrev pub HoldsOfFirst : Trees → Tables → Type 0
+HoldsOfFirst db t = HoldParts schema db (take 17 (parts t))
+
+-- and those of the second
+abbrev pub HoldsOfSides : Trees → Tables → Type 0
+HoldsOfSides db t = HoldsSides db t.releases t.exits
+
+-- and those of the third
+abbrev pub HoldsOfSums : Trees → Tables → Type 0
+HoldsOfSums db t = HoldsSums db t.budgets t.spents t.discounts
+
+-- those of the first are the same tables in each version
+first_of : (db : Trees) (t : Tables) → Holds db t → HoldsOfFirst db t
+first_of db t h = (h.0, (h.1.0, (h.1.1.0, (h.1.1.1.0, (h.1.1.1.1.0, (h.1.1.1.1.1.0, (h.1.1.1.1.1.1.0, (h.1.1.1.1.1.1.1.0, (h.1.1.1.1.1.1.1.1.0, (h.1.1.1.1.1.1.1.1.1.0, (h.1.1.1.1.1.1.1.1.1.1.0, (h.1.1.1.1.1.1.1.1.1.1.1.0, (h.1.1.1.1.1.1.1.1.1.1.1.1.0, (h.1.1.1.1.1.1.1.1.1.1.1.1.1.0, (h.1.1.1.1.1.1.1.1.1.1.1.1.1.1.0, (h.1.1.1.1.1.1.1.1.1.1.1.1.1.1.1.0, (h.1.1.1.1.1.1.1.1.1.1.1.1.1.1.1.1.0, tt)))))))))))))))))
+
+sides_of : (db : Trees) (t : Tables) → Holds db t → HoldsOfSides db t
+sides_of db t h = record { releases = h.1.1.1.1.1.1.1.1.1.1.1.1.1.1.1.1.1.0; exits = h.1.1.1.1.1.1.1.1.1.1.1.1.1.1.1.1.1.1.0 }
+
+sums_of : (db : Trees) (t : Tables) → Holds db t → HoldsOfSums db t
+sums_of db t h = record { budgets = h.1.1.1.1.1.1.1.1.1.1.1.1.1.1.1.1.1.1.1.0; spents = h.1.1.1.1.1.1.1.1.1.1.1.1.1.1.1.1.1.1.1.1.0; discounts = h.1.1.1.1.1.1.1.1.1.1.1.1.1.1.1.1.1.1.1.1.1.0 }
+
+-- those of the second are the first tables in the third
+second_of : (db : Trees) (t : Tables) → HoldsOfFirst db t → HoldsOfSides db t → HoldParts schema db (take 19 (parts t))
+second_of db t h k = (h.0, (h.1.0, (h.1.1.0, (h.1.1.1.0, (h.1.1.1.1.0, (h.1.1.1.1.1.0, (h.1.1.1.1.1.1.0, (h.1.1.1.1.1.1.1.0, (h.1.1.1.1.1.1.1.1.0, (h.1.1.1.1.1.1.1.1.1.0, (h.1.1.1.1.1.1.1.1.1.1.0, (h.1.1.1.1.1.1.1.1.1.1.1.0, (h.1.1.1.1.1.1.1.1.1.1.1.1.0, (h.1.1.1.1.1.1.1.1.1.1.1.1.1.0, (h.1.1.1.1.1.1.1.1.1.1.1.1.1.1.0, (h.1.1.1.1.1.1.1.1.1.1.1.1.1.1.1.0, (h.1.1.1.1.1.1.1.1.1.1.1.1.1.1.1.1.0, (k.releases, (k.exits, tt)))))))))))))))))))
+
+all_of : (db : Trees) (t : Tables) → HoldsOfFirst db t → HoldsOfSides db t → HoldsOfSums db t → Holds db t
+all_of db t h k m = (h.0, (h.1.0, (h.1.1.0, (h.1.1.1.0, (h.1.1.1.1.0, (h.1.1.1.1.1.0, (h.1.1.1.1.1.1.0, (h.1.1.1.1.1.1.1.0, (h.1.1.1.1.1.1.1.1.0, (h.1.1.1.1.1.1.1.1.1.0, (h.1.1.1.1.1.1.1.1.1.1.0, (h.1.1.1.1.1.1.1.1.1.1.1.0, (h.1.1.1.1.1.1.1.1.1.1.1.1.0, (h.1.1.1.1.1.1.1.1.1.1.1.1.1.0, (h.1.1.1.1.1.1.1.1.1.1.1.1.1.1.0, (h.1.1.1.1.1.1.1.1.1.1.1.1.1.1.1.0, (h.1.1.1.1.1.1.1.1.1.1.1.1.1.1.1.1.0, (k.releases, (k.exits, (m.budgets, (m.spents, (m.discounts, tt))))))))))))))))))))))
+
+whole_catalogue : {own : ℕ} (t : Tables) (db : Trees) → HoldsOfFirst db t → AreFitAt own t → IsDamagedCatalogue db → ⊥
 whole_catalogue t db held fit (inl bad) = undamaged item_row IsFitItem t.items (rows_at db 1) fit.items held.1.0 bad
 whole_catalogue t db held fit (inr (inl bad)) = undamaged variation_row IsFitVariation t.variations (rows_at db 2) fit.variations held.1.1.0 bad
 whole_catalogue t db held fit (inr (inr (inl bad))) = undamaged quota_row IsFitQuota t.quotas (rows_at db 3) fit.quotas held.1.1.1.0 bad
 whole_catalogue t db held fit (inr (inr (inr (inl bad)))) = undamaged quota_item_row (λ w. Unit {0}) t.quota_items (rows_at db 4) (all_free t.quota_items) held.1.1.1.1.0 bad
 whole_catalogue t db held fit (inr (inr (inr (inr bad)))) = undamaged quota_variation_row (λ w. Unit {0}) t.quota_variations (rows_at db 6) (all_free t.quota_variations) held.1.1.1.1.1.0 bad
 
-whole_sales : {own : ℕ} (t : Tables) (db : Trees) → Holds db t → AreFitAt own t → AreDamagedSales db → ⊥
+whole_sales : {own : ℕ} (t : Tables) (db : Trees) → HoldsOfFirst db t → AreFitAt own t → AreDamagedSales db → ⊥
 whole_sales t db held fit (inl bad) = undamaged voucher_row IsFitVoucher t.vouchers (rows_at db 8) fit.vouchers held.1.1.1.1.1.1.0 bad
 whole_sales t db held fit (inr (inl bad)) = undamaged cart_row IsFitCart t.carts (rows_at db 10) fit.carts held.1.1.1.1.1.1.1.0 bad
 whole_sales t db held fit (inr (inr (inl bad))) = undamaged order_row IsFitOrder t.orders (rows_at db 11) fit.orders held.1.1.1.1.1.1.1.1.0 bad
 whole_sales t db held fit (inr (inr (inr (inl bad)))) = undamaged position_row IsFitPosition t.positions (rows_at db 12) fit.positions held.1.1.1.1.1.1.1.1.1.0 bad
 whole_sales t db held fit (inr (inr (inr (inr bad)))) = undamaged waiting_row IsFitWaiting t.waiting (rows_at db 15) fit.waiting held.1.1.1.1.1.1.1.1.1.1.0 bad
 
-whole_doors : {own : ℕ} (t : Tables) (db : Trees) → Holds db t → AreFitAt own t → AreDamagedDoors db → ⊥
+whole_doors : {own : ℕ} (t : Tables) (db : Trees) → HoldsOfFirst db t → AreFitAt own t → AreDamagedDoors db → ⊥
 whole_doors t db held fit (inl bad) = undamaged list_row IsFitList t.checkin_lists (rows_at db 16) fit.checkin_lists held.1.1.1.1.1.1.1.1.1.1.1.0 bad
 whole_doors t db held fit (inr (inl bad)) = undamaged list_item_row (λ w. Unit {0}) t.list_items (rows_at db 17) (all_free t.list_items) held.1.1.1.1.1.1.1.1.1.1.1.1.0 bad
 whole_doors t db held fit (inr (inr bad)) = undamaged checkin_row IsFitCheckin t.checkins (rows_at db 19) fit.checkins held.1.1.1.1.1.1.1.1.1.1.1.1.1.0 bad
 
-whole_others : {own : ℕ} (t : Tables) (db : Trees) → Holds db t → AreFitAt own t → AreDamagedOthers db → ⊥
+whole_others : {own : ℕ} (t : Tables) (db : Trees) → HoldsOfFirst db t → AreFitAt own t → AreDamagedOthers db → ⊥
 whole_others t db held fit (inl bad) = undamaged count_row (λ w. Unit {0}) t.counts (rows_at db 21) (all_free t.counts) held.1.1.1.1.1.1.1.1.1.1.1.1.1.1.0 bad
 whole_others t db held fit (inr (inl bad)) = undamaged token_row IsFitToken t.tokens (rows_at db 22) fit.tokens held.1.1.1.1.1.1.1.1.1.1.1.1.1.1.1.0 bad
 whole_others t db held fit (inr (inr bad)) = undamaged kept_row IsFitKept t.kept (rows_at db 24) fit.kept held.1.1.1.1.1.1.1.1.1.1.1.1.1.1.1.1.0 bad
 
-pub undamaged_tables : {own : ℕ} (t : Tables) (db : Trees) → Holds db t → AreFitAt own t → HasDamage db → ⊥
-undamaged_tables t db held fit (inl bad) = whole_catalogue t db held fit bad
-undamaged_tables t db held fit (inr (inl bad)) = whole_sales t db held fit bad
-undamaged_tables t db held fit (inr (inr (inl bad))) = whole_doors t db held fit bad
-undamaged_tables t db held fit (inr (inr (inr bad))) = whole_others t db held fit bad
+whole_sides : (t : Tables) (db : Trees) → HoldsOfSides db t → AreDamagedSides db → ⊥
+whole_sides t db held (inl bad) = undamaged release_row (λ w. Unit {0}) t.releases (rows_at db 27) (all_free t.releases) held.releases bad
+whole_sides t db held (inr bad) = undamaged exit_row (λ w. Unit {0}) t.exits (rows_at db 28) (all_free t.exits) held.exits bad
+
+whole_sums : {own : ℕ} (t : Tables) (db : Trees) → HoldsOfSums db t → AreFitAt own t → AreDamagedSums db → ⊥
+whole_sums t db held fit (inl bad) = undamaged budget_row IsFitBudget t.budgets (rows_at db 29) fit.budgets held.budgets bad
+whole_sums t db held fit (inr (inl bad)) = undamaged spent_row (λ w. Unit {0}) t.spents (rows_at db 30) (all_free t.spents) held.spents bad
+whole_sums t db held fit (inr (inr bad)) = undamaged discount_row IsFitDiscount t.discounts (rows_at db 31) fit.discounts held.discounts bad
+
+pub undamaged_tables : {own : ℕ} (t : Tables) (db : Trees) → HoldsOfFirst db t → (2 ≤ own → HoldsOfSides db t) → (3 ≤ own → HoldsOfSums db t) → AreFitAt own t → HasDamage own db → ⊥
+undamaged_tables t db held sides sums fit (inl (inl bad)) = whole_catalogue t db held fit bad
+undamaged_tables t db held sides sums fit (inl (inr (inl bad))) = whole_sales t db held fit bad
+undamaged_tables t db held sides sums fit (inl (inr (inr (inl bad)))) = whole_doors t db held fit bad
+undamaged_tables t db held sides sums fit (inl (inr (inr (inr bad)))) = whole_others t db held fit bad
+undamaged_tables t db held sides sums fit (inr (inl bad)) = whole_sides t db (sides bad.0) bad.1
+undamaged_tables t db held sides sums fit (inr (inr bad)) = whole_sums t db (sums bad.0) fit bad.1
 
 -- ---- our tables lack none
 
@@ -107,11 +154,23 @@ has_others s known (inl none) = lacks_none of_counts.select_text _ [] (of_counts
 has_others s known (inr (inl none)) = lacks_none of_tokens.select_text _ [] (of_tokens.select_since s known) s refl none
 has_others s known (inr (inr none)) = lacks_none of_kept.select_text _ [] (of_kept.select_since s known) s refl none
 
-pub has_tables : (s : Schema) → IsSince 1 s → LacksTable s → ⊥
-has_tables s known (inl none) = has_catalogue s known none
-has_tables s known (inr (inl none)) = has_sales s known none
-has_tables s known (inr (inr (inl none))) = has_doors s known none
-has_tables s known (inr (inr (inr none))) = has_others s known none
+has_sides : (s : Schema) → IsSince 2 s → LacksSides s → ⊥
+has_sides s known (inl none) = lacks_none of_releases.select_text _ [] (of_releases.select_since s known) s refl none
+has_sides s known (inr none) = lacks_none of_exits.select_text _ [] (of_exits.select_since s known) s refl none
+
+has_sums : (s : Schema) → IsSince 3 s → LacksSums s → ⊥
+has_sums s known (inl none) = lacks_none of_budgets.select_text _ [] (of_budgets.select_since s known) s refl none
+has_sums s known (inr (inl none)) = lacks_none of_spents.select_text _ [] (of_spents.select_since s known) s refl none
+has_sums s known (inr (inr none)) = lacks_none of_discounts.select_text _ [] (of_discounts.select_since s known) s refl none
+
+-- of a version those that it has
+pub has_tables : (own : ℕ) → 1 ≤ own → (s : Schema) → IsSince own s → LacksTable own s → ⊥
+has_tables own first s known (inl (inl none)) = has_catalogue s (since_before 1 own first s known) none
+has_tables own first s known (inl (inr (inl none))) = has_sales s (since_before 1 own first s known) none
+has_tables own first s known (inl (inr (inr (inl none)))) = has_doors s (since_before 1 own first s known) none
+has_tables own first s known (inl (inr (inr (inr none)))) = has_others s (since_before 1 own first s known) none
+has_tables own first s known (inr (inl none)) = has_sides s (since_before 2 own none.0 s known) none.1
+has_tables own first s known (inr (inr none)) = has_sums s (since_before 3 own none.0 s known) none.1
 
 -- ---- the shop's row
 
@@ -140,32 +199,35 @@ tells t db known held shop one version (rows, shows, (row, single, told, other))
 
 module _ (db : Database) (known : db.schema ≡ schema) where
   -- such a file is refused for want of memory, or because the store fails
-  clear : (of : (rows : List Row) → ShowsBy of_shop.select_text db rows → IsOneShop this_version rows) → (HasDamage db.trees → ⊥) → (e : OpenError) → IsCause db e → IsOfMachine e
+  clear : (of : (rows : List Row) → ShowsBy of_shop.select_text db rows → IsOneShop this_version rows) → (HasDamage this_version db.trees → ⊥) → (e : OpenError) → IsCause db e → IsOfMachine e
   clear of whole Memory h = tt
   clear of whole NotAShop (inl none) = lacks_none of_shop.select_text _ [] of_shop.select_is db.schema known none
-  clear of whole NotAShop (inr h) = has_tables db.schema (since_one db.schema known) h.2.1
+  clear of whole NotAShop (inr h) = has_tables this_version (omega arith) db.schema (since_this this_version (omega arith) db.schema known) h.2.1
   clear of whole (Version version) h = one_is_ours this_version h.0 (of h.0 h.1) version h.2
   clear of whole (Damaged rule.Shop) h = h.2.2 (of h.0 h.1)
-  clear of whole (Damaged rule.Limits) h = whole (h.2.2 (since_one db.schema known))
+  clear of whole (Damaged rule.Limits) h = whole (h.2.2 (since_this this_version (omega arith) db.schema known))
   clear of whole (Damaged rule.Ids) h = h
   clear of whole (Damaged rule.Names) h = h
   clear of whole (Damaged rule.Positions) h = h
   clear of whole (Damaged rule.Headroom) h = h
   clear of whole (Damaged rule.Counters) h = h
+  clear of whole (Damaged rule.Budgets) h = h
   clear of whole Store h = tt
 
   pub of_machine : (t : Tables) → Holds db.trees t → AreFit t → (e : OpenError) → IsCause db e → IsOfMachine e
-  of_machine t held fit = clear (shop_stands t db known held fit) (undamaged_tables t db.trees held fit)
+  of_machine t held fit = clear (shop_stands t db known held fit) (undamaged_tables t db.trees (first_of db.trees t held) (λ later. sides_of db.trees t held) (λ later. sums_of db.trees t held) fit)
 
   pub of_readable : IsReadable db → (e : OpenError) → IsCause db e → IsOfMachine e
-  of_readable r = clear (shown_again db known r.shop) (r.values (since_one db.schema known))
+  of_readable r = clear (shown_again db known r.shop) (r.values (since_this this_version (omega arith) db.schema known))
 
 -- ---- a file of another version
 
 -- of the tables of a version the first one shows the shop's row
 shop_at : (from : ℕ) (db : Trees) (t : Tables) (shop : ShopRow) → HoldsAt from db t → t.shop ≡ shop ∷ [] → IsSince 1 (schema_of_version from) × IsPermutation (map shop_row t.shop) (rows_at db 0)
 shop_at zero db t shop h one = absurd (let none : map shop_row t.shop ≡ [] = h.none.0 in let some = ap (map shop_row) (sym one) ∙ none in cc)
-shop_at (suc from) db t shop h one = (since_one schema refl, h.shown.0)
+shop_at (suc zero) db t shop h one = (record { version = 1; from = omega arith; known = omega arith; is = refl }, h.shown.0)
+shop_at (suc (suc zero)) db t shop h one = (record { version = 2; from = omega arith; known = omega arith; is = refl }, h.shown.0)
+shop_at (suc (suc (suc from))) db t shop h one = (since_one schema refl, h.shown.0)
 
 module _ (from : ℕ) (t : Tables) (db : Database) (known : db.schema ≡ schema_of_version from) (held : HoldsAt from db.trees t) (shop : ShopRow) (one : t.shop ≡ shop ∷ []) (other : shop.version ≢ this_version) where
   since : IsSince 1 db.schema
@@ -197,6 +259,7 @@ module _ (from : ℕ) (t : Tables) (db : Database) (known : db.schema ≡ schema
   told_as (Damaged rule.Positions) h = absurd h
   told_as (Damaged rule.Headroom) h = absurd h
   told_as (Damaged rule.Counters) h = absurd h
+  told_as (Damaged rule.Budgets) h = absurd h
   told_as Store h = inr tt
 
   pub unreadable : IsReadable db → ⊥
@@ -205,10 +268,17 @@ module _ (from : ℕ) (t : Tables) (db : Database) (known : db.schema ≡ schema
 -- ---- a file that was read
 
 -- as a file of this version
-pub held_at : (own : ℕ) → 1 ≤ own → own ≤ this_version → (db : Trees) (t : Tables) → Holds db t → HoldsAt own db t
-held_at own first last db t h =
-    let only : own ≡ 1 = omega (arith, first, last) in
-    subst (λ v. HoldsAt v db t) (sym only) (record { shown = h; none = tt })
+pub held_at : (own : ℕ) → 1 ≤ own → own ≤ this_version → (db : Trees) (file : FileTables) → HoldsOfFirst db (tables_of file) → HoldsRows own db file.tables → HoldsAt own db (tables_of file)
+held_at zero first last db file h rows = absurd (omega (arith, first))
+held_at (suc zero) first last db file h rows =
+    let sides = rows.no_sides (omega arith) in
+    let sums = rows.no_sums (omega arith) in
+    record { shown = h; none = (ap (map release_row) sides.releases, (ap (map exit_row) sides.exits, (ap (map budget_row) sums.budgets, (ap (map spent_row) sums.spents, (ap (map discount_row) sums.discounts, tt))))) }
+held_at (suc (suc zero)) first last db file h rows =
+    let sums = rows.no_sums (omega arith) in
+    record { shown = second_of db (tables_of file) h (rows.sides (omega arith)); none = (ap (map budget_row) sums.budgets, (ap (map spent_row) sums.spents, (ap (map discount_row) sums.discounts, tt))) }
+held_at (suc (suc (suc zero))) first last db file h rows = record { shown = all_of db (tables_of file) h (rows.sides (omega arith)) (rows.sums (omega arith)); none = tt }
+held_at (suc (suc (suc (suc own)))) first last db file h rows = absurd (omega (arith, last))
 
 pub fit_read : {own : ℕ} (file : FileTables) → file.shop.version ≡ own → IsFitFile file → AreFitAt own (tables_of file)
 fit_read file first fit = record {
@@ -229,10 +299,12 @@ fit_read file first fit = record {
   checkins = fit.tables.doors.checkins;
   tokens = fit.tables.others.tokens;
   kept = fit.tables.others.kept;
+  budgets = fit.tables.sales.budgets;
+  discounts = fit.tables.sales.discounts;
 }
 
 -- the trees hold what was read
-pub read_holds : (db : Database) (rows : List Row) (file : FileTables) → IsSince 1 db.schema → ShowsBy of_shop.select_text db rows → rows ≡ shop_row file.shop ∷ [] → HoldsRows db.trees file.tables → Holds db.trees (tables_of file)
+pub read_holds : (db : Database) (rows : List Row) (file : FileTables) → IsSince 1 db.schema → ShowsBy of_shop.select_text db rows → rows ≡ shop_row file.shop ∷ [] → HoldsFirst db.trees file.tables → HoldsOfFirst db.trees (tables_of file)
 read_holds db rows file known shows is held =
     let shop = subst (λ l. IsPermutation l (rows_at db.trees 0)) is (shows_rows of_shop.select_text 0 (of_shop.select_since db.schema known) db refl rows shows) in
     let a = held.catalogue in
@@ -241,11 +313,13 @@ read_holds db rows file known shows is held =
     let e = held.others in
     (shop, (a.items, (a.variations, (a.quotas, (a.quota_items, (a.quota_variations, (b.vouchers, (b.carts, (b.orders, (b.positions, (b.waiting, (d.checkin_lists, (d.list_items, (d.checkins, (e.counts, (e.tokens, (e.kept, tt)))))))))))))))))
 
-pub readable : (own : ℕ) (db : Database) (rows : List Row) (o : Option TableRows) (r : Result FileTables OpenError) → ShowsBy of_shop.select_text db rows → IfOk r (λ file. rows ≡ shop_row file.shop ∷ []) → IfOk r (λ file. file.shop.version ≡ own) → IfOk r (λ file. o ≡ Some file.tables)
-    → IfOk r IsFitFile → HasTables db.schema → (IsSince 1 db.schema → IfSome o (HoldsRows db.trees)) → OnOk r (IsReadableAs own db)
-readable own db rows o (Ok file) shows is first some fit has held = record {
+pub readable : (own : ℕ) → 1 ≤ own → (db : Database) (rows : List Row) (o : Option TableRows) (r : Result FileTables OpenError) → ShowsBy of_shop.select_text db rows → IfOk r (λ file. rows ≡ shop_row file.shop ∷ []) → IfOk r (λ file. file.shop.version ≡ own) → IfOk r (λ file. o ≡ Some file.tables)
+    → IfOk r IsFitFile → HasTables own db.schema → (IsSince own db.schema → IfSome o (HoldsRows own db.trees)) → OnOk r (IsReadableAs own db)
+readable own from db rows o (Ok file) shows is first some fit has held = record {
   shop = (rows, shows, (file.shop, fit.shop, fit.ids, first, is));
   tables = has;
-  values = λ known. undamaged_tables (tables_of file) db.trees (read_holds db rows file known shows is (was_some o file.tables (HoldsRows db.trees) some (held known))) (fit_read file first fit);
+  values = λ known.
+      let rows_in = was_some o file.tables (HoldsRows own db.trees) some (held known) in
+      undamaged_tables (tables_of file) db.trees (read_holds db rows file (since_before 1 own from db.schema known) shows is rows_in.first) rows_in.sides rows_in.sums (fit_read file first fit);
 }
-readable own db rows o (Err e) shows is first some fit has held = tt
+readable own from db rows o (Err e) shows is first some fit has held = tt

@@ -10,3 +10,4 @@ pub mod Walked
 pub mod Gathering
 pub mod Refusing
 pub mod Shown
+pub mod Versions

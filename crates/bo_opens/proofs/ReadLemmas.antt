@@ -1,5 +1,5 @@
 -- What is read of a connection that stays as it is.
-use Rattle.std.proofs.Common.{◌≡◌, List, [], ◌∷◌, map, IsTrue, Result, Ok, Err, IfOk, IfErr, OnOk, Option, Some, None, IfSome, subst, sym, ◌∙◌}
+use Rattle.std.proofs.Common.{◌≡◌, List, [], ◌∷◌, map, Result, Ok, Err, IfOk, IfErr, OnOk, Option, Some, None, IfSome, subst, sym}
 use Rattle.std.specs.List.Sorted.{IsPermutation}
 use Rattle.sqlite_value.specs.Order.{Row}
 use Rattle.sqlite.specs.State.{State}

@@ -2,9 +2,9 @@
 use Rattle.std.proofs.lemmas.List.Sorted.{IsPermutation-sym}
 use Rattle.sqlite_trees.specs.Tree.{Trees}
 use Rattle.sqlite.proofs.Callers.{one_permutation}
-use Rattle.bo_columns.specs.Rows.{shop_row, item_row, variation_row, quota_row, quota_item_row, quota_variation_row, voucher_row, cart_row, order_row, position_row, waiting_row, list_row, list_item_row, checkin_row, count_row, token_row, kept_row}
+use Rattle.bo_columns.specs.Rows.{shop_row, item_row, variation_row, quota_row, quota_item_row, quota_variation_row, voucher_row, cart_row, order_row, position_row, waiting_row, list_row, list_item_row, checkin_row, count_row, token_row, kept_row, release_row, exit_row, budget_row, spent_row, discount_row}
 use Rattle.bo_columns.specs.Tables.{Tables, Holds}
-use Rattle.bo_loads.proofs.Back.{alike, shop_in, shop_back, item_in, item_back, variation_in, variation_back, quota_in, quota_back, quota_item_in, quota_item_back, quota_variation_in, quota_variation_back, voucher_in, voucher_back, cart_in, cart_back, order_in, order_back, position_in, position_back, waiting_in, waiting_back, list_in, list_back, list_item_in, list_item_back, checkin_in, checkin_back, count_in, count_back, token_in, token_back, kept_in, kept_back}
+use Rattle.bo_loads.proofs.Back.{alike, shop_in, shop_back, item_in, item_back, variation_in, variation_back, quota_in, quota_back, quota_item_in, quota_item_back, quota_variation_in, quota_variation_back, voucher_in, voucher_back, cart_in, cart_back, order_in, order_back, position_in, position_back, waiting_in, waiting_back, list_in, list_back, list_item_in, list_item_back, checkin_in, checkin_back, count_in, count_back, token_in, token_back, kept_in, kept_back, release_in, release_back, exit_in, exit_back, budget_in, budget_back, spent_in, spent_back, discount_in, discount_back}
 use Rattle.bo_opens.specs.declared.file.FileTables.{FileTables}
 use Rattle.bo_opens.specs.Read.{IsFileOf, tables_of}
 
@@ -21,6 +21,7 @@ file_of db t file h k =
           quotas = alike quota_row quota_in quota_back t.quotas u.quotas _ h.1.1.1.0 k.1.1.1.0;
           quota_items = alike quota_item_row quota_item_in quota_item_back t.quota_items u.quota_items _ h.1.1.1.1.0 k.1.1.1.1.0;
           quota_variations = alike quota_variation_row quota_variation_in quota_variation_back t.quota_variations u.quota_variations _ h.1.1.1.1.1.0 k.1.1.1.1.1.0;
+          releases = alike release_row release_in release_back t.releases u.releases _ h.1.1.1.1.1.1.1.1.1.1.1.1.1.1.1.1.1.0 k.1.1.1.1.1.1.1.1.1.1.1.1.1.1.1.1.1.0;
         };
         sales = record {
           vouchers = alike voucher_row voucher_in voucher_back t.vouchers u.vouchers _ h.1.1.1.1.1.1.0 k.1.1.1.1.1.1.0;
@@ -28,6 +29,8 @@ file_of db t file h k =
           orders = alike order_row order_in order_back t.orders u.orders _ h.1.1.1.1.1.1.1.1.0 k.1.1.1.1.1.1.1.1.0;
           positions = alike position_row position_in position_back t.positions u.positions _ h.1.1.1.1.1.1.1.1.1.0 k.1.1.1.1.1.1.1.1.1.0;
           waiting = alike waiting_row waiting_in waiting_back t.waiting u.waiting _ h.1.1.1.1.1.1.1.1.1.1.0 k.1.1.1.1.1.1.1.1.1.1.0;
+          budgets = alike budget_row budget_in budget_back t.budgets u.budgets _ h.1.1.1.1.1.1.1.1.1.1.1.1.1.1.1.1.1.1.1.0 k.1.1.1.1.1.1.1.1.1.1.1.1.1.1.1.1.1.1.1.0;
+          discounts = alike discount_row discount_in discount_back t.discounts u.discounts _ h.1.1.1.1.1.1.1.1.1.1.1.1.1.1.1.1.1.1.1.1.1.0 k.1.1.1.1.1.1.1.1.1.1.1.1.1.1.1.1.1.1.1.1.1.0;
         };
         doors = record {
           checkin_lists = alike list_row list_in list_back t.checkin_lists u.checkin_lists _ h.1.1.1.1.1.1.1.1.1.1.1.0 k.1.1.1.1.1.1.1.1.1.1.1.0;
@@ -38,6 +41,8 @@ file_of db t file h k =
           counts = alike count_row count_in count_back t.counts u.counts _ h.1.1.1.1.1.1.1.1.1.1.1.1.1.1.0 k.1.1.1.1.1.1.1.1.1.1.1.1.1.1.0;
           tokens = alike token_row token_in token_back t.tokens u.tokens _ h.1.1.1.1.1.1.1.1.1.1.1.1.1.1.1.0 k.1.1.1.1.1.1.1.1.1.1.1.1.1.1.1.0;
           kept = alike kept_row kept_in kept_back t.kept u.kept _ h.1.1.1.1.1.1.1.1.1.1.1.1.1.1.1.1.0 k.1.1.1.1.1.1.1.1.1.1.1.1.1.1.1.1.0;
+          exits = alike exit_row exit_in exit_back t.exits u.exits _ h.1.1.1.1.1.1.1.1.1.1.1.1.1.1.1.1.1.1.0 k.1.1.1.1.1.1.1.1.1.1.1.1.1.1.1.1.1.1.0;
+          spents = alike spent_row spent_in spent_back t.spents u.spents _ h.1.1.1.1.1.1.1.1.1.1.1.1.1.1.1.1.1.1.1.1.0 k.1.1.1.1.1.1.1.1.1.1.1.1.1.1.1.1.1.1.1.1.0;
         };
       };
     }

@@ -1,5 +1,5 @@
 -- Why a file isn't opened, and what holds of one whose rows were all read.
-use Rattle.std.specs.Prelude.{◌≡◌, ◌≢◌, ◌⊎◌, ℕ, ℤ, pos, List, [], ◌∷◌, map, All, Ok}
+use Rattle.std.specs.Prelude.{◌≡◌, ◌≢◌, ◌≤◌, ◌⊎◌, ℕ, ℤ, pos, List, [], ◌∷◌, map, All, Ok}
 use Rattle.sqlite_value.specs.declared.value.Value.TheVariants.{Int}
 use Rattle.sqlite_value.specs.Order.{Row, column}
 use Rattle.sqlite_trees.specs.Tree.{Trees}
@@ -13,11 +13,11 @@ use Rattle.bo_schema.specs.Parts.{shown}
 use Rattle.bo_catalogue.specs.Limits.{last_id}
 use Rattle.bo_sound.specs.Range.{IsNextId, AllNextIds}
 use Rattle.bo_columns.specs.declared.rows.ShopRow.{ShopRow}
-use Rattle.bo_columns.specs.Rows.{shop_row, item_row, variation_row, quota_row, quota_item_row, quota_variation_row, voucher_row, cart_row, order_row, position_row, waiting_row, list_row, list_item_row, checkin_row, count_row, token_row, kept_row}
-use Rattle.bo_columns.specs.Fit.{IsFitShop, IsFitItem, IsFitVariation, IsFitQuota, IsFitVoucher, IsFitCart, IsFitOrder, IsFitPosition, IsFitWaiting, IsFitList, IsFitCheckin, IsFitToken, IsFitKept}
+use Rattle.bo_columns.specs.Rows.{shop_row, item_row, variation_row, quota_row, quota_item_row, quota_variation_row, voucher_row, cart_row, order_row, position_row, waiting_row, list_row, list_item_row, checkin_row, count_row, token_row, kept_row, release_row, exit_row, budget_row, spent_row, discount_row}
+use Rattle.bo_columns.specs.Fit.{IsFitShop, IsFitItem, IsFitVariation, IsFitQuota, IsFitVoucher, IsFitBudget, IsFitCart, IsFitOrder, IsFitPosition, IsFitDiscount, IsFitWaiting, IsFitList, IsFitCheckin, IsFitToken, IsFitKept}
 use Rattle.bo_loads.specs.Damage.{HasMeaning, HasNoMeaning, IsDamaged}
 use Rattle.bo_loads.specs.Since.{IsSince}
-use Rattle.bo_loads.specs.Texts.{shop_text, items_text, variations_text, quotas_text, quota_items_text, quota_variations_text, vouchers_text, carts_text, orders_text, positions_text, waiting_text, checkin_lists_text, list_items_text, checkins_text, counts_text, tokens_text, kept_text}
+use Rattle.bo_loads.specs.Texts.{shop_text, items_text, variations_text, quotas_text, quota_items_text, quota_variations_text, vouchers_text, carts_text, orders_text, positions_text, waiting_text, checkin_lists_text, list_items_text, checkins_text, counts_text, tokens_text, kept_text, releases_text, exits_text, budgets_text, spents_text, discounts_text}
 use Rattle.bo_rules.specs.declared.rule.Rule.TheVariants as rule
 use Rattle.bo_opens.specs.declared.error.OpenError.{OpenError}
 use Rattle.bo_opens.specs.declared.error.OpenError.TheVariants.{Memory, NotAShop, Version, Damaged, Store}
@@ -46,9 +46,21 @@ LacksDoors s = HasNoMeaning s checkin_lists_text ⊎ (HasNoMeaning s list_items_
 abbrev pub LacksOthers : Schema → Type 0
 LacksOthers s = HasNoMeaning s counts_text ⊎ (HasNoMeaning s tokens_text ⊎ HasNoMeaning s kept_text)
 
--- a table beside the shop's own
-abbrev pub LacksTable : Schema → Type 0
-LacksTable s = LacksCatalogue s ⊎ (LacksSales s ⊎ (LacksDoors s ⊎ LacksOthers s))
+-- a table of the first version, beside the shop's own
+abbrev pub LacksFirst : Schema → Type 0
+LacksFirst s = LacksCatalogue s ⊎ (LacksSales s ⊎ (LacksDoors s ⊎ LacksOthers s))
+
+-- a table of the second version
+abbrev pub LacksSides : Schema → Type 0
+LacksSides s = HasNoMeaning s releases_text ⊎ HasNoMeaning s exits_text
+
+-- a table of the third version, the sums of money: budgets, what is spent of vouchers, discounts
+abbrev pub LacksSums : Schema → Type 0
+LacksSums s = HasNoMeaning s budgets_text ⊎ (HasNoMeaning s spents_text ⊎ HasNoMeaning s discounts_text)
+
+-- a table that this version has, beside the shop's own
+abbrev pub LacksTable : ℕ → Schema → Type 0
+LacksTable own s = LacksFirst s ⊎ (((2 ≤ own) × LacksSides s) ⊎ ((3 ≤ own) × LacksSums s))
 
 -- ---- the file has all of these tables with their columns
 
@@ -68,9 +80,21 @@ HasDoors s = HasMeaning s checkin_lists_text × (HasMeaning s list_items_text ×
 abbrev pub HasOthers : Schema → Type 0
 HasOthers s = HasMeaning s counts_text × (HasMeaning s tokens_text × HasMeaning s kept_text)
 
--- all tables beside the shop's own
-abbrev pub HasTables : Schema → Type 0
-HasTables s = HasCatalogue s × (HasSales s × (HasDoors s × HasOthers s))
+-- all tables of the first version beside the shop's own
+abbrev pub HasFirst : Schema → Type 0
+HasFirst s = HasCatalogue s × (HasSales s × (HasDoors s × HasOthers s))
+
+-- those of the second version
+abbrev pub HasSides : Schema → Type 0
+HasSides s = HasMeaning s releases_text × HasMeaning s exits_text
+
+-- those of the third version
+abbrev pub HasSums : Schema → Type 0
+HasSums s = HasMeaning s budgets_text × (HasMeaning s spents_text × HasMeaning s discounts_text)
+
+-- all tables that this version has, beside the shop's own
+abbrev pub HasTables : ℕ → Schema → Type 0
+HasTables own s = HasFirst s × ((2 ≤ own → HasSides s) × (3 ≤ own → HasSums s))
 
 -- ---- a row of one of these tables is that of no value within its limits
 
@@ -94,9 +118,21 @@ AreDamagedDoors db = IsDamaged list_row IsFitList (rows_at db 16) ⊎ (IsDamaged
 abbrev pub AreDamagedOthers : Trees → Type 0
 AreDamagedOthers db = IsDamaged count_row (λ w. Unit {0}) (rows_at db 21) ⊎ (IsDamaged token_row IsFitToken (rows_at db 22) ⊎ IsDamaged kept_row IsFitKept (rows_at db 24))
 
--- a table beside the shop's own
-abbrev pub HasDamage : Trees → Type 0
-HasDamage db = IsDamagedCatalogue db ⊎ (AreDamagedSales db ⊎ (AreDamagedDoors db ⊎ AreDamagedOthers db))
+-- a table of the first version, beside the shop's own
+abbrev pub HasFirstDamage : Trees → Type 0
+HasFirstDamage db = IsDamagedCatalogue db ⊎ (AreDamagedSales db ⊎ (AreDamagedDoors db ⊎ AreDamagedOthers db))
+
+-- a table of the second version
+abbrev pub AreDamagedSides : Trees → Type 0
+AreDamagedSides db = IsDamaged release_row (λ w. Unit {0}) (rows_at db 27) ⊎ IsDamaged exit_row (λ w. Unit {0}) (rows_at db 28)
+
+-- a table of the third version: a row of budgets or of discounts is of no value within its limits, or one of what is spent is of no numbers
+abbrev pub AreDamagedSums : Trees → Type 0
+AreDamagedSums db = IsDamaged budget_row IsFitBudget (rows_at db 29) ⊎ (IsDamaged spent_row (λ w. Unit {0}) (rows_at db 30) ⊎ IsDamaged discount_row IsFitDiscount (rows_at db 31))
+
+-- a table that this version has, beside the shop's own
+abbrev pub HasDamage : ℕ → Trees → Type 0
+HasDamage own db = HasFirstDamage db ⊎ (((2 ≤ own) × AreDamagedSides db) ⊎ ((3 ≤ own) × AreDamagedSums db))
 
 -- ---- all values are within their limits; the tables that aren't named have none
 
@@ -111,13 +147,15 @@ pub record IsFitCatalogue (rows : CatalogueRows) : Type 0 where
   pub variations : All IsFitVariation rows.variations.items
   pub quotas : All IsFitQuota rows.quotas.items
 
--- the values of vouchers, cart positions, orders, order positions and the waiting list are within their limits
+-- the values of vouchers, cart positions, orders, order positions and the waiting list are within their limits, and so are budgets and discounts
 pub record AreFitSales (rows : SaleRows) : Type 0 where
   pub vouchers : All IsFitVoucher rows.vouchers.items
   pub carts : All IsFitCart rows.carts.items
   pub orders : All IsFitOrder rows.orders.items
   pub positions : All IsFitPosition rows.positions.items
   pub waiting : All IsFitWaiting rows.waiting.items
+  pub budgets : All IsFitBudget rows.budgets.items
+  pub discounts : All IsFitDiscount rows.discounts.items
 
 -- the values of check-in lists and check-ins are within their limits
 pub record AreFitDoors (rows : DoorRows) : Type 0 where
@@ -165,11 +203,11 @@ abbrev pub OfTheShop : Database → (List Row → Type 0) → Type 0
 OfTheShop db holds = (rows : List Row) × ShowsBy shop_text db rows × holds rows
 
 -- None of 60, 61 and 62 by the first two rules has its cause where a file of this version is asked for: no table lacks, there is one shop of
--- the version within its limits, and so is each value of the other tables, where these are declared as those of some version of ours.
+-- the version within its limits, and so is each value of the other tables, where these are declared as those of the version, or a later one of ours.
 pub record IsReadableAs (own : ℕ) (db : Database) : Type 0 where
   pub shop : OfTheShop db (IsOneShop own)
-  pub tables : HasTables db.schema
-  pub values : IsSince 1 db.schema → HasDamage db.trees → ⊥
+  pub tables : HasTables own db.schema
+  pub values : IsSince own db.schema → HasDamage own db.trees → ⊥
 
 -- a file of this program's version
 abbrev pub IsReadable : Database → Type 0
@@ -180,10 +218,10 @@ IsReadable db = IsReadableAs this_version db
 -- refused or the store fails has no cause in the file.
 abbrev pub IsCauseAs : ℕ → Database → OpenError → Type 0
 IsCauseAs own db Memory = Unit {0}
-IsCauseAs own db NotAShop = HasNoMeaning db.schema shop_text ⊎ OfTheShop db (λ rows. HasNoOtherVersion own rows × LacksTable db.schema)
+IsCauseAs own db NotAShop = HasNoMeaning db.schema shop_text ⊎ OfTheShop db (λ rows. HasNoOtherVersion own rows × LacksTable own db.schema)
 IsCauseAs own db (Version version) = OfTheShop db (HasOtherVersion own version)
-IsCauseAs own db (Damaged rule.Shop) = OfTheShop db (λ rows. HasNoOtherVersion own rows × HasTables db.schema × (¬ IsOneShop own rows))
-IsCauseAs own db (Damaged rule.Limits) = OfTheShop db (λ rows. IsOneShop own rows × HasTables db.schema × (IsSince 1 db.schema → HasDamage db.trees))
+IsCauseAs own db (Damaged rule.Shop) = OfTheShop db (λ rows. HasNoOtherVersion own rows × HasTables own db.schema × (¬ IsOneShop own rows))
+IsCauseAs own db (Damaged rule.Limits) = OfTheShop db (λ rows. IsOneShop own rows × HasTables own db.schema × (IsSince own db.schema → HasDamage own db.trees))
 IsCauseAs own db (Damaged _) = ⊥
 IsCauseAs own db Store = Unit {0}
 

@@ -51,7 +51,7 @@ fn readable(read: Result<TableRows, RowError>) -> Result<Option<TableRows>, Open
     ensures read { IfOk result (λ found. IfSome found (λ rows. read ≡ Ok rows)) }
     ensures unread { IfOk result (λ found. found ≡ None → read ≡ Err Damaged) }
     ensures store { IfErr result (WhereClosed (read ≡ Err Store)) }
-    ensures cause { (own : ℕ) (db : Database) → OfTheShop db (HasNoOtherVersion own) → IfErr read (IsFor (LacksTable db.schema) (IsSince 1 db.schema → HasDamage db.trees)) → IfErr result (IsCauseAs own db) }
+    ensures cause { (own : ℕ) (db : Database) → OfTheShop db (HasNoOtherVersion own) → IfErr read (IsFor (LacksTable own db.schema) (IsSince own db.schema → HasDamage own db.trees)) → IfErr result (IsCauseAs own db) }
 {
     match read {
         Ok(rows) => Ok(Some(rows)),
@@ -102,19 +102,20 @@ fn read_all<S: Alter, P: Progress>(
     progress: &mut P,
 ) -> Result<(Vec<Row>, Option<TableRows>), OpenError>
     requires outside { conn.old.in_transaction ≡ false }
+    requires first { 1 ≤ own }
     requires version { own ≤ this_version }
-    ensures loaded { HasCleanDisk (state S.Store conn.new) → (db : Database) → IsOpenAt db (state S.Store conn.old) → IsSince 1 db.schema → IfOk result (λ read. IfSome read.1 (HoldsRows db.trees)) }
+    ensures loaded { HasCleanDisk (state S.Store conn.new) → (db : Database) → IsOpenAt db (state S.Store conn.old) → IsSince own db.schema → IfOk result (λ read. IfSome read.1 (HoldsRows own db.trees)) }
     ensures limits { IfOk result (λ read. IfSome read.1 AreFitTables) }
-    ensures found { HasCleanDisk (state S.Store conn.new) → (db : Database) → IsOpenAt db (state S.Store conn.old) → IfOk result (λ read. ShowsBy shop_text db read.0.items × HasNoOtherVersion own read.0.items × HasTables db.schema × (read.1 ≡ None → IsSince 1 db.schema → HasDamage db.trees)) }
+    ensures found { HasCleanDisk (state S.Store conn.new) → (db : Database) → IsOpenAt db (state S.Store conn.old) → IfOk result (λ read. ShowsBy shop_text db read.0.items × HasNoOtherVersion own read.0.items × HasTables own db.schema × (read.1 ≡ None → IsSince own db.schema → HasDamage own db.trees)) }
     ensures cause { HasCleanDisk (state S.Store conn.new) → (db : Database) → IsOpenAt db (state S.Store conn.old) → IfErr result (IsCauseAs own db) }
-    ensures store { HasCleanDisk (state S.Store conn.new) → (db : Database) → IsOpenAt db (state S.Store conn.old) → IsSince 1 db.schema → IfErr result (WhereClosed (IsStopped (state S.Store conn.old) (state S.Store conn.new))) }
+    ensures store { HasCleanDisk (state S.Store conn.new) → (db : Database) → IsOpenAt db (state S.Store conn.old) → IsSince own db.schema → IfErr result (WhereClosed (IsStopped (state S.Store conn.old) (state S.Store conn.new))) }
     ensures same { HasCleanDisk (state S.Store conn.new) → OnOk result (IsUnchanged (state S.Store conn.old) (state S.Store conn.new)) }
     ensures rests { Rests (state S.Store conn.old) (state S.Store conn.new) }
     ensures mode { conn.new.in_transaction ≡ false }
     ensures crash { Survives (state S.Store conn.old) (state S.Store conn.new) (λ _. ⊥) }
 {
     match read_head(conn, own) {
-        Ok(rows) => match readable(read_tables(alloc, conn, progress)) {
+        Ok(rows) => match readable(read_tables(alloc, conn, own, progress)) {
             Ok(tables) => Ok((rows, tables)),
             Err(error) => Err(error),
         },
@@ -133,7 +134,7 @@ fn whole_file(
     ensures version { IfOk result (λ file. file.shop.version ≡ own) }
     ensures tables { IfOk result (λ file. tables ≡ Some file.tables) }
     ensures limits { IfSome tables AreFitTables → IfOk result IsFitFile }
-    ensures cause { (db : Database) → ShowsBy shop_text db rows.now → HasNoOtherVersion own rows.now → HasTables db.schema → (tables ≡ None → IsSince 1 db.schema → HasDamage db.trees) → IfErr result (IsCauseAs own db) }
+    ensures cause { (db : Database) → ShowsBy shop_text db rows.now → HasNoOtherVersion own rows.now → HasTables own db.schema → (tables ≡ None → IsSince own db.schema → HasDamage own db.trees) → IfErr result (IsCauseAs own db) }
     ensures never { IfErr result (WhereClosed ⊥) }
 {
     match (read_shop(alloc, rows, own), tables) {

@@ -81,7 +81,7 @@ pub(crate) fn read_shop(alloc: Global, rows: &[Row], own: u64) -> Result<ShopRow
     ensures version { IfOk result (λ shop. shop.version ≡ own) }
     ensures limits { IfOk result IsFitShop }
     ensures ids { IfOk result HasNextIds }
-    ensures cause { (db : Database) → ShowsBy shop_text db rows.now → HasNoOtherVersion own rows.now → HasTables db.schema → IfErr result (IsCauseAs own db) }
+    ensures cause { (db : Database) → ShowsBy shop_text db rows.now → HasNoOtherVersion own rows.now → HasTables own db.schema → IfErr result (IsCauseAs own db) }
     ensures never { IfErr result (WhereClosed ⊥) }
 {
     let [row] = rows else {

@@ -82,8 +82,8 @@ impl<T: Loaded> Whole for Vec<T> {
     }
 }
 
-// One, and then the other.
-fn read_both<S: Alter, A: Whole, B: Whole, P: Progress>(
+/// One, and then the other.
+pub(crate) fn read_both<S: Alter, A: Whole, B: Whole, P: Progress>(
     alloc: Global,
     conn: &mut Connection<S>,
     progress: &mut P,

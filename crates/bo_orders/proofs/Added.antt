@@ -1,5 +1,5 @@
 -- What is known where a cart position was added.
-use Rattle.std.proofs.Common.{◌≡◌, ℕ, Bool, true, false, [], ◌∷◌, Option, Some, None, Result, Ok, Err, refl, sym, ap, ◌∙◌, subst}
+use Rattle.std.proofs.Common.{◌≡◌, ℕ, true, false, [], ◌∷◌, None, Ok, refl, sym, ap, ◌∙◌, subst}
 use Rattle.bo_base.proofs.Decided.{found_none, gave, gave_below, gave_it, gave_unit, passed}
 use Rattle.bo_sorted.specs.Tables.{AreInOrder}
 use Rattle.bo_base.specs.Draws.{IsDraw}
@@ -13,6 +13,7 @@ use Rattle.bo_lists.specs.Full.{takes_cart}
 use Rattle.bo_lists.specs.Fits.{is_fit}
 use Rattle.bo_lists.specs.Numbered.{with_cart}
 use Rattle.bo_lists.specs.Over.{first_over, ignores}
+use Rattle.bo_lists.specs.Usage.{spent}
 use Rattle.bo_sound.specs.Sound.{IsSound}
 use Rattle.bo_sound.specs.Varied.{AllVaried, IsProduct}
 use Rattle.bo_sound.proofs.Numbered.{takes_it}
@@ -39,8 +40,8 @@ pub row_is_new : (new : NewCart) (draw : Draw) (state : State) → AreInOrder (�
 unfolding cart_row
 row_is_new new draw state order of_varied row h =
     let (named, h1) = gave_unit (cart_id_test new.cart_id) _ h in
-    let (sold, is, h2) = gave_below OfVoucher (sold_for new.asked state) _ h1 in
-    subst (IsNew state) (gave_it (row_of_sold new draw state sold) row h2) (record { id = refl; fit = sold_fits new.asked state sold order is; product = sold_is_product new.asked state sold of_varied is })
+    let (sold, is, h2) = gave_below OfVoucher (sold_for new.asked [] state) _ h1 in
+    subst (IsNew state) (gave_it (row_of_sold new draw state sold) row h2) (record { id = refl; fit = sold_fits new.asked [] state sold order is; product = sold_is_product new.asked [] state sold of_varied is })
 
 -- the row, the tests that it passed, and the box office with it
 pub record IsAdded (new : NewCart) (draw : Draw) (before after : State) (row : CartPos) : Type 0 where
@@ -72,7 +73,7 @@ module _ (new : NewCart) (draw : Draw) (before after : State) (row : CartPos) wh
   unfolding cart_row
   added_id a =
       let (named, h1) = gave_unit (cart_id_test new.cart_id) _ a.is_row in
-      let (sold, is, h2) = gave_below OfVoucher (sold_for new.asked before) _ h1 in
+      let (sold, is, h2) = gave_below OfVoucher (sold_for new.asked [] before) _ h1 in
       ap (λ (r : CartPos). r.id) (sym (gave_it (row_of_sold new draw before sold) row h2))
 
   -- the request took too much of no quota
@@ -87,6 +88,12 @@ module _ (new : NewCart) (draw : Draw) (before after : State) (row : CartPos) wh
       let a = added_is h in
       let heeds' = subst (λ (s : State). ignores s.lists row.voucher ≡ false) (sym a.is_after) heeds in
       subst (λ (s : State). TakesNoMore before s) a.is_after (takes_no_more before row heeds' a.not_over)
+
+  -- it takes nothing of a budget
+  pub added_spends : (voucher : ℕ) → position_added new draw before ≡ Ok (after, row) → spent voucher after.lists ≡ spent voucher before.lists
+  added_spends voucher h =
+      let a = added_is h in
+      sym (ap (λ (s : State). spent voucher s.lists) a.is_after)
 
   pub added_moment : position_added new draw before ≡ Ok (after, row) → after.moment ≡ before.moment
   added_moment h =

@@ -1,5 +1,5 @@
 -- The positions of a new order: as many as are asked for, numbered from 1, each with a secret of its own.
-use Rattle.std.proofs.Common.{◌≡◌, ◌≢◌, ℕ, ◌+◌, ◌<◌, ◌≤◌, Bool, true, false, List, [], ◌∷◌, ◌++◌, append_assoc, append-nil, length, map, Option, Some, None, Result, Ok, Err, eqb, refl, sym, ap, ◌∙◌, subst, subst₂, arith}
+use Rattle.std.proofs.Common.{◌≡◌, ◌≢◌, ℕ, ◌+◌, ◌<◌, ◌≤◌, true, List, [], ◌∷◌, ◌++◌, append_assoc, append-nil, length, map, Option, Some, None, Result, Ok, Err, eqb, refl, sym, ap, ◌∙◌, subst, subst₂, arith}
 use Rattle.std.specs.Prelude.{is_some, nat_lt}
 use Rattle.std.specs.List.{AllByRecursion}
 use Rattle.std.proofs.lemmas.Bool.Decides.{nat_tests}
@@ -47,19 +47,19 @@ pub record AreRows (number : ℕ) (asked : List Asked) (rows : List OrderPos) : 
   pub all : length rows ≡ length asked
 
 module _ (draw : Draw) (state : State) where
-  numbered_row : (id number : ℕ) (asked : Asked) (row : OrderPos) → position_for draw state id number asked ≡ Ok row → (row.positionid ≡ number) × (has_own_secret row ≡ true)
+  numbered_row : (front : List OrderPos) (id number : ℕ) (asked : Asked) (row : OrderPos) → position_for draw state front id number asked ≡ Ok row → (row.positionid ≡ number) × (has_own_secret row ≡ true)
   unfolding position_for
-  numbered_row id number asked row h =
-      let (sold, is, h1) = gave_below OfVoucher (sold_for asked state) _ h in
+  numbered_row front id number asked row h =
+      let (sold, is, h1) = gave_below OfVoucher (sold_for asked front state) _ h in
       subst (λ (r : OrderPos). (r.positionid ≡ number) × (has_own_secret r ≡ true)) (gave_it (position_row draw state.next.order id number sold) row h1) (refl, made_ends draw state.next.order number)
 
-  pub are_rows : (id number : ℕ) (asked : List Asked) (rows : List OrderPos) → rows_for draw state id number asked ≡ Ok rows → AreRows number asked rows
-  are_rows id number [] rows h = subst (AreRows number []) (gave_it [] rows h) (record { counted = tt; secrets = tt; all = refl })
-  are_rows id number (entry ∷ more) rows h =
-      let (row, first, h1) = gave (position_for draw state id number entry) _ h in
-      let (others, rest, h2) = gave (rows_for draw state (id + 1) (number + 1) more) _ h1 in
-      let one = numbered_row id number entry row first in
-      let are = are_rows (id + 1) (number + 1) more others rest in
+  pub are_rows : (front : List OrderPos) (id number : ℕ) (asked : List Asked) (rows : List OrderPos) → rows_for draw state front id number asked ≡ Ok rows → AreRows number asked rows
+  are_rows front id number [] rows h = subst (AreRows number []) (gave_it [] rows h) (record { counted = tt; secrets = tt; all = refl })
+  are_rows front id number (entry ∷ more) rows h =
+      let (row, first, h1) = gave (position_for draw state front id number entry) _ h in
+      let (others, rest, h2) = gave (rows_for draw state (front ++ row ∷ []) (id + 1) (number + 1) more) _ h1 in
+      let one = numbered_row front id number entry row first in
+      let are = are_rows (front ++ row ∷ []) (id + 1) (number + 1) more others rest in
       subst (AreRows number (entry ∷ more)) (gave_it (row ∷ others) rows h2) (record { counted = (one.0, are.counted); secrets = (one.1, are.secrets); all = omega (arith, are.all) })
 
 -- puts leave the orders, and put the positions behind those that stand
@@ -100,12 +100,12 @@ none_of_next next orders positions below stand = all_weaker (λ p. is_some (row_
 -- so where each order had its positions, each has them with the new order and its rows
 pub created_whole : (new : NewOrder) (draw : Draw) (before : State) (made : State × OrderRows) (row : Order) (rows : List OrderPos) (ids : List ℕ) (put : State) → order_created new draw before ≡ Ok made
     → AreNumbered (λ r. r.id) before.next.order before.lists.orders → AreNumbered (λ r. r.id) before.next.position before.lists.positions → AreOrdered before.lists.orders before.lists.positions
-    → row.id ≡ before.next.order → rows_for draw before before.next.position 1 new.positions ≡ Ok rows → AreCounted before.next.position rows → AllByRecursion (λ p. p.order ≡ before.next.order) rows
+    → row.id ≡ before.next.order → rows_for draw before [] before.next.position 1 new.positions ≡ Ok rows → AreCounted before.next.position rows → AllByRecursion (λ p. p.order ≡ before.next.order) rows
     → with_positions rows (Ok (record before { lists = record (after_all (map DropCart ids) before.lists) { orders = with_row (λ r. r.id) row (after_all (map DropCart ids) before.lists).orders } })) ≡ Ok put
     → AllHavePositions put.lists.orders put.lists.positions
 created_whole new draw before made row rows ids put done orders positions ordered id asked counted own puts =
     let few = created_few new draw before made done in
-    let are = are_rows draw before before.next.position 1 new.positions rows asked in
+    let are = are_rows draw before [] before.next.position 1 new.positions rows asked in
     let keeps = carts_keep_positions ids before.lists in
     let behind = stand_behind rows before.next.position (record before { lists = record (after_all (map DropCart ids) before.lists) { orders = with_row (λ r. r.id) row (after_all (map DropCart ids) before.lists).orders } }) put counted (subst (λ (ps : List OrderPos). AllByRecursion (λ p. p.id < before.next.position) ps) (sym keeps) positions.below) puts in
     let whole : AreWhole rows = record { some = omega (arith, are.all, few.some); few = omega (arith, are.all, few.few); counted = subst (CountFrom 1) (sym (counted_is 1 rows are.counted)) are.counted } in

@@ -1,5 +1,5 @@
 -- What is known where an order was made.
-use Rattle.std.proofs.Common.{◌≡◌, ℕ, ◌+◌, ◌<◌, ◌≤◌, Bool, true, false, List, [], ◌∷◌, length, map, Option, Some, None, Result, Ok, Err, refl, sym, ap, ◌∙◌, subst, arith}
+use Rattle.std.proofs.Common.{◌≡◌, ℕ, ◌+◌, ◌<◌, ◌≤◌, true, List, [], ◌∷◌, ◌++◌, length, map, Option, Some, None, Result, Ok, Err, refl, sym, ap, ◌∙◌, subst, arith}
 use Rattle.std.specs.Prelude.{◌&&◌, is_some}
 use Rattle.std.specs.List.{AllByRecursion}
 use Rattle.std.proofs.lemmas.Bool.Decides.{nat_tests}
@@ -18,6 +18,7 @@ use Rattle.bo_lists.specs.declared.rows.Own.TheVariants.{Position}
 use Rattle.bo_lists.specs.declared.changes.Change.TheVariants.{PutOrder, PutPosition}
 use Rattle.bo_lists.specs.Conditions.{is_in_force}
 use Rattle.bo_lists.specs.Usage.{stands_as}
+use Rattle.bo_lists.specs.Budgets.{are_within}
 use Rattle.bo_lists.specs.Lists.{Lists, State, order_at}
 use Rattle.bo_lists.specs.Change.{after_change, changed, without_carts}
 use Rattle.bo_lists.specs.Consumed.{consumed}
@@ -33,7 +34,7 @@ use Rattle.bo_sound.specs.Varied.{AllVaried, IsProduct}
 use Rattle.bo_sound.proofs.Fit.{fit_same}
 use Rattle.bo_sound.proofs.Numbered.{Takes, TakesSome, takes_first, takes_others}
 use Rattle.bo_sound.proofs.SoundOrders.{sound_order, sound_position, sound_whole, sound_drop_carts}
-use Rattle.bo_commands.specs.declared.vouchers.VoucherRefusal.TheVariants.{SoldOut}
+use Rattle.bo_commands.specs.declared.vouchers.VoucherRefusal.TheVariants.{OverBudget, SoldOut}
 use Rattle.bo_commands.specs.FitRequests.{IsFitOrder}
 use Rattle.bo_commands.specs.declared.orders.NewOrder.{NewOrder}
 use Rattle.bo_commands.specs.declared.carts.Asked.{Asked}
@@ -46,13 +47,15 @@ use Rattle.bo_orders.proofs.Limited.{order_limited, positions_limited}
 use Rattle.bo_orders.proofs.Puts.{put_is, carts_keep_catalogue, carts_keep_orders, carts_keep_positions, carts_keep_vouchers}
 use Rattle.bo_orders.proofs.SoldLemmas.{sold_fits, sold_is_product}
 use Rattle.bo_orders.proofs.Rows.{by_force, counted, puts_next}
+use Rattle.bo_orders.proofs.Spending.{made_within}
 
 -- the rows of the order, the tests that it passed, and the box office with it
 pub record IsCreated (new : NewOrder) (draw : Draw) (before after : State) (made : OrderRows) : Type 0 where
   pub put : State
   pub is_order : order_row new before ≡ made.order
-  pub are_rows : rows_for draw before before.next.position 1 new.positions ≡ Ok made.positions
+  pub are_rows : rows_for draw before [] before.next.position 1 new.positions ≡ Ok made.positions
   pub puts : with_positions made.positions (Ok (with_order_row made.order new.consume_carts before)) ≡ Ok put
+  pub within : are_within put.lists made.positions ≡ true
   pub not_over : first_over before.lists put.lists before.moment (map (λ p. Position p.id) made.positions) ≡ None
   pub takes : (takes_order before && takes_positions (length made.positions) before) ≡ true
   pub is_after : with_ids_used (length made.positions) put ≡ after
@@ -66,18 +69,20 @@ module _ (new : NewOrder) (draw : Draw) (before after : State) (made : OrderRows
   created_is h =
       let row = order_row new before in
       let (counts, h1) = gave_unit (counts_test new) _ h in
-      let (rows, asked, h2) = gave (rows_for draw before before.next.position 1 new.positions) _ h1 in
+      let (rows, asked, h2) = gave (rows_for draw before [] before.next.position 1 new.positions) _ h1 in
       let (put, puts, h3) = gave (with_positions rows (Ok (with_order_row row new.consume_carts before))) _ h2 in
-      let (over, h4) = found_none (λ quota. OfVoucher (SoldOut quota)) (first_over before.lists put.lists before.moment (map (λ p. Position p.id) rows)) _ h3 in
-      let (takes, h5) = passed (takes_order before && takes_positions (length rows) before) _ _ h4 in
+      let (within, h4) = passed (are_within put.lists rows) (OfVoucher OverBudget) _ h3 in
+      let (over, h5) = found_none (λ quota. OfVoucher (SoldOut quota)) (first_over before.lists put.lists before.moment (map (λ p. Position p.id) rows)) _ h4 in
+      let (takes, h6) = passed (takes_order before && takes_positions (length rows) before) _ _ h5 in
       let its : OrderRows = record { order = row; positions = rows } in
-      let is = gave_it (with_ids_used (length rows) put, its) (after, made) h5 in
+      let is = gave_it (with_ids_used (length rows) put, its) (after, made) h6 in
       let same = ap (λ (x : State × OrderRows). x.1) is in
       record {
         put = put;
         is_order = ap (λ (r : OrderRows). r.order) same;
-        are_rows = subst (λ ps. rows_for draw before before.next.position 1 new.positions ≡ Ok ps) (ap (λ (r : OrderRows). r.positions) same) asked;
+        are_rows = subst (λ ps. rows_for draw before [] before.next.position 1 new.positions ≡ Ok ps) (ap (λ (r : OrderRows). r.positions) same) asked;
         puts = subst (λ (r : OrderRows). with_positions r.positions (Ok (with_order_row r.order new.consume_carts before)) ≡ Ok put) same puts;
+        within = subst (λ (r : OrderRows). are_within put.lists r.positions ≡ true) same within;
         not_over = subst (λ (r : OrderRows). first_over before.lists put.lists before.moment (map (λ p. Position p.id) r.positions) ≡ None) same over;
         takes = subst (λ (r : OrderRows). (takes_order before && takes_positions (length r.positions) before) ≡ true) same takes;
         is_after = subst (λ (r : OrderRows). with_ids_used (length r.positions) put ≡ after) same (ap (λ (x : State × OrderRows). x.0) is);
@@ -114,18 +119,18 @@ abbrev pub IsOwn : Lists → ℕ → OrderPos → Type 0
 IsOwn lists number p = (p.order ≡ number) × ((is_fit lists p.product p.voucher ≡ true) × IsProduct lists.catalogue p.product)
 
 module _ (draw : Draw) (state : State) (order : AreInOrder (λ r. r.id) state.lists.vouchers) (of_varied : AllVaried state.lists) where
-  own_row : (id number : ℕ) (asked : Asked) (row : OrderPos) → position_for draw state id number asked ≡ Ok row → IsOwn state.lists state.next.order row
+  own_row : (front : List OrderPos) (id number : ℕ) (asked : Asked) (row : OrderPos) → position_for draw state front id number asked ≡ Ok row → IsOwn state.lists state.next.order row
   unfolding position_for
-  own_row id number asked row h =
-      let (sold, is, h1) = gave_below OfVoucher (sold_for asked state) _ h in
-      subst (IsOwn state.lists state.next.order) (gave_it (position_row draw state.next.order id number sold) row h1) (refl, (sold_fits asked state sold order is, sold_is_product asked state sold of_varied is))
+  own_row front id number asked row h =
+      let (sold, is, h1) = gave_below OfVoucher (sold_for asked front state) _ h in
+      subst (IsOwn state.lists state.next.order) (gave_it (position_row draw state.next.order id number sold) row h1) (refl, (sold_fits asked front state sold order is, sold_is_product asked front state sold of_varied is))
 
-  pub are_own : (id number : ℕ) (asked : List Asked) (rows : List OrderPos) → rows_for draw state id number asked ≡ Ok rows → AllByRecursion (IsOwn state.lists state.next.order) rows
-  are_own id number [] rows h = subst (AllByRecursion (IsOwn state.lists state.next.order)) (gave_it [] rows h) tt
-  are_own id number (entry ∷ more) rows h =
-      let (row, first, h1) = gave (position_for draw state id number entry) _ h in
-      let (others, rest, h2) = gave (rows_for draw state (id + 1) (number + 1) more) _ h1 in
-      subst (AllByRecursion (IsOwn state.lists state.next.order)) (gave_it (row ∷ others) rows h2) (own_row id number entry row first, are_own (id + 1) (number + 1) more others rest)
+  pub are_own : (front : List OrderPos) (id number : ℕ) (asked : List Asked) (rows : List OrderPos) → rows_for draw state front id number asked ≡ Ok rows → AllByRecursion (IsOwn state.lists state.next.order) rows
+  are_own front id number [] rows h = subst (AllByRecursion (IsOwn state.lists state.next.order)) (gave_it [] rows h) tt
+  are_own front id number (entry ∷ more) rows h =
+      let (row, first, h1) = gave (position_for draw state front id number entry) _ h in
+      let (others, rest, h2) = gave (rows_for draw state (front ++ row ∷ []) (id + 1) (number + 1) more) _ h1 in
+      subst (AllByRecursion (IsOwn state.lists state.next.order)) (gave_it (row ∷ others) rows h2) (own_row front id number entry row first, are_own (front ++ row ∷ []) (id + 1) (number + 1) more others rest)
 
 -- the order's id is used, and the next position gets this one
 abbrev pub numbered : ℕ → State → State
@@ -191,7 +196,7 @@ begins new draw before after made fit sound m = record {
 pub created_limited : (new : NewOrder) (draw : Draw) (before after : State) (made : OrderRows) → IsFitOrder new → IsDraw draw → IsSound before → order_created new draw before ≡ Ok (after, made) → IsCreated new draw before after made → AllByRecursion IsLimitedPosition made.positions
 created_limited new draw before after made fit sixteen sound h m =
     let few = created_few new draw before (after, made) h in
-    positions_limited draw before sixteen sound before.next.position 1 new.positions made.positions (omega (arith, few.few)) fit.positions m.are_rows
+    positions_limited draw before sixteen sound [] before.next.position 1 new.positions made.positions (omega (arith, few.few)) fit.positions m.are_rows
 
 -- a box office stays sound as an order is made
 pub created_sound : (new : NewOrder) (draw : Draw) (before after : State) (made : OrderRows) → IsFitOrder new → IsDraw draw → IsSound before → order_created new draw before ≡ Ok (after, made) → IsSound after
@@ -205,12 +210,13 @@ created_sound new draw before after made fit sixteen sound h =
     let g = begins new draw before after made fit sound m in
     let takes = subst (λ (positions : List OrderPos). TakesSome (length made.positions) start positions) (sym (carts_keep_positions ids before.lists)) room.1 in
     let next = puts_next made.positions state m.put m.puts in
-    let ids_count = counted draw before start 1 new.positions made.positions m.are_rows in
-    let own = are_own draw before sound.ids.vouchers.in_order sound.varied start 1 new.positions made.positions m.are_rows in
-    let rows = are_rows draw before start 1 new.positions made.positions m.are_rows in
+    let ids_count = counted draw before [] start 1 new.positions made.positions m.are_rows in
+    let own = are_own draw before sound.ids.vouchers.in_order sound.varied [] start 1 new.positions made.positions m.are_rows in
+    let rows = are_rows draw before [] start 1 new.positions made.positions m.are_rows in
     let limits = created_limited new draw before after made fit sixteen sound h m in
     let all = puts_sound before.lists before.next.order made.positions start state m.put takes ids_count own rows.secrets limits g m.puts in
     let of_it = all_weaker (IsOwn before.lists before.next.order) (λ p. p.order ≡ before.next.order) (λ p known. known.0) made.positions own in
     let whole = created_whole new draw before (after, made) made.order made.positions ids m.put h sound.ids.orders sound.ids.positions sound.ordered id m.are_rows ids_count of_it m.puts in
-    let full = sound_whole (numbered (start + length made.positions) m.put) whole all in
+    let budgets = made_within made.order new.consume_carts before id sound made.positions m.put m.puts m.within in
+    let full = sound_whole (numbered (start + length made.positions) m.put) whole budgets all in
     subst IsSound m.is_after (subst (λ (n : ℕ). IsSound (numbered n m.put)) (ap (λ (x : NextIds). x.position + length made.positions) (sym next)) full)

@@ -67,7 +67,7 @@ module _ (lists : Lists) (number : ℕ) (all : List OrderPos) (unlike : AreUnlik
           let on = goes_on lists number id row state count.0 own.0 secrets.0 p.left (takes_first (λ (r : OrderPos). r.id) row rows id state.lists.positions takes) limits.0 g in
           let rest = more on (subst (λ (s : State). with_positions rows (Ok s) ≡ Ok put) (sym p.is) h) in
           record {
-            can = (can_be_made _ (PutPosition row) state.lists (numbered (id + 1) next).next state.moment on.sound (in_place (id + 1) rows next on (behind id row rows state count.0 g is)), rest.can);
+            can = (can_be_made _ _ (PutPosition row) state.lists (numbered (id + 1) next).next state.moment on.sound (in_place (id + 1) rows next on (behind id row rows state count.0 g is)), rest.can);
             is = rest.is;
           }
 
@@ -82,13 +82,13 @@ created_leads new draw before after made fit sixteen sound h =
     let places = sound_in_place after (created_sound new draw before after made fit sixteen sound h) in
     let end : m.put.lists ≡ after.lists = ap (λ (s : State). s.lists) m.is_after in
     let keep = carts_keep_positions ids before.lists in
-    let ids_count = counted draw before start 1 new.positions made.positions m.are_rows in
+    let ids_count = counted draw before [] start 1 new.positions made.positions m.are_rows in
     let below = subst (λ (ps : List OrderPos). AllByRecursion (λ r. r.id < start) ps) (sym keep) sound.ids.positions.below in
     let all = sym (stand_behind made.positions start state m.put ids_count below m.puts).positions ∙ ap (λ (l : Lists). l.positions) end in
     let unlike : AreUnlike after.lists.positions = record { secrets = places.secrets; places = places.places } in
     let takes = subst (λ (ps : List OrderPos). TakesSome (length made.positions) start ps) (sym keep) (takes_all (length made.positions) before m.takes).1 in
-    let own = are_own draw before sound.ids.vouchers.in_order sound.varied start 1 new.positions made.positions m.are_rows in
-    let rows = are_rows draw before start 1 new.positions made.positions m.are_rows in
+    let own = are_own draw before sound.ids.vouchers.in_order sound.varied [] start 1 new.positions made.positions m.are_rows in
+    let rows = are_rows draw before [] start 1 new.positions made.positions m.are_rows in
     let puts = puts_lead before.lists before.next.order after.lists.positions unlike made.positions start state m.put takes ids_count own rows.secrets (created_limited new draw before after made fit sixteen sound h m) (begins new draw before after made fit sound m) all m.puts in
     let order : LeadTo (PutOrder made.order ∷ []) left state.lists = record { can = (tt, tt); is = refl } in
     let ordered = leads_joined (PutOrder made.order ∷ []) (map PutPosition made.positions) left state.lists m.put.lists order puts in

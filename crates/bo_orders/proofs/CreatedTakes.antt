@@ -61,6 +61,6 @@ created_takes_no_more new draw before after made heed h =
     let m = created_is new draw before after made h in
     let start = before.next.position in
     let state = with_order_row made.order new.consume_carts before in
-    let stand = subst (λ (s : State). AllByRecursion (λ p. position_at p.id s.lists ≡ Some p) made.positions) m.is_after (puts_stand made.positions start state m.put (counted draw before start 1 new.positions made.positions m.are_rows) m.puts) in
+    let stand = subst (λ (s : State). AllByRecursion (λ p. position_at p.id s.lists ≡ Some p) made.positions) m.is_after (puts_stand made.positions start state m.put (counted draw before [] start 1 new.positions made.positions m.are_rows) m.puts) in
     let none = none_passes (is_over before.lists after.lists before.moment (map (λ p. Position p.id) made.positions)) after.lists.catalogue.quotas (created_none_over new draw before after made h) in
     all_within before after made.positions (created_moment new draw before after made h) stand heed after.lists.catalogue.quotas none

@@ -1,5 +1,5 @@
 -- The rows that carts and orders get are within their limits.
-use Rattle.std.proofs.Common.{◌≡◌, ℕ, ◌+◌, ◌^◌, ◌<◌, min, List, [], ◌∷◌, ◌++◌, length, decimal, codes, Option, Some, None, Result, Ok, Err, refl, subst, arith}
+use Rattle.std.proofs.Common.{◌≡◌, ℕ, ◌+◌, ◌^◌, ◌<◌, min, List, [], ◌∷◌, ◌++◌, length, decimal, codes, Option, Some, None, Ok, refl, subst, arith}
 use Rattle.std.specs.Prelude.{IfSome}
 use Rattle.std.specs.List.{AllByRecursion}
 use Rattle.hex.specs.Hex.{encode_lower}
@@ -29,7 +29,7 @@ use Rattle.bo_orders.specs.Carts.{cart_row, row_of_sold}
 use Rattle.bo_orders.specs.Created.{order_row, position_row, position_for, rows_for}
 use Rattle.bo_orders.specs.Moves.{end_after, moved_row}
 use Rattle.bo_orders.specs.Sold.{sold_for}
-use Rattle.bo_orders.proofs.Prices.{sold_money}
+use Rattle.bo_orders.proofs.Prices.{sold_money, sold_discount}
 
 -- a cart id that is made is a text
 pub made_cart_text : (draw : Draw) (id : ℕ) → IsDraw draw → id < 2 ^ 64 → IsText (made_cart_id draw id)
@@ -52,10 +52,10 @@ module _ (new : NewCart) (draw : Draw) (state : State) (fit : IsFitCart new) (si
   unfolding cart_row
   cart_limited h =
       let (named, h1) = gave_unit (cart_id_test new.cart_id) _ h in
-      let (sold, is, h2) = gave_below OfVoucher (sold_for new.asked state) _ h1 in
+      let (sold, is, h2) = gave_below OfVoucher (sold_for new.asked [] state) _ h1 in
       subst IsLimitedCart (gave_it (row_of_sold new draw state sold) row h2) (record {
         cart_id = cart_text new.cart_id draw state.next.cart sixteen (omega (arith, sound.range.next_ids.carts.within)) fit.cart_id;
-        price = sold_money new.asked fit.asked state sound.ids.vouchers.in_order sound.limits sold is;
+        price = sold_money new.asked fit.asked [] state sound.ids.vouchers.in_order sound.limits sold is;
         made_at = sound.range.moment;
         expires = given_or IsMoment new.expires (min (state.moment + 1800) last_moment) fit.expires (ends (state.moment + 1800));
       })
@@ -70,21 +70,22 @@ order_limited new state fit sound = record {
 
 -- its positions
 module _ (draw : Draw) (state : State) (sixteen : IsDraw draw) (sound : IsSound state) where
-  limited_row : (id number : ℕ) (asked : Asked) → IsFitAsked asked → number < 2 ^ 64 → (row : OrderPos) → position_for draw state id number asked ≡ Ok row → IsLimitedPosition row
+  limited_row : (front : List OrderPos) (id number : ℕ) (asked : Asked) → IsFitAsked asked → number < 2 ^ 64 → (row : OrderPos) → position_for draw state front id number asked ≡ Ok row → IsLimitedPosition row
   unfolding position_for
-  limited_row id number asked fit small row h =
-      let (sold, is, h1) = gave_below OfVoucher (sold_for asked state) _ h in
+  limited_row front id number asked fit small row h =
+      let (sold, is, h1) = gave_below OfVoucher (sold_for asked front state) _ h in
       subst IsLimitedPosition (gave_it (position_row draw state.next.order id number sold) row h1) (record {
-        price = sold_money asked fit state sound.ids.vouchers.in_order sound.limits sold is;
+        price = sold_money asked fit front state sound.ids.vouchers.in_order sound.limits sold is;
+        discount = sold_discount asked fit front state sound.ids.vouchers.in_order sound.limits sold is;
         secret = secret_text draw state.next.order number sixteen (omega (arith, sound.range.next_ids.orders.within)) small;
       })
 
-  pub positions_limited : (id number : ℕ) (asked : List Asked) (rows : List OrderPos) → number + length asked < 2 ^ 64 → AllByRecursion IsFitAsked asked → rows_for draw state id number asked ≡ Ok rows → AllByRecursion IsLimitedPosition rows
-  positions_limited id number [] rows small fit h = subst (AllByRecursion IsLimitedPosition) (gave_it [] rows h) tt
-  positions_limited id number (entry ∷ more) rows small fit h =
-      let (row, first, h1) = gave (position_for draw state id number entry) _ h in
-      let (others, rest, h2) = gave (rows_for draw state (id + 1) (number + 1) more) _ h1 in
-      subst (AllByRecursion IsLimitedPosition) (gave_it (row ∷ others) rows h2) (limited_row id number entry fit.0 (omega (arith, small)) row first, positions_limited (id + 1) (number + 1) more others (omega (arith, small)) fit.1 rest)
+  pub positions_limited : (front : List OrderPos) (id number : ℕ) (asked : List Asked) (rows : List OrderPos) → number + length asked < 2 ^ 64 → AllByRecursion IsFitAsked asked → rows_for draw state front id number asked ≡ Ok rows → AllByRecursion IsLimitedPosition rows
+  positions_limited front id number [] rows small fit h = subst (AllByRecursion IsLimitedPosition) (gave_it [] rows h) tt
+  positions_limited front id number (entry ∷ more) rows small fit h =
+      let (row, first, h1) = gave (position_for draw state front id number entry) _ h in
+      let (others, rest, h2) = gave (rows_for draw state (front ++ row ∷ []) (id + 1) (number + 1) more) _ h1 in
+      subst (AllByRecursion IsLimitedPosition) (gave_it (row ∷ others) rows h2) (limited_row front id number entry fit.0 (omega (arith, small)) row first, positions_limited (front ++ row ∷ []) (id + 1) (number + 1) more others (omega (arith, small)) fit.1 rest)
 
 -- an order that is moved
 end_limited : (change : Move) (old : ℕ) → IsFitMove change → IsMoment old → IsMoment (end_after change old)

@@ -1,5 +1,5 @@
 -- What is known where an order was moved.
-use Rattle.std.proofs.Common.{◌≡◌, ℕ, ◌≤◌, ◌⊎◌, inl, inr, Bool, true, false, map, Option, Some, None, Result, Ok, Err, refl, sym, ap, ◌∙◌, subst}
+use Rattle.std.proofs.Common.{◌≡◌, ℕ, ◌≤◌, ◌⊎◌, inl, inr, Bool, true, false, map, Option, Some, None, Result, Ok, refl, sym, ap, ◌∙◌, subst}
 use Rattle.std.specs.Prelude.{if◌then◌else◌}
 use Rattle.bo_base.proofs.Decided.{found, found_none, gave_it, passed}
 use Rattle.bo_catalogue.specs.declared.rows.Quota.{Quota}
@@ -27,7 +27,7 @@ use Rattle.bo_orders.specs.declared.moves.Transition.{Transition}
 use Rattle.bo_commands.specs.declared.orders.OrderRefusal.{OrderRefusal}
 use Rattle.bo_commands.specs.declared.orders.OrderRefusal.TheVariants.{Voucher as OfVoucher}
 use Rattle.bo_commands.specs.declared.vouchers.VoucherRefusal.TheVariants.{SoldOut}
-use Rattle.bo_orders.specs.Moves.{turned, moved_row, have_uses_again, order_rows, moved_to, over_again, revival, order_moved}
+use Rattle.bo_orders.specs.Moves.{turned, moved_row, have_uses_again, have_budgets_again, order_rows, moved_to, over_again, revival, order_moved}
 use Rattle.bo_orders.proofs.Limited.{moved_limited}
 use Rattle.bo_orders.proofs.MoveLemmas.{found_id, kept_force}
 use Rattle.bo_orders.proofs.Revivals.{over_sorted, revival_takes_no_more}
@@ -38,6 +38,7 @@ some_order a b h = cc
 -- the tests that an order that comes back passed, and the box office with it
 record IsRevived (row : Order) (before after : State) (rows : OrderRows) : Type 0 where
   uses : have_uses_again row before ≡ true
+  budgets : have_budgets_again row before ≡ true
   not_over : over_again row before ≡ None
   is : moved_to row before ≡ (after, rows)
 
@@ -51,6 +52,7 @@ pub record IsMoved (number : ℕ) (change : Move) (before after : State) (rows :
   pub is_rows : order_rows rows.order before ≡ rows
   pub is_after : changed (PutOrder rows.order) before ≡ after
   pub uses : turn.revival ≡ true → have_uses_again rows.order before ≡ true
+  pub budgets : turn.revival ≡ true → have_budgets_again rows.order before ≡ true
   pub not_over : turn.revival ≡ true → over_again rows.order before ≡ None
 
 module _ (number : ℕ) (change : Move) (before after : State) (rows : OrderRows) where
@@ -61,15 +63,16 @@ module _ (number : ℕ) (change : Move) (before after : State) (rows : OrderRows
   unfolding revival
   revived_is row h =
       let (uses, h1) = passed (have_uses_again row before) _ _ h in
-      let (over, h2) = found_none (λ quota. OfVoucher (SoldOut quota)) (over_again row before) _ h1 in
-      record { uses = uses; not_over = over; is = gave_it (moved_to row before) (after, rows) h2 }
+      let (budgets, h2) = passed (have_budgets_again row before) _ _ h1 in
+      let (over, h3) = found_none (λ quota. OfVoucher (SoldOut quota)) (over_again row before) _ h2 in
+      record { uses = uses; budgets = budgets; not_over = over; is = gave_it (moved_to row before) (after, rows) h3 }
 
   module _ (old : Order) (stood : order_at number before.lists ≡ Some old) where
     abbrev asked : Transition → Order
     asked turn = moved_row old turn.status change
 
-    with_tests : (turn : Transition) → turned old.status change ≡ Some turn → moved_to (asked turn) before ≡ (after, rows) → (turn.revival ≡ true → have_uses_again (asked turn) before ≡ true) → (turn.revival ≡ true → over_again (asked turn) before ≡ None) → IsMoved number change before after rows
-    with_tests turn turns is uses not_over =
+    with_tests : (turn : Transition) → turned old.status change ≡ Some turn → moved_to (asked turn) before ≡ (after, rows) → (turn.revival ≡ true → have_uses_again (asked turn) before ≡ true) → (turn.revival ≡ true → have_budgets_again (asked turn) before ≡ true) → (turn.revival ≡ true → over_again (asked turn) before ≡ None) → IsMoved number change before after rows
+    with_tests turn turns is uses budgets not_over =
         let same : order_rows (asked turn) before ≡ rows = ap (λ (x : State × OrderRows). x.1) is in
         let row : asked turn ≡ rows.order = ap (λ (r : OrderRows). r.order) same in
         record {
@@ -81,14 +84,15 @@ module _ (number : ℕ) (change : Move) (before after : State) (rows : OrderRows
           is_rows = ap (λ (o : Order). order_rows o before) (sym row) ∙ same;
           is_after = ap (λ (o : Order). changed (PutOrder o) before) (sym row) ∙ ap (λ (x : State × OrderRows). x.0) is;
           uses = λ e. subst (λ (o : Order). have_uses_again o before ≡ true) row (uses e);
+          budgets = λ e. subst (λ (o : Order). have_budgets_again o before ≡ true) row (budgets e);
           not_over = λ e. subst (λ (o : Order). over_again o before ≡ None) row (not_over e);
         }
 
     by_revival : (turn : Transition) → turned old.status change ≡ Some turn → (back : Bool) → turn.revival ≡ back → Gives (if back then revival (asked turn) before else Ok (moved_to (asked turn) before)) → IsMoved number change before after rows
     by_revival turn turns true is h =
         let r = revived_is (asked turn) h in
-        with_tests turn turns r.is (λ e. r.uses) (λ e. r.not_over)
-    by_revival turn turns false is h = with_tests turn turns (gave_it (moved_to (asked turn) before) (after, rows) h) (λ e. absurd (cc (e, is))) (λ e. absurd (cc (e, is)))
+        with_tests turn turns r.is (λ e. r.uses) (λ e. r.budgets) (λ e. r.not_over)
+    by_revival turn turns false is h = with_tests turn turns (gave_it (moved_to (asked turn) before) (after, rows) h) (λ e. absurd (cc (e, is))) (λ e. absurd (cc (e, is))) (λ e. absurd (cc (e, is)))
 
   pub moved_is : Gives (order_moved number change before) → IsMoved number change before after rows
   unfolding order_moved
@@ -136,7 +140,7 @@ module _ (number : ℕ) (change : Move) (before after : State) (rows : OrderRows
       by_plain (inr kept) = sound_changed_order before rows.order m.old stood limits sound (inr (inl kept))
 
       by_back : (back : Bool) → m.turn.revival ≡ back → IsSound (changed (PutOrder rows.order) before)
-      by_back true is = sound_changed_order before rows.order m.old stood limits sound (inr (inr (m.uses is)))
+      by_back true is = sound_changed_order before rows.order m.old stood limits sound (inr (inr (m.uses is, m.budgets is)))
       by_back false is = by_plain (keeps_force m is)
 
   -- an order that isn't in force, and is afterwards, comes back

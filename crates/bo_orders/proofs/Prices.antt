@@ -1,11 +1,12 @@
--- What is sold has a price that is an amount of money.
-use Rattle.std.proofs.Common.{◌≡◌, ℕ, ◌+◌, ◌-◌, ◌*◌, ◌/◌, ◌≤◌, List, Option, Some, None, Result, Ok, Err, refl, subst, arith}
-use Rattle.std.specs.Prelude.{IfSome}
+-- What is sold has a price and a discount that are amounts of money.
+use Rattle.std.proofs.Common.{◌≡◌, ℕ, ◌+◌, ◌-◌, ◌*◌, ◌/◌, ◌≤◌, max, Bool, true, false, List, Option, Some, None, Ok, refl, subst, arith}
+use Rattle.std.specs.Prelude.{IfSome, is_some, if◌then◌else◌}
 use Rattle.std.proofs.lemmas.Nat.{mul-le}
 use Rattle.bo_base.proofs.Decided.{found, gave_it, gave_unit}
 use Rattle.bo_base.specs.Money.{IsMoney}
 use Rattle.bo_base.specs.Percent.{whole, left_of}
-use Rattle.bo_base.specs.Price.{price}
+use Rattle.bo_base.specs.Price.{price, price_within}
+use Rattle.bo_base.proofs.PriceWithin.{at_most}
 use Rattle.bo_sorted.specs.Tables.{AreInOrder}
 use Rattle.bo_base.specs.Texts.{same_text}
 use Rattle.bo_base.specs.declared.price_mode.PriceMode.{PriceMode}
@@ -14,8 +15,10 @@ use Rattle.bo_catalogue.specs.declared.rows.Item.{Item}
 use Rattle.bo_catalogue.specs.declared.rows.Product.{Product}
 use Rattle.bo_catalogue.specs.declared.rows.Variation.{Variation}
 use Rattle.bo_catalogue.specs.CatalogueLists.{item_at, variation_at, priced, base_price_by, base_price}
+use Rattle.bo_lists.specs.declared.rows.OrderPos.{OrderPos}
 use Rattle.bo_lists.specs.declared.rows.Voucher.{Voucher}
-use Rattle.bo_lists.specs.Lists.{State}
+use Rattle.bo_lists.specs.Budgets.{left_after}
+use Rattle.bo_lists.specs.Lists.{Lists, State}
 use Rattle.bo_lists.specs.Named.{voucher_of}
 use Rattle.bo_lists.proofs.EachRow.{all-row_at}
 use Rattle.bo_lists.proofs.Found.{row_at_found}
@@ -25,7 +28,7 @@ use Rattle.bo_commands.specs.declared.carts.Asked.{Asked}
 use Rattle.bo_orders.specs.Usable.{usable}
 use Rattle.bo_sound.proofs.Given.{given_or}
 use Rattle.bo_orders.specs.declared.sold.Sold.{Sold}
-use Rattle.bo_orders.specs.Sold.{sold_for, voucher_asked, price_with}
+use Rattle.bo_orders.specs.Sold.{sold_for, voucher_asked, price_with, discount_of}
 use Rattle.bo_orders.proofs.SoldLemmas.{sold_is}
 
 -- what a share leaves of an amount
@@ -43,12 +46,24 @@ price_money modes.Set (Some value) base its money = its
 price_money modes.Subtract (Some value) base its money = omega (arith, money)
 price_money modes.Percent (Some value) base its money = left_money value base money
 
--- the base price with the voucher
-with_voucher : (voucher : Option Voucher) (base : ℕ) → IfSome voucher IsLimitedVoucher → IsMoney base → IsMoney (price_with voucher base)
-with_voucher None base its money = money
-with_voucher (Some voucher) base its money = price_money voucher.price_mode voucher.value base its.value money
+-- and within what is left of a budget
+within_money : (mode : PriceMode) (value : Option ℕ) (base : ℕ) (left : Option ℕ) → IfSome value (IsValue mode) → IsMoney base → IsMoney (price_within mode value base left)
+within_money mode value base left its money = no_more (price_within mode value base left) base (price mode value base) (at_most mode value base left) money (price_money mode value base its money)
+  where
+    no_more : (n a b : ℕ) → n ≤ max a b → IsMoney a → IsMoney b → IsMoney n
+    no_more n a b le one other = omega (arith, le, one, other)
 
-module _ (asked : Asked) (fit : IsFitAsked asked) (state : State) (order : AreInOrder (λ r. r.id) state.lists.vouchers) (limits : AllLimited state.lists) where
+-- the base price with the voucher
+with_voucher : (lists : Lists) (front : List OrderPos) (voucher : Option Voucher) (base : ℕ) → IfSome voucher IsLimitedVoucher → IsMoney base → IsMoney (price_with lists front voucher base)
+with_voucher lists front None base its money = money
+with_voucher lists front (Some voucher) base its money = within_money voucher.price_mode voucher.value base (left_after lists front voucher) its.value money
+
+-- what is taken off a base price
+off_money : (named : Bool) (base price : ℕ) → IsMoney base → IsMoney (if named then base - price else 0)
+off_money true base price money = omega (arith, money)
+off_money false base price money = omega arith
+
+module _ (asked : Asked) (fit : IsFitAsked asked) (front : List OrderPos) (state : State) (order : AreInOrder (λ r. r.id) state.lists.vouchers) (limits : AllLimited state.lists) where
   -- a product's base price
   by_variation : (item : Item) → IsMoney item.default_price → (id : ℕ) (found : Option Variation) → variation_at id state.lists.catalogue ≡ found → IfSome (priced item.default_price found) IsMoney
   by_variation item money id None is = tt
@@ -74,9 +89,16 @@ module _ (asked : Asked) (fit : IsFitAsked asked) (state : State) (order : AreIn
       let stands = row_at_found (λ (r : Voucher). r.id) (λ w. same_text w.code code) 0 state.lists.vouchers v order is in
       subst (λ (o : Option Voucher). IfSome o IsLimitedVoucher) (gave_it (Some v) voucher h2) (all-row_at (λ (r : Voucher). r.id) IsLimitedVoucher v.id state.lists.vouchers v stands limits.vouchers)
 
-  pub sold_money : (sold : Sold) → sold_for asked state ≡ Ok sold → IsMoney sold.price
+  pub sold_money : (sold : Sold) → sold_for asked front state ≡ Ok sold → IsMoney sold.price
   sold_money sold h =
-      let s = sold_is asked state sold h in
+      let s = sold_is asked front state sold h in
       let money = subst (λ (o : Option ℕ). IfSome o IsMoney) s.based (base_money s.product) in
-      let its = with_voucher s.voucher s.base (asked_limited s.product asked.voucher s.voucher s.may_use) money in
-      subst (λ (x : Sold). IsMoney x.price) s.is (given_or IsMoney asked.price (price_with s.voucher s.base) fit.price its)
+      let its = with_voucher state.lists front s.voucher s.base (asked_limited s.product asked.voucher s.voucher s.may_use) money in
+      subst (λ (x : Sold). IsMoney x.price) s.is (given_or IsMoney asked.price (price_with state.lists front s.voucher s.base) fit.price its)
+
+  pub sold_discount : (sold : Sold) → sold_for asked front state ≡ Ok sold → IsMoney (discount_of sold)
+  sold_discount sold h =
+      let s = sold_is asked front state sold h in
+      let money = subst (λ (o : Option ℕ). IfSome o IsMoney) s.based (base_money s.product) in
+      let based : IsMoney sold.base = subst (λ (x : Sold). IsMoney x.base) s.is money in
+      off_money (is_some sold.voucher) sold.base sold.price based

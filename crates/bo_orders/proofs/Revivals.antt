@@ -1,6 +1,7 @@
--- An order that comes back takes too much of no quota, where the vouchers of its positions heed quotas.
+-- An order that comes back takes too much of no quota, where the vouchers of its positions heed quotas. Its budgets are tested by number.
 use Rattle.std.proofs.Common.{◌≡◌, ℕ, ◌-◌, Bool, true, false, ◌&&◌, eqb, cond, List, [], ◌∷◌, map, filter, find, option_map, Option, Some, None, refl, ap, ◌∙◌, subst, count_by, arith}
-use Rattle.std.specs.List.{AllByRecursion}
+use Rattle.std.specs.Prelude.{nat_le, if◌then◌else◌}
+use Rattle.std.specs.List.{AllByRecursion, list_all}
 use Rattle.std.proofs.lemmas.List.Sums.{sum_by-cons}
 use Rattle.bo_sorted.specs.Tables.{AreInOrder}
 use Rattle.bo_catalogue.specs.declared.rows.Quota.{Quota}
@@ -8,6 +9,7 @@ use Rattle.bo_lists.specs.declared.rows.Order.{Order}
 use Rattle.bo_lists.specs.declared.rows.OrderPos.{OrderPos}
 use Rattle.bo_lists.specs.declared.rows.Own.TheVariants.{Position}
 use Rattle.bo_lists.specs.declared.changes.Change.TheVariants.{PutOrder}
+use Rattle.bo_lists.specs.Budgets.{is_within, are_within}
 use Rattle.bo_lists.specs.Lists.{Lists, State, position_at, positions_of}
 use Rattle.bo_lists.specs.Change.{after_change, changed}
 use Rattle.bo_lists.specs.Over.{first_over, is_over, is_over_size, is_free, is_free_position, ignores, weighed}
@@ -17,7 +19,7 @@ use Rattle.bo_lists.specs.Usage.{usage_of, takes_place}
 use Rattle.bo_lists.proofs.Found.{each_found}
 use Rattle.bo_lists.proofs.Takes.{none_passes, within}
 use Rattle.bo_lists.proofs.Time.{one}
-use Rattle.bo_sound.specs.Positions.{by_positionid}
+use Rattle.bo_sound.specs.Positions.{placed, by_positionid}
 use Rattle.bo_sound.proofs.ByNumber.{sorted_count}
 use Rattle.bo_orders.proofs.Takes.{and_false}
 
@@ -47,6 +49,26 @@ weighed_sorted lists at quota ps = ap (λ (n : ℕ). total (usage_of lists at qu
 
 pub over_sorted : (before after : Lists) (at : ℕ) (ps : List OrderPos) → first_over before after at (map (λ p. Position p.id) (by_positionid ps)) ≡ first_over before after at (map (λ p. Position p.id) ps)
 over_sorted before after at ps = λ i. option_map (λ (quota : Quota). quota.id) (find (λ (quota : Quota). is_over_size quota.size (total (usage_of before at quota)) (weighed_sorted after at quota ps i)) after.catalogue.quotas)
+
+-- and the same are within budgets
+swapped : (a b c : Bool) → (a && (b && c)) ≡ (b && (a && c))
+swapped true true c = refl
+swapped true false c = refl
+swapped false true c = refl
+swapped false false c = refl
+
+all_placed : (test : OrderPos → Bool) (p : OrderPos) (qs : List OrderPos) → list_all test (placed p qs) ≡ (test p && list_all test qs)
+all_placed test p [] = refl
+all_placed test p (q ∷ qs) = by_turn (nat_le p.positionid q.positionid) (all_placed test p qs)
+  where
+    by_turn : (b : Bool) → list_all test (placed p qs) ≡ (test p && list_all test qs) → list_all test (if b then p ∷ q ∷ qs else q ∷ placed p qs) ≡ (test p && (test q && list_all test qs))
+    by_turn true more = refl
+    by_turn false more = ap (λ (b : Bool). test q && b) more ∙ swapped (test q) (test p) (list_all test qs)
+
+pub within_sorted : (lists : Lists) (ps : List OrderPos) → are_within lists (by_positionid ps) ≡ are_within lists ps
+within_sorted lists [] = refl
+within_sorted lists (p ∷ ps) =
+    all_placed (λ q. is_within lists q.voucher) p (by_positionid ps) ∙ ap (λ (b : Bool). is_within lists p.voucher && b) (within_sorted lists ps)
 
 all_filtered : (P : OrderPos → Type 0) (test : OrderPos → Bool) (ps : List OrderPos) → AllByRecursion P ps → AllByRecursion P (filter test ps)
 all_filtered P test [] h = tt

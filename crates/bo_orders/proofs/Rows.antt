@@ -1,5 +1,5 @@
 -- The rows of a new order: their ids count on, and each of them can be put.
-use Rattle.std.proofs.Common.{◌≡◌, ℕ, ◌+◌, ◌<◌, ◌≤◌, Bool, true, false, List, [], ◌∷◌, None, Result, Ok, Err, refl, sym, ap, ◌∙◌, subst, arith}
+use Rattle.std.proofs.Common.{◌≡◌, ℕ, ◌+◌, ◌<◌, ◌≤◌, Bool, true, false, List, [], ◌∷◌, ◌++◌, None, Result, Ok, Err, refl, sym, ap, ◌∙◌, subst, arith}
 use Rattle.std.specs.Prelude.{◌||◌, ◌&&◌, not}
 use Rattle.bo_base.proofs.Decided.{gave, gave_below, gave_it}
 use Rattle.bo_base.specs.declared.draw.Draw.{Draw}
@@ -59,18 +59,18 @@ ready_next row state after h ready =
 
 -- the ids of the rows that are asked for count on
 module _ (draw : Draw) (state : State) where
-  counted_row : (id number : ℕ) (asked : Asked) (row : OrderPos) → position_for draw state id number asked ≡ Ok row → row.id ≡ id
+  counted_row : (front : List OrderPos) (id number : ℕ) (asked : Asked) (row : OrderPos) → position_for draw state front id number asked ≡ Ok row → row.id ≡ id
   unfolding position_for
-  counted_row id number asked row h =
-      let (sold, is, h1) = gave_below OfVoucher (sold_for asked state) _ h in
+  counted_row front id number asked row h =
+      let (sold, is, h1) = gave_below OfVoucher (sold_for asked front state) _ h in
       ap (λ (r : OrderPos). r.id) (sym (gave_it (position_row draw state.next.order id number sold) row h1))
 
-  pub counted : (id number : ℕ) (asked : List Asked) (rows : List OrderPos) → rows_for draw state id number asked ≡ Ok rows → AreCounted id rows
-  counted id number [] rows h = subst (AreCounted id) (gave_it [] rows h) tt
-  counted id number (entry ∷ more) rows h =
-      let (row, first, h1) = gave (position_for draw state id number entry) _ h in
-      let (others, rest, h2) = gave (rows_for draw state (id + 1) (number + 1) more) _ h1 in
-      subst (AreCounted id) (gave_it (row ∷ others) rows h2) (counted_row id number entry row first, counted (id + 1) (number + 1) more others rest)
+  pub counted : (front : List OrderPos) (id number : ℕ) (asked : List Asked) (rows : List OrderPos) → rows_for draw state front id number asked ≡ Ok rows → AreCounted id rows
+  counted front id number [] rows h = subst (AreCounted id) (gave_it [] rows h) tt
+  counted front id number (entry ∷ more) rows h =
+      let (row, first, h1) = gave (position_for draw state front id number entry) _ h in
+      let (others, rest, h2) = gave (rows_for draw state (front ++ row ∷ []) (id + 1) (number + 1) more) _ h1 in
+      subst (AreCounted id) (gave_it (row ∷ others) rows h2) (counted_row front id number entry row first, counted (front ++ row ∷ []) (id + 1) (number + 1) more others rest)
 
 -- a put of a position leaves the next ids
 put_next : (row : OrderPos) (state after : State) → position_put row state ≡ Ok after → after.next ≡ state.next

@@ -1,5 +1,5 @@
 -- What is known of what is sold: its product is named as its item is sold, and its voucher is for it.
-use Rattle.std.proofs.Common.{◌≡◌, ℕ, Bool, true, false, List, Option, Some, None, Result, Ok, Err, refl, sym, ap, ◌∙◌, subst}
+use Rattle.std.proofs.Common.{◌≡◌, ℕ, true, List, Option, Some, None, Ok, sym, ap, ◌∙◌, subst}
 use Rattle.std.specs.Prelude.{option_map}
 use Rattle.std.specs.List.{AllByRecursion}
 use Rattle.bo_sorted.specs.Tables.{AreInOrder}
@@ -7,6 +7,7 @@ use Rattle.bo_base.proofs.Decided.{found, gave, gave_below, gave_it, gave_unit, 
 use Rattle.bo_base.specs.Texts.{same_text}
 use Rattle.bo_catalogue.specs.declared.rows.Product.{Product}
 use Rattle.bo_catalogue.specs.CatalogueLists.{CatalogueLists, product_of, base_price, is_active, is_sold}
+use Rattle.bo_lists.specs.declared.rows.OrderPos.{OrderPos}
 use Rattle.bo_lists.specs.declared.rows.Voucher.{Voucher}
 use Rattle.bo_lists.specs.Lists.{State}
 use Rattle.bo_lists.specs.Conditions.{is_live_voucher}
@@ -15,11 +16,10 @@ use Rattle.bo_lists.specs.Named.{voucher_of}
 use Rattle.bo_sound.specs.Varied.{is_of_varied, AllVaried, IsProduct}
 use Rattle.bo_lists.proofs.Found.{row_at_found}
 use Rattle.bo_sound.proofs.Products.{product_is}
-use Rattle.bo_commands.specs.declared.vouchers.VoucherRefusal.{VoucherRefusal}
 use Rattle.bo_commands.specs.declared.vouchers.VoucherRefusal.TheVariants.{Catalogue}
 use Rattle.bo_commands.specs.declared.carts.Asked.{Asked}
 use Rattle.bo_orders.specs.declared.sold.Sold.{Sold}
-use Rattle.bo_orders.specs.Sold.{sold_for, sold_at, product_for_sale, voucher_asked}
+use Rattle.bo_orders.specs.Sold.{sold_for, sold_at, price_with, product_for_sale, voucher_asked}
 use Rattle.bo_orders.specs.Usable.{usable}
 
 -- a voucher that may be used for a product stands, and is for it
@@ -43,32 +43,32 @@ for_sale_is_product lists of_varied product item variation h =
     product_is lists of_varied product item variation (is ∙ ap (λ (p : Product). Ok p) (gave_it asked product h3))
 
 -- the product, the voucher and the base price of what is sold
-pub record IsSoldFor (asked : Asked) (state : State) (sold : Sold) : Type 0 where
+pub record IsSoldFor (asked : Asked) (front : List OrderPos) (state : State) (sold : Sold) : Type 0 where
   pub product : Product
   pub voucher : Option Voucher
   pub base : ℕ
   pub for_sale : product_for_sale asked.item asked.variation state.lists.catalogue ≡ Ok product
   pub may_use : voucher_asked asked.voucher state product ≡ Ok voucher
   pub based : base_price product state.lists.catalogue ≡ Some base
-  pub is : sold_at asked.price product voucher base ≡ sold
+  pub is : sold_at asked.price product voucher base (price_with state.lists front voucher base) ≡ sold
 
-module _ (asked : Asked) (state : State) (sold : Sold) where
-  pub sold_is : sold_for asked state ≡ Ok sold → IsSoldFor asked state sold
+module _ (asked : Asked) (front : List OrderPos) (state : State) (sold : Sold) where
+  pub sold_is : sold_for asked front state ≡ Ok sold → IsSoldFor asked front state sold
   unfolding sold_for
   sold_is h =
       let (product, for_sale, h1) = gave_below Catalogue (product_for_sale asked.item asked.variation state.lists.catalogue) _ h in
       let (voucher, may_use, h2) = gave (voucher_asked asked.voucher state product) _ h1 in
       let (base, based, h3) = found (base_price product state.lists.catalogue) _ _ h2 in
-      record { product = product; voucher = voucher; base = base; for_sale = for_sale; may_use = may_use; based = based; is = gave_it (sold_at asked.price product voucher base) sold h3 }
+      record { product = product; voucher = voucher; base = base; for_sale = for_sale; may_use = may_use; based = based; is = gave_it (sold_at asked.price product voucher base (price_with state.lists front voucher base)) sold h3 }
 
   -- the voucher of what is sold, if it has one, stands and is for the product
-  pub sold_fits : AreInOrder (λ r. r.id) state.lists.vouchers → sold_for asked state ≡ Ok sold → is_fit state.lists sold.product sold.voucher ≡ true
+  pub sold_fits : AreInOrder (λ r. r.id) state.lists.vouchers → sold_for asked front state ≡ Ok sold → is_fit state.lists sold.product sold.voucher ≡ true
   sold_fits order h =
       let s = sold_is h in
       subst (λ (x : Sold). is_fit state.lists x.product x.voucher ≡ true) s.is (asked_fits state order s.product s.voucher asked.voucher s.may_use)
 
   -- the product of what is sold is one
-  pub sold_is_product : AllVaried state.lists → sold_for asked state ≡ Ok sold → IsProduct state.lists.catalogue sold.product
+  pub sold_is_product : AllVaried state.lists → sold_for asked front state ≡ Ok sold → IsProduct state.lists.catalogue sold.product
   sold_is_product of_varied h =
       let s = sold_is h in
       subst (λ (x : Sold). IsProduct state.lists.catalogue x.product) s.is (for_sale_is_product state.lists.catalogue of_varied s.product asked.item asked.variation s.for_sale)

@@ -32,7 +32,7 @@ use Rattle.bo_commands.specs.declared.orders.Start.{Start}
 use Rattle.bo_commands.specs.declared.orders.Start.TheVariants as starts
 use Rattle.bo_commands.specs.declared.vouchers.VoucherRefusal.TheVariants.{NoHeadroom}
 use Rattle.bo_orders.specs.Created.{AreCounted, IsReady, order_row, position_put, rows_for, with_order_row, with_positions}
-use Rattle.bo_orders.specs.Whole.{are_within, put_whole, with_all}
+use Rattle.bo_orders.specs.Whole.{are_used_within, put_whole, with_all}
 use Rattle.bo_orders.proofs.Created.{IsOwn, are_own}
 use Rattle.bo_orders.proofs.Rows.{counted, ready_order, ready_put}
 
@@ -110,7 +110,7 @@ module _ (row : OrderPos) (rows : List OrderPos) (n : ℕ) (state : State) (from
       ap (λ (b : Bool). one (b && stands_as is_in_force (order_at row.order state.lists))) name ∙ ap one force
 
   too_often : (id : ℕ) (v : Voucher) → row.voucher ≡ Some id → voucher_at id state.lists ≡ Some v → nat_lt (redeemed v.id state.lists + held at v.id state.lists) v.max_usages ≡ false
-      → are_within at after ≡ false
+      → are_used_within at after ≡ false
   too_often id v named found none =
       let once = put_once v.id n row state.lists count.0 numbered in
       let uses_one = names_it v.id id named (key-row_at (λ (r : Voucher). r.id) id state.lists.vouchers v found) in
@@ -122,15 +122,15 @@ module _ (row : OrderPos) (rows : List OrderPos) (n : ℕ) (state : State) (from
       let stays : voucher_at id after ≡ Some v = ap (λ (vouchers : List Voucher). row_at (λ (r : Voucher). r.id) id vouchers) (keep_vouchers (row ∷ rows) state) ∙ found in
       one_fails (λ (x : Voucher). nat_le (redeemed x.id after + held at x.id after) x.max_usages) id after.vouchers v stays fails
 
-  by_row : (id : ℕ) (found : Option Voucher) → row.voucher ≡ Some id → voucher_at id state.lists ≡ found → has_use_by at state.lists found ≡ false → are_within at after ≡ false
+  by_row : (id : ℕ) (found : Option Voucher) → row.voucher ≡ Some id → voucher_at id state.lists ≡ found → has_use_by at state.lists found ≡ false → are_used_within at after ≡ false
   by_row id None named is none = absurd (cc)
   by_row id (Some v) named is none = too_often id v named is none
 
-  by_name : (voucher : Option ℕ) → row.voucher ≡ voucher → has_use at state.lists voucher ≡ false → are_within at after ≡ false
+  by_name : (voucher : Option ℕ) → row.voucher ≡ voucher → has_use at state.lists voucher ≡ false → are_used_within at after ≡ false
   by_name None named none = absurd (cc)
   by_name (Some id) named none = by_row id (voucher_at id state.lists) named refl none
 
-  overdrawn : has_use at state.lists row.voucher ≡ false → are_within at after ≡ false
+  overdrawn : has_use at state.lists row.voucher ≡ false → are_used_within at after ≡ false
   overdrawn none = by_name row.voucher refl none
 
 -- ---- one position after another
@@ -147,7 +147,7 @@ abbrev AreInForce : Lists → List OrderPos → Type 0
 AreInForce lists rows = AllByRecursion (λ p. stands_as is_in_force (order_at p.order lists) ≡ true) rows
 
 each_whole : (rows : List OrderPos) (n : ℕ) (state : State) → AreCounted n rows → AreInForce state.lists rows → IsReady n state → with_positions rows (Ok state) ≡ put_whole rows state
-each_whole [] n state count force ready = sym (passes (are_within state.moment state.lists) (OfVoucher NoHeadroom) (Ok state) (all_within state.moment state.lists state.lists.vouchers ready.headroom))
+each_whole [] n state count force ready = sym (passes (are_used_within state.moment state.lists) (OfVoucher NoHeadroom) (Ok state) (all_within state.moment state.lists state.lists.vouchers ready.headroom))
 each_whole (row ∷ rows) n state count force ready = by_use (has_use state.moment state.lists row.voucher) refl (each_whole rows (n + 1) (changed (PutPosition row) state) count.1 force.1)
   where
     next : has_use state.moment state.lists row.voucher ≡ true → IsReady (n + 1) (changed (PutPosition row) state)
@@ -159,7 +159,7 @@ each_whole (row ∷ rows) n state count force ready = by_use (has_use state.mome
     by_use true left more = ap (with_positions rows) (put_passes row state left) ∙ more (next left)
     by_use false none more =
         ap (with_positions rows) (put_refuses row state none)
-        ∙ sym (refuses (are_within state.moment (with_all (row ∷ rows) state).lists) (OfVoucher NoHeadroom) (Ok (with_all (row ∷ rows) state)) (overdrawn row rows n state ready.from_one count ready.positions force.0 none))
+        ∙ sym (refuses (are_used_within state.moment (with_all (row ∷ rows) state).lists) (OfVoucher NoHeadroom) (Ok (with_all (row ∷ rows) state)) (overdrawn row rows n state ready.from_one count ready.positions force.0 none))
 
 -- ---- an order that is made
 
@@ -179,9 +179,9 @@ module _ (new : NewOrder) (draw : Draw) (state : State) where
   in_force : stands_as is_in_force (order_at state.next.order placed.lists) ≡ true
   in_force = ap (stands_as is_in_force) order_found ∙ starts_in_force new.start
 
-  pub tested_whole : (rows : List OrderPos) → IsSound state → rows_for draw state state.next.position 1 new.positions ≡ Ok rows → with_positions rows (Ok placed) ≡ put_whole rows placed
+  pub tested_whole : (rows : List OrderPos) → IsSound state → rows_for draw state [] state.next.position 1 new.positions ≡ Ok rows → with_positions rows (Ok placed) ≡ put_whole rows placed
   tested_whole rows sound asked =
-      let own = are_own draw state sound.ids.vouchers.in_order sound.varied state.next.position 1 new.positions rows asked in
+      let own = are_own draw state sound.ids.vouchers.in_order sound.varied [] state.next.position 1 new.positions rows asked in
       let force = all_weaker (IsOwn state.lists state.next.order) (λ p. stands_as is_in_force (order_at p.order placed.lists) ≡ true)
       (λ p known. ap (λ (id : ℕ). stands_as is_in_force (order_at id placed.lists)) known.0 ∙ in_force) rows own in
-      each_whole rows state.next.position placed (counted draw state state.next.position 1 new.positions rows asked) force (ready_order (order_row new state) new.consume_carts state refl sound)
+      each_whole rows state.next.position placed (counted draw state [] state.next.position 1 new.positions rows asked) force (ready_order (order_row new state) new.consume_carts state refl sound)

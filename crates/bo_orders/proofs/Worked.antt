@@ -4,7 +4,6 @@ use Rattle.bo_base.specs.declared.price_mode.PriceMode.TheVariants as modes
 use Rattle.bo_catalogue.specs.declared.rows.Quota.{Quota}
 use Rattle.bo_lists.specs.declared.rows.CheckinKind.TheVariants.{Exit}
 use Rattle.bo_lists.specs.declared.rows.Order.{Order}
-use Rattle.bo_lists.specs.declared.rows.OrderPos.{OrderPos}
 use Rattle.bo_lists.specs.declared.rows.OrderRows.{OrderRows}
 use Rattle.bo_lists.specs.declared.rows.Status.{Status}
 use Rattle.bo_lists.specs.declared.rows.Status.TheVariants.{Pending, Paid, Expired, Cancelled}
@@ -15,7 +14,6 @@ use Rattle.bo_lists.specs.Over.{weighed}
 use Rattle.bo_lists.specs.Refills.{refills}
 use Rattle.bo_lists.specs.Takes.{used}
 use Rattle.bo_lists.specs.Usage.{usage_of, blocked_by}
-use Rattle.bo_commands.specs.declared.orders.Move.{Move}
 use Rattle.bo_commands.specs.declared.orders.Move.TheVariants.{MarkPaid, MarkPending, MarkCanceled, Extend}
 use Rattle.bo_commands.specs.declared.orders.OrderRefusal.{OrderRefusal}
 use Rattle.bo_commands.specs.declared.orders.OrderRefusal.TheVariants.{Voucher as OfVoucher}
@@ -42,6 +40,7 @@ voucher = record {
   quota = Some 1;
   tag = [];
   comment = [];
+  budget = None;
 }
 
 abbrev order : Status → Order
@@ -54,7 +53,7 @@ shop releases vouchers name status = record {
     catalogue = record { items = []; variations = []; quotas = quota releases ∷ [] };
     vouchers = vouchers;
     orders = order status ∷ [];
-    positions = record { id = 1; order = 1; positionid = 1; product = record { item = 1; variation = None }; price = 0; voucher = name; secret = [] } ∷ [];
+    positions = record { id = 1; order = 1; positionid = 1; product = record { item = 1; variation = None }; price = 0; voucher = name; secret = []; discount = 0 } ∷ [];
     checkins = record { id = 1; list = 1; position = 1; kind = Exit; datetime = 70; nonce = None } ∷ [];
   };
   next = first_ids;

@@ -1,5 +1,5 @@
 -- Adding a cart position: the first refusal, or else the box office with the new row.
-use Rattle.std.specs.Prelude.{ℕ, ◌+◌, Bool, ◌||◌, not, [], ◌∷◌, Result, Ok, unwrap_or, min}
+use Rattle.std.specs.Prelude.{◌+◌, Bool, ◌||◌, not, [], ◌∷◌, Result, Ok, unwrap_or, min}
 use Rattle.bo_base.specs.Deciding.{◌>>=◌, ◌>>◌, check, refuse_some, map_err}
 use Rattle.bo_base.specs.Moments.{last_moment}
 use Rattle.bo_base.specs.declared.draw.Draw.{Draw}
@@ -34,11 +34,11 @@ row_of_sold new draw state sold = record {
   voucher = sold.voucher;
 }
 
--- the row that is asked for
+-- the row that is asked for; its price is within what is left of the voucher's budget, of which it takes nothing yet
 unfoldable pub cart_row : NewCart → Draw → State → Result CartPos OrderRefusal
 cart_row new draw state = do
   cart_id_test new.cart_id
-  sold ← map_err OfVoucher (sold_for new.asked state)
+  sold ← map_err OfVoucher (sold_for new.asked [] state)
   Ok (row_of_sold new draw state sold)
 
 -- a row that is dead already takes no use of its voucher, and a live one needs one that is left

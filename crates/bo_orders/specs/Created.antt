@@ -12,6 +12,7 @@ use Rattle.bo_lists.specs.declared.rows.OrderRows.{OrderRows}
 use Rattle.bo_lists.specs.declared.rows.Own.TheVariants.{Position}
 use Rattle.bo_lists.specs.declared.changes.Change.{Change}
 use Rattle.bo_lists.specs.declared.changes.Change.TheVariants.{PutOrder, PutPosition, DropCart}
+use Rattle.bo_lists.specs.Budgets.{are_within}
 use Rattle.bo_lists.specs.Lists.{Lists, State}
 use Rattle.bo_lists.specs.Change.{changed, without_carts}
 use Rattle.bo_lists.specs.Consumed.{consumed}
@@ -20,14 +21,14 @@ use Rattle.bo_lists.specs.Headroom.{has_use, AllHaveHeadroom}
 use Rattle.bo_lists.specs.Over.{first_over}
 use Rattle.bo_sound.specs.Ids.{AreNumbered}
 use Rattle.bo_sound.specs.Positions.{most_positions}
-use Rattle.bo_commands.specs.declared.vouchers.VoucherRefusal.TheVariants.{Catalogue, NoHeadroom, SoldOut}
+use Rattle.bo_commands.specs.declared.vouchers.VoucherRefusal.TheVariants.{Catalogue, NoHeadroom, OverBudget, SoldOut}
 use Rattle.bo_commands.specs.declared.orders.NewOrder.{NewOrder}
 use Rattle.bo_commands.specs.Starts.{status_of}
 use Rattle.bo_commands.specs.declared.carts.Asked.{Asked}
 use Rattle.bo_orders.specs.declared.sold.Sold.{Sold}
 use Rattle.bo_commands.specs.declared.orders.OrderRefusal.{OrderRefusal}
 use Rattle.bo_commands.specs.declared.orders.OrderRefusal.TheVariants.{Voucher as OfVoucher, Empty, TooMany}
-use Rattle.bo_orders.specs.Sold.{sold_for}
+use Rattle.bo_orders.specs.Sold.{sold_for, discount_of}
 
 -- the order's row: it has the next number, and 14 days where no end is given
 abbrev pub order_row : NewOrder → State → Order
@@ -39,7 +40,7 @@ order_row new state = record {
   expires = unwrap_or new.expires (min (state.moment + 1209600) last_moment);
 }
 
--- one position's row: its id, and its number in the order
+-- one position's row: its id, its number in the order, and what its voucher took off
 abbrev pub position_row : Draw → ℕ → ℕ → ℕ → Sold → OrderPos
 position_row draw order id number sold = record {
   id = id;
@@ -49,12 +50,13 @@ position_row draw order id number sold = record {
   price = sold.price;
   voucher = sold.voucher;
   secret = secret draw order number;
+  discount = discount_of sold;
 }
 
--- the row of one position that is asked for
-unfoldable pub position_for : Draw → State → ℕ → ℕ → Asked → Result OrderPos OrderRefusal
-position_for draw state id number asked = do
-  sold ← map_err OfVoucher (sold_for asked state)
+-- the row of one position that is asked for, after these of the same order
+unfoldable pub position_for : Draw → State → List OrderPos → ℕ → ℕ → Asked → Result OrderPos OrderRefusal
+position_for draw state before id number asked = do
+  sold ← map_err OfVoucher (sold_for asked before state)
   Ok (position_row draw state.next.order id number sold)
 
 -- rows in front of others
@@ -63,12 +65,13 @@ after_rows rows rest = do
   more ← rest
   Ok (rows ++ more)
 
--- the rows of what is asked, whose ids and numbers count on from these, or the first refusal
-abbrev pub rows_for : Draw → State → ℕ → ℕ → List Asked → Result (List OrderPos) OrderRefusal
-rows_for draw state id number [] = Ok []
-rows_for draw state id number (asked ∷ more) = do
-  row ← position_for draw state id number asked
-  after_rows (row ∷ []) (rows_for draw state (id + 1) (number + 1) more)
+-- the rows of what is asked, one after another behind these of the same order, or the first refusal: their ids and numbers count on,
+-- and each is priced within what all rows in front of it leave of its voucher's budget
+abbrev pub rows_for : Draw → State → List OrderPos → ℕ → ℕ → List Asked → Result (List OrderPos) OrderRefusal
+rows_for draw state before id number [] = Ok []
+rows_for draw state before id number (asked ∷ more) = do
+  row ← position_for draw state before id number asked
+  after_rows (row ∷ []) (rows_for draw state (before ++ row ∷ []) (id + 1) (number + 1) more)
 
 -- a position needs a use of its voucher that is left
 unfoldable pub position_put : OrderPos → State → Result State OrderRefusal
@@ -102,10 +105,12 @@ AreCounted id (row ∷ rows) = (row.id ≡ id) × AreCounted (id + 1) rows
 abbrev pub with_order_row : Order → List (List ℕ) → State → State
 with_order_row row carts state = changed (PutOrder row) (without_carts (consumed carts state.lists) state)
 
--- without the carts that it consumes, each voucher needs its uses, and no quota may be taken too much of
+-- without the carts that it consumes, each voucher needs its uses, and then its budget all that is spent of it, and no quota may be
+-- taken too much of
 unfoldable pub order_placed : Order → List OrderPos → List (List ℕ) → State → Result (State × OrderRows) OrderRefusal
 order_placed row rows carts state = do
   after ← with_positions rows (Ok (with_order_row row carts state))
+  check (are_within after.lists rows) (OfVoucher OverBudget)
   refuse_some (λ quota. OfVoucher (SoldOut quota)) (first_over state.lists after.lists state.moment (map (λ p. Position p.id) rows))
   check (takes_order state && takes_positions (length rows) state) (OfVoucher (Catalogue Full))
   Ok (with_ids_used (length rows) after, record { order = row; positions = rows })
@@ -122,7 +127,7 @@ counts_test new = do
 unfoldable pub order_created : NewOrder → Draw → State → Result (State × OrderRows) OrderRefusal
 order_created new draw state = do
   counts_test new
-  rows ← rows_for draw state state.next.position 1 new.positions
+  rows ← rows_for draw state [] state.next.position 1 new.positions
   order_placed (order_row new state) rows new.consume_carts state
 
 -- the changes that make an order: the cart positions that it consumes go, then it is put, and then its positions

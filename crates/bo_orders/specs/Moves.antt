@@ -8,12 +8,13 @@ use Rattle.bo_lists.specs.declared.rows.Own.TheVariants.{Position}
 use Rattle.bo_lists.specs.declared.rows.Status.{Status}
 use Rattle.bo_lists.specs.declared.rows.Status.TheVariants.{Pending, Paid, Expired, Cancelled}
 use Rattle.bo_lists.specs.declared.changes.Change.TheVariants.{PutOrder}
+use Rattle.bo_lists.specs.Budgets.{are_within}
 use Rattle.bo_lists.specs.Lists.{State, order_at, positions_of}
 use Rattle.bo_lists.specs.Change.{after_change, changed}
 use Rattle.bo_lists.specs.Headroom.{have_room}
 use Rattle.bo_lists.specs.Over.{first_over}
 use Rattle.bo_sound.specs.Positions.{by_positionid}
-use Rattle.bo_commands.specs.declared.vouchers.VoucherRefusal.TheVariants.{NoHeadroom, SoldOut}
+use Rattle.bo_commands.specs.declared.vouchers.VoucherRefusal.TheVariants.{NoHeadroom, OverBudget, SoldOut}
 use Rattle.bo_commands.specs.declared.orders.Move.{Move}
 use Rattle.bo_commands.specs.declared.orders.Move.TheVariants.{MarkPaid, MarkPending, MarkExpired, MarkCanceled, Extend}
 use Rattle.bo_orders.specs.declared.moves.Transition.{Transition}
@@ -24,7 +25,7 @@ use Rattle.bo_commands.specs.declared.orders.OrderRefusal.TheVariants.{Voucher a
 abbrev pub to : Status → Option Transition
 to status = Some (record { status = status; revival = false })
 
--- this status follows, and the order comes back to life: the uses and places that it takes again are tested
+-- this status follows, and the order comes back to life: the uses, budgets and places that it takes again are tested
 abbrev pub revived : Status → Option Transition
 revived status = Some (record { status = status; revival = true })
 
@@ -60,6 +61,10 @@ moved_row order status change = record order { status = status; expires = end_af
 abbrev pub have_uses_again : Order → State → Bool
 have_uses_again row state = have_room state.moment (after_change (PutOrder row) state.lists) (positions_of row.id state.lists)
 
+-- the budgets of the vouchers of the order's positions have the discounts left that it takes again, as they were when it was made
+abbrev pub have_budgets_again : Order → State → Bool
+have_budgets_again row state = are_within (after_change (PutOrder row) state.lists) (positions_of row.id state.lists)
+
 -- an order, and the positions that the box office has of it, by their numbers
 abbrev pub order_rows : Order → State → OrderRows
 order_rows row state = record { order = row; positions = by_positionid (positions_of row.id state.lists) }
@@ -72,10 +77,11 @@ moved_to row state = (changed (PutOrder row) state, order_rows row state)
 abbrev pub over_again : Order → State → Option ℕ
 over_again row state = first_over state.lists (after_change (PutOrder row) state.lists) state.moment (map (λ p. Position p.id) (positions_of row.id state.lists))
 
--- an order that comes back to life is tested for the uses and the places that it takes again
+-- an order that comes back to life is tested for the uses, the budgets and the places that it takes again
 unfoldable pub revival : Order → State → Result (State × OrderRows) OrderRefusal
 revival row state = do
   check (have_uses_again row state) (OfVoucher NoHeadroom)
+  check (have_budgets_again row state) (OfVoucher OverBudget)
   refuse_some (λ quota. OfVoucher (SoldOut quota)) (over_again row state)
   Ok (moved_to row state)
 

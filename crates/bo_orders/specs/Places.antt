@@ -1,8 +1,9 @@
--- Whether there are places for what was put: no quota is over (28), and then the tables have room (16).
+-- Whether what was put may stay: of an order's vouchers no more is spent than their budgets (34), no quota is over (28), and then the
+-- tables have room (16).
 use Rattle.std.specs.Prelude.{ℕ, Bool, Option, Result}
 use Rattle.bo_base.specs.Deciding.{◌>>◌, check, refuse_some}
 use Rattle.bo_catalogue.specs.declared.refusal.CatalogueRefusal.TheVariants.{Full}
-use Rattle.bo_commands.specs.declared.vouchers.VoucherRefusal.TheVariants.{Catalogue, SoldOut}
+use Rattle.bo_commands.specs.declared.vouchers.VoucherRefusal.TheVariants.{Catalogue, OverBudget, SoldOut}
 use Rattle.bo_commands.specs.declared.orders.OrderRefusal.{OrderRefusal}
 use Rattle.bo_commands.specs.declared.orders.OrderRefusal.TheVariants.{Voucher as OfVoucher}
 
@@ -11,3 +12,9 @@ abbrev pub places_test : Option ℕ → Bool → Result (Unit {0}) OrderRefusal
 places_test over takes = do
   refuse_some (λ quota. OfVoucher (SoldOut quota)) over
   check takes (OfVoucher (Catalogue Full))
+
+-- an order's vouchers have to be within their budgets, and then it needs places
+abbrev pub sale_test : Bool → Option ℕ → Bool → Result (Unit {0}) OrderRefusal
+sale_test within over takes = do
+  check within (OfVoucher OverBudget)
+  places_test over takes

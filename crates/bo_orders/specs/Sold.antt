@@ -1,14 +1,17 @@
 -- What is sold at what price: the product, the price without its voucher and with it, and the voucher of one position.
-use Rattle.std.specs.Prelude.{ℕ, List, Option, Some, None, Result, Ok, option_map, unwrap_or}
+-- Amounts are cents. No price that the shop computes takes more off than is left of the voucher's budget.
+use Rattle.std.specs.Prelude.{ℕ, ◌-◌, List, Option, Some, None, Result, Ok, option_map, unwrap_or, is_some, if◌then◌else◌}
 use Rattle.std.specs.Option.{ok_or}
 use Rattle.bo_base.specs.Deciding.{◌>>=◌, ◌>>◌, check, map_err}
-use Rattle.bo_base.specs.Price.{price}
+use Rattle.bo_base.specs.Price.{price_within}
 use Rattle.bo_catalogue.specs.declared.rows.Product.{Product}
 use Rattle.bo_catalogue.specs.declared.refusal.CatalogueRefusal.{CatalogueRefusal}
 use Rattle.bo_catalogue.specs.declared.refusal.CatalogueRefusal.TheVariants.{NoItem, Inactive, NotSold}
 use Rattle.bo_catalogue.specs.CatalogueLists.{CatalogueLists, product_of, base_price, is_active, is_sold}
+use Rattle.bo_lists.specs.declared.rows.OrderPos.{OrderPos}
 use Rattle.bo_lists.specs.declared.rows.Voucher.{Voucher}
-use Rattle.bo_lists.specs.Lists.{State}
+use Rattle.bo_lists.specs.Budgets.{left_after}
+use Rattle.bo_lists.specs.Lists.{Lists, State}
 use Rattle.bo_lists.specs.Named.{voucher_of}
 use Rattle.bo_commands.specs.declared.vouchers.VoucherRefusal.{VoucherRefusal}
 use Rattle.bo_commands.specs.declared.vouchers.VoucherRefusal.TheVariants.{Catalogue, NoVoucher}
@@ -32,20 +35,30 @@ voucher_asked (Some code) state product = do
   usable state.lists.catalogue state.moment product voucher
   Ok (Some voucher)
 
--- the base price as the voucher changes it
-abbrev pub price_with : Option Voucher → ℕ → ℕ
-price_with None base = base
-price_with (Some voucher) base = price voucher.price_mode voucher.value base
+-- the base price as the voucher changes it, which takes off no more than these earlier rows of the same request leave of its budget
+abbrev pub price_with : Lists → List OrderPos → Option Voucher → ℕ → ℕ
+price_with lists before None base = base
+price_with lists before (Some voucher) base = price_within voucher.price_mode voucher.value base (left_after lists before voucher)
 
--- the price that is given, else the base price with the voucher
-abbrev pub sold_at : Option ℕ → Product → Option Voucher → ℕ → Sold
-sold_at given product voucher base = record { product = product; base = base; price = unwrap_or given (price_with voucher base); voucher = option_map (λ v. v.id) voucher }
+-- the price that is given, else this one
+abbrev pub sold_at : Option ℕ → Product → Option Voucher → ℕ → ℕ → Sold
+sold_at given product voucher base price = record {
+  product = product;
+  base = base;
+  price = unwrap_or given price;
+  voucher = option_map (λ v. v.id) voucher;
+}
 
--- the product that is asked for, its base price and its price, and its voucher, or the first refusal
-unfoldable pub sold_for : Asked → State → Result Sold VoucherRefusal
-sold_for asked state = do
+-- with a voucher, how far the price is below the base price, at least 0; without one 0
+abbrev pub discount_of : Sold → ℕ
+discount_of sold = if is_some sold.voucher then sold.base - sold.price else 0
+
+-- the product that is asked for, its base price and its price after these earlier rows of the same request, and its voucher, or
+-- the first refusal
+unfoldable pub sold_for : Asked → List OrderPos → State → Result Sold VoucherRefusal
+sold_for asked before state = do
   product ← map_err Catalogue (product_for_sale asked.item asked.variation state.lists.catalogue)
   voucher ← voucher_asked asked.voucher state product
   -- what is for sale has one
   base ← ok_or (base_price product state.lists.catalogue) (Catalogue NoItem)
-  Ok (sold_at asked.price product voucher base)
+  Ok (sold_at asked.price product voucher base (price_with state.lists before voucher base))

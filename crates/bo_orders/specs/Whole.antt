@@ -18,11 +18,11 @@ with_all [] state = state
 with_all (row ∷ rows) state = with_all rows (changed (PutPosition row) state)
 
 -- no voucher is named more often than it may be
-abbrev pub are_within : ℕ → Lists → Bool
-are_within at lists = list_all (λ v. nat_le (redeemed v.id lists + held at v.id lists) v.max_usages) lists.vouchers
+abbrev pub are_used_within : ℕ → Lists → Bool
+are_used_within at lists = list_all (λ v. nat_le (redeemed v.id lists + held at v.id lists) v.max_usages) lists.vouchers
 
 -- all positions are put, and refused where some voucher is named more often then than it may be
 abbrev pub put_whole : List OrderPos → State → Result State OrderRefusal
 put_whole rows state = do
-  check (are_within state.moment (with_all rows state).lists) (OfVoucher NoHeadroom)
+  check (are_used_within state.moment (with_all rows state).lists) (OfVoucher NoHeadroom)
   Ok (with_all rows state)

@@ -19,7 +19,8 @@ use std::alloc::Global;
 // How long a cart position is held where no end is given, in seconds: half an hour.
 const HELD_FOR: u64 = 1_800;
 
-/// Adds a cart position, and answers a copy of it.
+/// Adds a cart position, and answers a copy of it. The price that it computes is within what is left of the voucher's budget,
+/// of which a cart position takes nothing.
 /// A refusal leaves the draft as it was.
 /// Refusals, in this order: 45 `BadCart`; 10 `NoItem`, 11 `NoVariation`, 12 `NeedsVariation`, 15 `Inactive`,
 /// 18 `NotSold`; 23 `NoVoucher`, 24 `VoucherExpired`, 26 `WrongProduct`; 25 `NoHeadroom`; 28 `SoldOut` with the
@@ -53,7 +54,7 @@ fn new_row<B: Book>(
     ensures refused { IfErr result (λ e. e ≢ OrderRefusal.Memory → cart_row new.now draw (now draft.now) ≡ Err e) }
 {
     test_cart_id(new)?;
-    let sold = sold_for(draft, &new.asked)?;
+    let sold = sold_for(draft, &new.asked, &[])?;
     let id = draft.next_cart();
     Ok(CartPos {
         id,

@@ -10,7 +10,7 @@ ghost use Rattle.bo_sound.specs.Sound.{IsSound};
 ghost use Rattle.bo_lists.specs.declared.rows.Own.TheVariants.{Position};
 ghost use Rattle.bo_orders.specs.Created.{order_changes, order_created, counts_test, order_row, position_for, rows_for, position_put, with_positions, with_order_row, with_ids_used, order_placed, IsReady, AreCounted};
 
-use crate::places::test_places;
+use crate::places::test_sale;
 use crate::sold::sold_for;
 use bo_base::{Draw, List, Text, secret};
 use bo_commands::{Asked, NewOrder, OrderRefusal, VoucherRefusal};
@@ -24,11 +24,12 @@ const MOST_POSITIONS: usize = 500;
 
 /// Makes an order, in a draft without changes, and answers a copy of it with its positions. The carts that it names are
 /// consumed: all their positions go, exactly if the order is made, and uses and places are tested without them.
+/// Positions are priced one after another, each within what those before it leave of its voucher's budget.
 /// A refusal leaves the draft as it was.
 /// Refusals, in this order: 43 `Empty`; 44 `TooMany` of more than 500 positions or cart ids; position by position
 /// 10 `NoItem`, 11 `NoVariation`, 12 `NeedsVariation`, 15 `Inactive`, 18 `NotSold`, 23 `NoVoucher`,
-/// 24 `VoucherExpired`, 26 `WrongProduct`; then for the whole order 25 `NoHeadroom`, 28 `SoldOut` with the least
-/// quota of which it takes too much, 16 `Full`. 6 `Memory` may come anywhere after the first.
+/// 24 `VoucherExpired`, 26 `WrongProduct`; then for the whole order 25 `NoHeadroom`, 34 `OverBudget`, 28 `SoldOut` with the
+/// least quota of which it takes too much, 16 `Full`. 6 `Memory` may come anywhere after the first.
 #[tactic(auto, unfolding(crate::specs::Created::order_created), using(crate::proofs::Rows::counted))]
 pub fn create<B: Book>(
     draft: &mut Draft<'_, B>,
@@ -88,20 +89,21 @@ fn new_order<B: Book>(
     })
 }
 
-// The row of one position that is asked for.
+// The row of one position that is asked for, after these of the same order.
 #[tactic(auto, unfolding(crate::specs::Created::position_for))]
 fn new_row<B: Book>(
     draft: &Draft<'_, B>,
     alloc: Global,
     draw: Draw,
+    before: &[OrderPos],
     id: u64,
     number: u32,
     asked: &Asked,
 ) -> Result<OrderPos, OrderRefusal>
-    ensures done { IfOk result (λ row. position_for draw (now draft.now) id number asked.now ≡ Ok row) }
-    ensures refused { IfErr result (λ e. e ≢ OrderRefusal.Memory → position_for draw (now draft.now) id number asked.now ≡ Err e) }
+    ensures done { IfOk result (λ row. position_for draw (now draft.now) before.now id number asked.now ≡ Ok row) }
+    ensures refused { IfErr result (λ e. e ≢ OrderRefusal.Memory → position_for draw (now draft.now) before.now id number asked.now ≡ Err e) }
 {
-    let sold = sold_for(draft, asked)?;
+    let sold = sold_for(draft, asked, before)?;
     Ok(OrderPos {
         id,
         order: draft.next_order(),
@@ -110,11 +112,12 @@ fn new_row<B: Book>(
         price: sold.price,
         voucher: sold.voucher,
         secret: secret(alloc, draw, draft.next_order(), number)?,
+        discount: sold.discount(),
     })
 }
 
-// The rows of all that is asked for, or the first refusal. Their ids count on, past the last one too: whether the table
-// takes them comes last.
+// The rows of all that is asked for, each priced after those before it, or the first refusal. Their ids count on, past the
+// last one too: whether the table takes them comes last.
 fn new_rows<B: Book>(
     draft: &Draft<'_, B>,
     alloc: Global,
@@ -123,15 +126,15 @@ fn new_rows<B: Book>(
 ) -> Result<Vec<OrderPos>, OrderRefusal>
     requires few { length asked.now ≤ 500 }
     requires next { (now draft.now).next.position ≤ last_id + 1 }
-    ensures done { IfOk result (λ rows. rows_for draw (now draft.now) (now draft.now).next.position 1 asked.now ≡ Ok rows.items) }
-    ensures refused { IfErr result (λ e. e ≢ OrderRefusal.Memory → rows_for draw (now draft.now) (now draft.now).next.position 1 asked.now ≡ Err e) }
+    ensures done { IfOk result (λ rows. rows_for draw (now draft.now) [] (now draft.now).next.position 1 asked.now ≡ Ok rows.items) }
+    ensures refused { IfErr result (λ e. e ≢ OrderRefusal.Memory → rows_for draw (now draft.now) [] (now draft.now).next.position 1 asked.now ≡ Err e) }
 {
     let mut rows = Vec::new(alloc);
     let mut id = draft.next_position();
     let mut number = 1;
     for entry in asked {
-        rows.push(new_row(draft, alloc, draw, id, number, entry)?)
-            .map_err(AllocError::from)?;
+        let row = new_row(draft, alloc, draw, &rows, id, number, entry)?;
+        rows.push(row).map_err(AllocError::from)?;
         id += 1;
         number += 1;
     }
@@ -250,8 +253,8 @@ fn takes<B: Book>(draft: &Draft<'_, B>, count: usize) -> bool
     draft.takes_order() && draft.takes_positions(count)
 }
 
-// Puts all of it, where vouchers have their uses left, no quota is then over and the tables take the rows. A refusal may
-// leave some of it.
+// Puts all of it, where vouchers have their uses left, no more is then spent of them than their budgets, no quota is over and
+// the tables take the rows. A refusal may leave some of it.
 #[tactic(auto, unfolding(crate::specs::Created::order_placed))]
 fn put_tested<B: Book>(
     draft: &mut Draft<'_, B>,
@@ -278,10 +281,11 @@ fn put_tested<B: Book>(
 {
     let takes = takes(draft, rows.len());
     put_all(draft, alloc, carts, order, rows)?;
-    test_places(draft, mark, own, takes)
+    test_sale(draft, mark, rows, own, takes)
 }
 
-// Puts all of it, if vouchers have their uses left, no quota is then over and the tables take the rows.
+// Puts all of it, if vouchers have their uses left, no more is then spent of them than their budgets, no quota is over and the
+// tables take the rows.
 #[tactic(auto, unfolding(crate::specs::Created::order_placed))]
 fn place<B: Book>(
     draft: &mut Draft<'_, B>,

@@ -1,6 +1,6 @@
 //! Laws of the decisions.
 
-ghost use Rattle.std.specs.Prelude.{◌≡◌, ℕ, ◌≤◌, ◌⊎◌, true, false, List, [], ◌∷◌, ◌++◌, map, take, Some, None, Ok};
+ghost use Rattle.std.specs.Prelude.{◌≡◌, ◌≢◌, ℕ, ◌+◌, ◌≤◌, ◌⊎◌, true, false, List, [], ◌∷◌, ◌++◌, length, map, take, Some, None, Ok, Err};
 ghost use Rattle.std.specs.List.{AllByRecursion};
 ghost use Rattle.bo_base.specs.Draws.{IsDraw};
 ghost use Rattle.bo_base.specs.declared.draw.Draw.{Draw};
@@ -15,16 +15,20 @@ ghost use Rattle.bo_lists.specs.declared.rows.OrderRows.{OrderRows};
 ghost use Rattle.bo_lists.specs.declared.rows.Own.{Own};
 ghost use Rattle.bo_lists.specs.declared.rows.Status.{Status};
 ghost use Rattle.bo_lists.specs.Refills.{refills};
+ghost use Rattle.bo_lists.specs.Usage.{spent};
 ghost use Rattle.bo_sound.specs.Sound.{IsSound};
 ghost use Rattle.bo_lists.specs.Conditions.{is_in_force};
 ghost use Rattle.bo_commands.specs.FitRequests.{IsFitCart, IsFitEntry, IsFitOrder, IsFitMove};
+ghost use Rattle.bo_commands.specs.declared.carts.Asked.{Asked};
 ghost use Rattle.bo_commands.specs.declared.carts.Entry.{Entry};
 ghost use Rattle.bo_commands.specs.declared.carts.NewCart.{NewCart};
 ghost use Rattle.bo_commands.specs.declared.orders.NewOrder.{NewOrder};
 ghost use Rattle.bo_commands.specs.declared.carts.Outcome.{Outcome};
+ghost use Rattle.bo_commands.specs.declared.orders.OrderRefusal.{OrderRefusal};
+ghost use Rattle.bo_commands.specs.declared.vouchers.VoucherRefusal.{VoucherRefusal};
 ghost use Rattle.bo_orders.specs.Bulk.{all_added, many_added, after_outcomes};
 ghost use Rattle.bo_orders.specs.Carts.{position_added};
-ghost use Rattle.bo_orders.specs.Created.{order_created, order_row, rows_for, with_order_row, with_positions};
+ghost use Rattle.bo_orders.specs.Created.{after_rows, order_created, order_row, rows_for, with_order_row, with_positions};
 ghost use Rattle.bo_orders.specs.Dropped.{position_dropped};
 ghost use Rattle.bo_orders.specs.Expired.{orders_expired, carts_dropped};
 ghost use Rattle.bo_orders.specs.Moves.{order_moved};
@@ -101,9 +105,37 @@ pub fn created_sound()
 /// than it may be; elsewhere all of them are put.
 pub fn uses_are_tested_as_a_whole()
     ensures { (new : NewOrder) (draw : Draw) (state : State) (rows : List OrderPos) → IsSound state →
-        rows_for draw state state.next.position 1 new.positions ≡ Ok rows →
+        rows_for draw state [] state.next.position 1 new.positions ≡ Ok rows →
         let placed = with_order_row (order_row new state) new.consume_carts state in
         with_positions rows (Ok placed) ≡ put_whole rows placed }
+{}
+
+/// The positions of an order are priced in turn: more that is asked comes behind the rows of those in front, and is priced
+/// within what all of them leave of its voucher's budget. A refusal of one in front refuses all.
+pub fn an_order_is_priced_in_turn()
+    ensures rows { (draw : Draw) (state : State) (before rows : List OrderPos) (id number : ℕ) (xs ys : List Asked) →
+        rows_for draw state before id number xs ≡ Ok rows →
+        rows_for draw state before id number (xs ++ ys) ≡
+        after_rows rows (rows_for draw state (before ++ rows) (id + length rows) (number + length rows) ys) }
+    ensures refused { (draw : Draw) (state : State) (before : List OrderPos) (id number : ℕ) (xs ys : List Asked) (refusal : OrderRefusal) →
+        rows_for draw state before id number xs ≡ Err refusal →
+        rows_for draw state before id number (xs ++ ys) ≡ Err refusal }
+{}
+
+/// An order whose positions give no price is never refused for a budget (34): in a sound box office each takes off no more than
+/// is left, and all of them together stay within each budget. A given price isn't changed, and may take off too much.
+pub fn asked_prices_fit()
+    ensures { (new : NewOrder) (draw : Draw) (state : State) → IsSound state →
+        AllByRecursion (λ asked. asked.price ≡ None) new.positions →
+        order_created new draw state ≢ Err (OrderRefusal.Voucher VoucherRefusal.OverBudget) }
+{}
+
+/// A cart position is never refused for a budget, and takes nothing of one.
+pub fn carts_take_no_budget()
+    ensures unrefused { (new : NewCart) (draw : Draw) (state : State) →
+        position_added new draw state ≢ Err (OrderRefusal.Voucher VoucherRefusal.OverBudget) }
+    ensures spent { (new : NewCart) (draw : Draw) (before after : State) (row : CartPos) (voucher : ℕ) →
+        position_added new draw before ≡ Ok (after, row) → spent voucher after.lists ≡ spent voucher before.lists }
 {}
 
 /// Each order that comes back to life was weighed: it takes too much of no quota, where its positions don't weigh if

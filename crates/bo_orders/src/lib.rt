@@ -1,6 +1,7 @@
 //! What may be done with carts and orders, and what changes?
 #![tactic(auto)]
 
+pub mod budgets;
 pub mod bulk;
 pub mod cart_id;
 pub mod carts;

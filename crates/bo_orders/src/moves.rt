@@ -12,7 +12,7 @@ ghost use Rattle.bo_lists.specs.Conditions.{is_in_force, names};
 ghost use Rattle.bo_lists.specs.Usage.{stands_as, redeemed};
 ghost use Rattle.bo_orders.specs.Moves.{to, revived, turned, end_after, moved_row, moved_to, moved_as, have_uses_again, revival, order_moved};
 
-use crate::places::test_places;
+use crate::places::test_sale;
 use bo_base::Moment;
 use bo_commands::{Move, OrderRefusal, VoucherRefusal};
 use bo_draft::Draft;
@@ -65,8 +65,9 @@ pub fn turned(status: Status, change: Move) -> Option<Transition>
 
 /// Moves the order of a number, in a draft without changes, and answers it with its positions, as copies.
 /// A refusal leaves the draft as it was.
-/// Refusals, in this order: 41 `NoOrder`; 42 `WrongStatus`; where it comes back to life 25 `NoHeadroom` and
-/// 28 `SoldOut` with the least quota of which it takes too much. 6 `Memory` may come anywhere after the first.
+/// Refusals, in this order: 41 `NoOrder`; 42 `WrongStatus`; where it comes back to life 25 `NoHeadroom`, 34 `OverBudget` with the
+/// discounts that its positions keep, and 28 `SoldOut` with the least quota of which it takes too much. 6 `Memory` may come
+/// anywhere after the first.
 #[tactic(auto, unfolding(crate::specs::Moves::order_moved))]
 pub fn move_order<B: Book>(
     draft: &mut Draft<'_, B>,
@@ -182,8 +183,8 @@ fn put<B: Book>(
     Ok(OrderRows { order, positions })
 }
 
-// Puts an order that comes back to life, if its vouchers have the uses that it takes again and no quota is then
-// over, and answers it with its positions.
+// Puts an order that comes back to life, if its vouchers have the uses that it takes again, and then no more is spent of them
+// than their budgets and no quota is over; and answers it with its positions.
 #[tactic(auto, unfolding(crate::specs::Moves::revival))]
 fn revive<B: Book>(
     draft: &mut Draft<'_, B>,
@@ -209,7 +210,7 @@ fn revive<B: Book>(
     let order = row.copy(alloc)?;
     let mark = draft.mark();
     draft.put_order(alloc, row)?;
-    let tested = test_places(draft, &mark, &own, true);
+    let tested = test_sale(draft, &mark, positions.as_slice(), &own, true);
     draft.end_attempt(mark, tested)?;
     Ok(OrderRows { order, positions })
 }

@@ -1,14 +1,16 @@
-//! Whether there are places for what was put.
+//! Whether what was put may stay.
 
 ghost use Rattle.std.specs.Prelude.{◌≡◌};
 ghost use Rattle.bo_draft.specs.DraftState.{now, back, IsMarkOf};
 ghost use Rattle.bo_lists.specs.Over.{first_over};
-ghost use Rattle.bo_orders.specs.Places.{places_test};
+ghost use Rattle.bo_lists.specs.Budgets.{are_within};
+ghost use Rattle.bo_orders.specs.Places.{places_test, sale_test};
 
+use crate::budgets::are_within;
 use bo_catalogue::CatalogueRefusal;
 use bo_commands::{OrderRefusal, VoucherRefusal};
 use bo_draft::{Draft, Mark};
-use bo_lists::Own;
+use bo_lists::{OrderPos, Own};
 use bo_usage::Book;
 
 /// No quota may be over since the mark, where the own rows don't weigh if their vouchers ignore quotas; and the tables
@@ -29,4 +31,23 @@ pub fn test_places<B: Book>(
         return Err(OrderRefusal::Voucher(VoucherRefusal::Catalogue(CatalogueRefusal::Full)));
     }
     Ok(())
+}
+
+/// No more may be spent than their budgets of the vouchers that an order's positions name, no quota may be over since the mark,
+/// where the own rows don't weigh if their vouchers ignore quotas; and the tables have to take the rows. Refusals, in this
+/// order: 34 `OverBudget`; 28 `SoldOut` with the least such quota; 16 `Full`.
+pub fn test_sale<B: Book>(
+    draft: &Draft<'_, B>,
+    mark: &Mark,
+    positions: &[OrderPos],
+    own: &[Own],
+    takes: bool,
+) -> Result<(), OrderRefusal>
+    requires { IsMarkOf draft.now mark.now }
+    ensures { result ≡ sale_test (are_within (now draft.now).lists positions.now) (first_over (now (back mark.now draft.now)).lists (now draft.now).lists (now draft.now).moment own.now) takes }
+{
+    if !are_within(draft, positions) {
+        return Err(OrderRefusal::Voucher(VoucherRefusal::OverBudget));
+    }
+    test_places(draft, mark, own, takes)
 }

@@ -3,14 +3,15 @@
 ghost use Rattle.std.specs.Prelude.{◌≡◌, Ok, Err, IfOk, IfErr, option_map};
 ghost use Rattle.std.specs.Option.{option_copied};
 ghost use Rattle.bo_draft.specs.DraftState.{now};
-ghost use Rattle.bo_orders.specs.Sold.{product_for_sale, voucher_asked, price_with, sold_for};
+ghost use Rattle.bo_orders.specs.Sold.{product_for_sale, voucher_asked, price_with, discount_of, sold_for};
 
+use crate::budgets::left_after;
 use crate::usability::usable;
-use bo_base::{Cents, Text, price};
+use bo_base::{Cents, Text, price_within};
 use bo_catalogue::{CatalogueRefusal, Product};
 use bo_commands::{Asked, VoucherRefusal};
 use bo_draft::Draft;
-use bo_lists::Voucher;
+use bo_lists::{OrderPos, Voucher};
 use bo_usage::Book;
 
 /// What is sold: a product, at a price, with a voucher or without one. Its base price is what it costs without a voucher.
@@ -22,22 +23,40 @@ pub struct Sold {
     pub voucher: Option<u64>,
 }
 
-/// What is sold for what is asked.
+impl Sold {
+    /// With a voucher, how far the price is below the base price, at least 0; without one 0.
+    pub fn discount(&self) -> Cents
+        ensures { result ≡ discount_of self.now }
+    {
+        match self.voucher {
+            None => Cents::new(0),
+            Some(_) => Cents::new(self.base.get().saturating_sub(self.price.get())),
+        }
+    }
+}
+
+/// What is sold for what is asked, after these rows of the same request, which the draft doesn't have yet. The price that it
+/// computes is within what they leave of the voucher's budget.
 /// Refusals, in this order: 10 `NoItem`, 11 `NoVariation`, 12 `NeedsVariation`, 15 `Inactive`, 18 `NotSold`;
 /// 23 `NoVoucher`, 24 `VoucherExpired`, 26 `WrongProduct`.
 #[tactic(auto, unfolding(crate::specs::Sold::sold_for))]
-pub fn sold_for<B: Book>(draft: &Draft<'_, B>, asked: &Asked) -> Result<Sold, VoucherRefusal>
-    ensures { result ≡ sold_for asked.now (now draft.now) }
+pub fn sold_for<B: Book>(
+    draft: &Draft<'_, B>,
+    asked: &Asked,
+    before: &[OrderPos],
+) -> Result<Sold, VoucherRefusal>
+    ensures { result ≡ sold_for asked.now before.now (now draft.now) }
 {
     let product = product_for_sale(draft, asked)?;
     let voucher = voucher_asked(draft, asked.voucher.as_ref(), product)?;
     let Some(base) = draft.rows().catalogue().base_price(product) else {
         return Err(VoucherRefusal::Catalogue(CatalogueRefusal::NoItem));
     };
+    let computed = price_with(draft, before, voucher, base);
     Ok(Sold {
         product,
         base,
-        price: asked.price.unwrap_or(price_with(voucher, base)),
+        price: asked.price.unwrap_or(computed),
         voucher: id_of(voucher),
     })
 }
@@ -92,12 +111,18 @@ fn id_of(voucher: Option<&Voucher>) -> Option<u64>
     }
 }
 
-// The base price as the voucher changes it.
-fn price_with(voucher: Option<&Voucher>, base: Cents) -> Cents
-    ensures { result ≡ price_with (option_copied voucher.entry) base }
+// The base price as the voucher changes it, within what these rows leave of its budget.
+fn price_with<B: Book>(
+    draft: &Draft<'_, B>,
+    before: &[OrderPos],
+    voucher: Option<&Voucher>,
+    base: Cents,
+) -> Cents
+    ensures { result ≡ price_with (now draft.now).lists before.now (option_copied voucher.entry) base }
 {
-    match voucher {
-        None => base,
-        Some(voucher) => price(voucher.price_mode, voucher.value, base),
-    }
+    let Some(voucher) = voucher else {
+        return base;
+    };
+    let left = left_after(draft, before, voucher);
+    price_within(voucher.price_mode, voucher.value, base, left)
 }

@@ -17,7 +17,7 @@ ghost use Rattle.bo_overlay.specs.Logs.{Log, rows_of, rows_at, IsSale, AreSales}
 ghost use Rattle.bo_lists.specs.Conditions.{is_in_force, names};
 ghost use Rattle.bo_usage.specs.OfOrder.{count_ordered};
 ghost use Rattle.bo_overlay.specs.Purchases.{ArePurchasesOf};
-ghost use Rattle.bo_lists.specs.Usage.{stands_as, uses, redeemed};
+ghost use Rattle.bo_lists.specs.Usage.{stands_as, uses, redeemed, spent};
 ghost use Rattle.bo_log.specs.Puts.{puts};
 
 use crate::cart_conditions::{CartCondition, Holds, HoldsIn};
@@ -293,6 +293,14 @@ impl<'a, B: Book> Overlay<'a, B> {
         self.book.redeemed(voucher) + self.book.held(voucher, at)
     }
 
+    /// What was spent of the voucher before the changes, in cents.
+    pub fn spent_before(&self, voucher: u64) -> u128
+        ensures value { result ≡ spent voucher self.now.base }
+        ensures few { result ≤ 42949672955705032704 }
+    {
+        self.book.spent(voucher)
+    }
+
     // The count after one more change.
     fn redeemed_after(&self, i: usize, voucher: u64, count: u64) -> u64
         requires place { i < length self.now.changes }
@@ -349,7 +357,7 @@ impl<'a, B: Book> Overlay<'a, B> {
         kept + self.count_put(i, order, test)
     }
 
-    /// The purchases of an order: as many as it has positions, in whatever order.
+    /// The purchases of an order, one for each of its positions, in whatever order.
     pub fn purchases_of(&self, alloc: Global, order: u64) -> Result<Vec<Purchase>, AllocError>
         ensures { IfOk result (λ purchases. ArePurchasesOf order (rows_of self.now) purchases.items) }
     {

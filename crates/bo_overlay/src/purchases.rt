@@ -1,20 +1,21 @@
 //! The purchases of an order.
 
-ghost use Rattle.std.specs.Prelude.{◌≡◌, ◌+◌, ◌==◌, ◌&&◌, Bool, IfOk, OnOk, map, count_by, if◌then◌else◌};
+ghost use Rattle.std.specs.Prelude.{◌≡◌, ◌+◌, ◌==◌, ℕ, IfOk, OnOk, map, sum_by, if◌then◌else◌};
 ghost use Rattle.bo_overlay.specs.declared.purchases.Purchase.{Purchase};
-ghost use Rattle.bo_log.specs.Puts.{puts};
-ghost use Rattle.bo_overlay.specs.Purchases.{purchase};
+ghost use Rattle.bo_overlay.specs.Purchases.{purchase, weighs};
 
+use bo_base::Cents;
 use bo_catalogue::Product;
 use bo_lists::{Change, OrderPos};
 use bo_usage::Exits;
 use std::alloc::{AllocError, Global};
 
-/// What an order position is for, the voucher that it names, and whether it has gone out.
+/// What an order position is for, the voucher that it names, its discount, and whether it has gone out.
 #[derive(Clone, Copy)]
 pub struct Purchase {
     pub product: Product,
     pub voucher: Option<u64>,
+    pub discount: Cents,
     pub out: bool,
 }
 
@@ -25,6 +26,7 @@ fn purchase_of<R: Exits>(rows: &R, row: &OrderPos) -> Purchase
     Purchase {
         product: row.product,
         voucher: row.voucher,
+        discount: row.discount,
         out: rows.is_out(row.id),
     }
 }
@@ -50,7 +52,7 @@ pub fn put_purchases<R: Exits>(
     order: u64,
     changes: &[Change],
 ) -> Result<(), AllocError>
-    ensures { OnOk result ((passes : Purchase → Bool) → count_by passes purchases.new.items ≡ count_by passes purchases.old.items + count_by (puts (λ p. order == p.order && passes (purchase (R.rows rows.now) p))) changes.now) }
+    ensures { OnOk result ((weight : Purchase → ℕ) → sum_by weight purchases.new.items ≡ sum_by weight purchases.old.items + sum_by (weighs (λ p. if order == p.order then weight (purchase (R.rows rows.now) p) else 0)) changes.now) }
 {
     for i in 0..changes.len() {
         put_purchase(purchases, rows, order, &changes[i])?;
@@ -65,7 +67,7 @@ fn put_purchase<R: Exits>(
     order: u64,
     change: &Change,
 ) -> Result<(), AllocError>
-    ensures { OnOk result ((passes : Purchase → Bool) → count_by passes purchases.new.items ≡ count_by passes purchases.old.items + (if puts (λ p. order == p.order && passes (purchase (R.rows rows.now) p)) change.now then 1 else 0)) }
+    ensures { OnOk result ((weight : Purchase → ℕ) → sum_by weight purchases.new.items ≡ sum_by weight purchases.old.items + weighs (λ p. if order == p.order then weight (purchase (R.rows rows.now) p) else 0) change.now) }
 {
     match change {
         Change::PutPosition(row) => {

@@ -17,7 +17,9 @@ use bo_lists::{
 };
 use bo_sorted::Rows;
 use bo_sparse::Sparse;
-use bo_usage::rules::{cart_counts, is_exited_in, is_paid_in, is_pending_in, left_of, uses};
+use bo_usage::rules::{
+    cart_counts, is_exited_in, is_paid_in, is_pending_in, left_of, spends, uses,
+};
 use bo_usage::{Book, Catalogue, Exits, LookUps, PositionTest};
 use std::alloc::{AllocError, Global};
 use std::marker::Model;
@@ -446,6 +448,14 @@ impl Book for Recount {
 
     fn redeemed(&self, voucher: u64) -> u64 {
         self.redeemed_by(voucher)
+    }
+
+    fn spent(&self, voucher: u64) -> u128 {
+        let mut cents = 0;
+        for position in self.positions.as_slice() {
+            cents += u128::from(spends(self, voucher, position));
+        }
+        cents
     }
 
     fn held(&self, voucher: u64, at: Moment) -> u64 {

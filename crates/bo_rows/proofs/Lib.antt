@@ -16,6 +16,11 @@ pub mod CheckinListsLemmas
 pub mod ListItemsLemmas
 pub mod CheckinsLemmas
 pub mod CountsLemmas
+pub mod ReleasesLemmas
+pub mod ExitsLemmas
+pub mod BudgetsLemmas
+pub mod SpentsLemmas
+pub mod DiscountsLemmas
 pub mod TokensLemmas
 pub mod KeptLemmas
 pub mod Found

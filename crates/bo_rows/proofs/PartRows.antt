@@ -40,6 +40,14 @@ module _ (at : ℕ) (table : Table) (is : IsPlainTable schema at table) (sql : L
       let it = misses_keyed schema at table is sql plain old new inside.known inside.inside limit (numbers t held) project command (pos id) more h in
       found_none row id_of keyed id (shown schema table.tree) (λ r. refl) (old.now.trees table.tree) (field t) (held_at t held) it.2
 
+  -- one row: so one value of the table has it
+  pub one_row_of : (id : ℕ) (more source : Row) → ((r : Row) → eval_all project ((Int (pos id) ∷ more) ∷ r ∷ []) ≡ rowid r ∷ rowid r ∷ source) → Executes sql (Int (pos id) ∷ more) old new (Ok 1) → (t : Tables) → Holds old.now.trees t
+      → (a : A) × (filter (λ b. id_of b == id) (field t) ≡ a ∷ [])
+  one_row_of id more source shape h t held =
+      let it = updates_one schema at table is sql plain old new inside.known inside.inside limit (numbers t held) project command (pos id) more (λ _. source) shape h in
+      let one = found_one row id_of keyed id (shown schema table.tree) (λ r. refl) (old.now.trees table.tree) (field t) (held_at t held) it.0 it.1 in
+      (one.0, one.1)
+
   -- one row, of which some columns stay: what is made of the value that stood
   pub updates_part : (id : ℕ) (more : Row) (source : Row → Row) → ((r : Row) → eval_all project ((Int (pos id) ∷ more) ∷ r ∷ []) ≡ rowid r ∷ rowid r ∷ source r) → (made : A → A)
       → ((a : A) (r : Row) → shown schema table.tree r ≡ row a → id_of a ≡ id → (rest : Row) × (cast_row table (Int (pos id) ∷ source r) ≡ Int (pos id) ∷ rest) × (shown schema table.tree (Int (pos id) ∷ rest) ≡ row (made a)))

@@ -26,6 +26,7 @@ sound_of file all =
       ordered = record { each = names.each; whole = all rules.Positions };
       door = names.door;
       headroom = all rules.Headroom;
+      budgets = all rules.Budgets;
     }
 
 pub keeps_all : (file : File) (rule : Rule) → IsSlug file.organizer → IsSlug file.event → IsSound file.state → IsCounted file → Keeps rule file
@@ -62,3 +63,4 @@ keeps_all file rules.Names organizer event sound counted = record {
 keeps_all file rules.Positions organizer event sound counted = sound.ordered.whole
 keeps_all file rules.Headroom organizer event sound counted = sound.headroom
 keeps_all file rules.Counters organizer event sound counted = counted
+keeps_all file rules.Budgets organizer event sound counted = sound.budgets

@@ -1,7 +1,7 @@
 -- The order in which broken rules are told.
 use Rattle.std.specs.Prelude.{ℕ}
 use Rattle.bo_rules.specs.declared.rule.Rule.{Rule}
-use Rattle.bo_rules.specs.declared.rule.Rule.TheVariants.{Shop, Limits, Ids, Names, Positions, Headroom, Counters}
+use Rattle.bo_rules.specs.declared.rule.Rule.TheVariants.{Shop, Limits, Ids, Names, Positions, Headroom, Counters, Budgets}
 
 -- of several broken rules the one with the least number counts
 abbrev pub number : Rule → ℕ
@@ -12,3 +12,4 @@ number Names = 4
 number Positions = 5
 number Headroom = 6
 number Counters = 7
+number Budgets = 8

@@ -4,6 +4,7 @@ use Rattle.std.specs.List.{AllByRecursion}
 use Rattle.bo_base.specs.Slugs.{IsSlug}
 use Rattle.bo_lists.specs.declared.count_rows.QuotaCount.{QuotaCount}
 use Rattle.bo_lists.specs.declared.count_rows.VoucherCount.{VoucherCount}
+use Rattle.bo_lists.specs.Budgets.{AllWithinBudget}
 use Rattle.bo_lists.specs.CountRows.{quota_counts, voucher_counts}
 use Rattle.bo_lists.specs.Fits.{AllFit}
 use Rattle.bo_lists.specs.Headroom.{AllHaveHeadroom}
@@ -76,7 +77,8 @@ pub record IsCounted (file : File) : Type 0 where
   pub used : file.used ≡ quota_counts file.state
   pub redeemed : file.redeemed ≡ voucher_counts file.state
 
--- 3 is that ids rise and are below the next one, 5 that each order has its positions, 6 that vouchers have headroom
+-- 3 is that ids rise and are below the next one, 5 that each order has its positions, 6 that vouchers have headroom, 8 that no more of one is
+-- spent than its budget
 abbrev pub Keeps : Rule → File → Type 0
 Keeps rules.Shop file = IsHeaded file
 Keeps rules.Limits file = IsWithin file.state.lists
@@ -85,6 +87,7 @@ Keeps rules.Names file = NamesWell file.state.lists
 Keeps rules.Positions file = AllHavePositions file.state.lists.orders file.state.lists.positions
 Keeps rules.Headroom file = AllHaveHeadroom file.state.moment file.state.lists
 Keeps rules.Counters file = IsCounted file
+Keeps rules.Budgets file = AllWithinBudget file.state.lists
 
 -- all rules before it are kept, and it isn't: the damage that is told
 pub record IsLeastBroken (rule : Rule) (file : File) : Type 0 where

@@ -20,10 +20,12 @@ pub enum Rule {
     Headroom,
     /// The counters are what is counted afresh.
     Counters,
+    /// No more of a voucher is spent than its budget.
+    Budgets,
 }
 
 impl Rule {
-    /// The number by which it is told, 1 to 7.
+    /// The number by which it is told, 1 to 8.
     pub fn number(self) -> u8
         ensures { result ≡ number self }
     {
@@ -35,6 +37,7 @@ impl Rule {
             Rule::Positions => 5,
             Rule::Headroom => 6,
             Rule::Counters => 7,
+            Rule::Budgets => 8,
         }
     }
 }

@@ -274,7 +274,7 @@ module _ (draw : Draw) (state : State) where
       let keep = carts_keep ids state.lists in
       let free : SameDoor state.lists placed.lists = record { lists = keep.lists; positions = keep.positions; checkins = keep.checkins } in
       let below = subst (λ (rows : List OrderPos). AllByRecursion (λ r. r.id < state.next.position) rows) (sym keep.positions) sound.ids.positions.below in
-      let put = positions_grow made.positions state.next.position placed m.put (counted draw state state.next.position 1 new.positions made.positions m.are_rows) below m.puts in
+      let put = positions_grow made.positions state.next.position placed m.put (counted draw state [] state.next.position 1 new.positions made.positions m.are_rows) below m.puts in
       let whole = door_more state placed m.put (same_door state placed free) put in
       subst (λ (s : State). DoorGrows state s) m.is_after (record { lists = whole.lists; positions = whole.positions; checkins = whole.checkins })
 

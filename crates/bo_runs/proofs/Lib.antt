@@ -9,5 +9,6 @@ pub mod Refilled
 pub mod Runs
 pub mod DoorTables
 pub mod ScansAgain
+pub mod BudgetRuns
 pub mod Changes
 pub mod NothingOver

@@ -593,7 +593,7 @@ created_ids new draw s after made h =
     let own : made.order.id ≡ s.next.order = sym (ap (λ (o : Order). o.id) m.is_order) in
     let ordered : AllIdsGoOn s (numbered start placed) = all_more s free (numbered start placed) (drop_carts (consumed new.consume_carts s.lists) s) (new_order free made.order own) in
     let end = numbered (start + length made.positions) m.put in
-    let all : AllIdsGoOn s end = all_more s (numbered start placed) end ordered (new_positions made.positions start placed m.put (counted draw s start 1 new.positions made.positions m.are_rows) m.puts) in
+    let all : AllIdsGoOn s end = all_more s (numbered start placed) end ordered (new_positions made.positions start placed m.put (counted draw s [] start 1 new.positions made.positions m.are_rows) m.puts) in
     let next = puts_next made.positions placed m.put m.puts in
     subst (λ (t : State). AllIdsGoOn s t) m.is_after (subst (λ (n : ℕ). AllIdsGoOn s (numbered n m.put)) (ap (λ (x : NextIds). x.position + length made.positions) (sym next)) all)
 

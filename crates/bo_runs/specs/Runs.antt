@@ -5,6 +5,7 @@ use Rattle.bo_base.specs.Draws.{IsDraw}
 use Rattle.bo_base.specs.declared.draw.Draw.{Draw}
 use Rattle.bo_catalogue.specs.declared.rows.Quota.{Quota}
 use Rattle.bo_catalogue.specs.CatalogueLists.{quota_at}
+use Rattle.bo_lists.specs.Budgets.{AllWithinBudget}
 use Rattle.bo_lists.specs.Lists.{State}
 use Rattle.bo_lists.specs.Over.{first_over, ignores}
 use Rattle.bo_sound.specs.Sound.{IsSound}
@@ -183,6 +184,10 @@ GivesNewIds s = AllIdsGoOn s.before s.after
 -- every rule of a sound office holds after the step
 abbrev pub LeavesSound : Stepped → Type 0
 LeavesSound s = IsSound s.after
+
+-- of no voucher is more spent than its budget, neither before the step nor after it
+abbrev pub KeepsBudgets : Stepped → Type 0
+KeepsBudgets s = AllWithinBudget s.before.lists × AllWithinBudget s.after.lists
 
 -- the office after a step has no earlier moment than before it
 abbrev pub NeverGoesBack : Stepped → Type 0

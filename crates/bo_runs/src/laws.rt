@@ -27,7 +27,7 @@ ghost use Rattle.bo_runs.specs.NothingTooMuch.{TakesNothingTooMuch, steps};
 ghost use Rattle.bo_runs.specs.Doors.{HasNoncesOnce, scan_comes, AddsNothing};
 ghost use Rattle.bo_runs.specs.NewIds.{AllIdsGoOn};
 ghost use Rattle.bo_runs.specs.Takings.{fills_again};
-ghost use Rattle.bo_runs.specs.Runs.{Arrival, IsFitArrival, stepped, trace, after_run, Each, NoneOver, StaysWithin, RaisesNothing, RunsItsEntries, GivesNewIds, LeavesSound, StoresItsMoment, ChangesNothingElse, NeverGoesBack};
+ghost use Rattle.bo_runs.specs.Runs.{Arrival, IsFitArrival, stepped, trace, after_run, Each, NoneOver, StaysWithin, RaisesNothing, RunsItsEntries, GivesNewIds, LeavesSound, KeepsBudgets, StoresItsMoment, ChangesNothingElse, NeverGoesBack};
 
 /// Whatever commands come, where one takes places, no quota is taken too much of: where a cart position is added, an order is
 /// made, an expired order is marked paid or extended, or a voucher that then doesn't ignore quotas is made or changed. A
@@ -83,6 +83,13 @@ pub fn ids_are_never_used_again()
 pub fn always_sound()
     ensures { (arrivals : List Arrival) (state : State) →
         AllByRecursion IsFitArrival arrivals → IsSound state → AllByRecursion LeavesSound (trace arrivals state) }
+{}
+
+/// Whatever commands come to a sound office, of each voucher with a budget no more is spent than that, before and after each:
+/// what its positions in pending and paid orders took off their prices.
+pub fn budgets_hold()
+    ensures { (arrivals : List Arrival) (state : State) →
+        AllByRecursion IsFitArrival arrivals → IsSound state → AllByRecursion KeepsBudgets (trace arrivals state) }
 {}
 
 /// Whatever commands come, the office's moment never falls.

@@ -10,7 +10,7 @@ use Rattle.sqlite.specs.Does.{lacks_sequence}
 use Rattle.sqlite.specs.Listing.{understood}
 use Rattle.sqlite.specs.State.{State, Executes, HasCleanDisk, Survives}
 use Rattle.sqlite.proofs.Callers.{IsPlain, command_of, statement_of}
-use Rattle.bo_schema.specs.Tables.{schema, schema_of, shop_text, shop_table, items_text, items_table, variations_text, variations_table, quotas_text, quotas_table, quota_items_text, quota_items_table, quota_variations_text, quota_variations_table, vouchers_text, vouchers_table, cart_positions_text, cart_positions_table, orders_text, orders_table, order_positions_text, order_positions_table, waiting_text, waiting_table, checkin_lists_text, checkin_lists_table, list_items_text, list_items_table, checkins_text, checkins_table, quota_count_text, quota_count_table, tokens_text, tokens_table, kept_text, kept_table, kept_by_moment, kept_by_moment_text}
+use Rattle.bo_schema.specs.Tables.{schema, schema_of, shop_text, shop_table, items_text, items_table, variations_text, variations_table, quotas_text, quotas_table, quota_items_text, quota_items_table, quota_variations_text, quota_variations_table, vouchers_text, vouchers_table, cart_positions_text, cart_positions_table, orders_text, orders_table, order_positions_text, order_positions_table, waiting_text, waiting_table, checkin_lists_text, checkin_lists_table, list_items_text, list_items_table, checkins_text, checkins_table, quota_count_text, quota_count_table, tokens_text, tokens_table, kept_text, kept_table, kept_by_moment, kept_by_moment_text, quota_release_text, quota_release_table, quota_exited_text, quota_exited_table, voucher_budget_text, voucher_budget_table, voucher_spent_text, voucher_spent_table, position_discount_text, position_discount_table}
 use Rattle.bo_schema.specs.Blank.{blank_schema}
 use Rattle.bo_schema.specs.Versions.{steps, stage, statement_texts, schema_after}
 use Rattle.bo_schema.specs.Grown.{IsInsideOver}
@@ -257,6 +257,61 @@ indexes_kept old new at count h =
     let it = indexes (schema_of 17 9) (schema_of 17 10) kept_by_moment_text 16 kept_table (record kept_by_moment { tree = 0 }) kept_by_moment_command kept_by_moment_text_is refl kept_by_moment_defined kept_by_moment_plain kept_by_moment_next old new at.known at.inside count h in
     ([], record { tables = refl; known = it.0; inside = it.2; kept = it.1; empty = tt; listed = it.3 })
 
+quota_release_is : IsCreate (schema_of 17 10) quota_release_text quota_release_table
+unfolding understood everything
+quota_release_is = (refl, refl, refl, (refl, refl))
+
+quota_release_next : created (schema_of 17 10) (record quota_release_table { tree = 0 }) ≡ (schema_of 18 10)
+unfolding everything
+quota_release_next = refl
+
+makes_quota_release : Makes (schema_of 17 10) quota_release_text (schema_of 18 10)
+makes_quota_release = makes_table (schema_of 17 10) (schema_of 18 10) quota_release_text quota_release_table quota_release_is quota_release_next refl refl refl
+
+quota_exited_is : IsCreate (schema_of 18 10) quota_exited_text quota_exited_table
+unfolding understood everything
+quota_exited_is = (refl, refl, refl, (refl, refl))
+
+quota_exited_next : created (schema_of 18 10) (record quota_exited_table { tree = 0 }) ≡ (schema_of 19 10)
+unfolding everything
+quota_exited_next = refl
+
+makes_quota_exited : Makes (schema_of 18 10) quota_exited_text (schema_of 19 10)
+makes_quota_exited = makes_table (schema_of 18 10) (schema_of 19 10) quota_exited_text quota_exited_table quota_exited_is quota_exited_next refl refl refl
+
+voucher_budget_is : IsCreate (schema_of 19 10) voucher_budget_text voucher_budget_table
+unfolding understood everything
+voucher_budget_is = (refl, refl, refl, (refl, refl))
+
+voucher_budget_next : created (schema_of 19 10) (record voucher_budget_table { tree = 0 }) ≡ (schema_of 20 10)
+unfolding everything
+voucher_budget_next = refl
+
+makes_voucher_budget : Makes (schema_of 19 10) voucher_budget_text (schema_of 20 10)
+makes_voucher_budget = makes_table (schema_of 19 10) (schema_of 20 10) voucher_budget_text voucher_budget_table voucher_budget_is voucher_budget_next refl refl refl
+
+voucher_spent_is : IsCreate (schema_of 20 10) voucher_spent_text voucher_spent_table
+unfolding understood everything
+voucher_spent_is = (refl, refl, refl, (refl, refl))
+
+voucher_spent_next : created (schema_of 20 10) (record voucher_spent_table { tree = 0 }) ≡ (schema_of 21 10)
+unfolding everything
+voucher_spent_next = refl
+
+makes_voucher_spent : Makes (schema_of 20 10) voucher_spent_text (schema_of 21 10)
+makes_voucher_spent = makes_table (schema_of 20 10) (schema_of 21 10) voucher_spent_text voucher_spent_table voucher_spent_is voucher_spent_next refl refl refl
+
+position_discount_is : IsCreate (schema_of 21 10) position_discount_text position_discount_table
+unfolding understood everything
+position_discount_is = (refl, refl, refl, (refl, refl))
+
+position_discount_next : created (schema_of 21 10) (record position_discount_table { tree = 0 }) ≡ (schema_of 22 10)
+unfolding everything
+position_discount_next = refl
+
+makes_position_discount : Makes (schema_of 21 10) position_discount_text (schema_of 22 10)
+makes_position_discount = makes_table (schema_of 21 10) (schema_of 22 10) position_discount_text position_discount_table position_discount_is position_discount_next refl refl refl
+
 -- ---- all of them, one after another
 
 -- each statement leads to the next schema
@@ -280,8 +335,8 @@ past (suc i) first [] all = refl
 past zero first (it ∷ steps) all = absurd (omega (arith, all))
 past (suc i) first (it ∷ steps) all = past i it.1 steps (omega (arith, all))
 
-pub each : (i : ℕ) → i < 18 → Makes (schema_after i) (get_or statement_texts i []) (schema_after (suc i))
-each i = leads_at i blank_schema steps (makes_shop, (makes_items, (makes_variations, (makes_quotas, (makes_quota_items, (makes_quota_variations, (makes_vouchers, (makes_cart_positions, (makes_orders, (makes_order_positions, (makes_waiting, (makes_checkin_lists, (makes_list_items, (makes_checkins, (makes_quota_count, (makes_tokens, (makes_kept, (indexes_kept, tt))))))))))))))))))
+pub each : (i : ℕ) → i < 23 → Makes (schema_after i) (get_or statement_texts i []) (schema_after (suc i))
+each i = leads_at i blank_schema steps (makes_shop, (makes_items, (makes_variations, (makes_quotas, (makes_quota_items, (makes_quota_variations, (makes_vouchers, (makes_cart_positions, (makes_orders, (makes_order_positions, (makes_waiting, (makes_checkin_lists, (makes_list_items, (makes_checkins, (makes_quota_count, (makes_tokens, (makes_kept, (indexes_kept, (makes_quota_release, (makes_quota_exited, (makes_voucher_budget, (makes_voucher_spent, (makes_position_discount, tt)))))))))))))))))))))))
 
-pub all_made : (i : ℕ) → 18 ≤ i → schema_after i ≡ schema
+pub all_made : (i : ℕ) → 23 ≤ i → schema_after i ≡ schema
 all_made i all = past i blank_schema steps all

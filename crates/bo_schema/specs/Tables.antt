@@ -275,6 +275,61 @@ kept_table =
     (1 ∷ 2 ∷ [])
     (refers 1 (codes "tokens") ∷ [])
 
+-- the quotas that release the places of tickets that went out
+abbrev pub quota_release_text : List ℕ
+quota_release_text = codes "CREATE TABLE quota_release (quota_id INTEGER PRIMARY KEY REFERENCES quotas ON DELETE RESTRICT) STRICT"
+
+abbrev pub quota_release_table : Table
+quota_release_table =
+    keyed (codes "quota_release") 27
+    (id (codes "quota_id") ∷ [])
+    ([]) ([])
+    (refers 0 (codes "quotas") ∷ [])
+
+-- how many tickets of each quota are out
+abbrev pub quota_exited_text : List ℕ
+quota_exited_text = codes "CREATE TABLE quota_exited (quota_id INTEGER PRIMARY KEY REFERENCES quotas ON DELETE RESTRICT, exited INTEGER NOT NULL) STRICT"
+
+abbrev pub quota_exited_table : Table
+quota_exited_table =
+    keyed (codes "quota_exited") 28
+    (id (codes "quota_id") ∷ number (codes "exited") ∷ [])
+    ([]) ([])
+    (refers 0 (codes "quotas") ∷ [])
+
+-- the vouchers that have a budget
+abbrev pub voucher_budget_text : List ℕ
+voucher_budget_text = codes "CREATE TABLE voucher_budget (voucher_id INTEGER PRIMARY KEY REFERENCES vouchers ON DELETE RESTRICT, budget INTEGER NOT NULL) STRICT"
+
+abbrev pub voucher_budget_table : Table
+voucher_budget_table =
+    keyed (codes "voucher_budget") 29
+    (id (codes "voucher_id") ∷ number (codes "budget") ∷ [])
+    ([]) ([])
+    (refers 0 (codes "vouchers") ∷ [])
+
+-- how much of each voucher is spent
+abbrev pub voucher_spent_text : List ℕ
+voucher_spent_text = codes "CREATE TABLE voucher_spent (voucher_id INTEGER PRIMARY KEY REFERENCES vouchers ON DELETE RESTRICT, spent INTEGER NOT NULL) STRICT"
+
+abbrev pub voucher_spent_table : Table
+voucher_spent_table =
+    keyed (codes "voucher_spent") 30
+    (id (codes "voucher_id") ∷ number (codes "spent") ∷ [])
+    ([]) ([])
+    (refers 0 (codes "vouchers") ∷ [])
+
+-- what was taken off the price of a ticket
+abbrev pub position_discount_text : List ℕ
+position_discount_text = codes "CREATE TABLE position_discount (position_id INTEGER PRIMARY KEY REFERENCES order_positions ON DELETE RESTRICT, discount INTEGER NOT NULL) STRICT"
+
+abbrev pub position_discount_table : Table
+position_discount_table =
+    keyed (codes "position_discount") 31
+    (id (codes "position_id") ∷ number (codes "discount") ∷ [])
+    ([]) ([])
+    (refers 0 (codes "order_positions") ∷ [])
+
 -- ---- the whole
 
 -- a table stands behind those to which it refers
@@ -296,7 +351,12 @@ all_tables =
     ∷ checkins_table
     ∷ quota_count_table
     ∷ tokens_table
-    ∷ kept_table ∷ []
+    ∷ kept_table
+    ∷ quota_release_table
+    ∷ quota_exited_table
+    ∷ voucher_budget_table
+    ∷ voucher_spent_table
+    ∷ position_discount_table ∷ []
 
 -- the index of what is UNIQUE, which has a tree of its own
 abbrev index : List ℕ → ℕ → ℕ → List ℕ → Index
@@ -328,7 +388,7 @@ schema_of tables indexes = record { tables = take tables all_tables; indexes = t
 
 -- the version of the tables that this program reads and writes
 abbrev pub this_version : ℕ
-this_version = 1
+this_version = 3
 
 abbrev pub schema : Schema
 schema = record { tables = all_tables; indexes = all_indexes; views = [] }

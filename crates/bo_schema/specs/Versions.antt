@@ -2,9 +2,9 @@
 use Rattle.std.specs.Prelude.{ℕ, zero, suc, List, [], ◌∷◌, map}
 use Rattle.sqlite_schema.specs.declared.schema.Schema.{Schema}
 use Rattle.bo_schema.specs.Blank.{blank_schema}
-use Rattle.bo_schema.specs.Tables.{schema_of, shop_text, items_text, variations_text, quotas_text, quota_items_text, quota_variations_text, vouchers_text, cart_positions_text, orders_text, order_positions_text, waiting_text, checkin_lists_text, list_items_text, checkins_text, quota_count_text, tokens_text, kept_text, kept_by_moment_text}
+use Rattle.bo_schema.specs.Tables.{schema_of, shop_text, items_text, variations_text, quotas_text, quota_items_text, quota_variations_text, vouchers_text, cart_positions_text, orders_text, order_positions_text, waiting_text, checkin_lists_text, list_items_text, checkins_text, quota_count_text, tokens_text, kept_text, kept_by_moment_text, quota_release_text, quota_exited_text, voucher_budget_text, voucher_spent_text, position_discount_text}
 
--- each statement, behind those that make what it refers to, and the schema that there is after it; the last one makes the index
+-- each statement, behind those that make what it refers to, and the schema that there is after it; one makes the index
 abbrev pub steps : List (List ℕ × Schema)
 steps =
     (shop_text, schema_of 1 0)
@@ -24,7 +24,12 @@ steps =
     ∷ (quota_count_text, schema_of 15 7)
     ∷ (tokens_text, schema_of 16 8)
     ∷ (kept_text, schema_of 17 9)
-    ∷ (kept_by_moment_text, schema_of 17 10) ∷ []
+    ∷ (kept_by_moment_text, schema_of 17 10)
+    ∷ (quota_release_text, schema_of 18 10)
+    ∷ (quota_exited_text, schema_of 19 10)
+    ∷ (voucher_budget_text, schema_of 20 10)
+    ∷ (voucher_spent_text, schema_of 21 10)
+    ∷ (position_discount_text, schema_of 22 10) ∷ []
 
 abbrev pub statement_texts : List (List ℕ)
 statement_texts = map (λ it. it.0) steps
@@ -42,7 +47,9 @@ schema_after count = stage count blank_schema steps
 -- how many statements make the tables of a version; of 0 there is none
 abbrev pub statements_of : ℕ → ℕ
 statements_of zero = 0
-statements_of (suc version) = 18
+statements_of (suc zero) = 18
+statements_of (suc (suc zero)) = 20
+statements_of (suc (suc (suc version))) = 23
 
 abbrev pub schema_of_version : ℕ → Schema
 schema_of_version version = schema_after (statements_of version)

@@ -11,10 +11,10 @@ use crate::{RowError, run};
 use sqlite::{Alter, Transaction};
 
 /// The version of a shop's tables that this program reads and writes.
-pub const VERSION: u64 = 1;
+pub const VERSION: u64 = 3;
 
 // What makes the tables of a shop, each behind those to which it refers.
-const STATEMENTS: [&str; 18] = [
+const STATEMENTS: [&str; 23] = [
     // The shop itself: one row.
     "CREATE TABLE shop (id INTEGER PRIMARY KEY CHECK (id = 1), version INTEGER NOT NULL, organizer TEXT NOT NULL, event TEXT NOT NULL, moment INTEGER NOT NULL, next_item INTEGER NOT NULL, next_variation INTEGER NOT NULL, next_quota INTEGER NOT NULL, next_voucher INTEGER NOT NULL, next_cart INTEGER NOT NULL, next_order INTEGER NOT NULL, next_position INTEGER NOT NULL, next_waiting INTEGER NOT NULL, next_list INTEGER NOT NULL, next_checkin INTEGER NOT NULL, next_token INTEGER NOT NULL) STRICT",
     // What is sold.
@@ -51,6 +51,16 @@ const STATEMENTS: [&str; 18] = [
     "CREATE TABLE kept (token_id INTEGER NOT NULL REFERENCES tokens ON DELETE RESTRICT, request_key BLOB NOT NULL, first_moment INTEGER NOT NULL, status INTEGER NOT NULL, allow TEXT NOT NULL, body BLOB NOT NULL, PRIMARY KEY (token_id, request_key)) STRICT",
     // The index of kept answers by their moment.
     "CREATE INDEX kept_by_moment ON kept (first_moment)",
+    // The quotas that release the places of tickets that went out.
+    "CREATE TABLE quota_release (quota_id INTEGER PRIMARY KEY REFERENCES quotas ON DELETE RESTRICT) STRICT",
+    // How many tickets of each quota are out.
+    "CREATE TABLE quota_exited (quota_id INTEGER PRIMARY KEY REFERENCES quotas ON DELETE RESTRICT, exited INTEGER NOT NULL) STRICT",
+    // The budgets of vouchers.
+    "CREATE TABLE voucher_budget (voucher_id INTEGER PRIMARY KEY REFERENCES vouchers ON DELETE RESTRICT, budget INTEGER NOT NULL) STRICT",
+    // How much of each voucher is spent.
+    "CREATE TABLE voucher_spent (voucher_id INTEGER PRIMARY KEY REFERENCES vouchers ON DELETE RESTRICT, spent INTEGER NOT NULL) STRICT",
+    // What was taken off the prices of tickets.
+    "CREATE TABLE position_discount (position_id INTEGER PRIMARY KEY REFERENCES order_positions ON DELETE RESTRICT, discount INTEGER NOT NULL) STRICT",
 ];
 
 // How many of these make the tables of a version; of 0 there is none.
@@ -59,6 +69,8 @@ fn statements_of(version: u64) -> usize
 {
     match version {
         0 => 0,
+        1 => 18,
+        2 => 20,
         _ => STATEMENTS.len(),
     }
 }
@@ -89,6 +101,6 @@ pub fn add_tables<S: Alter>(tx: &mut Transaction<'_, S>, from: u64) -> Result<()
     ensures kept { HasCleanDisk (state S.Store tx.new.conn.now) → KeepsCommit (state S.Store tx.old.conn.now) (state S.Store tx.new.conn.now) }
     ensures crash { Survives (state S.Store tx.old.conn.now) (state S.Store tx.new.conn.now) (λ _. ⊥) }
 {
-    let statements: [&str; 18] = STATEMENTS;
+    let statements: [&str; 23] = STATEMENTS;
     run_from(tx, statements.as_slice(), statements_of(from))
 }

@@ -223,7 +223,7 @@ module _ (lists : Lists) (at : ℕ) (q : Quota) where
       let v : Usage = record u { blocked = 0 + sum_by (blocked_by lists at q) lists.vouchers } in
       let w : Usage = record v { carts = 0 + sum_by of_cart lists.carts } in
       ap (λ (x : Usage). after_each entry_comes lists.waiting q (after_each (cart_comes lists at) lists.carts q (after_each (voucher_comes lists at) lists.vouchers q x))) (positions_sum lists.positions nothing (omega (arith, kept.positions.few)) (omega (arith, kept.positions.few)) (omega (arith, kept.positions.few)))
-      ∙ ap (λ (x : Usage). after_each entry_comes lists.waiting q (after_each (cart_comes lists at) lists.carts q x)) (vouchers_sum lists.vouchers u (omega (arith, blocked_few lists at q lists.vouchers small, kept.vouchers.few)))
+      ∙ ap (λ (x : Usage). after_each entry_comes lists.waiting q (after_each (cart_comes lists at) lists.carts q x)) (vouchers_sum lists.vouchers u (omega (arith, blocked_few lists at q lists.vouchers small.uses, kept.vouchers.few)))
       ∙ ap (λ (x : Usage). after_each entry_comes lists.waiting q x) (carts_sum lists.carts v (omega (arith, kept.carts.few)))
       ∙ entries_sum lists.waiting w (omega (arith, kept.waiting.few))
       ∙ from_none (sum_by (of_status is_paid) lists.positions) (sum_by (of_status is_pending) lists.positions) (sum_by (blocked_by lists at q) lists.vouchers) (sum_by of_cart lists.carts) (sum_by of_entry lists.waiting) (sum_by of_exit lists.positions)

@@ -8,38 +8,40 @@ use Rattle.bo_lists.specs.declared.changes.Change.TheVariants.{PutItem, PutVaria
 use Rattle.bo_lists.specs.declared.rows.Voucher.{Voucher}
 use Rattle.bo_lists.specs.Change.{after_change}
 use Rattle.bo_lists.specs.Lists.{Lists, State, voucher_at}
-use Rattle.bo_lists.specs.Usage.{redeemed}
+use Rattle.bo_lists.specs.Usage.{redeemed, spent}
+use Rattle.bo_usage.proofs.Spent.{unused_unspent}
 use Rattle.bo_lists.proofs.EachRow.{key-row_at}
-use Rattle.bo_settle.specs.Settled.{redeemed_at, redeemed_if, ArePutsNew}
+use Rattle.bo_settle.specs.Settled.{redeemed_at, redeemed_if, spent_at, spent_if, ArePutsNew}
 use Rattle.bo_settle.specs.Spared.{spares_used}
 
-module _ (state : State) where
-  -- of a voucher that isn't redeemed, or doesn't stand, nothing is kept
-  unused : (id : ℕ) → redeemed id state.lists ≡ 0 → (o : Option Voucher) → voucher_at id state.lists ≡ o → redeemed_if state o ≡ 0
-  unused id e None found = refl
-  unused id e (Some v) found = ap (λ k. redeemed k state.lists) (key-row_at (λ (r : Voucher). r.id) id state.lists.vouchers v found) ∙ e
+-- of a voucher that isn't redeemed, or doesn't stand, nothing is kept
+unused : (state : State) (id : ℕ) → redeemed id state.lists ≡ 0 → (o : Option Voucher) → voucher_at id state.lists ≡ o → redeemed_if state o ≡ 0
+unused state id e None found = refl
+unused state id e (Some v) found = ap (λ k. redeemed k state.lists) (key-row_at (λ (r : Voucher). r.id) id state.lists.vouchers v found) ∙ e
 
+unspent : (state : State) (id : ℕ) → redeemed id state.lists ≡ 0 → (o : Option Voucher) → voucher_at id state.lists ≡ o → spent_if state o ≡ 0
+unspent state id e None found = refl
+unspent state id e (Some v) found = ap (λ k. spent k state.lists) (key-row_at (λ (r : Voucher). r.id) id state.lists.vouchers v found) ∙ unused_unspent id state.lists e
+
+module _ (state : State) (kept : ℕ → ℕ) (none : (id : ℕ) → redeemed id state.lists ≡ 0 → kept id ≡ 0) where
   abbrev AbsentAreUnused : Lists → Type 0
-  AbsentAreUnused lists = (id : ℕ) → voucher_at id lists ≡ None → redeemed_at state id ≡ 0
-
-  pub absent_unused : AbsentAreUnused state.lists
-  absent_unused id none = ap (redeemed_if state) none
+  AbsentAreUnused lists = (id : ℕ) → voucher_at id lists ≡ None → kept id ≡ 0
 
   after_put : (row : Voucher) (lists : Lists) → AbsentAreUnused lists → AbsentAreUnused (after_change (PutVoucher row) lists)
-  after_put row lists absent id none =
-      elim (row.id == id) as (λ b. cond b (Some row) (voucher_at id lists) ≡ None → redeemed_at state id ≡ 0) [
+  after_put row lists absent id gone =
+      elim (row.id == id) as (λ b. cond b (Some row) (voucher_at id lists) ≡ None → kept id ≡ 0) [
         | true ↦ λ f. absurd cc
         | false ↦ λ f. absent id f
-      ] (sym (row_at-with_row (λ v. v.id) id row lists.vouchers) ∙ none)
+      ] (sym (row_at-with_row (λ v. v.id) id row lists.vouchers) ∙ gone)
 
-  after_drop : (gone : ℕ) (lists : Lists) → redeemed gone state.lists ≡ 0 → AbsentAreUnused lists → AbsentAreUnused (after_change (DropVoucher gone) lists)
-  after_drop gone lists e absent id none =
-      elim (gone == id) as (λ b. (gone == id) ≡ b → cond b None (voucher_at id lists) ≡ None → redeemed_at state id ≡ 0) [
-        | true ↦ λ same f. subst (λ k. redeemed_at state k ≡ 0) (eqb-true gone id same) (unused gone e (voucher_at gone state.lists) refl)
+  after_drop : (dropped : ℕ) (lists : Lists) → redeemed dropped state.lists ≡ 0 → AbsentAreUnused lists → AbsentAreUnused (after_change (DropVoucher dropped) lists)
+  after_drop dropped lists e absent id gone =
+      elim (dropped == id) as (λ b. (dropped == id) ≡ b → cond b None (voucher_at id lists) ≡ None → kept id ≡ 0) [
+        | true ↦ λ same f. subst (λ k. kept k ≡ 0) (eqb-true dropped id same) (none dropped e)
         | false ↦ λ same f. absent id f
-      ] refl (sym (row_at-without_row (λ v. v.id) id gone lists.vouchers) ∙ none)
+      ] refl (sym (row_at-without_row (λ v. v.id) id dropped lists.vouchers) ∙ gone)
 
-  puts_new : (changes : List Change) (lists : Lists) → list_all (spares_used state.lists) changes ≡ true → AbsentAreUnused lists → ArePutsNew (redeemed_at state) changes lists
+  puts_new : (changes : List Change) (lists : Lists) → list_all (spares_used state.lists) changes ≡ true → AbsentAreUnused lists → ArePutsNew kept changes lists
   puts_new [] lists spared absent = tt
   puts_new (PutVoucher row ∷ cs) lists spared absent = (absent row.id, puts_new cs (after_change (PutVoucher row) lists) spared (after_put row lists absent))
   puts_new (DropVoucher id ∷ cs) lists spared absent =
@@ -59,4 +61,9 @@ module _ (state : State) where
 
 -- of changes of an office that drop no such voucher
 pub spared_new : (state : State) (changes : List Change) → list_all (spares_used state.lists) changes ≡ true → ArePutsNew (redeemed_at state) changes state.lists
-spared_new state changes spared = puts_new state changes state.lists spared (absent_unused state)
+spared_new state changes spared =
+    puts_new state (redeemed_at state) (λ id e. unused state id e (voucher_at id state.lists) refl) changes state.lists spared (λ id gone. ap (redeemed_if state) gone)
+
+pub spared_unspent : (state : State) (changes : List Change) → list_all (spares_used state.lists) changes ≡ true → ArePutsNew (spent_at state) changes state.lists
+spared_unspent state changes spared =
+    puts_new state (spent_at state) (λ id e. unspent state id e (voucher_at id state.lists) refl) changes state.lists spared (λ id gone. ap (spent_if state) gone)

@@ -5,9 +5,10 @@ ghost use Rattle.bo_lists.specs.Change.{after_change, after_all, applied};
 ghost use Rattle.bo_lists.specs.Usage.{redeemed, usage_of};
 ghost use Rattle.bo_lists.specs.Weight.{change_weight, weight};
 ghost use Rattle.bo_shifts.specs.Held.{AreHeld};
+ghost use Rattle.bo_shifts.specs.Spends.{AreSpent};
 ghost use Rattle.bo_settle.specs.Settled.{AreSmall};
 
-use crate::fresh::{count_holds, count_redeems, count_usages};
+use crate::fresh::{count_holds, count_redeems, count_spents, count_usages};
 use crate::settle::stay_small;
 use bo_base::Moment;
 use bo_lists::{Change, Changes, Usage};
@@ -46,21 +47,25 @@ pub fn count_again(
     store: &mut Store,
     usages: &mut Vec<Usage>,
     redeems: &mut Vec<u64>,
+    spents: &mut Vec<u128>,
     holds: &mut Vec<u64>,
     changes: Changes,
     at: Moment,
 )
     requires usages { length usages.old.items ≡ length store.old.state.lists.catalogue.quotas }
     requires redeems { length redeems.old.items ≡ length store.old.state.lists.vouchers }
+    requires spents { length spents.old.items ≡ length store.old.state.lists.vouchers }
     requires holds { length holds.old.items ≡ length store.old.state.lists.vouchers }
     requires small { AreSmall store.old.state.lists }
     requires room { weight changes.list ≤ store.old.room }
     requires usages_room { weight changes.list ≤ vec_capacity usages.old - length usages.old.items }
     requires redeems_room { weight changes.list ≤ vec_capacity redeems.old - length redeems.old.items }
+    requires spents_room { weight changes.list ≤ vec_capacity spents.old - length spents.old.items }
     requires holds_room { weight changes.list ≤ vec_capacity holds.old - length holds.old.items }
     ensures state { store.new.state ≡ applied changes at store.old.state }
     ensures usages { usages.new.items ≡ map (usage_of store.new.state.lists store.new.state.moment) store.new.state.lists.catalogue.quotas }
     ensures redeems { redeems.new.items ≡ map (λ v. redeemed v.id store.new.state.lists) store.new.state.lists.vouchers }
+    ensures spents { AreSpent store.new.state.lists spents.new.items }
     ensures held { AreHeld store.new.state.lists store.new.state.moment holds.new.items }
     ensures small { AreSmall store.new.state.lists }
 {
@@ -68,6 +73,7 @@ pub fn count_again(
     store.set(next, at);
     put_rows(store, list);
     count_redeems(store, redeems, vouchers(store));
+    count_spents(store, spents, vouchers(store));
     count_holds(store, holds, store.moment(), vouchers(store));
     count_usages(store, usages, redeems);
 }

@@ -3,7 +3,7 @@
 
 ghost use Rattle.std.specs.Prelude.{◌≡◌, ◌≤◌, ◌<◌, ◌++◌, [], ◌∷◌, length, map, vec_capacity, None, Some};
 ghost use Rattle.bo_lists.specs.Headroom.{held};
-ghost use Rattle.bo_lists.specs.Usage.{redeemed, usage_of};
+ghost use Rattle.bo_lists.specs.Usage.{redeemed, spent, usage_of};
 ghost use Rattle.bo_shifts.specs.Shifts.{map_beside, block_shift, cart_shift, waiting_shift};
 ghost use Rattle.bo_shifts.specs.Turns.{position_shift};
 ghost use Rattle.bo_settle.specs.Fresh.{after_each, position_comes, cart_comes, entry_comes, voucher_comes};
@@ -264,6 +264,17 @@ pub fn count_redeems(store: &Store, redeems: &mut Vec<u64>, rows: &[Voucher])
     redeems.clear();
     for row in rows {
         push_reserved(redeems, store.redeemed(row.id));
+    }
+}
+
+/// What is spent of the budget of each voucher, counted afresh.
+pub fn count_spents(store: &Store, spents: &mut Vec<u128>, rows: &[Voucher])
+    requires { length rows.now ≤ vec_capacity spents.old }
+    ensures { spents.new.items ≡ map (λ v. spent v.id store.now.state.lists) rows.now }
+{
+    spents.clear();
+    for row in rows {
+        push_reserved(spents, store.spent(row.id));
     }
 }
 

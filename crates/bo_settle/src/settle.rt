@@ -12,14 +12,15 @@ ghost use Rattle.bo_lists.specs.Lists.{voucher_at};
 ghost use Rattle.bo_lists.specs.Usage.{redeemed, usage_of};
 ghost use Rattle.bo_lists.specs.Weight.{change_weight, weight};
 ghost use Rattle.bo_shifts.specs.Held.{AreHeld};
+ghost use Rattle.bo_shifts.specs.Spends.{AreSpent};
 ghost use Rattle.std.specs.List.{list_all};
 ghost use Rattle.bo_settle.specs.Spared.{spares_used};
-ghost use Rattle.bo_settle.specs.Settled.{nothing, put_each, redeemed_at, used_at, ArePutsNew, AreSmall};
+ghost use Rattle.bo_settle.specs.Settled.{nothing, put_each, redeemed_at, spent_at, used_at, ArePutsNew, AreSmall};
 
 use crate::beside::{keep_place, set_one};
 use bo_base::Moment;
 use bo_catalogue::Quota;
-use bo_lists::{Change, Changes, CountRows, QuotaCount, Usage, Voucher, VoucherCount};
+use bo_lists::{Change, Changes, CountRows, OrderPos, QuotaCount, Usage, Voucher, VoucherCount};
 use bo_shifts::holds::{held_by, hold_at, hold_drop, hold_put};
 use bo_shifts::shift::{forget, keep};
 use bo_shifts::turns::vouchers;
@@ -46,7 +47,7 @@ fn set_usages(quotas: &[Quota], usages: &mut Vec<Usage>, counts: &[QuotaCount])
     }
 }
 
-// Puts each of these counts beside its voucher.
+// Puts how often each of these vouchers is redeemed beside it.
 fn set_redeems(rows: &[Voucher], redeems: &mut Vec<u64>, counts: &[VoucherCount])
     requires order { AreInOrder (λ v. v.id) rows.now }
     requires same { length redeems.old.items ≡ length rows.now }
@@ -54,6 +55,17 @@ fn set_redeems(rows: &[Voucher], redeems: &mut Vec<u64>, counts: &[VoucherCount]
 {
     for i in 0..counts.len() {
         set_one(rows, redeems, counts[i].voucher, counts[i].redeemed);
+    }
+}
+
+// Puts what is spent of each of these vouchers beside it.
+fn set_spents(rows: &[Voucher], spents: &mut Vec<u128>, counts: &[VoucherCount])
+    requires order { AreInOrder (λ v. v.id) rows.now }
+    requires same { length spents.old.items ≡ length rows.now }
+    ensures kept { (f : ℕ → ℕ) → spents.old.items ≡ map (λ v. f v.id) rows.now → spents.new.items ≡ map (λ v. put_each (λ c. c.voucher) (λ c. c.spent) counts.now f v.id) rows.now }
+{
+    for i in 0..counts.len() {
+        set_one(rows, spents, counts[i].voucher, u128::from(counts[i].spent));
     }
 }
 
@@ -73,18 +85,18 @@ fn keep_usages(store: &Store, usages: &mut Vec<Usage>, change: &Change)
     }
 }
 
-// Keeps what is kept beside vouchers where a change comes.
-fn keep_redeems(store: &Store, redeems: &mut Vec<u64>, change: &Change)
-    requires same { length redeems.old.items ≡ length store.now.state.lists.vouchers }
-    requires room { change_weight change.now ≤ vec_capacity redeems.old - length redeems.old.items }
-    ensures kept { (f : ℕ → ℕ) → ((row : Voucher) → change.now ≡ PutVoucher row → voucher_at row.id store.now.state.lists ≡ None → f row.id ≡ 0) → redeems.old.items ≡ map (λ v. f v.id) store.now.state.lists.vouchers
-        → redeems.new.items ≡ map (λ v. f v.id) (after_change change.now store.now.state.lists).vouchers }
-    ensures room { vec_capacity redeems.old - length redeems.old.items ≤ vec_capacity redeems.new - length redeems.new.items + change_weight change.now }
+// Keeps what is kept beside vouchers where a change comes, and another value for a new one.
+fn keep_beside<U: Copy + Drop>(store: &Store, kept: &mut Vec<U>, change: &Change, other: U)
+    requires same { length kept.old.items ≡ length store.now.state.lists.vouchers }
+    requires room { change_weight change.now ≤ vec_capacity kept.old - length kept.old.items }
+    ensures kept { (f : ℕ → U) → ((row : Voucher) → change.now ≡ PutVoucher row → voucher_at row.id store.now.state.lists ≡ None → f row.id ≡ other) → kept.old.items ≡ map (λ v. f v.id) store.now.state.lists.vouchers
+        → kept.new.items ≡ map (λ v. f v.id) (after_change change.now store.now.state.lists).vouchers }
+    ensures room { vec_capacity kept.old - length kept.old.items ≤ vec_capacity kept.new - length kept.new.items + change_weight change.now }
 {
     store.known();
     match change {
-        Change::PutVoucher(row) => keep_place(vouchers(store), redeems, row.id, 0),
-        Change::DropVoucher(id) => forget(vouchers(store), redeems, *id),
+        Change::PutVoucher(row) => keep_place(vouchers(store), kept, row.id, other),
+        Change::DropVoucher(id) => forget(vouchers(store), kept, *id),
         _ => {}
     }
 }
@@ -132,7 +144,14 @@ fn few_uses(row: &Voucher)
     let _ = left_of(row, 0);
 }
 
-// The vouchers stay such where a change comes.
+// A discount is at most 99,999,999.99.
+fn few_cents(row: &OrderPos)
+    ensures { row.now.discount ≤ 9999999999 }
+{
+    let _ = row.discount.get();
+}
+
+// Uses and discounts stay such where a change comes.
 pub(crate) fn stay_small(store: &Store, change: &Change)
     requires { AreSmall store.now.state.lists }
     ensures { AreSmall (after_change change.now store.now.state.lists) }
@@ -141,6 +160,7 @@ pub(crate) fn stay_small(store: &Store, change: &Change)
     match change {
         Change::PutVoucher(row) => few_uses(row),
         Change::DropVoucher(_) => {}
+        Change::PutPosition(row) => few_cents(row),
         _ => {}
     }
 }
@@ -150,14 +170,17 @@ fn carry(
     store: &mut Store,
     usages: &mut Vec<Usage>,
     redeems: &mut Vec<u64>,
+    spents: &mut Vec<u128>,
     holds: &mut Vec<u64>,
     change: Change,
 )
     requires usages_same { length usages.old.items ≡ length store.old.state.lists.catalogue.quotas }
     requires redeems_same { length redeems.old.items ≡ length store.old.state.lists.vouchers }
+    requires spents_same { length spents.old.items ≡ length store.old.state.lists.vouchers }
     requires room { change_weight change ≤ store.old.room }
     requires usages_room { change_weight change ≤ vec_capacity usages.old - length usages.old.items }
     requires redeems_room { change_weight change ≤ vec_capacity redeems.old - length redeems.old.items }
+    requires spents_room { change_weight change ≤ vec_capacity spents.old - length spents.old.items }
     requires holds_room { change_weight change ≤ vec_capacity holds.old - length holds.old.items }
     requires held { AreHeld store.old.state.lists store.old.state.moment holds.old.items }
     requires small { AreSmall store.old.state.lists }
@@ -169,13 +192,17 @@ fn carry(
         → usages.new.items ≡ map (λ q. f q.id) (after_change change store.old.state.lists).catalogue.quotas }
     ensures redeems { (f : ℕ → ℕ) → ((row : Voucher) → change ≡ PutVoucher row → voucher_at row.id store.old.state.lists ≡ None → f row.id ≡ 0) → redeems.old.items ≡ map (λ v. f v.id) store.old.state.lists.vouchers
         → redeems.new.items ≡ map (λ v. f v.id) (after_change change store.old.state.lists).vouchers }
+    ensures spents { (f : ℕ → ℕ) → ((row : Voucher) → change ≡ PutVoucher row → voucher_at row.id store.old.state.lists ≡ None → f row.id ≡ 0) → spents.old.items ≡ map (λ v. f v.id) store.old.state.lists.vouchers
+        → spents.new.items ≡ map (λ v. f v.id) (after_change change store.old.state.lists).vouchers }
     ensures room { store.old.room ≤ store.new.room + change_weight change }
     ensures usages_room { vec_capacity usages.old - length usages.old.items ≤ vec_capacity usages.new - length usages.new.items + change_weight change }
     ensures redeems_room { vec_capacity redeems.old - length redeems.old.items ≤ vec_capacity redeems.new - length redeems.new.items + change_weight change }
+    ensures spents_room { vec_capacity spents.old - length spents.old.items ≤ vec_capacity spents.new - length spents.new.items + change_weight change }
 {
     stay_small(store, &change);
     keep_usages(store, usages, &change);
-    keep_redeems(store, redeems, &change);
+    keep_beside(store, redeems, &change, 0);
+    keep_beside(store, spents, &change, 0);
     keep_holds(store, holds, &change);
     store.apply_one(change);
 }
@@ -185,22 +212,27 @@ fn carry_all(
     store: &mut Store,
     usages: &mut Vec<Usage>,
     redeems: &mut Vec<u64>,
+    spents: &mut Vec<u128>,
     holds: &mut Vec<u64>,
     from: Moment,
     mut list: Vec<Change>,
 )
     requires usages { usages.old.items ≡ map (usage_of store.old.state.lists from) store.old.state.lists.catalogue.quotas }
     requires redeems { redeems.old.items ≡ map (λ v. redeemed v.id store.old.state.lists) store.old.state.lists.vouchers }
+    requires spents { AreSpent store.old.state.lists spents.old.items }
     requires held { AreHeld store.old.state.lists store.old.state.moment holds.old.items }
     requires small { AreSmall store.old.state.lists }
     requires new { ArePutsNew (redeemed_at store.old.state) list.items store.old.state.lists }
+    requires unspent { ArePutsNew (spent_at store.old.state) list.items store.old.state.lists }
     requires room { weight list.items ≤ store.old.room }
     requires usages_room { weight list.items ≤ vec_capacity usages.old - length usages.old.items }
     requires redeems_room { weight list.items ≤ vec_capacity redeems.old - length redeems.old.items }
+    requires spents_room { weight list.items ≤ vec_capacity spents.old - length spents.old.items }
     requires holds_room { weight list.items ≤ vec_capacity holds.old - length holds.old.items }
     ensures state { store.new.state ≡ record store.old.state { lists = after_all list.items store.old.state.lists } }
     ensures usages { usages.new.items ≡ map (λ q. used_at (record store.old.state { moment = from }) q.id) store.new.state.lists.catalogue.quotas }
     ensures redeems { redeems.new.items ≡ map (λ v. redeemed_at store.old.state v.id) store.new.state.lists.vouchers }
+    ensures spents { spents.new.items ≡ map (λ v. spent_at store.old.state v.id) store.new.state.lists.vouchers }
     ensures held { AreHeld store.new.state.lists store.new.state.moment holds.new.items }
     ensures small { AreSmall store.new.state.lists }
 {
@@ -210,17 +242,19 @@ fn carry_all(
     catalogue.known();
     list.reverse();
     while let Some(change) = list.pop() {
-        carry(store, usages, redeems, holds, change);
+        carry(store, usages, redeems, spents, holds, change);
     }
 }
 
 /// Makes these changes at a moment, where the counts that they change are known: each quota's usage, how often each voucher is
-/// redeemed, and how many live cart positions name it, is then as if it were counted afresh. No voucher that is redeemed is among
-/// those that the changes drop: a count that stays as it was isn't told, so what is kept of such a one would be lost.
+/// redeemed, what is spent of its budget, and how many live cart positions name it, is then as if it were counted afresh. No
+/// voucher that is redeemed is among those that the changes drop: a count that stays as it was isn't told, and what is kept of
+/// such a one would be lost.
 pub fn settle(
     store: &mut Store,
     usages: &mut Vec<Usage>,
     redeems: &mut Vec<u64>,
+    spents: &mut Vec<u128>,
     holds: &mut Vec<u64>,
     changes: Changes,
     counts: &CountRows,
@@ -229,6 +263,7 @@ pub fn settle(
     requires moment { store.old.state.moment ≤ at }
     requires usages { usages.old.items ≡ map (usage_of store.old.state.lists store.old.state.moment) store.old.state.lists.catalogue.quotas }
     requires redeems { redeems.old.items ≡ map (λ v. redeemed v.id store.old.state.lists) store.old.state.lists.vouchers }
+    requires spents { AreSpent store.old.state.lists spents.old.items }
     requires held { AreHeld store.old.state.lists store.old.state.moment holds.old.items }
     requires small { AreSmall store.old.state.lists }
     requires counts { counts.now ≡ counts_after store.old.state (applied changes at store.old.state) }
@@ -236,10 +271,12 @@ pub fn settle(
     requires room { weight changes.list ≤ store.old.room }
     requires usages_room { weight changes.list ≤ vec_capacity usages.old - length usages.old.items }
     requires redeems_room { weight changes.list ≤ vec_capacity redeems.old - length redeems.old.items }
+    requires spents_room { weight changes.list ≤ vec_capacity spents.old - length spents.old.items }
     requires holds_room { weight changes.list ≤ vec_capacity holds.old - length holds.old.items }
     ensures state { store.new.state ≡ applied changes at store.old.state }
     ensures usages { usages.new.items ≡ map (usage_of store.new.state.lists store.new.state.moment) store.new.state.lists.catalogue.quotas }
     ensures redeems { redeems.new.items ≡ map (λ v. redeemed v.id store.new.state.lists) store.new.state.lists.vouchers }
+    ensures spents { AreSpent store.new.state.lists spents.new.items }
     ensures held { AreHeld store.new.state.lists store.new.state.moment holds.new.items }
     ensures small { AreSmall store.new.state.lists }
 {
@@ -250,10 +287,11 @@ pub fn settle(
     let from = store.moment();
     hold_at(store, holds, at);
     store.set(next, at);
-    carry_all(store, usages, redeems, holds, from, list);
+    carry_all(store, usages, redeems, spents, holds, from, list);
     store.known();
     let catalogue = store.catalogue();
     catalogue.known();
     set_usages(catalogue.quotas(), usages, counts.quotas());
     set_redeems(vouchers(store), redeems, counts.vouchers());
+    set_spents(vouchers(store), spents, counts.vouchers());
 }

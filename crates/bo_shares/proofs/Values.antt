@@ -1,5 +1,5 @@
 -- The values of a list by place.
-use Rattle.std.proofs.Common.{◌≡◌, ℕ, zero, suc, ◌+◌, ◌<◌, Bool, List, [], ◌∷◌, ◌++◌, length, take, get_or, count_by, refl, sym, ap, ◌∙◌, arith}
+use Rattle.std.proofs.Common.{◌≡◌, ℕ, zero, suc, ◌+◌, ◌<◌, Bool, List, [], ◌∷◌, ◌++◌, length, take, get_or, count_by, sum_by, refl, sym, ap, ◌∙◌, arith}
 use Rattle.std.specs.Prelude.{if◌then◌else◌}
 use Rattle.std.proofs.lemmas.List.{take_more}
 use Rattle.std.proofs.lemmas.List.Sums.{sum_by-cons}
@@ -53,12 +53,15 @@ more_same f f' g g' rows old new same same' is = record {
     values_same f f' (r ∷ rs) zero same = same r
     values_same f f' (r ∷ rs) (suc place) same = values_same f f' rs place same
 
--- one more row of the list is counted
+-- one more row of the list is added up, or counted
+pub sum_push : {T : Type 0} (f : T → ℕ) (rows : List T) (r : T) → sum_by f (rows ++ r ∷ []) ≡ sum_by f rows + f r
+sum_push f [] r = sum_by-cons f r [] ∙ omega arith
+sum_push f (s ∷ ss) r = omega (arith, sum_push f ss r, sum_by-cons f s ss, sum_by-cons f s (ss ++ r ∷ []))
+
 pub count_push : {T : Type 0} (f : T → Bool) (rows : List T) (r : T) → count_by f (rows ++ r ∷ []) ≡ count_by f rows + (if f r then 1 else 0)
-count_push f [] r = sum_by-cons (λ s. if f s then 1 else 0) r [] ∙ omega arith
-count_push f (s ∷ ss) r = omega (arith, count_push f ss r, sum_by-cons (λ t. if f t then 1 else 0) s ss, sum_by-cons (λ t. if f t then 1 else 0) s (ss ++ r ∷ []))
+count_push f rows r = sum_push (λ s. if f s then 1 else 0) rows r
 
 -- one row more on both sides counts the same
-pub pushed_count : {S T : Type 0} (f : S → Bool) (g : T → Bool) (news : List S) (rows : List T) (i : ℕ) (new : S) (d : T) → i < length rows → f new ≡ g (get_or rows i d) → count_by f news ≡ count_by g (take i rows) → count_by f (news ++ new ∷ []) ≡ count_by g (take (i + 1) rows)
-pushed_count f g news rows i new d lt same before =
-    omega (arith, before, count_push f news new, ap {B = ℕ} (λ b. if b then 1 else 0) same, count_push g (take i rows) (get_or rows i d), ap (count_by g) (take_more rows i d lt))
+pub pushed_count : {S T : Type 0} (f : S → Bool) (g : T → Bool) (news : List S) (rows : List T) (i : ℕ) (new : S) (row : T) → i < length rows → row ≡ get_or rows i row → f new ≡ g row → count_by f news ≡ count_by g (take i rows) → count_by f (news ++ new ∷ []) ≡ count_by g (take (i + 1) rows)
+pushed_count f g news rows i new row lt here same before =
+    omega (arith, before, count_push f news new, ap {B = ℕ} (λ b. if b then 1 else 0) (same ∙ ap g here), count_push g (take i rows) (get_or rows i row), ap (count_by g) (take_more rows i row lt))

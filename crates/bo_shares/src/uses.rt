@@ -1,15 +1,14 @@
-//! The uses of vouchers that come and go with a change.
+//! The uses of vouchers that come and go with a change, and what is spent of their budgets.
 
-ghost use Rattle.std.specs.Prelude.{◌≡◌, ℕ, count_by, OnOk, OnErr};
-ghost use Rattle.bo_lists.specs.Conditions.{names};
+ghost use Rattle.std.specs.Prelude.{◌≡◌, OnOk, OnErr};
 ghost use Rattle.bo_lists.specs.declared.changes.Change.TheVariants.{PutOrder};
 ghost use Rattle.bo_overlay.specs.Logs.{rows_of};
 ghost use Rattle.bo_shares.specs.Counts.{AreMoreUses};
 ghost use Rattle.bo_shares.specs.Shift.{AreTurned};
 ghost use Rattle.bo_tally.specs.Amounts.{no_uses};
-ghost use Rattle.bo_shares.specs.Uses.{use_come, use_gone, held_by, used_by, used_since};
+ghost use Rattle.bo_shares.specs.Uses.{use_come, use_gone, held_by, purchase_uses, used_by, used_since};
 
-use bo_base::Moment;
+use bo_base::{Cents, Moment};
 use bo_lists::{Change, Order};
 use bo_overlay::{Overlay, Purchase};
 use bo_tally::{Amount, Tally, Uses};
@@ -35,7 +34,9 @@ pub fn count_uses<B: Book>(
             count_held(uses, held_name(at, Some(row)), gone)
         }
         Change::DropCart(id) => count_held(uses, None, held_name(at, overlay.cart(*id))),
-        Change::PutPosition(row) => count_used(uses, used_name(overlay, Some(row))),
+        Change::PutPosition(row) => {
+            count_used(uses, used_name(overlay, Some(row)), row.discount)
+        }
         Change::PutOrder(row) => count_turned(overlay, at, uses, row, purchases),
         _ => Ok(()),
     }
@@ -50,7 +51,11 @@ fn count_held(
     ensures more { OnOk result (AreMoreUses (λ v. held_by v come) (λ v. held_by v gone) uses.old uses.new) }
     ensures err { OnErr result (uses.new ≡ uses.old) }
 {
-    let one = Uses { used: 0, held: 1 };
+    let one = Uses {
+        used: 0,
+        held: 1,
+        spent: 0,
+    };
     let start = uses.len();
     uses.add_named(come, one, Uses::none())?;
     if uses.add_named(gone, Uses::none(), one).is_err() {
@@ -60,12 +65,12 @@ fn count_held(
     Ok(())
 }
 
-// Counts a use in orders that comes.
-fn count_used(uses: &mut Tally<Uses>, come: Option<u64>) -> Result<(), AllocError>
-    ensures more { OnOk result (AreMoreUses (λ v. used_by v come) (λ v. no_uses) uses.old uses.new) }
+// Counts a use in orders that comes, with its discount.
+fn count_used(uses: &mut Tally<Uses>, come: Option<u64>, discount: Cents) -> Result<(), AllocError>
+    ensures more { OnOk result (AreMoreUses (λ v. used_by v come discount) (λ v. no_uses) uses.old uses.new) }
     ensures err { OnErr result (uses.new ≡ uses.old) }
 {
-    uses.add_named(come, Uses { used: 1, held: 0 }, Uses::none())
+    uses.add_named(come, one_use(discount), Uses::none())
 }
 
 // Counts the uses of an order's positions, where it comes into force or is so no more.
@@ -89,22 +94,23 @@ fn count_turned<B: Book>(
     count_names(uses, force, stood, purchases)
 }
 
-// Counts a use of the voucher of each of these purchases: one that comes where their order is in force, and wasn't before,
-// and one that goes where it was, and isn't.
+// Counts a use of the voucher of each of these purchases, with its discount: one that comes where their order is in force, and
+// wasn't before, and one that goes where it was, and isn't.
 fn count_names(
     uses: &mut Tally<Uses>,
     force: bool,
     stood: bool,
     purchases: &[Purchase],
 ) -> Result<(), AllocError>
-    ensures more { OnOk result (AreMoreUses (λ v. used_since force stood (count_by (λ p. names v p.voucher) purchases.now)) (λ v. used_since stood force (count_by (λ p. names v p.voucher) purchases.now)) uses.old uses.new) }
+    ensures more { OnOk result (AreMoreUses (purchase_uses force stood purchases.now) (purchase_uses stood force purchases.now) uses.old uses.new) }
     ensures err { OnErr result (uses.new ≡ uses.old) }
 {
     let start = uses.len();
-    let come = used_since(force, stood);
-    let gone = used_since(stood, force);
     for i in 0..purchases.len() {
-        if uses.add_named(purchases[i].voucher, come, gone).is_err() {
+        let purchase = &purchases[i];
+        let come = used_since(force, stood, purchase.discount);
+        let gone = used_since(stood, force, purchase.discount);
+        if uses.add_named(purchase.voucher, come, gone).is_err() {
             uses.truncate(start);
             return Err(AllocError);
         }
@@ -112,12 +118,24 @@ fn count_names(
     Ok(())
 }
 
-// One use in orders, where an order is in force, and wasn't before.
-fn used_since(force: bool, stood: bool) -> Uses
-    ensures { result ≡ used_since force stood 1 }
+// One use in orders, with its discount, where an order is in force, and wasn't before.
+fn used_since(force: bool, stood: bool, discount: Cents) -> Uses
+    ensures { result ≡ used_since force stood 1 discount }
+{
+    if force && !stood {
+        one_use(discount)
+    } else {
+        Uses::none()
+    }
+}
+
+// One use in orders, with its discount.
+fn one_use(discount: Cents) -> Uses
+    ensures { result ≡ record { used = 1; held = 0; spent = discount } }
 {
     Uses {
-        used: u64::from(force && !stood),
+        used: 1,
         held: 0,
+        spent: discount.get(),
     }
 }

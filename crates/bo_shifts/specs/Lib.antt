@@ -2,4 +2,5 @@ pub mod Held
 pub mod Later
 pub mod Names
 pub mod Shifts
+pub mod Spends
 pub mod Turns

@@ -3,6 +3,7 @@
 
 pub mod holds;
 pub mod shift;
+pub mod spends;
 pub mod touched;
 pub mod turns;
 pub mod usage_later;

@@ -39,7 +39,7 @@ pub cart_no_float : (c : CartPos) → has_float (cart_body c) ≡ false
 cart_no_float c = rw (number_no_float c.product.variation, number_no_float c.voucher) refl
 
 pub voucher_no_float : (v : Voucher) (redeemed : ℕ) → has_float (voucher_body v redeemed) ≡ false
-voucher_no_float v redeemed = rw (number_no_float v.item, number_no_float v.quota, moment_no_float v.valid_until, money_no_float v.value, number_no_float v.variation) refl
+voucher_no_float v redeemed = rw (money_no_float v.budget, number_no_float v.item, number_no_float v.quota, moment_no_float v.valid_until, money_no_float v.value, number_no_float v.variation) refl
 
 pub position_no_float : (p : OrderPos) → has_float (position_body p) ≡ false
 position_no_float p = rw (number_no_float p.product.variation, number_no_float p.voucher) refl

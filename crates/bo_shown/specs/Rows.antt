@@ -49,12 +49,13 @@ item_members item rest =
 abbrev pub item_body : Item → List Variation → Data
 item_body item variations = object (item_members item (member (codes "variations") (list (map (variation_body item.default_price) variations)) no_members))
 
--- a quota's name and its size, which is null where it is unlimited, before the rest
+-- a quota's name, whether it releases places, and its size, which is null where it is unlimited, before the rest
 abbrev pub quota_members : Quota → Members → Members
 quota_members quota rest =
     member (codes "name") (string quota.name)
+    (member (codes "release_after_exit") (boolean quota.release_after_exit)
     (member (codes "size") (count_or_null quota.size)
-    rest)
+    rest))
 
 -- a quota
 abbrev pub quota_body : Quota → Data
@@ -85,11 +86,13 @@ mode_word modes.Set = codes "set"
 mode_word modes.Subtract = codes "subtract"
 mode_word modes.Percent = codes "percent"
 
--- a voucher, with the number of its uses in orders; its value has two decimals, for percent too
+-- a voucher, with the number of its uses in orders; its value has two decimals, for percent too; its budget is null where it
+-- has none
 abbrev pub voucher_body : Voucher → ℕ → Data
 voucher_body voucher redeemed = object (
     member (codes "allow_ignore_quota") (boolean voucher.allow_ignore_quota)
     (member (codes "block_quota") (boolean voucher.block_quota)
+    (member (codes "budget") (money_or_null voucher.budget)
     (member (codes "code") (string voucher.code)
     (member (codes "comment") (string voucher.comment)
     (member (codes "id") (count voucher.id)
@@ -102,7 +105,7 @@ voucher_body voucher redeemed = object (
     (member (codes "valid_until") (moment_or_null voucher.valid_until)
     (member (codes "value") (money_or_null voucher.value)
     (member (codes "variation") (count_or_null voucher.variation)
-    no_members))))))))))))))
+    no_members)))))))))))))))
 
 -- a row as it is shown
 abbrev pub shown_body : Shown → Data
@@ -123,8 +126,9 @@ availability_body left = object (
     (member (codes "available_number") (count_or_null left.available_number)
     (member (codes "blocking_vouchers") (count left.usage.blocked)
     (member (codes "cart_positions") (count left.usage.carts)
+    (member (codes "exited_orders") (count left.usage.exited)
     (member (codes "paid_orders") (count left.usage.paid)
     (member (codes "pending_orders") (count left.usage.pending)
     (member (codes "total_size") (count_or_null left.size)
     (member (codes "waiting_list") (count left.usage.waiting)
-    no_members))))))))
+    no_members)))))))))

@@ -31,9 +31,10 @@ with_flags voucher members =
 -- members, with those of a voucher's limits
 abbrev pub with_limits : Voucher → Members → Members
 with_limits voucher members =
-    put (codes "valid_until") (moment_or_null voucher.valid_until)
+    put (codes "budget") (money_or_null voucher.budget)
+    (put (codes "valid_until") (moment_or_null voucher.valid_until)
     (put (codes "max_usages") (count voucher.max_usages)
-    members)
+    members))
 
 -- members, with those of how a voucher changes a price
 abbrev pub with_price : Voucher → Members → Members

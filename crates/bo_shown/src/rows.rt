@@ -103,12 +103,16 @@ fn quota_id_value(alloc: Global, quota: &Quota) -> Result<Value, AllocError>
     json!(in alloc; {"id": quota.id})
 }
 
-/// A quota's name and its size.
+/// A quota's name, whether it releases places, and its size.
 fn quota_value(alloc: Global, quota: &Quota) -> Result<Value, AllocError>
     ensures { IfOk result (λ v. view v ≡ object (quota_members quota.now no_members)) }
 {
     let size = size_or_null(quota.size);
-    json!(in alloc; {"name": quota.name.as_str(), "size": size})
+    json!(in alloc; {
+        "name": quota.name.as_str(),
+        "release_after_exit": quota.release_after_exit,
+        "size": size
+    })
 }
 
 /// Appends a quota.
@@ -211,6 +215,7 @@ pub fn availability_value(alloc: Global, left: &Availability) -> Result<Value, A
         Value::from(usage.blocked),
     )?;
     let members = with(alloc, members, "cart_positions", Value::from(usage.carts))?;
+    let members = with(alloc, members, "exited_orders", Value::from(usage.exited))?;
     let members = with(alloc, members, "paid_orders", Value::from(usage.paid))?;
     let members = with(alloc, members, "pending_orders", Value::from(usage.pending))?;
     let members = with(alloc, members, "total_size", size_or_null(left.size))?;

@@ -87,7 +87,8 @@ fn with_limits(
         "max_usages",
         Value::from(voucher.max_usages.get()),
     )?;
-    with_moment_or_null(alloc, members, "valid_until", voucher.valid_until)
+    let members = with_moment_or_null(alloc, members, "valid_until", voucher.valid_until)?;
+    with_money_or_null(alloc, members, "budget", voucher.budget)
 }
 
 /// The members with those of how a voucher changes a price.

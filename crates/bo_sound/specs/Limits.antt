@@ -1,5 +1,5 @@
 -- The limits of what rows hold: texts, amounts of money, moments and counts.
-use Rattle.std.specs.Prelude.{◌≡◌, ℕ, ◌≤◌, false, IfSome}
+use Rattle.std.specs.Prelude.{ℕ, ◌≤◌, IfSome}
 use Rattle.std.specs.List.{AllByRecursion}
 use Rattle.bo_base.specs.Counts.{IsUses, IsSize, IsPriority}
 use Rattle.bo_base.specs.Moments.{IsMoment}
@@ -38,13 +38,13 @@ pub record IsLimitedVariation (row : Variation) : Type 0 where
   pub name : IsText row.name
   pub price : IfSome row.default_price IsMoney
 
--- a quota's name is a text, its size, where it has one, is at most 1,000,000, and it keeps the places of tickets that went out
+-- a quota's name is a text, and its size, where it has one, is at most 1,000,000
 pub record IsLimitedQuota (row : Quota) : Type 0 where
   pub name : IsText row.name
   pub size : IfSome row.size IsSize
-  pub kept : row.release_after_exit ≡ false
 
--- a voucher's code, tag and comment are texts; it may be used 1 to 1,000,000 times, up to a moment, and has a value by its mode
+-- a voucher's code, tag and comment are texts; it may be used 1 to 1,000,000 times, up to a moment, and has a value by its mode;
+-- its budget, where it has one, is money
 pub record IsLimitedVoucher (row : Voucher) : Type 0 where
   pub code : IsText row.code
   pub uses : IsUses row.max_usages
@@ -52,6 +52,7 @@ pub record IsLimitedVoucher (row : Voucher) : Type 0 where
   pub value : IfSome row.value (IsValue row.price_mode)
   pub tag : IsText row.tag
   pub comment : IsText row.comment
+  pub budget : IfSome row.budget IsMoney
 
 -- a cart's id is a text, the price of a position money; it is made at a moment and expires at one
 pub record IsLimitedCart (row : CartPos) : Type 0 where
@@ -66,10 +67,11 @@ pub record IsLimitedOrder (row : Order) : Type 0 where
   pub made_at : IsMoment row.made_at
   pub expires : IsMoment row.expires
 
--- an order position's price is money, and its secret a text
+-- an order position's price and its discount are money, and its secret a text
 pub record IsLimitedPosition (row : OrderPos) : Type 0 where
   pub price : IsMoney row.price
   pub secret : IsText row.secret
+  pub discount : IsMoney row.discount
 
 -- a waiting entry's email is a text, its priority is -1,000,000 to 1,000,000, and it is created at a moment
 pub record IsLimitedWaiting (row : Waiting) : Type 0 where

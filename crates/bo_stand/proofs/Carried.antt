@@ -1,39 +1,39 @@
 -- A commit carries tables that hold a box office to those that hold it after the changes.
-use Rattle.std.proofs.Common.{◌≡◌, ℕ, ◌+◌, ◌==◌, ◌<◌, nat_lt, Bool, true, false, cond, not, List, [], ◌∷◌, ◌++◌, length, map, filter, Option, Some, None, is_some, refl, sym, ap, subst, ◌∙◌, arith, append-nil}
+use Rattle.std.proofs.Common.{◌≡◌, ℕ, ◌+◌, ◌==◌, ◌<◌, nat_lt, Bool, true, false, cond, not, List, [], ◌∷◌, ◌++◌, map, filter, Option, Some, None, is_some, refl, sym, ap, subst, ◌∙◌, arith, append-nil}
 use Rattle.std.specs.Borrow.{Bor}
 use Rattle.std.specs.List.{AllByRecursion}
 use Rattle.std.specs.List.Sorted.{IsPermutation}
 use Rattle.std.proofs.lemmas.Bool.Decides.{nat_tests}
-use Rattle.std.proofs.lemmas.List.Sorted.{IsPermutation-refl, IsPermutation-sym, IsPermutation-trans, IsPermutation-cons, IsPermutation-map, IsPermutation-to_front}
-use Rattle.sqlite_trees.proofs.ListLemmas.{filter-map, filter-filter, IsPermutation-filter, IsPermutation-same, map-map}
+use Rattle.std.proofs.lemmas.List.Sorted.{IsPermutation-sym, IsPermutation-trans, IsPermutation-cons, IsPermutation-map, IsPermutation-to_front}
+use Rattle.sqlite_trees.proofs.ListLemmas.{filter-map, filter-filter, IsPermutation-filter}
 use Rattle.bo_sorted.specs.Tables.{row_at, with_row, InOrderFrom, AreInOrder}
 use Rattle.bo_sorted.proofs.Edits.{row_at_above, row_at-with_row}
 use Rattle.bo_lists.specs.declared.changes.Change.{Change}
 use Rattle.bo_lists.specs.declared.count_rows.QuotaCount.{QuotaCount}
 use Rattle.bo_lists.specs.declared.count_rows.VoucherCount.{VoucherCount}
-use Rattle.bo_lists.specs.Change.{Changed, applied, after_all}
-use Rattle.bo_lists.specs.CountRows.{CountRows, counts_after, quota_counts, voucher_counts, same_voucher_count, quota_count, voucher_count}
-use Rattle.bo_lists.specs.Lists.{Lists, State}
+use Rattle.bo_lists.specs.Change.{Changed, applied}
+use Rattle.bo_lists.specs.CountRows.{CountRows, counts_after, quota_counts, voucher_counts, quota_count}
+use Rattle.bo_lists.specs.Lists.{State}
 use Rattle.bo_kept.specs.declared.kept.Kept.{Kept}
 use Rattle.bo_kept.specs.KeptAnswers.{lasts}
 use Rattle.bo_kept.specs.ShopView.{listed, with_kept}
 use Rattle.bo_columns.specs.declared.rows.ShopRow.{ShopRow}
 use Rattle.bo_columns.specs.declared.rows.KeptRow.{KeptRow}
 use Rattle.bo_columns.specs.declared.rows.VoucherRow.{VoucherRow}
-use Rattle.bo_columns.specs.Changes.{head_of_voucher, head_of_count}
+use Rattle.bo_columns.specs.declared.rows.SpentRow.{SpentRow}
+use Rattle.bo_columns.specs.Changes.{head_of_voucher, head_of_count, head_of_exit, head_of_spent}
 use Rattle.bo_columns.specs.Tables.{Tables}
-use Rattle.bo_stand.specs.Counts.{with_all, VoucherKept}
+use Rattle.bo_stand.specs.Counts.{with_all, CountsKept}
 use Rattle.bo_stand.specs.Free.{IsFree}
 use Rattle.bo_stand.specs.Lawful.{puts_come_first}
-use Rattle.bo_stand.specs.Made.{set_redeemed, made, next_after, put_shop, put_count, each, counted, with_listed, without_past, done}
-use Rattle.bo_stand.specs.Rows.{rows_of, redeemed_in}
-use Rattle.bo_stand.specs.RowsAfter.{put_row}
+use Rattle.bo_stand.specs.Made.{set_redeemed, made, next_after, put_shop, put_count, put_uses, each, counted, with_listed, without_past, done}
+use Rattle.bo_stand.specs.Rows.{Redeemed, head_of_redeemed, rows_of, redeemed_in}
 use Rattle.bo_stand.specs.Stands.{AreRowsOf, AreOrdered, IsRising, Stand}
-use Rattle.bo_stand.proofs.Changed.{part_put}
-use Rattle.bo_stand.proofs.Counting.{counting_starts, quotas_counted, vouchers_counted, of_voucher}
+use Rattle.bo_stand.proofs.Changed.{part_put, row_put}
+use Rattle.bo_stand.proofs.Counting.{all_start, counting_starts, counts_found, quotas_counted, vouchers_counted, of_redeemed, of_spent, of_voucher}
 use Rattle.bo_stand.proofs.EachRow.{set_vouchers}
 use Rattle.bo_stand.specs.Turned.{AreTurned}
-use Rattle.bo_stand.proofs.Follow.{Stays, follows, stays, still_free, counts_follow}
+use Rattle.bo_stand.proofs.Follow.{Counted, Stays, follows, stays, still_free, counts_follow}
 use Rattle.bo_stand.proofs.Links.{filter_append}
 use Rattle.bo_stand.proofs.Made.{all_turned, below_fewer, below_new, below_later, free_later}
 use Rattle.bo_stand.proofs.Order.{put_stays}
@@ -42,30 +42,30 @@ use Rattle.bo_stand.proofs.Told.{order_of_parts}
 -- ---- counters of vouchers
 
 -- a count in the place of the one of its voucher
-abbrev with_count_of : VoucherCount → VoucherCount → VoucherCount
+abbrev with_count_of : Redeemed → Redeemed → Redeemed
 with_count_of c x = cond (x.voucher == c.voucher) c x
 
-alone : (c : VoucherCount) (n : ℕ) (xs : List VoucherCount) → c.voucher < n → InOrderFrom of_voucher n xs → map (with_count_of c) xs ≡ xs
+alone : (c : Redeemed) (n : ℕ) (xs : List Redeemed) → c.voucher < n → InOrderFrom of_redeemed n xs → map (with_count_of c) xs ≡ xs
 alone c n [] lt h = refl
 alone c n (x ∷ xs) lt h =
     let other : (x.voucher == c.voucher) ≡ false = grind (arith, nat_tests, h.0, lt) in
     rw (other, alone c (x.voucher + 1) xs (omega (arith, h.0, lt)) h.1)
 
-set_is_put : (c : VoucherCount) (n : ℕ) (xs : List VoucherCount) → InOrderFrom of_voucher n xs → is_some (row_at of_voucher c.voucher xs) ≡ true → map (with_count_of c) xs ≡ with_row of_voucher c xs
+set_is_put : (c : Redeemed) (n : ℕ) (xs : List Redeemed) → InOrderFrom of_redeemed n xs → is_some (row_at of_redeemed c.voucher xs) ≡ true → map (with_count_of c) xs ≡ with_row of_redeemed c xs
 set_is_put c n [] h there = absurd cc
 set_is_put c n (x ∷ xs) h there =
-    elim (x.voucher == c.voucher) as (λ b. (x.voucher == c.voucher) ≡ b → is_some (cond b (Some x) (row_at of_voucher c.voucher xs)) ≡ true
-    → cond b c x ∷ map (with_count_of c) xs ≡ cond (nat_lt x.voucher c.voucher) (x ∷ with_row of_voucher c xs) (cond b (c ∷ xs) (c ∷ x ∷ xs))) [
+    elim (x.voucher == c.voucher) as (λ b. (x.voucher == c.voucher) ≡ b → is_some (cond b (Some x) (row_at of_redeemed c.voucher xs)) ≡ true
+    → cond b c x ∷ map (with_count_of c) xs ≡ cond (nat_lt x.voucher c.voucher) (x ∷ with_row of_redeemed c xs) (cond b (c ∷ xs) (c ∷ x ∷ xs))) [
       | true ↦ λ e _.
           let least : nat_lt x.voucher c.voucher ≡ false = grind (arith, nat_tests) in
           rw least (ap (λ l. c ∷ l) (alone c (x.voucher + 1) xs (grind (arith, nat_tests)) h.1))
-      | false ↦ λ e more. elim (nat_lt x.voucher c.voucher) as (λ b. nat_lt x.voucher c.voucher ≡ b → x ∷ map (with_count_of c) xs ≡ cond b (x ∷ with_row of_voucher c xs) (c ∷ x ∷ xs)) [
+      | false ↦ λ e more. elim (nat_lt x.voucher c.voucher) as (λ b. nat_lt x.voucher c.voucher ≡ b → x ∷ map (with_count_of c) xs ≡ cond b (x ∷ with_row of_redeemed c xs) (c ∷ x ∷ xs)) [
         | true ↦ λ f. ap (λ l. x ∷ l) (set_is_put c (x.voucher + 1) xs h.1 more)
-        | false ↦ λ f. absurd (let none : row_at of_voucher c.voucher xs ≡ None = row_at_above of_voucher (x.voucher + 1) c.voucher xs (grind (arith, nat_tests)) h.1 in let nothing : is_some (row_at of_voucher c.voucher xs) ≡ false = ap is_some none in cc)
+        | false ↦ λ f. absurd (let none : row_at of_redeemed c.voucher xs ≡ None = row_at_above of_redeemed (x.voucher + 1) c.voucher xs (grind (arith, nat_tests)) h.1 in let nothing : is_some (row_at of_redeemed c.voucher xs) ≡ false = ap is_some none in cc)
       ] refl
     ] refl there
 
-abbrev count_of : VoucherRow → VoucherCount
+abbrev count_of : VoucherRow → Redeemed
 count_of r = record { voucher = r.voucher.id; redeemed = r.redeemed }
 
 abbrev pub set_one : VoucherCount → VoucherRow → VoucherRow
@@ -74,13 +74,13 @@ set_one c r = cond (r.voucher.id == c.voucher) (record { voucher = r.voucher; re
 eq_of : (a b : ℕ) → (a == b) ≡ true → a ≡ b
 eq_of a b e = grind (arith, nat_tests)
 
-count_set : (c : VoucherCount) (r : VoucherRow) → count_of (set_one c r) ≡ with_count_of c (count_of r)
-count_set c r = elim (r.voucher.id == c.voucher) as (λ b. (r.voucher.id == c.voucher) ≡ b → count_of (cond b (record { voucher = r.voucher; redeemed = c.redeemed }) r) ≡ cond b c (count_of r)) [
+count_set : (c : VoucherCount) (r : VoucherRow) → count_of (set_one c r) ≡ with_count_of (head_of_redeemed c) (count_of r)
+count_set c r = elim (r.voucher.id == c.voucher) as (λ b. (r.voucher.id == c.voucher) ≡ b → count_of (cond b (record { voucher = r.voucher; redeemed = c.redeemed }) r) ≡ cond b (head_of_redeemed c) (count_of r)) [
   | true ↦ λ e. let is = eq_of r.voucher.id c.voucher e in λ i. record { voucher = is i; redeemed = c.redeemed }
   | false ↦ λ e. refl
 ] refl
 
-counts_set : (c : VoucherCount) (rows : List VoucherRow) → map count_of (map (set_one c) rows) ≡ map (with_count_of c) (map count_of rows)
+counts_set : (c : VoucherCount) (rows : List VoucherRow) → map count_of (map (set_one c) rows) ≡ map (with_count_of (head_of_redeemed c)) (map count_of rows)
 counts_set c [] = refl
 counts_set c (r ∷ rows) = rw (count_set c r, counts_set c rows)
 
@@ -94,39 +94,45 @@ vouchers_set : (c : VoucherCount) (rows : List VoucherRow) → map (λ (r : Vouc
 vouchers_set c [] = refl
 vouchers_set c (r ∷ rows) = rw (voucher_set c r, vouchers_set c rows)
 
-one_set : (c : VoucherCount) (t : Tables) (xs : List VoucherCount) → AreInOrder of_voucher xs → is_some (row_at of_voucher c.voucher xs) ≡ true → IsPermutation (redeemed_in t) xs → IsPermutation (redeemed_in (set_redeemed c t)) (with_row of_voucher c xs)
+one_set : (c : VoucherCount) (t : Tables) (xs : List Redeemed) → AreInOrder of_redeemed xs → is_some (row_at of_redeemed c.voucher xs) ≡ true → IsPermutation (redeemed_in t) xs → IsPermutation (redeemed_in (set_redeemed c t)) (with_row of_redeemed (head_of_redeemed c) xs)
 one_set c t xs h there same =
-    subst (λ l. IsPermutation l (with_row of_voucher c xs)) (sym (counts_set c t.vouchers))
-    (subst (IsPermutation (map (with_count_of c) (redeemed_in t))) (set_is_put c 0 xs h there) (IsPermutation-map (with_count_of c) (redeemed_in t) xs same))
+    subst (λ l. IsPermutation l (with_row of_redeemed (head_of_redeemed c) xs)) (sym (counts_set c t.vouchers))
+    (subst (IsPermutation (map (with_count_of (head_of_redeemed c)) (redeemed_in t))) (set_is_put (head_of_redeemed c) 0 xs h there) (IsPermutation-map (with_count_of (head_of_redeemed c)) (redeemed_in t) xs same))
 
-still_there : (id : ℕ) (c : VoucherCount) (xs : List VoucherCount) → is_some (row_at of_voucher id xs) ≡ true → is_some (row_at of_voucher id (with_row of_voucher c xs)) ≡ true
+still_there : (id : ℕ) (c : Redeemed) (xs : List Redeemed) → is_some (row_at of_redeemed id xs) ≡ true → is_some (row_at of_redeemed id (with_row of_redeemed c xs)) ≡ true
 still_there id c xs e =
-    ap is_some (row_at-with_row of_voucher id c xs)
-    ∙ elim (c.voucher == id) as (λ b. is_some (cond b (Some c) (row_at of_voucher id xs)) ≡ true) [
+    ap is_some (row_at-with_row of_redeemed id c xs)
+    ∙ elim (c.voucher == id) as (λ b. is_some (cond b (Some c) (row_at of_redeemed id xs)) ≡ true) [
       | true ↦ refl
       | false ↦ e
     ]
 
-all_still : (c : VoucherCount) (xs cs : List VoucherCount) → AllByRecursion (λ d. is_some (row_at of_voucher d.voucher xs) ≡ true) cs → AllByRecursion (λ d. is_some (row_at of_voucher d.voucher (with_row of_voucher c xs)) ≡ true) cs
+all_still : (c : Redeemed) (xs : List Redeemed) (cs : List VoucherCount) → AllByRecursion (λ d. is_some (row_at of_redeemed d.voucher xs) ≡ true) cs → AllByRecursion (λ d. is_some (row_at of_redeemed d.voucher (with_row of_redeemed c xs)) ≡ true) cs
 all_still c xs [] h = tt
 all_still c xs (d ∷ cs) h = (still_there d.voucher c xs h.0, all_still c xs cs h.1)
 
-all_set : (cs : List VoucherCount) (t : Tables) (xs : List VoucherCount) → AreInOrder of_voucher xs → AllByRecursion (λ d. is_some (row_at of_voucher d.voucher xs) ≡ true) cs → IsPermutation (redeemed_in t) xs
-    → IsPermutation (redeemed_in (each set_redeemed cs t)) (with_all of_voucher cs xs)
+all_set : (cs : List VoucherCount) (t : Tables) (xs : List Redeemed) → AreInOrder of_redeemed xs → AllByRecursion (λ d. is_some (row_at of_redeemed d.voucher xs) ≡ true) cs → IsPermutation (redeemed_in t) xs
+    → IsPermutation (redeemed_in (each put_uses cs t)) (with_all of_redeemed (map head_of_redeemed cs) xs)
 all_set [] t xs h there same = same
-all_set (c ∷ cs) t xs h there same = all_set cs (set_redeemed c t) (with_row of_voucher c xs) (put_stays of_voucher c xs h) (all_still c xs cs there.1) (one_set c t xs h there.0 same)
+all_set (c ∷ cs) t xs h there same =
+    all_set cs (put_uses c t) (with_row of_redeemed (head_of_redeemed c) xs) (put_stays of_redeemed (head_of_redeemed c) xs h) (all_still (head_of_redeemed c) xs cs there.1) (one_set c t xs h there.0 same)
 
-set_vouchers_same : (cs : List VoucherCount) (t : Tables) → map (λ (r : VoucherRow). r.voucher) (each set_redeemed cs t).vouchers ≡ map (λ (r : VoucherRow). r.voucher) t.vouchers
+all_put_spents : (cs : List VoucherCount) (t : Tables) (xs : List SpentRow) → AreInOrder of_spent xs → IsPermutation t.spents xs → IsPermutation (each put_uses cs t).spents (with_all of_spent (map head_of_spent cs) xs)
+all_put_spents [] t xs h same = same
+all_put_spents (c ∷ cs) t xs h same =
+    all_put_spents cs (put_uses c t) (with_row of_spent (head_of_spent c) xs) (put_stays of_spent (head_of_spent c) xs h) (row_put of_spent (head_of_spent c) t.spents xs h same)
+
+set_vouchers_same : (cs : List VoucherCount) (t : Tables) → map (λ (r : VoucherRow). r.voucher) (each put_uses cs t).vouchers ≡ map (λ (r : VoucherRow). r.voucher) t.vouchers
 set_vouchers_same [] t = refl
-set_vouchers_same (c ∷ cs) t = set_vouchers_same cs (set_redeemed c t) ∙ vouchers_set c t.vouchers
+set_vouchers_same (c ∷ cs) t = set_vouchers_same cs (put_uses c t) ∙ vouchers_set c t.vouchers
 
-set_is : (cs : List VoucherCount) (t : Tables) → each set_redeemed cs t ≡ record t { vouchers = (each set_redeemed cs t).vouchers }
+set_is : (cs : List VoucherCount) (t : Tables) → each put_uses cs t ≡ record t { vouchers = (each put_uses cs t).vouchers; spents = (each put_uses cs t).spents }
 set_is [] t = refl
-set_is (c ∷ cs) t = set_is cs (set_redeemed c t)
+set_is (c ∷ cs) t = set_is cs (put_uses c t)
 
 -- ---- counts of quotas
 
-counts_is : (cs : List QuotaCount) (t : Tables) → each put_count cs t ≡ record t { counts = (each put_count cs t).counts }
+counts_is : (cs : List QuotaCount) (t : Tables) → each put_count cs t ≡ record t { counts = (each put_count cs t).counts; exits = (each put_count cs t).exits }
 counts_is [] t = refl
 counts_is (c ∷ cs) t = counts_is cs (put_count c t)
 
@@ -134,13 +140,17 @@ all_put : (cs : List QuotaCount) (t : Tables) (xs : List QuotaCount) → AreInOr
 all_put [] t xs h same = same
 all_put (c ∷ cs) t xs h same = all_put cs (put_count c t) (with_row (λ c. c.quota) c xs) (put_stays (λ c. c.quota) c xs h) (part_put (λ c. c.quota) head_of_count (λ r. r.quota) (λ c. refl) c t.counts xs h same)
 
--- the tables with the counts: only the vouchers' counters and the counts of quotas differ
-pub counted_is : (counts : CountRows) (t : Tables) → counted counts t ≡ record t { vouchers = (counted counts t).vouchers; counts = (counted counts t).counts }
+all_put_exits : (cs : List QuotaCount) (t : Tables) (xs : List QuotaCount) → AreInOrder (λ c. c.quota) xs → IsPermutation t.exits (map head_of_exit xs) → IsPermutation (each put_count cs t).exits (map head_of_exit (with_all (λ c. c.quota) cs xs))
+all_put_exits [] t xs h same = same
+all_put_exits (c ∷ cs) t xs h same = all_put_exits cs (put_count c t) (with_row (λ c. c.quota) c xs) (put_stays (λ c. c.quota) c xs h) (part_put (λ c. c.quota) head_of_exit (λ r. r.quota) (λ c. refl) c t.exits xs h same)
+
+-- the tables with the counts: only the vouchers' counters and what is spent of them, and the counts of quotas and their exits differ
+pub counted_is : (counts : CountRows) (t : Tables) → counted counts t ≡ record t { vouchers = (counted counts t).vouchers; counts = (counted counts t).counts; exits = (counted counts t).exits; spents = (counted counts t).spents }
 counted_is counts t =
-    let mid = each set_redeemed counts.vouchers t in
+    let mid = each put_uses counts.vouchers t in
     counts_is counts.quotas mid
-    ∙ ap (λ (u : Tables). record u { counts = (counted counts t).counts }) (set_is counts.vouchers t)
-    ∙ ap (λ (l : List VoucherRow). record t { vouchers = l; counts = (counted counts t).counts }) (ap (λ (u : Tables). u.vouchers) (sym (counts_is counts.quotas mid)))
+    ∙ ap (λ (u : Tables). record u { counts = (counted counts t).counts; exits = (counted counts t).exits }) (set_is counts.vouchers t)
+    ∙ ap (λ (v : Tables). record t { vouchers = v.vouchers; counts = (counted counts t).counts; exits = (counted counts t).exits; spents = v.spents }) (sym (counts_is counts.quotas mid))
 
 -- ---- all counts that are listed stand
 
@@ -231,7 +241,7 @@ module _ (old shop : ShopRow) (changes : Changed) (counts : CountRows) (from at 
   as_was : Stays start mid
   as_was = stays changes.list from (next_after changes.list from) start mid turned
 
-  full_is : full ≡ record mid { vouchers = full.vouchers; counts = full.counts }
+  full_is : full ≡ record mid { vouchers = full.vouchers; counts = full.counts; exits = full.exits; spents = full.spents }
   full_is = counted_is counts mid
 
   end_is : end ≡ record full { kept = end.kept }
@@ -240,34 +250,63 @@ module _ (old shop : ShopRow) (changes : Changed) (counts : CountRows) (from at 
   vouchers_in_order : AreInOrder (λ v. v.id) s.lists.vouchers
   vouchers_in_order = h.ordered.ids.vouchers
 
-  redeemed_full : IsPermutation (redeemed_in full) (voucher_counts after)
+  -- the counts of vouchers after the changes
+  followed : (last : Bool) × Counted counts.vouchers (voucher_counts s) after.lists.vouchers last mid
+  followed = counts_follow counts.vouchers (voucher_counts s) changes.list from (next_after changes.list from) start mid turned false first s.lists (record {
+    redeemed = map head_of_redeemed (voucher_counts s);
+    spents = map head_of_spent (voucher_counts s);
+    all_stand = all_start of_redeemed head_of_redeemed (λ w. refl) s;
+    redeemed_kept = counting_starts of_redeemed head_of_redeemed (λ w. refl) counts.vouchers s vouchers_in_order;
+    spents_kept = counting_starts of_spent head_of_spent (λ w. refl) counts.vouchers s vouchers_in_order;
+    redeemed_same = h.redeemed;
+    spents_same = h.spents;
+  })
+
+  redeemed_full : IsPermutation (redeemed_in full) (map head_of_redeemed (voucher_counts after))
   redeemed_full =
-      let kept = counts_follow counts.vouchers (voucher_counts s) changes.list from (next_after changes.list from) start mid turned false first s.lists (voucher_counts s) (counting_starts counts.vouchers s vouchers_in_order) h.redeemed in
-      let dropped = kept.0 in
-      let xs = kept.1 in
-      let mine : VoucherKept dropped (counts_after s after).vouchers (voucher_counts s) after.lists.vouchers xs = subst (λ (c : CountRows). VoucherKept dropped c.vouchers (voucher_counts s) after.lists.vouchers xs) right kept.2 in
-      let is : with_all of_voucher (counts_after s after).vouchers xs ≡ voucher_counts after = vouchers_counted dropped s after xs vouchers_in_order lists.0.ids.vouchers mine in
-      let stand : AllByRecursion (λ d. is_some (row_at of_voucher d.voucher xs) ≡ true) (counts_after s after).vouchers =
-      all_same (λ n. is_some (row_at of_voucher n xs)) (λ n. is_some (row_at of_voucher n (voucher_counts after)))
-      (λ n. mine.stand n ∙ sym (Rattle.bo_stand.proofs.Counting.found_part (λ v. v.id) (voucher_count after) of_voucher (λ v. refl) n after.lists.vouchers)) (counts_after s after).vouchers
+      let it = followed.1 in
+      let kept = subst (λ (c : CountRows). CountsKept of_redeemed head_of_redeemed followed.0 c.vouchers (voucher_counts s) after.lists.vouchers it.redeemed) right it.redeemed_kept in
+      let is : with_all of_redeemed (map head_of_redeemed (counts_after s after).vouchers) it.redeemed ≡ map head_of_redeemed (voucher_counts after) =
+      vouchers_counted of_redeemed head_of_redeemed (λ w. refl) followed.0 s after it.redeemed vouchers_in_order lists.0.ids.vouchers kept in
+      let stand : AllByRecursion (λ d. is_some (row_at of_redeemed d.voucher it.redeemed) ≡ true) (counts_after s after).vouchers =
+      all_same (λ n. is_some (row_at of_redeemed n it.redeemed)) (λ n. is_some (row_at of_voucher n (voucher_counts after))) (λ n. it.all_stand n ∙ sym (counts_found after n)) (counts_after s after).vouchers
       (all_some (λ d. is_some (row_at of_voucher d.voucher (voucher_counts after)) ≡ true) _ (voucher_counts after) (all_found (voucher_counts after))) in
-      let put : IsPermutation (redeemed_in (each set_redeemed counts.vouchers mid)) (with_all of_voucher counts.vouchers xs) =
-      all_set counts.vouchers mid xs mine.in_order (subst (λ (c : CountRows). AllByRecursion (λ d. is_some (row_at of_voucher d.voucher xs) ≡ true) c.vouchers) (sym right) stand) kept.3 in
-      let here : IsPermutation (redeemed_in (each set_redeemed counts.vouchers mid)) (voucher_counts after) = subst (IsPermutation (redeemed_in (each set_redeemed counts.vouchers mid))) (ap (λ (c : CountRows). with_all of_voucher c.vouchers xs) right ∙ is) put in
-      subst (λ (l : List VoucherRow). IsPermutation (map count_of l) (voucher_counts after)) (sym (ap (λ (u : Tables). u.vouchers) (counts_is counts.quotas (each set_redeemed counts.vouchers mid)))) here
+      let put : IsPermutation (redeemed_in (each put_uses counts.vouchers mid)) (with_all of_redeemed (map head_of_redeemed counts.vouchers) it.redeemed) =
+      all_set counts.vouchers mid it.redeemed kept.in_order (subst (λ (c : CountRows). AllByRecursion (λ d. is_some (row_at of_redeemed d.voucher it.redeemed) ≡ true) c.vouchers) (sym right) stand) it.redeemed_same in
+      let here : IsPermutation (redeemed_in (each put_uses counts.vouchers mid)) (map head_of_redeemed (voucher_counts after)) =
+      subst (IsPermutation (redeemed_in (each put_uses counts.vouchers mid))) (ap (λ (c : CountRows). with_all of_redeemed (map head_of_redeemed c.vouchers) it.redeemed) right ∙ is) put in
+      subst (λ (l : List VoucherRow). IsPermutation (map count_of l) (map head_of_redeemed (voucher_counts after))) (sym (ap (λ (u : Tables). u.vouchers) (counts_is counts.quotas (each put_uses counts.vouchers mid)))) here
+
+  spents_full : IsPermutation full.spents (map head_of_spent (voucher_counts after))
+  spents_full =
+      let it = followed.1 in
+      let kept = subst (λ (c : CountRows). CountsKept of_spent head_of_spent followed.0 c.vouchers (voucher_counts s) after.lists.vouchers it.spents) right it.spents_kept in
+      let is = vouchers_counted of_spent head_of_spent (λ w. refl) followed.0 s after it.spents vouchers_in_order lists.0.ids.vouchers kept in
+      let put = all_put_spents counts.vouchers mid it.spents kept.in_order it.spents_same in
+      let here : IsPermutation (each put_uses counts.vouchers mid).spents (map head_of_spent (voucher_counts after)) =
+      subst (IsPermutation (each put_uses counts.vouchers mid).spents) (ap (λ (c : CountRows). with_all of_spent (map head_of_spent c.vouchers) it.spents) right ∙ is) put in
+      subst (λ (l : List SpentRow). IsPermutation l (map head_of_spent (voucher_counts after))) (sym (ap (λ (u : Tables). u.spents) (counts_is counts.quotas (each put_uses counts.vouchers mid)))) here
 
   used_full : IsPermutation full.counts (map head_of_count (quota_counts after))
   used_full =
-      let set = each set_redeemed counts.vouchers mid in
+      let set = each put_uses counts.vouchers mid in
       let same : set.counts ≡ t.counts = ap (λ (u : Tables). u.counts) (set_is counts.vouchers mid) ∙ as_was.counts in
       let before = order_of_parts (λ q. q.id) (quota_count s) (λ c. c.quota) (λ q. refl) 0 s.lists.catalogue.quotas h.ordered.ids.quotas in
       let put = all_put counts.quotas set (quota_counts s) before (subst (λ l. IsPermutation l (map head_of_count (quota_counts s))) (sym same) h.used) in
       subst (λ l. IsPermutation full.counts (map head_of_count l)) (ap (λ (c : CountRows). with_all (λ c. c.quota) c.quotas (quota_counts s)) right ∙ quotas_counted changes.list s after refl h.ordered.ids.quotas lists.0.ids.quotas) put
 
+  exits_full : IsPermutation full.exits (map head_of_exit (quota_counts after))
+  exits_full =
+      let set = each put_uses counts.vouchers mid in
+      let same : set.exits ≡ t.exits = ap (λ (u : Tables). u.exits) (set_is counts.vouchers mid) ∙ as_was.exits in
+      let before = order_of_parts (λ q. q.id) (quota_count s) (λ c. c.quota) (λ q. refl) 0 s.lists.catalogue.quotas h.ordered.ids.quotas in
+      let put = all_put_exits counts.quotas set (quota_counts s) before (subst (λ l. IsPermutation l (map head_of_exit (quota_counts s))) (sym same) h.exits) in
+      subst (λ l. IsPermutation full.exits (map head_of_exit l)) (ap (λ (c : CountRows). with_all (λ c. c.quota) c.quotas (quota_counts s)) right ∙ quotas_counted changes.list s after refl h.ordered.ids.quotas lists.0.ids.quotas) put
+
   rows_full : AreRowsOf after.lists (rows_of full)
   rows_full =
       let same : map (λ (r : VoucherRow). r.voucher) full.vouchers ≡ map (λ (r : VoucherRow). r.voucher) mid.vouchers =
-      ap (λ (u : Tables). map (λ (r : VoucherRow). r.voucher) u.vouchers) (counts_is counts.quotas (each set_redeemed counts.vouchers mid)) ∙ set_vouchers_same counts.vouchers mid in
+      ap (λ (u : Tables). map (λ (r : VoucherRow). r.voucher) u.vouchers) (counts_is counts.quotas (each put_uses counts.vouchers mid)) ∙ set_vouchers_same counts.vouchers mid in
       subst (λ (u : Tables). AreRowsOf after.lists (rows_of u)) (sym full_is) (set_vouchers lists.1 (subst (λ l. IsPermutation l (map head_of_voucher after.lists.vouchers)) (sym same) lists.1.vouchers))
 
   kept_end : IsPermutation (map (λ r. r.kept) end.kept) (with_kept at ks (listed o))
@@ -294,7 +333,9 @@ module _ (old shop : ShopRow) (changes : Changed) (counts : CountRows) (from at 
     rows = subst (λ (u : Tables). AreRowsOf after.lists (rows_of u)) (sym end_is) rows_full;
     ordered = lists.0;
     used = subst (λ (u : Tables). IsPermutation u.counts (map head_of_count (quota_counts after))) (sym end_is) used_full;
-    redeemed = subst (λ (u : Tables). IsPermutation (redeemed_in u) (voucher_counts after)) (sym end_is) redeemed_full;
+    exits = subst (λ (u : Tables). IsPermutation u.exits (map head_of_exit (quota_counts after))) (sym end_is) exits_full;
+    redeemed = subst (λ (u : Tables). IsPermutation (redeemed_in u) (map head_of_redeemed (voucher_counts after))) (sym end_is) redeemed_full;
+    spents = subst (λ (u : Tables). IsPermutation u.spents (map head_of_spent (voucher_counts after))) (sym end_is) spents_full;
     kept = kept_end;
   }
 

@@ -14,7 +14,9 @@ use Rattle.bo_lists.specs.declared.changes.Change.TheVariants.{PutItem, PutVaria
 use Rattle.bo_lists.specs.Change.{after_change, after_all}
 use Rattle.bo_lists.specs.CountRows.{quota_counts, voucher_counts, quota_count, voucher_count, same_usage, same_quota_count, same_voucher_count, counts_after}
 use Rattle.bo_lists.specs.Lists.{Lists, State, voucher_at}
-use Rattle.bo_stand.specs.Counts.{with_all, VoucherKept}
+use Rattle.bo_columns.specs.declared.rows.SpentRow.{SpentRow}
+use Rattle.bo_stand.specs.Counts.{with_all, AllStand, CountsKept}
+use Rattle.bo_stand.specs.Rows.{Redeemed, head_of_redeemed}
 use Rattle.bo_stand.specs.RowsAfter.{redeemed_of, redeemed_by}
 use Rattle.bo_stand.proofs.Order.{put_stays, drop_stays, at_above}
 use Rattle.sqlite.proofs.Callers.{one_permutation}
@@ -22,17 +24,19 @@ use Rattle.sqlite_trees.proofs.ListLemmas.{IsPermutation-filter}
 use Rattle.std.specs.List.Sorted.{IsPermutation}
 use Rattle.std.proofs.lemmas.List.Sorted.{IsPermutation-sym, length_permutation}
 use Rattle.std.proofs.lemmas.Bool.Decides.{nat_tests}
-use Rattle.bo_stand.proofs.Counts.{counts_written}
+use Rattle.bo_stand.proofs.Counts.{counts_written, part_of, row_of_parts}
 use Rattle.bo_stand.proofs.Told.{order_of_parts}
 
 -- ---- equal counts
 
 same_voucher_tells : (a b : VoucherCount) → same_voucher_count a b ≡ true → a ≡ b
 same_voucher_tells a b e =
-    let parts = and_parts (a.voucher == b.voucher) (a.redeemed == b.redeemed) e in
+    let parts = and_parts (a.voucher == b.voucher) _ e in
+    let counts = and_parts (a.redeemed == b.redeemed) (a.spent == b.spent) parts.1 in
     let first : a.voucher ≡ b.voucher = eqb-true a.voucher b.voucher parts.0 in
-    let second : a.redeemed ≡ b.redeemed = eqb-true a.redeemed b.redeemed parts.1 in
-    λ i. record { voucher = first i; redeemed = second i }
+    let second : a.redeemed ≡ b.redeemed = eqb-true a.redeemed b.redeemed counts.0 in
+    let third : a.spent ≡ b.spent = eqb-true a.spent b.spent counts.1 in
+    λ i. record { voucher = first i; redeemed = second i; spent = third i }
 
 same_usage_tells : (a b : Usage) → same_usage a b ≡ true → a ≡ b
 same_usage_tells a b e =
@@ -72,13 +76,17 @@ found_part key part of is id (r ∷ rows) =
       | false ↦ more
     ]
 
-none_of : {T : Type 0} (o : Option T) → is_some o ≡ false → o ≡ None
+pub none_of : {T : Type 0} (o : Option T) → is_some o ≡ false → o ≡ None
 none_of None e = refl
 none_of (Some x) e = absurd cc
 
 some_of : {T U : Type 0} (o : Option T) (p : Option U) → is_some o ≡ is_some p → p ≡ None → o ≡ None
 some_of o None e n = none_of o e
 some_of o (Some x) e n = absurd cc
+
+map_same : {T : Type 0} (rows : List T) → map (λ r. r) rows ≡ rows
+map_same [] = refl
+map_same (r ∷ rows) = ap (λ l. r ∷ l) (map_same rows)
 
 -- ---- quotas: none goes
 
@@ -112,24 +120,25 @@ pub quotas_counted : (changes : List Change) (s z : State) → z.lists ≡ after
 quotas_counted changes s z is h k =
     let before = order_of_parts (λ q. q.id) (quota_count s) (λ c. c.quota) (λ q. refl) 0 s.lists.catalogue.quotas h in
     let after = order_of_parts (λ q. q.id) (quota_count z) (λ c. c.quota) (λ q. refl) 0 z.lists.catalogue.quotas k in
-    counts_written (λ c. c.quota) same_quota_count same_quota_tells (quota_counts s) (quota_counts z) (quota_counts s) before after before
+    ap (λ l. with_all (λ c. c.quota) l (quota_counts s)) (sym (map_same (counts_after s z).quotas))
+    ∙ counts_written (λ c. c.quota) same_quota_count same_quota_tells (λ c. c.quota) (λ c. c) (λ c. refl) (quota_counts s) (quota_counts z) (quota_counts s) before after before
     (λ id none.
     let gone : row_at (λ q. q.id) id z.lists.catalogue.quotas ≡ None = some_of _ _ (sym (found_part (λ q. q.id) (quota_count z) (λ c. c.quota) (λ q. refl) id z.lists.catalogue.quotas)) none in
     let was = stays_all id changes s.lists (subst (λ l. row_at (λ q. q.id) id l.catalogue.quotas ≡ None) is gone) in
     some_of _ _ (found_part (λ q. q.id) (quota_count s) (λ c. c.quota) (λ q. refl) id s.lists.catalogue.quotas) was)
-    (λ id a e none stood. refl)
+    (λ id a e none stood. stood)
+    ∙ map_same (quota_counts z)
 
 -- ---- vouchers
 
 abbrev pub of_voucher : VoucherCount → ℕ
 of_voucher c = c.voucher
 
-pub counting_starts : (listed : List VoucherCount) (s : State) → AreInOrder (λ v. v.id) s.lists.vouchers → VoucherKept false listed (voucher_counts s) s.lists.vouchers (voucher_counts s)
-counting_starts listed s h = record {
-  in_order = order_of_parts (λ v. v.id) (voucher_count s) of_voucher (λ v. refl) 0 s.lists.vouchers h;
-  stand = λ id. found_part (λ v. v.id) (voucher_count s) of_voucher (λ v. refl) id s.lists.vouchers;
-  as_before = λ id a there none. inr there;
-}
+abbrev pub of_redeemed : Redeemed → ℕ
+of_redeemed c = c.voucher
+
+abbrev pub of_spent : SpentRow → ℕ
+of_spent c = c.voucher_id
 
 found_id : (id : ℕ) (a : VoucherCount) (counts : List VoucherCount) → row_at of_voucher id counts ≡ Some a → a.voucher ≡ id
 found_id id a [] e = absurd cc
@@ -138,58 +147,124 @@ found_id id a (c ∷ counts) e = elim (c.voucher == id) as (λ b. (c.voucher == 
   | false ↦ λ f g. found_id id a counts g
 ] refl e
 
-module _ (listed before : List VoucherCount) (vouchers : List Voucher) (counts : List VoucherCount) where
-  -- a voucher that is put keeps its count
-  pub counting_put : (row : Voucher) → VoucherKept false listed before vouchers counts
-      → VoucherKept false listed before (with_row (λ v. v.id) row vouchers) (with_row of_voucher (record { voucher = row.id; redeemed = redeemed_of row.id counts }) counts)
-  counting_put row h =
-      let count : VoucherCount = record { voucher = row.id; redeemed = redeemed_of row.id counts } in
-      record {
-        in_order = put_stays of_voucher count counts h.in_order;
-        stand = λ id.
-            ap is_some (row_at-with_row of_voucher id count counts)
-            ∙ elim (row.id == id) as (λ b. is_some (cond b (Some count) (row_at of_voucher id counts)) ≡ is_some (cond b (Some row) (row_at (λ v. v.id) id vouchers))) [
-              | true ↦ refl
-              | false ↦ h.stand id
-            ]
-            ∙ ap is_some (sym (row_at-with_row (λ v. v.id) id row vouchers));
-        as_before = λ id a there none.
-            let was : row_at of_voucher id counts ≡ Some a = elim (h.as_before id a there none) [
-              | inl gone ↦ absurd (let e : false ≡ true = gone.0 in cc)
-              | inr is ↦ is
-            ] in
-            inr (row_at-with_row of_voucher id count counts
-            ∙ elim (row.id == id) as (λ b. (row.id == id) ≡ b → cond b (Some count) (row_at of_voucher id counts) ≡ Some a) [
-              | true ↦ λ e.
-                  let mine : row.id ≡ id = eqb-true row.id id e in
-                  let first : row.id ≡ a.voucher = mine ∙ sym (found_id id a counts was) in
-                  let second : redeemed_of row.id counts ≡ a.redeemed = ap (λ n. redeemed_of n counts) mine ∙ ap redeemed_by was in
-                  λ i. Some (record { voucher = first i; redeemed = second i })
-              | false ↦ λ e. was
-            ] refl);
-      }
+counts_in_order : (s : State) → AreInOrder (λ v. v.id) s.lists.vouchers → AreInOrder of_voucher (voucher_counts s)
+counts_in_order s h = order_of_parts (λ v. v.id) (voucher_count s) of_voucher (λ v. refl) 0 s.lists.vouchers h
 
-  -- a voucher goes with its count
-  pub counting_drop : (dropped : Bool) (gone : ℕ) → VoucherKept dropped listed before vouchers counts → VoucherKept true listed before (without_row (λ v. v.id) gone vouchers) (without_row of_voucher gone counts)
-  counting_drop dropped gone h = record {
-    in_order = drop_stays of_voucher gone counts h.in_order;
-    stand = λ id.
-        ap is_some (row_at-without_row of_voucher id gone counts)
-        ∙ elim (gone == id) as (λ b. is_some (cond b None (row_at of_voucher id counts)) ≡ is_some (cond b None (row_at (λ v. v.id) id vouchers))) [
-          | true ↦ refl
-          | false ↦ h.stand id
-        ]
-        ∙ ap is_some (sym (row_at-without_row (λ v. v.id) id gone vouchers));
-    as_before = λ id a there none.
-        subst (λ o. ((true ≡ true) × (o ≡ None)) ⊎ (o ≡ Some a)) (sym (row_at-without_row of_voucher id gone counts))
-        (elim (gone == id) as (λ b. ((true ≡ true) × (cond b None (row_at of_voucher id counts) ≡ None)) ⊎ (cond b None (row_at of_voucher id counts) ≡ Some a)) [
-          | true ↦ inl (refl, refl)
-          | false ↦ elim (h.as_before id a there none) [
-            | inl was ↦ inl (refl, was.1)
-            | inr is ↦ inr is
-          ]
-        ]);
+pub counts_found : (s : State) → AllStand of_voucher s.lists.vouchers (voucher_counts s)
+counts_found s id = found_part (λ v. v.id) (voucher_count s) of_voucher (λ v. refl) id s.lists.vouchers
+
+-- rows of which each has a part of a voucher's counts
+module _ {U : Type 0} (key : U → ℕ) (part : VoucherCount → U) (is : (c : VoucherCount) → key (part c) ≡ c.voucher) where
+  pub all_start : (s : State) → AllStand key s.lists.vouchers (map part (voucher_counts s))
+  all_start s id = found_part of_voucher part key is id (voucher_counts s) ∙ counts_found s id
+
+  pub counting_starts : (listed : List VoucherCount) (s : State) → AreInOrder (λ v. v.id) s.lists.vouchers → CountsKept key part false listed (voucher_counts s) s.lists.vouchers (map part (voucher_counts s))
+  counting_starts listed s h = record {
+    in_order = order_of_parts of_voucher part key is 0 (voucher_counts s) (counts_in_order s h);
+    gone = λ id none. some_of _ _ (all_start s id) none;
+    as_before = λ id a there none. inr (row_of_parts of_voucher part key is id (voucher_counts s) ∙ ap (part_of part) there);
   }
+
+  module _ (listed before : List VoucherCount) (vouchers : List Voucher) (rows : List U) where
+    -- a voucher goes with its row
+    pub counting_drop : (dropped : Bool) (gone : ℕ) → CountsKept key part dropped listed before vouchers rows → CountsKept key part true listed before (without_row (λ v. v.id) gone vouchers) (without_row key gone rows)
+    counting_drop dropped gone h = record {
+      in_order = drop_stays key gone rows h.in_order;
+      gone = λ id none.
+          row_at-without_row key id gone rows
+          ∙ elim (gone == id) as (λ b. cond b None (row_at (λ v. v.id) id vouchers) ≡ None → cond b None (row_at key id rows) ≡ None) [
+            | true ↦ λ e. refl
+            | false ↦ λ e. h.gone id e
+          ] (sym (row_at-without_row (λ v. v.id) id gone vouchers) ∙ none);
+      as_before = λ id a there none.
+          subst (λ o. ((true ≡ true) × (o ≡ None)) ⊎ (row_at key id (without_row key gone rows) ≡ Some (part a))) (sym (row_at-without_row (λ v. v.id) id gone vouchers))
+          (subst (λ o. ((true ≡ true) × (cond (gone == id) None (row_at (λ v. v.id) id vouchers) ≡ None)) ⊎ (o ≡ Some (part a))) (sym (row_at-without_row key id gone rows))
+          (elim (gone == id) as (λ b. ((true ≡ true) × (cond b None (row_at (λ v. v.id) id vouchers) ≡ None)) ⊎ (cond b None (row_at key id rows) ≡ Some (part a))) [
+            | true ↦ inl (refl, refl)
+            | false ↦ elim (h.as_before id a there none) [
+              | inl was ↦ inl (refl, was.1)
+              | inr is ↦ inr is
+            ]
+          ]));
+    }
+
+    pub all_drop : (gone : ℕ) → AllStand key vouchers rows → AllStand key (without_row (λ v. v.id) gone vouchers) (without_row key gone rows)
+    all_drop gone h id =
+        ap is_some (row_at-without_row key id gone rows)
+        ∙ elim (gone == id) as (λ b. is_some (cond b None (row_at key id rows)) ≡ is_some (cond b None (row_at (λ v. v.id) id vouchers))) [
+          | true ↦ refl
+          | false ↦ h id
+        ]
+        ∙ ap is_some (sym (row_at-without_row (λ v. v.id) id gone vouchers))
+
+    -- a voucher that is put has no row where it had none
+    pub counting_stays : (row : Voucher) → CountsKept key part false listed before vouchers rows → CountsKept key part false listed before (with_row (λ v. v.id) row vouchers) rows
+    counting_stays row h = record {
+      in_order = h.in_order;
+      gone = λ id none.
+          elim (row.id == id) as (λ b. cond b (Some row) (row_at (λ v. v.id) id vouchers) ≡ None → row_at key id rows ≡ None) [
+            | true ↦ λ e. absurd cc
+            | false ↦ λ e. h.gone id e
+          ] (sym (row_at-with_row (λ v. v.id) id row vouchers) ∙ none);
+      as_before = λ id a there none. inr (kept id a there none);
+    }
+      where
+        kept : (id : ℕ) (a : VoucherCount) → row_at of_voucher id before ≡ Some a → row_at of_voucher id listed ≡ None → row_at key id rows ≡ Some (part a)
+        kept id a there none = elim (h.as_before id a there none) [
+          | inl gone ↦ absurd (let e : false ≡ true = gone.0 in cc)
+          | inr is ↦ is
+        ]
+
+  -- once the parts of the counts that differ were put
+  pub vouchers_counted : (dropped : Bool) (s z : State) (rows : List U) → AreInOrder (λ v. v.id) s.lists.vouchers → AreInOrder (λ v. v.id) z.lists.vouchers
+      → CountsKept key part dropped (counts_after s z).vouchers (voucher_counts s) z.lists.vouchers rows → with_all key (map part (counts_after s z).vouchers) rows ≡ map part (voucher_counts z)
+  vouchers_counted dropped s z rows h k kept =
+      counts_written of_voucher same_voucher_count same_voucher_tells key part is (voucher_counts s) (voucher_counts z) rows (counts_in_order s h) (counts_in_order z k) kept.in_order
+      (λ id none. kept.gone id (some_of _ _ (sym (counts_found z id)) none))
+      (λ id a e none stood. elim (kept.as_before id a stood none) [
+        | inl gone ↦ absurd (let here : is_some (Some a) ≡ is_some (row_at (λ v. v.id) id z.lists.vouchers) = ap is_some (sym e) ∙ counts_found z id in let nothing : is_some (row_at (λ v. v.id) id z.lists.vouchers) ≡ false = ap is_some gone.1 in cc)
+        | inr is ↦ is
+      ])
+
+-- ---- a voucher that is put keeps how often it is redeemed, and a new one is redeemed 0 times
+
+abbrev pub redeemed_as : Voucher → List Redeemed → Redeemed
+redeemed_as row rows = record { voucher = row.id; redeemed = redeemed_of row.id rows }
+
+module _ (listed before : List VoucherCount) (vouchers : List Voucher) (rows : List Redeemed) (row : Voucher) where
+  pub counting_put : CountsKept of_redeemed head_of_redeemed false listed before vouchers rows → CountsKept of_redeemed head_of_redeemed false listed before (with_row (λ v. v.id) row vouchers) (with_row of_redeemed (redeemed_as row rows) rows)
+  counting_put h = record {
+    in_order = put_stays of_redeemed (redeemed_as row rows) rows h.in_order;
+    gone = λ id none.
+        row_at-with_row of_redeemed id (redeemed_as row rows) rows
+        ∙ elim (row.id == id) as (λ b. cond b (Some row) (row_at (λ v. v.id) id vouchers) ≡ None → cond b (Some (redeemed_as row rows)) (row_at of_redeemed id rows) ≡ None) [
+          | true ↦ λ e. absurd cc
+          | false ↦ λ e. h.gone id e
+        ] (sym (row_at-with_row (λ v. v.id) id row vouchers) ∙ none);
+    as_before = λ id a there none.
+        let was : row_at of_redeemed id rows ≡ Some (head_of_redeemed a) = elim (h.as_before id a there none) [
+          | inl gone ↦ absurd (let e : false ≡ true = gone.0 in cc)
+          | inr is ↦ is
+        ] in
+        inr (row_at-with_row of_redeemed id (redeemed_as row rows) rows
+        ∙ elim (row.id == id) as (λ b. (row.id == id) ≡ b → cond b (Some (redeemed_as row rows)) (row_at of_redeemed id rows) ≡ Some (head_of_redeemed a)) [
+          | true ↦ λ e.
+              let mine : row.id ≡ id = eqb-true row.id id e in
+              let first : row.id ≡ a.voucher = mine ∙ sym (found_id id a before there) in
+              let second : redeemed_of row.id rows ≡ a.redeemed = ap (λ n. redeemed_of n rows) mine ∙ ap redeemed_by was in
+              λ i. Some (record { voucher = first i; redeemed = second i })
+          | false ↦ λ e. was
+        ] refl);
+  }
+
+  pub all_put : AllStand of_redeemed vouchers rows → AllStand of_redeemed (with_row (λ v. v.id) row vouchers) (with_row of_redeemed (redeemed_as row rows) rows)
+  all_put h id =
+      ap is_some (row_at-with_row of_redeemed id (redeemed_as row rows) rows)
+      ∙ elim (row.id == id) as (λ b. is_some (cond b (Some (redeemed_as row rows)) (row_at of_redeemed id rows)) ≡ is_some (cond b (Some row) (row_at (λ v. v.id) id vouchers))) [
+        | true ↦ refl
+        | false ↦ h id
+      ]
+      ∙ ap is_some (sym (row_at-with_row (λ v. v.id) id row vouchers))
 
 -- what is found among counts, in whatever order they are
 only : {T : Type 0} (key : T → ℕ) (id : ℕ) (rows : List T) → row_at key id rows ≡ first_of (filter (λ r. key r == id) rows)
@@ -199,7 +274,7 @@ only key id (r ∷ rows) = elim (key r == id) as (λ b. cond b (Some r) (row_at 
   | false ↦ only key id rows
 ]
 
-few : {T : Type 0} (key : T → ℕ) (n id : ℕ) (rows : List T) → InOrderFrom key n rows → (filter (λ r. key r == id) rows ≡ []) ⊎ ((r : T) × (filter (λ r. key r == id) rows ≡ r ∷ []))
+pub few : {T : Type 0} (key : T → ℕ) (n id : ℕ) (rows : List T) → InOrderFrom key n rows → (filter (λ r. key r == id) rows ≡ []) ⊎ ((r : T) × (filter (λ r. key r == id) rows ≡ r ∷ []))
 few key n id [] h = inl refl
 few {T} key n id (r ∷ rows) h = elim (key r == id) as (λ b. (key r == id) ≡ b → (cond b (r ∷ filter (λ r. key r == id) rows) (filter (λ r. key r == id) rows) ≡ []) ⊎ ((x : T) × (cond b (r ∷ filter (λ r. key r == id) rows) (filter (λ r. key r == id) rows) ≡ x ∷ []))) [
   | true ↦ λ e. inr (r, ap (λ l. r ∷ l) (at_above key (key r + 1) id rows (grind (arith, nat_tests)) h.1))
@@ -219,16 +294,3 @@ same_found_in key id xs ys h same =
     empty : {T : Type 0} (l : List T) → 0 ≡ Rattle.std.proofs.Common.length l → l ≡ []
     empty [] e = refl
     empty (x ∷ l) e = absurd (omega (arith, e))
-
--- the counts of vouchers, once those that differ were put
-pub vouchers_counted : (dropped : Bool) (s z : State) (counts : List VoucherCount) → AreInOrder (λ v. v.id) s.lists.vouchers → AreInOrder (λ v. v.id) z.lists.vouchers
-    → VoucherKept dropped (counts_after s z).vouchers (voucher_counts s) z.lists.vouchers counts → with_all of_voucher (counts_after s z).vouchers counts ≡ voucher_counts z
-vouchers_counted dropped s z counts h k kept =
-    let before = order_of_parts (λ v. v.id) (voucher_count s) of_voucher (λ v. refl) 0 s.lists.vouchers h in
-    let after = order_of_parts (λ v. v.id) (voucher_count z) of_voucher (λ v. refl) 0 z.lists.vouchers k in
-    let both : (id : ℕ) → is_some (row_at of_voucher id counts) ≡ is_some (row_at of_voucher id (voucher_counts z)) = λ id. kept.stand id ∙ sym (found_part (λ v. v.id) (voucher_count z) of_voucher (λ v. refl) id z.lists.vouchers) in
-    counts_written of_voucher same_voucher_count same_voucher_tells (voucher_counts s) (voucher_counts z) counts before after kept.in_order (λ id none. some_of _ _ (both id) none)
-    (λ id a e none stood. elim (kept.as_before id a stood none) [
-      | inl gone ↦ absurd (let here : is_some (row_at of_voucher id counts) ≡ is_some (Some a) = both id ∙ ap is_some e in let nothing : is_some (row_at of_voucher id counts) ≡ false = ap is_some gone.1 in cc)
-      | inr is ↦ is ∙ sym stood
-    ])

@@ -8,6 +8,23 @@ use Rattle.bo_sorted.proofs.Edits.{row_at-with_row, row_at_above}
 use Rattle.bo_stand.specs.Counts.{with_all}
 use Rattle.bo_sorted.proofs.Places.{filter_in_order}
 use Rattle.bo_stand.proofs.Order.{put_stays}
+use Rattle.bo_stand.proofs.Told.{order_of_parts}
+
+-- the part of the row that was found
+abbrev pub part_of : {T U : Type 0} → (T → U) → Option T → Option U
+part_of part None = None
+part_of part (Some row) = Some (part row)
+
+-- among parts of rows the part of the row is found
+pub row_of_parts : {T U : Type 0} (key : T → ℕ) (part : T → U) (of : U → ℕ) → ((r : T) → of (part r) ≡ key r) → (id : ℕ) (rows : List T) → row_at of id (map part rows) ≡ part_of part (row_at key id rows)
+row_of_parts key part of is id [] = refl
+row_of_parts key part of is id (r ∷ rows) =
+    let more = row_of_parts key part of is id rows in
+    ap (λ n. cond (n == id) (Some (part r)) (row_at of id (map part rows))) (is r)
+    ∙ elim (key r == id) as (λ b. cond b (Some (part r)) (row_at of id (map part rows)) ≡ part_of part (cond b (Some r) (row_at key id rows))) [
+      | true ↦ refl
+      | false ↦ more
+    ]
 
 -- the row that was found, or else this one
 abbrev pub found_or : {T : Type 0} → Option T → Option T → Option T
@@ -114,14 +131,18 @@ module _ {T : Type 0} (key : T → ℕ) (same : T → T → Bool) (tells : (a b 
   abbrev pub changed_counts : List T → List T → List T
   changed_counts before after = filter (λ c. not (list_any (same c) before)) after
 
-  -- where the rows have none that is gone, and of those that don't change what stood before, the changed ones make them those after
-  pub counts_written : (before after rows : List T) → AreInOrder key before → AreInOrder key after → AreInOrder key rows
-      → ((id : ℕ) → row_at key id after ≡ None → row_at key id rows ≡ None)
-      → ((id : ℕ) (a : T) → row_at key id after ≡ Some a → row_at key id (changed_counts before after) ≡ None → row_at key id before ≡ Some a → row_at key id rows ≡ row_at key id before)
-      → with_all key (changed_counts before after) rows ≡ after
-  counts_written before after rows h k l gone still =
-      same_found key 0 0 _ after (with_all_in_order key (changed_counts before after) rows l) k (λ id.
-      row_at-with_all key 0 id (changed_counts before after) rows (filter_in_order key _ 0 after k) ∙ here id (row_at key id after) refl)
+  -- where the rows, of which each has a part of a count, have none that is gone, and those that don't change have the part of what stood before, the parts
+  -- of the changed ones make them those after
+  pub counts_written : {U : Type 0} (of : U → ℕ) (part : T → U) → ((t : T) → of (part t) ≡ key t) → (before after : List T) (rows : List U) → AreInOrder key before → AreInOrder key after → AreInOrder of rows
+      → ((id : ℕ) → row_at key id after ≡ None → row_at of id rows ≡ None)
+      → ((id : ℕ) (a : T) → row_at key id after ≡ Some a → row_at key id (changed_counts before after) ≡ None → row_at key id before ≡ Some a → row_at of id rows ≡ Some (part a))
+      → with_all of (map part (changed_counts before after)) rows ≡ map part after
+  counts_written {U} of part is before after rows h k l gone still =
+      same_found of 0 0 _ (map part after) (with_all_in_order of (map part (changed_counts before after)) rows l) (order_of_parts key part of is 0 after k) (λ id.
+      row_at-with_all of 0 id (map part (changed_counts before after)) rows (order_of_parts key part of is 0 (changed_counts before after) (filter_in_order key _ 0 after k))
+      ∙ ap (λ o. found_or o (row_at of id rows)) (row_of_parts key part of is id (changed_counts before after))
+      ∙ here id (row_at key id after) refl
+      ∙ sym (row_of_parts key part of is id after))
     where
       listed : (id : ℕ) → row_at key id (changed_counts before after) ≡ if_passes key (λ c. not (list_any (same c) before)) (row_at key id after)
       listed id = row_at-filter key (λ c. not (list_any (same c) before)) 0 id after k
@@ -133,14 +154,16 @@ module _ {T : Type 0} (key : T → ℕ) (same : T → T → Bool) (tells : (a b 
         | false ↦ λ f g. has_id id n a rows g
       ] refl e
 
-      here : (id : ℕ) (o : Option T) → row_at key id after ≡ o → found_or (row_at key id (changed_counts before after)) (row_at key id rows) ≡ o
-      here id None e = rw (listed id, e, gone id e)
-      here id (Some a) e = elim (list_any (same a) before) as (λ b. list_any (same a) before ≡ b → found_or (row_at key id (changed_counts before after)) (row_at key id rows) ≡ Some a) [
+      here : (id : ℕ) (o : Option T) → row_at key id after ≡ o → found_or (part_of part (row_at key id (changed_counts before after))) (row_at of id rows) ≡ part_of part (row_at key id after)
+      here id None e =
+          let none : row_at key id (changed_counts before after) ≡ None = listed id ∙ ap (if_passes key (λ c. not (list_any (same c) before))) e in
+          ap (λ o. found_or (part_of part o) (row_at of id rows)) none ∙ gone id e ∙ sym (ap (part_of part) e)
+      here id (Some a) e = elim (list_any (same a) before) as (λ b. list_any (same a) before ≡ b → found_or (part_of part (row_at key id (changed_counts before after))) (row_at of id rows) ≡ part_of part (row_at key id after)) [
         | true ↦ λ f.
             let none : row_at key id (changed_counts before after) ≡ None = listed id ∙ ap (if_passes key (λ c. not (list_any (same c) before))) e ∙ ap (λ b. cond (not b) (Some a) None) f in
             let stood : row_at key id before ≡ Some a = subst (λ n. row_at key n before ≡ Some a) (has_id id 0 a after e) (found_among a 0 before h f) in
-            ap (λ o. found_or o (row_at key id rows)) none ∙ still id a e none stood ∙ stood
+            ap (λ o. found_or (part_of part o) (row_at of id rows)) none ∙ still id a e none stood ∙ sym (ap (part_of part) e)
         | false ↦ λ f.
             let some : row_at key id (changed_counts before after) ≡ Some a = listed id ∙ ap (if_passes key (λ c. not (list_any (same c) before))) e ∙ ap (λ b. cond (not b) (Some a) None) f in
-            ap (λ o. found_or o (row_at key id rows)) some
+            ap (λ o. found_or (part_of part o) (row_at of id rows)) some ∙ sym (ap (part_of part) e)
       ] refl

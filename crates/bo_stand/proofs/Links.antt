@@ -37,13 +37,22 @@ module _ {T : Type 0} (key : T → ℕ) (members : T → List ℕ) where
         | false ↦ refl
       ]
 
+  -- a row that goes takes its links along
+  pub links_dropped : (owner : ℕ) (rows : List T) (ls : List Link) → IsPermutation ls (all_links key members rows) → IsPermutation (links_but owner ls) (all_links key members (without_row key owner rows))
+  links_dropped owner rows ls same = subst (IsPermutation (links_but owner ls)) (but_links owner rows) (IsPermutation-filter (λ (l : Link). not (l.owner == owner)) ls (all_links key members rows) same)
+
+  -- one that is put where none of its id stood has its links beside all others
+  pub links_added : (row : T) (rows : List T) (ls : List Link) → AreInOrder key rows → without_row key (key row) rows ≡ rows → IsPermutation ls (all_links key members rows)
+      → IsPermutation (links key members row ++ ls) (all_links key members (with_row key row rows))
+  links_added row rows ls h none same =
+      IsPermutation-trans _ _ _ (IsPermutation-append_right (links key members row) _ _ same)
+      (IsPermutation-flat_map (links key members) (row ∷ rows) (with_row key row rows) (subst (λ l. IsPermutation (row ∷ l) (with_row key row rows)) none (put_in key 0 row rows h)))
+
   -- a row that is put has its links in the place of those that it had
   pub links_put : (row : T) (rows : List T) (ls : List Link) → AreInOrder key rows → IsPermutation ls (all_links key members rows)
       → IsPermutation (links key members row ++ links_but (key row) ls) (all_links key members (with_row key row rows))
   links_put row rows ls h same =
-      let others : IsPermutation (links_but (key row) ls) (all_links key members (without_row key (key row) rows)) =
-      subst (IsPermutation (links_but (key row) ls)) (but_links (key row) rows) (IsPermutation-filter (λ (l : Link). not (l.owner == key row)) ls (all_links key members rows) same) in
-      IsPermutation-trans _ _ _ (IsPermutation-append_right (links key members row) _ _ others)
+      IsPermutation-trans _ _ _ (IsPermutation-append_right (links key members row) _ _ (links_dropped (key row) rows ls same))
       (IsPermutation-flat_map (links key members) (row ∷ without_row key (key row) rows) (with_row key row rows) (put_in key 0 row rows h))
 
   only_owner : (owner : ℕ) (rows : List T) → filter (λ l. l.owner == owner) (all_links key members rows) ≡ all_links key members (filter (λ r. key r == owner) rows)

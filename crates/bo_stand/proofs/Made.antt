@@ -3,26 +3,28 @@ use Rattle.std.proofs.Common.{◌≡◌, ℕ, ◌+◌, ◌==◌, ◌<◌, Bool, 
 use Rattle.std.specs.List.{list_any, AllByRecursion}
 use Rattle.std.specs.List.Sorted.{IsPermutation}
 use Rattle.std.proofs.lemmas.Bool.Decides.{nat_tests}
-use Rattle.std.proofs.lemmas.List.Sorted.{IsPermutation-refl, IsPermutation-sym, IsPermutation-trans, IsPermutation-cons, IsPermutation-map, IsPermutation-middle, IsPermutation-append_left, IsPermutation-filter_both}
+use Rattle.std.proofs.lemmas.List.Sorted.{IsPermutation-refl, IsPermutation-trans, IsPermutation-map, IsPermutation-middle, IsPermutation-append_left, IsPermutation-filter_both}
 use Rattle.sqlite_trees.proofs.ListLemmas.{filter-map, IsPermutation-same}
 use Rattle.bo_catalogue.specs.declared.rows.Quota.{Quota}
-use Rattle.bo_lists.specs.declared.rows.CheckinList.{CheckinList}
+use Rattle.bo_lists.specs.declared.rows.OrderPos.{OrderPos}
 use Rattle.bo_lists.specs.declared.changes.Change.{Change}
 use Rattle.bo_lists.specs.declared.changes.Change.TheVariants.{PutItem, PutVariation, PutQuota, PutVoucher, PutCart, PutOrder, PutPosition, PutWaiting, DropVoucher, DropCart, DropWaiting, PutCheckinList, PutCheckin}
 use Rattle.bo_columns.specs.declared.rows.QuotaItem.{QuotaItem}
 use Rattle.bo_columns.specs.declared.rows.QuotaVariation.{QuotaVariation}
 use Rattle.bo_columns.specs.declared.rows.ListItem.{ListItem}
+use Rattle.bo_columns.specs.declared.rows.BudgetRow.{BudgetRow}
+use Rattle.bo_columns.specs.declared.rows.DiscountRow.{DiscountRow}
+use Rattle.bo_columns.specs.declared.rows.ReleaseRow.{ReleaseRow}
 use Rattle.bo_columns.specs.declared.rows.VoucherRow.{VoucherRow}
 use Rattle.bo_columns.specs.Changes.{head_of_voucher}
 use Rattle.bo_columns.specs.Tables.{Tables}
 use Rattle.bo_stand.specs.Free.{AreApart, AreBelow, IsFree}
-use Rattle.bo_stand.specs.Links.{Link, links, links_but, are_just}
-use Rattle.bo_stand.specs.Made.{made_by, next_by, made, next_after, numbered, put_links}
-use Rattle.bo_stand.specs.Rows.{rows_of, redeemed_in}
+use Rattle.bo_stand.specs.Links.{Link, links_but, are_just}
+use Rattle.bo_stand.specs.Made.{made_by, next_by, made, next_after, numbered, put_links, has_position}
+use Rattle.bo_stand.specs.Rows.{Redeemed, rows_of, redeemed_in, budgets_of, discounts_of}
 use Rattle.bo_stand.specs.RowsAfter.{rows_after, redeemed_of}
-use Rattle.bo_stand.specs.Stands.{AreSameRows}
 use Rattle.bo_stand.specs.Turned.{IsTurned, AreTurned}
-use Rattle.bo_stand.proofs.EachRow.{set_quota_items, set_quota_variations, set_list_items, set_vouchers}
+use Rattle.bo_stand.proofs.EachRow.{set_quota_items, set_quota_variations, set_quota_release, set_list_items, set_vouchers, set_voucher_budget, set_position_discount}
 use Rattle.bo_stand.proofs.Follow.{same_rows}
 use Rattle.bo_stand.proofs.Just.{just_same}
 
@@ -155,24 +157,59 @@ module _ {R : Type 0} (owner_of member_of rowid : R → ℕ) (row : ℕ → ℕ 
   put_below : (from : ℕ) (ids : List ℕ) (rows : List R) → AreBelow from (map rowid rows) → AreBelow (from + length ids) (map rowid (put_links owner_of member_of row owner from ids rows))
   put_below from ids rows h = below_either from ids rows (are_just ids (map member_of (own rows))) h
 
+-- ---- a quota that releases places
+
+-- its row is its link, before those of other quotas
+released : (w : Quota) (rows : List ReleaseRow) (b : Bool)
+    → map (λ (r : ReleaseRow). link_to r.quota r.quota) (map (λ id. record { quota = id }) (cond b (w.id ∷ []) []) ++ filter (λ r. not (r.quota == w.id)) rows)
+    ≡ of_owner w.id (cond b (w.id ∷ []) []) ++ links_but w.id (map (λ (r : ReleaseRow). link_to r.quota r.quota) rows)
+released w rows true = ap (λ l. link_to w.id w.id ∷ l) (sym (filter-map (λ (l : Link). not (l.owner == w.id)) (λ (r : ReleaseRow). link_to r.quota r.quota) rows))
+released w rows false = sym (filter-map (λ (l : Link). not (l.owner == w.id)) (λ (r : ReleaseRow). link_to r.quota r.quota) rows)
+
+-- ---- links with a value
+
+module _ {R : Type 0} (owner_of value_of : R → ℕ) (row : ℕ → R) (owner : ℕ) (is : (n : ℕ) → link_to (owner_of (row n)) (value_of (row n)) ≡ link_to owner n) where
+  abbrev valued : R → Link
+  valued r = link_to (owner_of r) (value_of r)
+
+  -- new rows stand before others
+  beside : (ns : List ℕ) (rows : List R) → map valued (map row ns ++ rows) ≡ of_owner owner ns ++ map valued rows
+  beside [] rows = refl
+  beside (n ∷ ns) rows = ap₂ (λ (l : Link) ls. l ∷ ls) (is n) (beside ns rows)
+
+  -- and before those of other owners
+  replaced : (ns : List ℕ) (rows : List R) → map valued (map row ns ++ filter (λ r. not (owner_of r == owner)) rows) ≡ of_owner owner ns ++ links_but owner (map valued rows)
+  replaced ns rows = beside ns (filter (λ r. not (owner_of r == owner)) rows) ∙ ap (λ l. of_owner owner ns ++ l) (sym (filter-map (λ (l : Link). not (l.owner == owner)) valued rows))
+
+-- the row of a position's discount, whether one of its id stood or not
+discounted : (w : OrderPos) (rows : List DiscountRow) (stands : Bool)
+    → map (λ (r : DiscountRow). link_to r.position_id r.discount) (map (λ n. record { position_id = w.id; discount = n }) (discounts_of w) ++ cond stands (filter (λ r. not (r.position_id == w.id)) rows) rows)
+    ≡ of_owner w.id (discounts_of w) ++ cond stands (links_but w.id (map (λ (r : DiscountRow). link_to r.position_id r.discount) rows)) (map (λ (r : DiscountRow). link_to r.position_id r.discount) rows)
+discounted w rows true = replaced (λ (r : DiscountRow). r.position_id) (λ (r : DiscountRow). r.discount) (λ n. record { position_id = w.id; discount = n }) w.id (λ n. refl) (discounts_of w) rows
+discounted w rows false = beside (λ (r : DiscountRow). r.position_id) (λ (r : DiscountRow). r.discount) (λ n. record { position_id = w.id; discount = n }) w.id (λ n. refl) (discounts_of w) rows
+
 -- ---- one change
 
 pub one_turned : (change : Change) (from : ℕ) (t : Tables) → IsFree from t → IsTurned change (next_by change from) t (made_by change from t)
-one_turned (PutItem w) from t h = record { rows = same_rows (rows_after (PutItem w) (rows_of t)); redeemed = IsPermutation-refl _; shop = refl; counts = refl; tokens = refl; kept = refl; free = record { quota_items = h.quota_items; quota_variations = h.quota_variations; list_items = h.list_items; kept = h.kept } }
-one_turned (PutVariation w) from t h = record { rows = same_rows (rows_after (PutVariation w) (rows_of t)); redeemed = IsPermutation-refl _; shop = refl; counts = refl; tokens = refl; kept = refl; free = record { quota_items = h.quota_items; quota_variations = h.quota_variations; list_items = h.list_items; kept = h.kept } }
+one_turned (PutItem w) from t h = record { rows = same_rows (rows_after (PutItem w) (rows_of t)); redeemed = IsPermutation-refl _; spents = refl; shop = refl; counts = refl; exits = refl; tokens = refl; kept = refl; free = record { quota_items = h.quota_items; quota_variations = h.quota_variations; list_items = h.list_items; kept = h.kept } }
+one_turned (PutVariation w) from t h = record { rows = same_rows (rows_after (PutVariation w) (rows_of t)); redeemed = IsPermutation-refl _; spents = refl; shop = refl; counts = refl; exits = refl; tokens = refl; kept = refl; free = record { quota_items = h.quota_items; quota_variations = h.quota_variations; list_items = h.list_items; kept = h.kept } }
 one_turned (PutQuota w) from t h =
     let item : ℕ → ℕ → QuotaItem = λ n id. record { rowid = n; quota = w.id; item = id } in
     let variation : ℕ → ℕ → QuotaVariation = λ n id. record { rowid = n; quota = w.id; variation = id } in
     let mid = from + length w.items in
     record {
       rows =
-          set_quota_variations
+          set_quota_release
+          (set_quota_variations
           (set_quota_items (same_rows (rows_after (PutQuota w) (rows_of t)))
           (told (λ (r : QuotaItem). r.quota) (λ (r : QuotaItem). r.item) (λ (r : QuotaItem). r.rowid) item w.id (λ n id. refl) (λ n id. refl) from w.items t.quota_items))
-          (told (λ (r : QuotaVariation). r.quota) (λ (r : QuotaVariation). r.variation) (λ (r : QuotaVariation). r.rowid) variation w.id (λ n id. refl) (λ n id. refl) mid w.variations t.quota_variations);
+          (told (λ (r : QuotaVariation). r.quota) (λ (r : QuotaVariation). r.variation) (λ (r : QuotaVariation). r.rowid) variation w.id (λ n id. refl) (λ n id. refl) mid w.variations t.quota_variations))
+          (IsPermutation-same _ _ (released w t.releases w.release_after_exit));
       redeemed = IsPermutation-refl _;
+      spents = refl;
       shop = refl;
       counts = refl;
+      exits = refl;
       tokens = refl;
       kept = refl;
       free = record {
@@ -186,30 +223,49 @@ one_turned (PutQuota w) from t h =
       };
     }
 one_turned (PutVoucher w) from t h = record {
-  rows = set_vouchers (same_rows (rows_after (PutVoucher w) (rows_of t))) (IsPermutation-same _ _ (ap (λ l. head_of_voucher w ∷ l) (sym (filter-map (λ v. not (v.id == w.id)) (λ (r : VoucherRow). r.voucher) t.vouchers))));
+  rows =
+      set_voucher_budget
+      (set_vouchers (same_rows (rows_after (PutVoucher w) (rows_of t))) (IsPermutation-same _ _ (ap (λ l. head_of_voucher w ∷ l) (sym (filter-map (λ v. not (v.id == w.id)) (λ (r : VoucherRow). r.voucher) t.vouchers)))))
+      (IsPermutation-same _ _ (replaced (λ (r : BudgetRow). r.voucher_id) (λ (r : BudgetRow). r.budget) (λ n. record { voucher_id = w.id; budget = n }) w.id (λ n. refl) (budgets_of w) t.budgets));
   redeemed = IsPermutation-same _ _
-      (ap (λ l. record { voucher = w.id; redeemed = redeemed_of w.id (redeemed_in t) } ∷ l) (sym (filter-map (λ c. not (c.voucher == w.id)) (λ (r : VoucherRow). record { voucher = r.voucher.id; redeemed = r.redeemed }) t.vouchers)));
+      (ap (λ (l : List Redeemed). record { voucher = w.id; redeemed = redeemed_of w.id (redeemed_in t) } ∷ l) (sym (filter-map (λ (c : Redeemed). not (c.voucher == w.id)) (λ (r : VoucherRow). record { voucher = r.voucher.id; redeemed = r.redeemed }) t.vouchers)));
+  spents = refl;
   shop = refl;
   counts = refl;
+  exits = refl;
   tokens = refl;
   kept = refl;
   free = record { quota_items = h.quota_items; quota_variations = h.quota_variations; list_items = h.list_items; kept = h.kept };
 }
-one_turned (PutCart w) from t h = record { rows = same_rows (rows_after (PutCart w) (rows_of t)); redeemed = IsPermutation-refl _; shop = refl; counts = refl; tokens = refl; kept = refl; free = record { quota_items = h.quota_items; quota_variations = h.quota_variations; list_items = h.list_items; kept = h.kept } }
-one_turned (PutOrder w) from t h = record { rows = same_rows (rows_after (PutOrder w) (rows_of t)); redeemed = IsPermutation-refl _; shop = refl; counts = refl; tokens = refl; kept = refl; free = record { quota_items = h.quota_items; quota_variations = h.quota_variations; list_items = h.list_items; kept = h.kept } }
-one_turned (PutPosition w) from t h = record { rows = same_rows (rows_after (PutPosition w) (rows_of t)); redeemed = IsPermutation-refl _; shop = refl; counts = refl; tokens = refl; kept = refl; free = record { quota_items = h.quota_items; quota_variations = h.quota_variations; list_items = h.list_items; kept = h.kept } }
-one_turned (PutWaiting w) from t h = record { rows = same_rows (rows_after (PutWaiting w) (rows_of t)); redeemed = IsPermutation-refl _; shop = refl; counts = refl; tokens = refl; kept = refl; free = record { quota_items = h.quota_items; quota_variations = h.quota_variations; list_items = h.list_items; kept = h.kept } }
+one_turned (PutCart w) from t h = record { rows = same_rows (rows_after (PutCart w) (rows_of t)); redeemed = IsPermutation-refl _; spents = refl; shop = refl; counts = refl; exits = refl; tokens = refl; kept = refl; free = record { quota_items = h.quota_items; quota_variations = h.quota_variations; list_items = h.list_items; kept = h.kept } }
+one_turned (PutOrder w) from t h = record { rows = same_rows (rows_after (PutOrder w) (rows_of t)); redeemed = IsPermutation-refl _; spents = refl; shop = refl; counts = refl; exits = refl; tokens = refl; kept = refl; free = record { quota_items = h.quota_items; quota_variations = h.quota_variations; list_items = h.list_items; kept = h.kept } }
+one_turned (PutPosition w) from t h = record {
+  rows = set_position_discount (same_rows (rows_after (PutPosition w) (rows_of t))) (IsPermutation-same _ _ (discounted w t.discounts (has_position w.id t)));
+  redeemed = IsPermutation-refl _;
+  spents = refl;
+  shop = refl;
+  counts = refl;
+  exits = refl;
+  tokens = refl;
+  kept = refl;
+  free = record { quota_items = h.quota_items; quota_variations = h.quota_variations; list_items = h.list_items; kept = h.kept };
+}
+one_turned (PutWaiting w) from t h = record { rows = same_rows (rows_after (PutWaiting w) (rows_of t)); redeemed = IsPermutation-refl _; spents = refl; shop = refl; counts = refl; exits = refl; tokens = refl; kept = refl; free = record { quota_items = h.quota_items; quota_variations = h.quota_variations; list_items = h.list_items; kept = h.kept } }
 one_turned (DropVoucher id) from t h = record {
-  rows = set_vouchers (same_rows (rows_after (DropVoucher id) (rows_of t))) (IsPermutation-same _ _ (sym (filter-map (λ v. not (v.id == id)) (λ (r : VoucherRow). r.voucher) t.vouchers)));
-  redeemed = IsPermutation-same _ _ (sym (filter-map (λ c. not (c.voucher == id)) (λ (r : VoucherRow). record { voucher = r.voucher.id; redeemed = r.redeemed }) t.vouchers));
+  rows =
+      set_voucher_budget (set_vouchers (same_rows (rows_after (DropVoucher id) (rows_of t))) (IsPermutation-same _ _ (sym (filter-map (λ v. not (v.id == id)) (λ (r : VoucherRow). r.voucher) t.vouchers))))
+      (IsPermutation-same _ _ (sym (filter-map (λ (l : Link). not (l.owner == id)) (λ (r : BudgetRow). link_to r.voucher_id r.budget) t.budgets)));
+  redeemed = IsPermutation-same _ _ (sym (filter-map (λ (c : Redeemed). not (c.voucher == id)) (λ (r : VoucherRow). record { voucher = r.voucher.id; redeemed = r.redeemed }) t.vouchers));
+  spents = refl;
   shop = refl;
   counts = refl;
+  exits = refl;
   tokens = refl;
   kept = refl;
   free = record { quota_items = h.quota_items; quota_variations = h.quota_variations; list_items = h.list_items; kept = h.kept };
 }
-one_turned (DropCart id) from t h = record { rows = same_rows (rows_after (DropCart id) (rows_of t)); redeemed = IsPermutation-refl _; shop = refl; counts = refl; tokens = refl; kept = refl; free = record { quota_items = h.quota_items; quota_variations = h.quota_variations; list_items = h.list_items; kept = h.kept } }
-one_turned (DropWaiting id) from t h = record { rows = same_rows (rows_after (DropWaiting id) (rows_of t)); redeemed = IsPermutation-refl _; shop = refl; counts = refl; tokens = refl; kept = refl; free = record { quota_items = h.quota_items; quota_variations = h.quota_variations; list_items = h.list_items; kept = h.kept } }
+one_turned (DropCart id) from t h = record { rows = same_rows (rows_after (DropCart id) (rows_of t)); redeemed = IsPermutation-refl _; spents = refl; shop = refl; counts = refl; exits = refl; tokens = refl; kept = refl; free = record { quota_items = h.quota_items; quota_variations = h.quota_variations; list_items = h.list_items; kept = h.kept } }
+one_turned (DropWaiting id) from t h = record { rows = same_rows (rows_after (DropWaiting id) (rows_of t)); redeemed = IsPermutation-refl _; spents = refl; shop = refl; counts = refl; exits = refl; tokens = refl; kept = refl; free = record { quota_items = h.quota_items; quota_variations = h.quota_variations; list_items = h.list_items; kept = h.kept } }
 one_turned (PutCheckinList w) from t h =
     let p : ListItem → Bool = λ r. not (r.list == w.id) in
     let to = from + length w.limit_products in
@@ -220,8 +276,10 @@ one_turned (PutCheckinList w) from t h =
           (relinked (λ n id. record { rowid = n; list = w.id; item = id }) (λ (r : ListItem). r.rowid) (λ (r : ListItem). record { owner = r.list; member = r.item }) w.id (λ n id. refl) (λ n id. refl) from w.limit_products p t.list_items
           (sym (filter-map (λ (l : Link). not (l.owner == w.id)) (λ (r : ListItem). record { owner = r.list; member = r.item }) t.list_items)));
       redeemed = IsPermutation-refl _;
+      spents = refl;
       shop = refl;
       counts = refl;
+      exits = refl;
       tokens = refl;
       kept = refl;
       free = record {
@@ -231,7 +289,7 @@ one_turned (PutCheckinList w) from t h =
         kept = below_later from to _ (omega arith) h.kept;
       };
     }
-one_turned (PutCheckin w) from t h = record { rows = same_rows (rows_after (PutCheckin w) (rows_of t)); redeemed = IsPermutation-refl _; shop = refl; counts = refl; tokens = refl; kept = refl; free = record { quota_items = h.quota_items; quota_variations = h.quota_variations; list_items = h.list_items; kept = h.kept } }
+one_turned (PutCheckin w) from t h = record { rows = same_rows (rows_after (PutCheckin w) (rows_of t)); redeemed = IsPermutation-refl _; spents = refl; shop = refl; counts = refl; exits = refl; tokens = refl; kept = refl; free = record { quota_items = h.quota_items; quota_variations = h.quota_variations; list_items = h.list_items; kept = h.kept } }
 
 pub all_turned : (changes : List Change) (from : ℕ) (t : Tables) → IsFree from t → AreTurned changes from (next_after changes from) t (made changes from t)
 all_turned [] from t h = (refl, refl)

@@ -9,10 +9,14 @@ abbrev pub with_all : {T : Type 0} → (T → ℕ) → List T → List T → Lis
 with_all key [] rows = rows
 with_all key (row ∷ more) rows = with_all key more (with_row key row rows)
 
--- while changes are made: each voucher has a count, and one that isn't to be written is as it was before; once a voucher was
--- dropped, or gone
-pub record VoucherKept (dropped : Bool) (listed before : List VoucherCount) (vouchers : List Voucher) (counts : List VoucherCount) : Type 0 where
-  pub in_order : AreInOrder (λ c. c.voucher) counts
-  pub stand : (id : ℕ) → is_some (row_at (λ c. c.voucher) id counts) ≡ is_some (row_at (λ v. v.id) id vouchers)
+-- While changes are made: each row has a part of a voucher's counts, of one that stands; and counts that aren't to be written have their part as
+-- before, or their voucher is gone, once one was dropped.
+pub record CountsKept {U : Type 0} (key : U → ℕ) (part : VoucherCount → U) (dropped : Bool) (listed before : List VoucherCount) (vouchers : List Voucher) (rows : List U) : Type 0 where
+  pub in_order : AreInOrder key rows
+  pub gone : (id : ℕ) → row_at (λ v. v.id) id vouchers ≡ None → row_at key id rows ≡ None
   pub as_before : (id : ℕ) (count : VoucherCount) → row_at (λ c. c.voucher) id before ≡ Some count → row_at (λ c. c.voucher) id listed ≡ None
-      → ((dropped ≡ true) × (row_at (λ c. c.voucher) id counts ≡ None)) ⊎ (row_at (λ c. c.voucher) id counts ≡ Some count)
+      → ((dropped ≡ true) × (row_at (λ v. v.id) id vouchers ≡ None)) ⊎ (row_at key id rows ≡ Some (part count))
+
+-- each voucher that stands has a row
+abbrev pub AllStand : {U : Type 0} → (U → ℕ) → List Voucher → List U → Type 0
+AllStand key vouchers rows = (id : ℕ) → is_some (row_at key id rows) ≡ is_some (row_at (λ v. v.id) id vouchers)

@@ -1,7 +1,9 @@
 -- What the statements of a commit make of the tables.
-use Rattle.std.specs.Prelude.{ℕ, ◌+◌, not, ◌==◌, if◌then◌else◌, List, [], ◌∷◌, length, map, filter}
+use Rattle.std.specs.Prelude.{ℕ, Bool, ◌+◌, not, ◌==◌, if◌then◌else◌, List, [], ◌∷◌, ◌++◌, length, map, filter, is_some}
+use Rattle.bo_sorted.specs.Tables.{row_at}
 use Rattle.bo_catalogue.specs.declared.rows.Quota.{Quota}
 use Rattle.bo_lists.specs.declared.rows.CheckinList.{CheckinList}
+use Rattle.bo_lists.specs.declared.rows.OrderPos.{OrderPos}
 use Rattle.bo_lists.specs.declared.rows.Voucher.{Voucher}
 use Rattle.bo_lists.specs.declared.count_rows.QuotaCount.{QuotaCount}
 use Rattle.bo_lists.specs.declared.count_rows.VoucherCount.{VoucherCount}
@@ -11,10 +13,10 @@ use Rattle.bo_lists.specs.CountRows.{CountRows}
 use Rattle.bo_kept.specs.declared.kept.Kept.{Kept}
 use Rattle.bo_kept.specs.KeptAnswers.{lasts}
 use Rattle.bo_columns.specs.declared.rows.ShopRow.{ShopRow}
-use Rattle.bo_columns.specs.Changes.{head_of_voucher, with_shop, without_shop, with_item, without_item, with_variation, without_variation, with_quota, without_quota, with_cart, without_cart, with_order, without_order, with_position, without_position, with_waiting, without_waiting, with_list, without_list, with_checkin, without_checkin, with_count, without_count, with_kept}
+use Rattle.bo_columns.specs.Changes.{head_of_voucher, with_shop, without_shop, with_item, without_item, with_variation, without_variation, with_quota, without_quota, with_cart, without_cart, with_order, without_order, with_position, without_position, with_waiting, without_waiting, with_list, without_list, with_checkin, without_checkin, with_count, without_count, head_of_exit, with_exit, without_exit, without_budget, head_of_spent, with_spent, without_spent, with_kept}
 use Rattle.bo_columns.specs.Tables.{Tables}
 use Rattle.bo_stand.specs.Links.{are_just}
-use Rattle.bo_stand.specs.Rows.{redeemed_in}
+use Rattle.bo_stand.specs.Rows.{redeemed_in, releases_of, budgets_of, discounts_of}
 use Rattle.bo_stand.specs.RowsAfter.{redeemed_of}
 
 -- ---- vouchers, whose rows have a counter
@@ -23,9 +25,17 @@ use Rattle.bo_stand.specs.RowsAfter.{redeemed_of}
 abbrev pub put_voucher : Voucher → Tables → Tables
 put_voucher w t = record t { vouchers = record { voucher = head_of_voucher w; redeemed = redeemed_of w.id (redeemed_in t) } ∷ filter (λ r. not (r.voucher.id == w.id)) t.vouchers }
 
+-- the voucher's row of its budget, where it has one, in the place of the one that it had
+abbrev pub put_budget : Voucher → Tables → Tables
+put_budget w t = record t { budgets = map (λ n. record { voucher_id = w.id; budget = n }) (budgets_of w) ++ filter (λ r. not (r.voucher_id == w.id)) t.budgets }
+
 -- no voucher has this id any more; its counter goes with it
 abbrev pub without_voucher : ℕ → Tables → Tables
 without_voucher id t = record t { vouchers = filter (λ r. not (r.voucher.id == id)) t.vouchers }
+
+-- neither it nor its budget, nor what is spent of it
+abbrev pub drop_voucher : ℕ → Tables → Tables
+drop_voucher id t = without_voucher id (without_spent id (without_budget id t))
 
 -- the counter of one voucher is set, and all else in the tables stays
 abbrev pub set_redeemed : VoucherCount → Tables → Tables
@@ -58,13 +68,32 @@ put_items quota from ids t = record t { quota_items = put_links (λ r. r.quota) 
 abbrev pub put_variations : ℕ → ℕ → List ℕ → Tables → Tables
 put_variations quota from ids t = record t { quota_variations = put_links (λ r. r.quota) (λ r. r.variation) (λ n id. record { rowid = n; quota = quota; variation = id }) quota from ids t.quota_variations }
 
+-- the quota's row of releases, where it releases places, in the place of the one that it had
+abbrev pub put_release : Quota → Tables → Tables
+put_release w t = record t { releases = map (λ id. record { quota = id }) (releases_of w) ++ filter (λ r. not (r.quota == w.id)) t.releases }
+
 -- a quota with its members in the place of those that it had
 abbrev pub put_quota : Quota → ℕ → Tables → Tables
-put_quota w from t = put_variations w.id (from + length w.items) w.variations (put_items w.id from w.items (with_quota w (without_quota w.id t)))
+put_quota w from t = put_variations w.id (from + length w.items) w.variations (put_items w.id from w.items (put_release w (with_quota w (without_quota w.id t))))
 
 -- a check-in list takes the place of the one of its id, and new links to its items the place of the old ones
 abbrev pub put_list : CheckinList → ℕ → Tables → Tables
 put_list w from t = with_limits w.id from w.limit_products (without_limits w.id (with_list w (without_list w.id t)))
+
+-- ---- order positions
+
+-- whether an order position of this id stands
+abbrev pub has_position : ℕ → Tables → Bool
+has_position id t = is_some (row_at (λ r. r.id) id t.positions)
+
+-- the row of what was taken off the position's price, where something was, in the place of that of the position that stands; where none stands
+-- there is no such row
+abbrev pub put_discount : Bool → OrderPos → Tables → Tables
+put_discount stands w t = record t { discounts = map (λ n. record { position_id = w.id; discount = n }) (discounts_of w) ++ (if stands then filter (λ r. not (r.position_id == w.id)) t.discounts else t.discounts) }
+
+-- an order position takes the place of the one of its id, and its discount the place of that one's
+abbrev pub put_position : OrderPos → Tables → Tables
+put_position w t = put_discount (has_position w.id t) w (with_position w (without_position w.id t))
 
 -- ---- changes
 
@@ -73,12 +102,12 @@ abbrev pub made_by : Change → ℕ → Tables → Tables
 made_by (PutItem w) from t = with_item w (without_item w.id t)
 made_by (PutVariation w) from t = with_variation w (without_variation w.id t)
 made_by (PutQuota w) from t = put_quota w from t
-made_by (PutVoucher w) from t = put_voucher w t
+made_by (PutVoucher w) from t = put_budget w (put_voucher w t)
 made_by (PutCart w) from t = with_cart w (without_cart w.id t)
 made_by (PutOrder w) from t = with_order w (without_order w.id t)
-made_by (PutPosition w) from t = with_position w (without_position w.id t)
+made_by (PutPosition w) from t = put_position w t
 made_by (PutWaiting w) from t = with_waiting w (without_waiting w.id t)
-made_by (DropVoucher id) from t = without_voucher id t
+made_by (DropVoucher id) from t = drop_voucher id t
 made_by (DropCart id) from t = without_cart id t
 made_by (DropWaiting id) from t = without_waiting id t
 made_by (PutCheckinList w) from t = put_list w from t
@@ -106,9 +135,13 @@ next_after (change ∷ changes) from = next_after changes (next_by change from)
 abbrev pub put_shop : ShopRow → Tables → Tables
 put_shop w t = with_shop w (without_shop 1 t)
 
--- what is used of a quota takes the place of what was
+-- the rows of a count: what uses the quota, and how many of its tickets are out
 abbrev pub put_count : QuotaCount → Tables → Tables
-put_count c t = with_count c (without_count c.quota t)
+put_count c t = with_exit (head_of_exit c) (without_exit c.quota (with_count c (without_count c.quota t)))
+
+-- those of a voucher's: how often it is redeemed, in its row, and how much of it is spent
+abbrev pub put_uses : VoucherCount → Tables → Tables
+put_uses c t = with_spent (head_of_spent c) (without_spent c.voucher (set_redeemed c t))
 
 -- one after another
 abbrev pub each : {X : Type 0} → (X → Tables → Tables) → List X → Tables → Tables
@@ -117,7 +150,7 @@ each step (x ∷ xs) t = each step xs (step x t)
 
 -- the counters of these quotas and vouchers are set, and all others stay
 abbrev pub counted : CountRows → Tables → Tables
-counted counts t = each put_count counts.quotas (each set_redeemed counts.vouchers t)
+counted counts t = each put_count counts.quotas (each put_uses counts.vouchers t)
 
 -- the answer that a commit keeps, if it keeps one, in a row of this number
 abbrev pub with_listed : ℕ → List Kept → Tables → Tables

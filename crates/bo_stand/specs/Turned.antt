@@ -4,15 +4,17 @@ use Rattle.bo_lists.specs.declared.changes.Change.{Change}
 use Rattle.bo_columns.specs.Tables.{Tables}
 use Rattle.bo_stand.specs.Free.{IsFree}
 use Rattle.bo_stand.specs.Rows.{rows_of, redeemed_in}
-use Rattle.bo_stand.specs.RowsAfter.{rows_after, redeemed_after}
+use Rattle.bo_stand.specs.RowsAfter.{rows_after, redeemed_after, spents_after}
 use Rattle.bo_stand.specs.Stands.{AreSameRows}
 
 -- the rows of the office are those after the change, all else is as it was, and this row number is free
 pub record IsTurned (change : Change) (next : ℕ) (t u : Tables) : Type 0 where
   pub rows : AreSameRows (rows_of u) (rows_after change (rows_of t))
   pub redeemed : IsPermutation (redeemed_in u) (redeemed_after change (redeemed_in t))
+  pub spents : u.spents ≡ spents_after change t.spents
   pub shop : u.shop ≡ t.shop
   pub counts : u.counts ≡ t.counts
+  pub exits : u.exits ≡ t.exits
   pub tokens : u.tokens ≡ t.tokens
   pub kept : u.kept ≡ t.kept
   pub free : IsFree next u

@@ -6,7 +6,7 @@ use Rattle.std.proofs.lemmas.List.Sums.{sum_by-cons}
 use Rattle.bo_sorted.specs.Tables.{row_at}
 use Rattle.bo_indexed.specs.Indexes.{Finds}
 use Rattle.bo_indexed.proofs.EntryLemmas.{sums_like}
-use Rattle.bo_store.specs.Walks.{one_if}
+use Rattle.bo_store.specs.Walks.{amount_of, one_if}
 
 abbrev one : Bool → ℕ
 one b = if b then 1 else 0
@@ -37,6 +37,11 @@ first_and false b = refl
 pub counted : {T : Type 0} (id : T → ℕ) (test pass both : T → Bool) (rows : List T) (ids : List ℕ) → Finds id test rows ids → ((r : T) → (test r && pass r) ≡ both r) → sum_by (λ i. one_if pass (row_at id i rows)) ids ≡ count_by both rows
 unfolding one_if
 counted id test pass both rows ids finds alike = finds (one_if pass) ∙ sums_like (λ r. if test r then one_if pass (Some r) else 0) (λ r. one (both r)) rows (λ r. first_and (test r) (pass r) ∙ ap one (alike r))
+
+-- what those that are found count, where no other row counts anything
+pub added : {T : Type 0} (id : T → ℕ) (test : T → Bool) (amount : T → ℕ) (rows : List T) (ids : List ℕ) → Finds id test rows ids → ((r : T) → (if test r then amount r else 0) ≡ amount r) → sum_by (λ i. amount_of amount (row_at id i rows)) ids ≡ sum_by amount rows
+unfolding amount_of
+added id test amount rows ids finds alike = finds (amount_of amount) ∙ sums_like (λ r. if test r then amount_of amount (Some r) else 0) amount rows alike
 
 pub and_swap : (a b : Bool) → (a && b) ≡ (b && a)
 and_swap true true = refl

@@ -20,3 +20,7 @@ passing test (Some row) = if test row then Some row else None
 -- 1 where there is a row, and it passes
 unfoldable pub one_if : {T : Type 0} → (T → Bool) → Option T → ℕ
 one_if test row = sum_at (λ r. if test r then 1 else 0) row
+
+-- what the row counts, and 0 where there is none
+unfoldable pub amount_of : {T : Type 0} → (T → ℕ) → Option T → ℕ
+amount_of amount row = sum_at amount row

@@ -4,12 +4,12 @@ ghost use Rattle.std.specs.Prelude.{◌≡◌, ◌≤◌, ◌+◌, ◌&&◌, len
 ghost use Rattle.bo_catalogue.specs.Member.{is_in};
 ghost use Rattle.bo_lists.specs.Conditions.{is_in_force, is_live_cart, names};
 ghost use Rattle.bo_lists.specs.Lists.{cart_at, position_at, order_at};
-ghost use Rattle.bo_lists.specs.Usage.{stands_as, redeemed};
+ghost use Rattle.bo_lists.specs.Usage.{stands_as, redeemed, spends, spent};
 ghost use Rattle.bo_lists.specs.Headroom.{held, held_in};
 ghost use Rattle.bo_lists.specs.Named.{carts_naming};
 ghost use Rattle.bo_usage.specs.Naming.{naming};
 ghost use Rattle.bo_indexed.specs.Indexes.{Finds};
-ghost use Rattle.bo_store.specs.Walks.{one_if};
+ghost use Rattle.bo_store.specs.Walks.{amount_of, one_if};
 
 use crate::counts::count_one;
 use crate::store::Store;
@@ -17,7 +17,7 @@ use bo_base::Moment;
 use bo_catalogue::Quota;
 use bo_index::Found;
 use bo_usage::LookUps;
-use bo_usage::rules::is_in_force;
+use bo_usage::rules::{is_in_force, spends};
 use std::alloc::{AllocError, Global};
 
 impl Store {
@@ -87,6 +87,31 @@ impl Store {
             count += self.use_of(named.at(place));
         }
         count
+    }
+
+    // What the order position of an id takes of a voucher's budget, in cents.
+    #[tactic(auto, unfolding(crate::specs::Walks::amount_of))]
+    fn spend_of(&self, voucher: u64, id: u64) -> u64
+        ensures value { result ≡ amount_of (spends voucher self.now.state.lists) (position_at id self.now.state.lists) }
+        ensures small { result ≤ 9999999999 }
+    {
+        match self.position(id) {
+            None => 0,
+            Some(row) => spends(self, voucher, row),
+        }
+    }
+
+    /// What is spent of the voucher's budget, in cents: a walk over the order positions that name it.
+    pub fn spent(&self, voucher: u64) -> u128
+        ensures value { result ≡ spent voucher self.now.state.lists }
+        ensures few { result ≤ 42949672955705032704 }
+    {
+        let mut total = 0;
+        let named = self.positions_naming(voucher);
+        for place in 0..named.len() {
+            total += u128::from(self.spend_of(voucher, named.at(place)));
+        }
+        total
     }
 
     // Whether the cart position of an id is live.

@@ -1,5 +1,5 @@
 -- A token that is added, and what it leaves as it was.
-use Rattle.std.proofs.Common.{◌≡◌, ◌⊎◌, ◌+◌, ◌<◌, ◌≤◌, nat_lt, ℕ, Bool, true, false, cond, bytes_eq, List, [], ◌∷◌, find, Option, Some, None, option_map, IsTrue, inl, inr, Result, Ok, Err, IfOk, OnOk, OnErr, refl, sym, ap, subst, ◌∙◌, arith}
+use Rattle.std.proofs.Common.{◌≡◌, ◌⊎◌, ◌+◌, ◌<◌, ◌≤◌, nat_lt, ℕ, true, false, cond, bytes_eq, List, [], ◌∷◌, find, Option, Some, None, option_map, IsTrue, inl, inr, Result, Ok, Err, IfOk, OnOk, OnErr, refl, sym, ap, subst, ◌∙◌, arith}
 use Rattle.std.proofs.lemmas.Bool.Decides.{nat_tests}
 use Rattle.std.proofs.lemmas.Slice.Eq.{bytes_eq-Decides}
 use Rattle.sqlite_trees.specs.Tree.{Trees}

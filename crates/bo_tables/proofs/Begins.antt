@@ -40,10 +40,13 @@ begins_empty shop moment next = record {
     quotas = IsPermutation-refl [];
     quota_items = IsPermutation-refl [];
     quota_variations = IsPermutation-refl [];
+    quota_release = IsPermutation-refl [];
     vouchers = IsPermutation-refl [];
+    voucher_budget = IsPermutation-refl [];
     carts = IsPermutation-refl [];
     orders = IsPermutation-refl [];
     positions = IsPermutation-refl [];
+    position_discount = IsPermutation-refl [];
     waiting = IsPermutation-refl [];
     checkin_lists = IsPermutation-refl [];
     list_items = IsPermutation-refl [];
@@ -55,7 +58,9 @@ begins_empty shop moment next = record {
     limits = tt;
   };
   used = IsPermutation-refl [];
+  exits = IsPermutation-refl [];
   redeemed = IsPermutation-refl [];
+  spents = IsPermutation-refl [];
   kept = IsPermutation-refl [];
 }
 
@@ -70,7 +75,9 @@ token_stands old shop token t state answers moment next h = record {
   rows = h.rows;
   ordered = h.ordered;
   used = h.used;
+  exits = h.exits;
   redeemed = h.redeemed;
+  spents = h.spents;
   kept = h.kept;
 }
 

@@ -1,15 +1,18 @@
 -- The counts of a commit, one after another.
 use Rattle.std.proofs.Common.{◌≡◌, ℕ, List, [], ◌∷◌, refl, subst, ap, ◌∙◌}
 use Rattle.sqlite.specs.State.{State}
+use Rattle.bo_lists.specs.declared.count_rows.QuotaCount.{QuotaCount}
 use Rattle.bo_lists.specs.declared.count_rows.VoucherCount.{VoucherCount}
 use Rattle.bo_lists.specs.CountRows.{CountRows}
 use Rattle.bo_columns.specs.Tables.{Tables}
-use Rattle.bo_columns.specs.Changes.{ChangesFit}
+use Rattle.bo_columns.specs.Changes.{Changes, ChangesFit, with_count, without_count, head_of_exit, with_exit, without_exit, head_of_spent, with_spent, without_spent}
 use Rattle.bo_stand.specs.Free.{IsFree}
-use Rattle.bo_stand.specs.Made.{put_count, set_redeemed, each, counted}
-use Rattle.bo_tables.specs.Free.{redeemed_stays_free}
+use Rattle.bo_rows.specs.Vouchers as rows
+use Rattle.bo_stand.specs.Made.{put_count, put_uses, set_redeemed, each, counted}
+use Rattle.bo_tables.specs.Free.{uses_stay_free}
 use Rattle.bo_tables.specs.Steps.{made_each, next_each}
-use Rattle.bo_tables.proofs.Steps.{then_fits}
+use Rattle.bo_tables.proofs.RowLemmas.{redeemed_set}
+use Rattle.bo_tables.proofs.Steps.{fits_all, then_fits}
 
 module _ {T : Type 0} (step : T → Tables → Tables) where
   abbrev pub each_of : List T → ℕ → Tables → Tables
@@ -24,16 +27,31 @@ pub next_same : {T : Type 0} (xs : List T) (from : ℕ) → next_each (λ (x : T
 next_same [] from = refl
 next_same (x ∷ xs) from = next_same xs from
 
-free_redeemed : (xs : List VoucherCount) (from : ℕ) (t : Tables) → IsFree from t → IsFree from (each_of set_redeemed xs from t)
-free_redeemed [] from t h = h
-free_redeemed (x ∷ xs) from t h = free_redeemed xs from (set_redeemed x t) (redeemed_stays_free x from t h)
+free_uses : (xs : List VoucherCount) (from : ℕ) (t : Tables) → IsFree from t → IsFree from (each_of put_uses xs from t)
+free_uses [] from t h = h
+free_uses (x ∷ xs) from t h = free_uses xs from (put_uses x t) (uses_stay_free x from t h)
 
 -- the vouchers' counts, and then those of quotas
-pub all_counted : (counts : CountRows) (from free : ℕ) (old mid new : State) → free ≡ next_each (λ (x : VoucherCount) n. n) counts.vouchers from → ChangesFit (IsFree from) (each_of set_redeemed counts.vouchers from) old mid
+pub all_counted : (counts : CountRows) (from free : ℕ) (old mid new : State) → free ≡ next_each (λ (x : VoucherCount) n. n) counts.vouchers from → ChangesFit (IsFree from) (each_of put_uses counts.vouchers from) old mid
     → ChangesFit (IsFree free) (each_of put_count counts.quotas free) mid new → ChangesFit (IsFree from) (counted counts) old new
 all_counted counts from free old mid new is a b =
     let same : free ≡ from = is ∙ next_same counts.vouchers from in
     let b2 : ChangesFit (IsFree from) (each_of put_count counts.quotas from) mid new = subst (λ n. ChangesFit (IsFree n) (each_of put_count counts.quotas n) mid new) same b in
-    let both = then_fits (IsFree from) (IsFree from) (each_of set_redeemed counts.vouchers from) (each_of put_count counts.quotas from) old mid new (free_redeemed counts.vouchers from) a b2 in
-    Rattle.bo_tables.proofs.Steps.fits_as (IsFree from) (λ t. each_of put_count counts.quotas from (each_of set_redeemed counts.vouchers from t)) (counted counts) old new
-    (λ t. same_each put_count counts.quotas from (each_of set_redeemed counts.vouchers from t) ∙ ap (each put_count counts.quotas) (same_each set_redeemed counts.vouchers from t)) both
+    let both = then_fits (IsFree from) (IsFree from) (each_of put_uses counts.vouchers from) (each_of put_count counts.quotas from) old mid new (free_uses counts.vouchers from) a b2 in
+    Rattle.bo_tables.proofs.Steps.fits_as (IsFree from) (λ t. each_of put_count counts.quotas from (each_of put_uses counts.vouchers from t)) (counted counts) old new
+    (λ t. same_each put_count counts.quotas from (each_of put_uses counts.vouchers from t) ∙ ap (each put_count counts.quotas) (same_each put_uses counts.vouchers from t)) both
+
+-- both rows of a count
+pub count_put : (Fits : Tables → Type 0) (c : QuotaCount) (old mid new : State) → Changes (λ t. with_count c (without_count c.quota t)) old mid → Changes (λ t. with_exit (head_of_exit c) (without_exit c.quota t)) mid new → ChangesFit Fits (put_count c) old new
+count_put Fits c old mid new a b = record {
+  known = b.known;
+  inside = b.inside;
+  committed = b.committed ∙ a.committed;
+  listed = λ d. b.listed (a.listed d);
+  holds = λ t fits held. b.holds (with_count c (without_count c.quota t)) (a.holds t held);
+}
+
+-- how often a voucher is redeemed, and what is spent of it
+pub uses_put : (Fits : Tables → Type 0) (c : VoucherCount) (old mid new : State) → Changes (rows.set_redeemed c) old mid → Changes (λ t. with_spent (head_of_spent c) (without_spent c.voucher t)) mid new → ChangesFit Fits (put_uses c) old new
+uses_put Fits c old mid new a b =
+    then_fits Fits (λ _. Unit {0}) (set_redeemed c) (λ t. with_spent (head_of_spent c) (without_spent c.voucher t)) old mid new (λ t fits. tt) (redeemed_set Fits c old mid a) (fits_all (λ _. Unit {0}) (λ t. with_spent (head_of_spent c) (without_spent c.voucher t)) mid new b)

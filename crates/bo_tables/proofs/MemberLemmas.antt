@@ -1,5 +1,5 @@
 -- A quota with its members, and a check-in list with its items.
-use Rattle.std.proofs.Common.{◌≡◌, ℕ, ◌+◌, ◌==◌, ◌&&◌, Bool, true, false, cond, List, [], ◌∷◌, length, map, filter, bytes_eq, refl, sym, ap, subst, ◌∙◌, suc, arith}
+use Rattle.std.proofs.Common.{◌≡◌, ℕ, ◌+◌, ◌==◌, ◌&&◌, Bool, true, false, cond, not, List, [], ◌∷◌, ◌++◌, length, map, filter, bytes_eq, refl, sym, ap, subst, ◌∙◌, suc, arith}
 use Rattle.std.specs.List.Sorted.{IsPermutation}
 use Rattle.std.proofs.lemmas.List.Sorted.{length_permutation, list_any-IsPermutation}
 use Rattle.sqlite.specs.State.{State}
@@ -9,13 +9,14 @@ use Rattle.bo_index.proofs.Sorted.{same_ids}
 use Rattle.bo_catalogue.specs.declared.rows.Quota.{Quota}
 use Rattle.bo_lists.specs.declared.rows.CheckinList.{CheckinList}
 use Rattle.bo_columns.specs.Tables.{Tables, Holds}
-use Rattle.bo_columns.specs.Changes.{Changes, ChangesFit, with_quota, without_quota, with_list, without_list, with_list_item}
+use Rattle.bo_columns.specs.Changes.{Changes, ChangesFit, with_quota, without_quota, with_list, without_list, with_list_item, with_release, without_release}
 use Rattle.bo_rows.specs.Removed.{AreApart, of_others}
 use Rattle.bo_stand.specs.Free.{IsFree}
 use Rattle.bo_stand.specs.Links.{are_just}
-use Rattle.bo_stand.specs.Made.{numbered, put_links, with_limits, without_limits, put_items, put_variations, put_quota, put_list}
+use Rattle.bo_stand.specs.Made.{numbered, put_links, with_limits, without_limits, put_items, put_variations, put_release, put_quota, put_list}
 use Rattle.bo_tables.specs.Steps.{made_each, next_each}
 use Rattle.bo_tables.proofs.RowLemmas.{apart}
+use Rattle.bo_tables.proofs.Steps.{changes_as}
 
 -- each member takes one number
 pub next_members : {T : Type 0} (from : ℕ) (xs : List T) → next_each (λ (_ : T) n. n + 1) xs from ≡ from + length xs
@@ -100,17 +101,29 @@ limits_of list from ids t = made_each (λ id n. with_list_item (record { rowid =
 same_limits : (list from : ℕ) (ids : List ℕ) (t : Tables) → limits_of list from ids t ≡ with_limits list from ids t
 same_limits = one_by_one (λ n owner id. record { rowid = n; list = owner; item = id }) (λ r. r.rowid) (λ r. r.list) (λ r. r.item) (λ t. t.list_items) (λ xs t. record t { list_items = xs }) with_list_item (λ xs t. refl) (λ t. refl) (λ xs ys t. refl) (λ w t. refl)
 
-pub quota_put : (w : Quota) (from mid : ℕ) (s0 s1 s2 s3 : State) → mid ≡ from + length w.items → Changes (λ t. with_quota w (without_quota w.id t)) s0 s1
-    → ChangesFit ItemsApart (put_items w.id from w.items) s1 s2 → ChangesFit VariationsApart (put_variations w.id mid w.variations) s2 s3 → ChangesFit (IsFree from) (put_quota w from) s0 s3
-quota_put w from mid s0 s1 s2 s3 is a b c = record {
+-- ---- whether a quota releases places
+
+abbrev release_so : Quota → Bool → Tables → Tables
+release_so w b t = record t { releases = map (λ id. record { quota = id }) (cond b (w.id ∷ []) []) ++ filter (λ r. not (r.quota == w.id)) t.releases }
+
+pub release_put : (w : Quota) (old new : State) → w.release_after_exit ≡ true → Changes (λ t. with_release (record { quota = w.id }) (without_release w.id t)) old new → Changes (put_release w) old new
+release_put w old new is h = changes_as (release_so w true) (put_release w) old new (λ t. ap (λ b. release_so w b t) (sym is)) h
+
+pub release_gone : (w : Quota) (old new : State) → w.release_after_exit ≡ false → Changes (without_release w.id) old new → Changes (put_release w) old new
+release_gone w old new is h = changes_as (release_so w false) (put_release w) old new (λ t. ap (λ b. release_so w b t) (sym is)) h
+
+pub quota_put : (w : Quota) (from mid : ℕ) (s0 s1 r s2 s3 : State) → mid ≡ from + length w.items → Changes (λ t. with_quota w (without_quota w.id t)) s0 s1 → Changes (put_release w) s1 r
+    → ChangesFit ItemsApart (put_items w.id from w.items) r s2 → ChangesFit VariationsApart (put_variations w.id mid w.variations) s2 s3 → ChangesFit (IsFree from) (put_quota w from) s0 s3
+quota_put w from mid s0 s1 r s2 s3 is a d b c = record {
   known = c.known;
   inside = c.inside;
-  committed = c.committed ∙ b.committed ∙ a.committed;
-  listed = λ d. c.listed (b.listed (a.listed d));
+  committed = c.committed ∙ b.committed ∙ d.committed ∙ a.committed;
+  listed = λ l. c.listed (b.listed (d.listed (a.listed l)));
   holds = λ t free held.
-      let t1 = with_quota w (without_quota w.id t) in
+      let t0 = with_quota w (without_quota w.id t) in
+      let t1 = put_release w t0 in
       let t2 = put_items w.id from w.items t1 in
-      let h2 : Holds s2.now.trees t2 = b.holds t1 (apart (λ r. r.rowid) t.quota_items free.quota_items.apart) (a.holds t held) in
+      let h2 : Holds s2.now.trees t2 = b.holds t1 (apart (λ r. r.rowid) t.quota_items free.quota_items.apart) (d.holds t0 (a.holds t held)) in
       let h3 : Holds s3.now.trees (put_variations w.id mid w.variations t2) = c.holds t2 (apart (λ r. r.rowid) t.quota_variations free.quota_variations.apart) h2 in
       subst (λ n. Holds s3.now.trees (put_variations w.id n w.variations t2)) is h3;
 }

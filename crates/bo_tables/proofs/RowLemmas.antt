@@ -1,23 +1,27 @@
 -- Statements on rows, as the meaning of a commit says them.
-use Rattle.std.proofs.Common.{◌≡◌, ℕ, ◌==◌, ◌||◌, true, false, cond, not, List, [], ◌∷◌, ◌++◌, map, filter, Some, refl, sym, ap, ◌∙◌}
+use Rattle.std.proofs.Common.{◌≡◌, ℕ, ◌==◌, ◌||◌, Bool, true, false, cond, not, List, [], ◌∷◌, ◌++◌, map, filter, Option, Some, None, refl, sym, ap, subst, ◌∙◌}
 use Rattle.std.specs.List.{list_any}
+use Rattle.std.specs.Prelude.{option_to_list}
 use Rattle.std.specs.List.Sorted.{IsPermutation}
 use Rattle.std.proofs.lemmas.List.Sorted.{IsPermutation-refl, IsPermutation-sym, IsPermutation-trans, IsPermutation-cons, IsPermutation-map, IsPermutation-middle}
 use Rattle.sqlite.specs.State.{State}
 use Rattle.sqlite_trees.specs.Tree.{Trees}
 use Rattle.bo_sorted.specs.Tables.{row_at, sum_at}
+use Rattle.bo_lists.specs.declared.rows.OrderPos.{OrderPos}
 use Rattle.bo_lists.specs.declared.rows.Voucher.{Voucher}
 use Rattle.bo_lists.specs.declared.count_rows.VoucherCount.{VoucherCount}
 use Rattle.bo_columns.specs.declared.rows.VoucherRow.{VoucherRow}
 use Rattle.bo_columns.specs.Rows.{voucher_row}
 use Rattle.bo_columns.specs.Tables.{Tables, Holds}
-use Rattle.bo_columns.specs.Changes.{Changes, ChangesFit, head_of_voucher}
+use Rattle.bo_columns.specs.Changes.{Changes, ChangesFit, head_of_voucher, with_position, without_position, with_budget, without_budget, without_spent, with_discount, without_discount}
 use Rattle.bo_rows.specs.Removed.{AreApart}
 use Rattle.bo_rows.specs.Vouchers as rows
 use Rattle.bo_stand.proofs.Carried.{set_one}
 use Rattle.bo_stand.specs.Free.{AreApart as AreApartNumbers}
-use Rattle.bo_stand.specs.Made.{put_voucher, set_redeemed}
+use Rattle.bo_stand.specs.Made.{put_budget, put_voucher, drop_voucher, set_redeemed, has_position, put_discount, put_position}
+use Rattle.bo_stand.specs.Rows.{Redeemed, discounts_of}
 use Rattle.bo_stand.specs.RowsAfter.{redeemed_of, redeemed_by}
+use Rattle.bo_tables.proofs.Steps.{changes_as, fits_all, fits_as, then_fits}
 
 -- ---- numbers of rows
 
@@ -35,7 +39,7 @@ apart number (x ∷ xs) h = (sym (same_named number (number x) xs) ∙ h.0, apar
 same_redeemed : (id : ℕ) (xs : List VoucherRow) → rows.redeemed_of id xs ≡ redeemed_of id (map (λ (r : VoucherRow). record { voucher = r.voucher.id; redeemed = r.redeemed }) xs)
 same_redeemed id [] = refl
 same_redeemed id (r ∷ xs) = elim (r.voucher.id == id) as (λ b. sum_at (λ (r : VoucherRow). r.redeemed) (cond b (Some r) (row_at (λ (r : VoucherRow). r.voucher.id) id xs))
-    ≡ redeemed_by (cond b (Some (record { voucher = r.voucher.id; redeemed = r.redeemed })) (row_at (λ (c : VoucherCount). c.voucher) id (map (λ (r : VoucherRow). record { voucher = r.voucher.id; redeemed = r.redeemed }) xs)))) [
+    ≡ redeemed_by (cond b (Some (record { voucher = r.voucher.id; redeemed = r.redeemed })) (row_at (λ (c : Redeemed). c.voucher) id (map (λ (r : VoucherRow). record { voucher = r.voucher.id; redeemed = r.redeemed }) xs)))) [
       | true ↦ refl
       | false ↦ same_redeemed id xs
     ]
@@ -73,4 +77,69 @@ redeemed_set Fits c old new h = record {
   committed = h.committed;
   listed = h.listed;
   holds = λ t fits held. vouchers_along new.now.trees (rows.set_redeemed c t) (map (set_one c) t.vouchers) (set_somewhere c t.vouchers) (h.holds t held);
+}
+
+-- ---- budgets
+
+abbrev budget_so : Voucher → Option ℕ → Tables → Tables
+budget_so w o t = record t { budgets = map (λ n. record { voucher_id = w.id; budget = n }) (option_to_list o) ++ filter (λ r. not (r.voucher_id == w.id)) t.budgets }
+
+pub budget_put : (w : Voucher) (budget : ℕ) (old new : State) → w.budget ≡ Some budget → Changes (λ t. with_budget (record { voucher_id = w.id; budget = budget }) (without_budget w.id t)) old new → Changes (put_budget w) old new
+budget_put w budget old new is h = changes_as (budget_so w (Some budget)) (put_budget w) old new (λ t. ap (λ o. budget_so w o t) (sym is)) h
+
+pub budget_gone : (w : Voucher) (old new : State) → w.budget ≡ None → Changes (without_budget w.id) old new → Changes (put_budget w) old new
+budget_gone w old new is h = changes_as (budget_so w None) (put_budget w) old new (λ t. ap (λ o. budget_so w o t) (sym is)) h
+
+pub with_budget_put : (Fits : Tables → Type 0) (w : Voucher) (old mid new : State) → Changes (rows.put_voucher w) old mid → Changes (put_budget w) mid new → ChangesFit Fits (λ t. put_budget w (put_voucher w t)) old new
+with_budget_put Fits w old mid new a b =
+    then_fits Fits (λ _. Unit {0}) (put_voucher w) (put_budget w) old mid new (λ t fits. tt) (fits_as Fits (rows.put_voucher w) (put_voucher w) old mid (voucher_put w) (fits_all Fits (rows.put_voucher w) old mid a)) (fits_all (λ _. Unit {0}) (put_budget w) mid new b)
+
+-- a voucher goes behind its rows in other tables
+pub voucher_dropped : (Fits : Tables → Type 0) (id : ℕ) (s0 s1 s2 s3 : State) → Changes (without_budget id) s0 s1 → Changes (without_spent id) s1 s2 → Changes (rows.without_voucher id) s2 s3 → ChangesFit Fits (drop_voucher id) s0 s3
+voucher_dropped Fits id s0 s1 s2 s3 a b c = record {
+  known = c.known;
+  inside = c.inside;
+  committed = c.committed ∙ b.committed ∙ a.committed;
+  listed = λ l. c.listed (b.listed (a.listed l));
+  holds = λ t fits held. c.holds (without_spent id (without_budget id t)) (b.holds (without_budget id t) (a.holds t held));
+}
+
+-- ---- discounts
+
+abbrev pub dropped_if : Bool → ℕ → Tables → Tables
+dropped_if stood id t = cond stood (without_discount id t) t
+
+abbrev pub added : OrderPos → Tables → Tables
+added w t = record t { discounts = map (λ n. record { position_id = w.id; discount = n }) (discounts_of w) ++ t.discounts }
+
+abbrev discount_so : OrderPos → Bool → Tables → Tables
+discount_so w b t = record t { discounts = map (λ n. record { position_id = w.id; discount = n }) (cond b [] (w.discount ∷ [])) ++ t.discounts }
+
+pub discount_none : (w : OrderPos) (old new : State) → (w.discount == 0) ≡ true → Changes (λ t. t) old new → Changes (added w) old new
+discount_none w old new is h = changes_as (discount_so w true) (added w) old new (λ t. ap (λ b. discount_so w b t) (sym is)) h
+
+pub discount_added : (w : OrderPos) (old new : State) → (w.discount == 0) ≡ false → Changes (with_discount (record { position_id = w.id; discount = w.discount })) old new → Changes (added w) old new
+discount_added w old new is h = changes_as (discount_so w false) (added w) old new (λ t. ap (λ b. discount_so w b t) (sym is)) h
+
+pub discount_kept : (id : ℕ) (stood : Bool) (old new : State) → stood ≡ false → Changes (λ t. t) old new → Changes (dropped_if stood id) old new
+discount_kept id stood old new is h = changes_as (dropped_if false id) (dropped_if stood id) old new (λ t. ap (λ b. dropped_if b id t) (sym is)) h
+
+pub discount_dropped : (id : ℕ) (stood : Bool) (old new : State) → stood ≡ true → Changes (without_discount id) old new → Changes (dropped_if stood id) old new
+discount_dropped id stood old new is h = changes_as (dropped_if true id) (dropped_if stood id) old new (λ t. ap (λ b. dropped_if b id t) (sym is)) h
+
+same_discount : (w : OrderPos) (stood : Bool) (t : Tables) → added w (dropped_if stood w.id t) ≡ put_discount stood w t
+same_discount w true t = refl
+same_discount w false t = refl
+
+pub position_put : (Fits : Tables → Type 0) (w : OrderPos) (stood : Bool) (s0 s1 s2 s3 : State) → Changes (λ t. with_position w (without_position w.id t)) s0 s1 → ((t : Tables) → Holds s0.now.trees t → stood ≡ has_position w.id t)
+    → Changes (dropped_if stood w.id) s1 s2 → Changes (added w) s2 s3 → ChangesFit Fits (put_position w) s0 s3
+position_put Fits w stood s0 s1 s2 s3 a told b c = record {
+  known = c.known;
+  inside = c.inside;
+  committed = c.committed ∙ b.committed ∙ a.committed;
+  listed = λ l. c.listed (b.listed (a.listed l));
+  holds = λ t fits held.
+      let t1 = with_position w (without_position w.id t) in
+      let h3 : Holds s3.now.trees (added w (dropped_if stood w.id t1)) = c.holds (dropped_if stood w.id t1) (b.holds t1 (a.holds t held)) in
+      subst (λ b. Holds s3.now.trees (put_discount b w t1)) (told t held) (subst (Holds s3.now.trees) (same_discount w stood t1) h3);
 }

@@ -15,7 +15,6 @@ use Rattle.bo_kept.specs.declared.kept.Kept.{Kept}
 use Rattle.bo_kept.specs.House.{House}
 use Rattle.bo_kept.specs.ShopView.{ShopView, IsSame, listed, with_kept, committed}
 use Rattle.bo_columns.specs.declared.rows.ShopRow.{ShopRow}
-use Rattle.bo_columns.specs.declared.rows.Token.{Token}
 use Rattle.bo_columns.specs.Tables.{Tables, Holds}
 use Rattle.bo_stand.specs.Free.{IsFree}
 use Rattle.bo_stand.specs.Lawful.{puts_come_first}

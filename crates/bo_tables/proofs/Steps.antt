@@ -1,5 +1,5 @@
 -- Changes of the tables one after another, in lines and in loops.
-use Rattle.std.proofs.Common.{◌≡◌, ℕ, ◌+◌, ◌<◌, ◌≤◌, List, [], ◌∷◌, drop, length, get_or, suc, add-one, drop-cons, true, refl, sym, ap, subst, ◌∙◌, Ok, Err, Result, OnOk, IfOk}
+use Rattle.std.proofs.Common.{◌≡◌, ℕ, ◌+◌, ◌<◌, ◌≤◌, List, [], ◌∷◌, drop, length, get_or, suc, add-one, drop-cons, true, refl, sym, ap, subst, ◌∙◌}
 use Rattle.std.proofs.Math.ListN.{drop_of_length-le}
 use Rattle.sqlite.specs.Effect.{IsDatabase}
 use Rattle.sqlite.specs.State.{State}
@@ -32,6 +32,10 @@ fits_as Fits change same old new is h = record {
   listed = h.listed;
   holds = λ t fits held. subst (Holds new.now.trees) (is t) (h.holds t fits held);
 }
+
+-- the same change, said otherwise
+pub changes_as : (change same : Tables → Tables) (old new : State) → ((t : Tables) → change t ≡ same t) → Changes change old new → Changes same old new
+changes_as change same old new is h = record { known = h.known; inside = h.inside; committed = h.committed; listed = h.listed; holds = λ t held. subst (Holds new.now.trees) (is t) (h.holds t held) }
 
 pub inside_fit : (Fits : Tables → Type 0) (change : Tables → Tables) (old new : State) → ChangesFit Fits change old new → IsInside new
 inside_fit Fits change old new h = record { known = h.known; inside = h.inside }

@@ -1,8 +1,10 @@
 -- A shop before its first change, and what a new version and a new token make of its tables.
-use Rattle.std.specs.Prelude.{◌≡◌, ℕ}
+use Rattle.std.specs.Prelude.{◌≡◌, ℕ, List, ◌++◌}
 use Rattle.sqlite.specs.Effect.{Database}
 use Rattle.bo_schema.specs.Tables.{schema, this_version}
+use Rattle.bo_columns.specs.declared.rows.ExitRow.{ExitRow}
 use Rattle.bo_columns.specs.declared.rows.ShopRow.{ShopRow}
+use Rattle.bo_columns.specs.declared.rows.SpentRow.{SpentRow}
 use Rattle.bo_columns.specs.declared.rows.Token.{Token}
 use Rattle.bo_columns.specs.Changes.{with_shop, without_shop, with_token}
 use Rattle.bo_columns.specs.Tables.{Tables, Holds, HoldsAt, no_rows}
@@ -24,10 +26,19 @@ of_this_version head = record head { version = this_version }
 abbrev pub with_head : ShopRow → Tables → Tables
 with_head shop t = with_shop shop (without_shop 1 t)
 
--- what becomes of a database of that version which is brought to this one
-pub record IsUpgraded (shop : ShopRow) (from : ℕ) (db after : Database) : Type 0 where
+-- with these rows of exits beside those that stand
+abbrev pub with_exits : List ExitRow → Tables → Tables
+with_exits exits t = record t { exits = exits ++ t.exits }
+
+-- with these rows of what is spent of vouchers beside those that stand
+abbrev pub with_spents : List SpentRow → Tables → Tables
+with_spents spents t = record t { spents = spents ++ t.spents }
+
+-- what becomes of a database of that version which is brought to this one: of the tables that it hadn't, these rows of exits and of what is
+-- spent are added to two, and the others have none
+pub record IsUpgraded (shop : ShopRow) (exits : List ExitRow) (spents : List SpentRow) (from : ℕ) (db after : Database) : Type 0 where
   pub known : after.schema ≡ schema
-  pub holds : (t : Tables) → HoldsAt from db.trees t → Holds after.trees (with_head shop t)
+  pub holds : (t : Tables) → HoldsAt from db.trees t → Holds after.trees (with_head shop (with_spents spents (with_exits exits t)))
 
 -- one token more, and the shop's row is this one
 abbrev pub token_added : ShopRow → Token → Tables → Tables

@@ -5,7 +5,7 @@ use Rattle.bo_lists.specs.declared.count_rows.QuotaCount.{QuotaCount}
 use Rattle.bo_lists.specs.declared.count_rows.VoucherCount.{VoucherCount}
 use Rattle.bo_columns.specs.Tables.{Tables}
 use Rattle.bo_stand.specs.Free.{IsFree}
-use Rattle.bo_stand.specs.Made.{made_by, next_by, put_count, set_redeemed}
+use Rattle.bo_stand.specs.Made.{made_by, next_by, put_count, put_uses}
 use Rattle.bo_stand.proofs.Made.{one_turned}
 
 pub change_stays_free : (change : Change) (from : ℕ) (t : Tables) → IsFree from t → IsFree (next_by change from) (made_by change from t)
@@ -14,5 +14,5 @@ change_stays_free change from t h = (one_turned change from t h).free
 pub count_stays_free : (count : QuotaCount) (from : ℕ) (t : Tables) → IsFree from t → IsFree from (put_count count t)
 count_stays_free count from t h = record { quota_items = h.quota_items; quota_variations = h.quota_variations; list_items = h.list_items; kept = h.kept }
 
-pub redeemed_stays_free : (count : VoucherCount) (from : ℕ) (t : Tables) → IsFree from t → IsFree from (set_redeemed count t)
-redeemed_stays_free count from t h = record { quota_items = h.quota_items; quota_variations = h.quota_variations; list_items = h.list_items; kept = h.kept }
+pub uses_stay_free : (count : VoucherCount) (from : ℕ) (t : Tables) → IsFree from t → IsFree from (put_uses count t)
+uses_stay_free count from t h = record { quota_items = h.quota_items; quota_variations = h.quota_variations; list_items = h.list_items; kept = h.kept }

@@ -1,5 +1,5 @@
 -- What the file of a shop holds of its office, what it knows of its house, and what a crash may leave of both.
-use Rattle.std.specs.Prelude.{◌≡◌, ℕ, false, List, [], ◌∷◌, IsTrue, IsPermutation, map}
+use Rattle.std.specs.Prelude.{◌≡◌, ℕ, false, List, [], ◌∷◌, IsTrue, IsPermutation}
 use Rattle.std.proofs.lemmas.List.Sorted.{IsPermutation-trans}
 use Rattle.sqlite_trees.specs.Tree.{Trees}
 use Rattle.sqlite.specs.Effect.{Database, IsDatabase}
@@ -90,7 +90,7 @@ reordered head next c s ks js held more is_open =
       settled = it.settled;
       tables = it.tables;
       held = it.held;
-      stand = record { shop_is = st.shop_is; moment = st.moment; next = st.next; rows = st.rows; ordered = st.ordered; used = st.used; redeemed = st.redeemed; kept = IsPermutation-trans _ ks js st.kept more };
+      stand = record { shop_is = st.shop_is; moment = st.moment; next = st.next; rows = st.rows; ordered = st.ordered; used = st.used; exits = st.exits; redeemed = st.redeemed; spents = st.spents; kept = IsPermutation-trans _ ks js st.kept more };
       typed = it.typed;
       free = it.free;
     }

@@ -56,7 +56,7 @@ pub(crate) fn begin<S: Alter>(
     if !is_blank(connection.schema()) {
         return Err(CreateError::NotBlank);
     }
-    match upgrade(connection, shop, 0) {
+    match upgrade(connection, shop, &[], &[], 0) {
         Ok(()) => Ok(()),
         Err(error) => Err(CreateError::of(error)),
     }

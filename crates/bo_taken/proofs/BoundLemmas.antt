@@ -2,14 +2,15 @@
 use Rattle.std.proofs.Common.{◌≤◌, ℕ, Bool, true, false, ◌-◌, ◌*◌, List, [], ◌∷◌, length, sum_by, if◌then◌else◌, arith}
 use Rattle.std.specs.List.{AllByRecursion}
 use Rattle.std.proofs.lemmas.List.Sums.{count_by-le-length, sum_by-cons}
-use Rattle.bo_base.specs.Counts.{most_uses}
+use Rattle.bo_base.specs.Money.{last_cents}
 use Rattle.bo_catalogue.specs.Limits.{most_rows}
 use Rattle.bo_catalogue.specs.declared.rows.Quota.{Quota}
+use Rattle.bo_lists.specs.declared.rows.OrderPos.{OrderPos}
 use Rattle.bo_lists.specs.declared.rows.Voucher.{Voucher}
 use Rattle.bo_lists.specs.Conditions.{blocks, is_paid, is_pending}
 use Rattle.bo_lists.specs.Lists.{Lists, State}
-use Rattle.bo_lists.specs.Usage.{blocked_by, cart_counts, exit_counts, position_counts, redeemed, usage_of, uses, waits_for}
-use Rattle.bo_sound.specs.Limits.{IsLimitedVoucher}
+use Rattle.bo_lists.specs.Usage.{blocked_by, cart_counts, exit_counts, position_counts, redeemed, spends, spent, usage_of, uses, waits_for}
+use Rattle.bo_sound.specs.Limits.{IsLimitedPosition, IsLimitedVoucher}
 use Rattle.bo_sound.specs.Sound.{IsSound}
 use Rattle.bo_taken.specs.Bounded.{IsBounded}
 
@@ -44,3 +45,15 @@ quota_bounded state sound quota =
 
 pub voucher_bounded : (state : State) → IsSound state → (voucher : ℕ) → redeemed voucher state.lists ≤ most_rows
 voucher_bounded state sound voucher = within _ _ (count_by-le-length (uses voucher state.lists) state.lists.positions) sound.few.positions
+
+-- what is spent: a discount for each position that uses the voucher
+taken_few : (counts : Bool) (discount : ℕ) → discount ≤ 9999999999 → (if counts then discount else 0) ≤ 9999999999
+taken_few true discount h = h
+taken_few false discount h = omega arith
+
+all_spent : (voucher : ℕ) (lists : Lists) (ps : List OrderPos) → AllByRecursion IsLimitedPosition ps → sum_by (spends voucher lists) ps ≤ length ps * 9999999999
+all_spent voucher lists [] h = omega arith
+all_spent voucher lists (p ∷ ps) h = omega (arith, sum_by-cons (spends voucher lists) p ps, taken_few (uses voucher lists p) p.discount h.0.discount, all_spent voucher lists ps h.1)
+
+pub spent_bounded : (state : State) → IsSound state → (voucher : ℕ) → spent voucher state.lists ≤ most_rows * last_cents
+spent_bounded state sound voucher = omega (arith, all_spent voucher state.lists state.lists.positions sound.limits.positions, sound.few.positions)

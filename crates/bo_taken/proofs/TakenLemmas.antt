@@ -1,5 +1,5 @@
 -- A file takes the changes of each step.
-use Rattle.std.proofs.Common.{◌≡◌, ℕ, Bool, true, false, List, [], ◌∷◌, ◌++◌, map, Option, Some, None, Result, Ok, Err, refl, sym, ap, ◌∙◌, subst}
+use Rattle.std.proofs.Common.{◌≡◌, ℕ, Bool, true, false, List, [], ◌∷◌, ◌++◌, map, Result, Ok, Err, refl, ◌∙◌, subst}
 use Rattle.std.specs.List.{AllByRecursion}
 use Rattle.bo_base.specs.declared.draw.Draw.{Draw}
 use Rattle.bo_sorted.specs.Tables.{AreInOrder}
@@ -20,7 +20,7 @@ use Rattle.bo_catalogue.specs.VariationAdded.{variation_added}
 use Rattle.bo_catalogue.specs.QuotaAdded.{quota_added}
 use Rattle.bo_catalogue.specs.Resized.{resized}
 use Rattle.bo_catalogue.specs.CatalogueLists.{CatalogueLists}
-use Rattle.bo_catalogue.proofs.Added.{quota_added_is, resized_is}
+use Rattle.bo_catalogue.proofs.Added.{resized_is}
 use Rattle.bo_lists.specs.declared.changes.Change.{Change}
 use Rattle.bo_lists.specs.declared.changes.Change.TheVariants.{PutItem, PutVariation, PutQuota, PutVoucher, PutCart, PutOrder, PutPosition, PutWaiting, DropVoucher as VoucherGoes, DropCart as CartGoes, DropWaiting as EntryGoes, PutCheckinList, PutCheckin}
 use Rattle.bo_lists.specs.declared.rows.CartPos.{CartPos}
@@ -33,7 +33,6 @@ use Rattle.bo_lists.specs.Consumed.{consumed}
 use Rattle.bo_lists.specs.Due.{dead_carts}
 use Rattle.bo_lists.specs.Lists.{State}
 use Rattle.bo_lists.proofs.EachRow.{all-row_at}
-use Rattle.bo_sound.specs.Limits.{IsLimitedQuota}
 use Rattle.bo_sound.specs.Members.{HasMembers}
 use Rattle.bo_sound.specs.Sound.{IsSound}
 use Rattle.bo_vouchers.specs.Changed.{voucher_changed}
@@ -188,23 +187,18 @@ ordered carts made state = joined _ _ (mapped CartGoes (λ _. refl) (consumed ca
 
 -- ---- quotas
 
--- a new quota's members rise, and it keeps its places
+-- a new quota's members rise
 added_rises : (new : NewQuota) (id : ℕ) (lists : CatalogueLists) (row : Quota) → quota_added new id lists ≡ Ok row → MembersRise row
 added_rises new id lists row h =
     let its = added_members new id lists row h in
-    record {
-      items = its.items_rise;
-      variations = its.variations_rise;
-      kept = subst (λ (q : Quota). q.release_after_exit ≡ false) (quota_added_is new id lists row h).is_row refl;
-    }
+    record { items = its.items_rise; variations = its.variations_rise }
 
--- so it is of one that is resized, as it was before
+-- so do those of one that is resized, as they did before
 resized_rises : (id : ℕ) (patch : QuotaPatch) (state : State) (row : Quota) → IsSound state → resized id patch state.lists.catalogue ≡ Ok row → MembersRise row
 resized_rises id patch state row sound h =
     let r = resized_is id patch state.lists.catalogue row h in
     let old = all-row_at (λ (q : Quota). q.id) (HasMembers state.lists.catalogue) id state.lists.catalogue.quotas r.old r.stood sound.members in
-    let was = all-row_at (λ (q : Quota). q.id) IsLimitedQuota id state.lists.catalogue.quotas r.old r.stood sound.limits.quotas in
-    subst MembersRise r.is_row (record { items = old.items_rise; variations = old.variations_rise; kept = was.kept })
+    subst MembersRise r.is_row (record { items = old.items_rise; variations = old.variations_rise })
 
 -- ---- each step
 

@@ -1,5 +1,5 @@
 -- How far the counts of a sound office go.
-use Rattle.std.specs.Prelude.{ℕ, ◌*◌, ◌≤◌}
+use Rattle.std.specs.Prelude.{◌*◌, ◌≤◌}
 use Rattle.bo_base.specs.Counts.{most_uses}
 use Rattle.bo_catalogue.specs.Limits.{most_rows}
 use Rattle.bo_lists.specs.declared.rows.Usage.{Usage}

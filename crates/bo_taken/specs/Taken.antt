@@ -7,7 +7,7 @@ use Rattle.bo_runs.specs.Runs.{Stepped, office_at}
 use Rattle.bo_stand.specs.Lawful.{puts_come_first}
 use Rattle.bo_stand.specs.Stands.{IsRising}
 
--- members rise, no quota releases places, and no voucher is put after one was dropped
+-- members rise, and no voucher is put after one was dropped
 pub record IsTaken (changes : List Change) : Type 0 where
   pub rising : AllByRecursion IsRising changes
   pub first : puts_come_first false changes ≡ true

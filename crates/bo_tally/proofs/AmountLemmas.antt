@@ -9,15 +9,15 @@ use Rattle.bo_tally.specs.Amounts.{nothing, plus, adds, no_uses, plus_uses}
 pub same_usage : (u v : Usage) → u.paid ≡ v.paid → u.pending ≡ v.pending → u.blocked ≡ v.blocked → u.carts ≡ v.carts → u.waiting ≡ v.waiting → u.exited ≡ v.exited → u ≡ v
 same_usage u v paid pending blocked carts waiting exited = λ i. record { paid = paid i; pending = pending i; blocked = blocked i; carts = carts i; waiting = waiting i; exited = exited i }
 
-pub same_uses : (u v : Uses) → u.used ≡ v.used → u.held ≡ v.held → u ≡ v
-same_uses u v used held = λ i. record { used = used i; held = held i }
+pub same_uses : (u v : Uses) → u.used ≡ v.used → u.held ≡ v.held → u.spent ≡ v.spent → u ≡ v
+same_uses u v used held spent = λ i. record { used = used i; held = held i; spent = spent i }
 
 -- with nothing more they stay as they are
 pub alone : (u : Usage) → plus u nothing ≡ u
 alone u = same_usage (plus u nothing) u (omega arith) (omega arith) (omega arith) (omega arith) (omega arith) (omega arith)
 
 pub alone_uses : (u : Uses) → plus_uses u no_uses ≡ u
-alone_uses u = same_uses (plus_uses u no_uses) u (omega arith) (omega arith)
+alone_uses u = same_uses (plus_uses u no_uses) u (omega arith) (omega arith) (omega arith)
 
 -- what comes to what came
 pub plus_both : (u v w : Usage) → plus (plus u v) w ≡ plus u (plus v w)
@@ -39,6 +39,7 @@ stepped_uses u v w come gone come' gone' e f =
     same_uses (plus_uses w (plus_uses gone gone')) (plus_uses u (plus_uses come come'))
     (omega (arith, ap (λ (x : Uses). x.used) e, ap (λ (x : Uses). x.used) f))
     (omega (arith, ap (λ (x : Uses). x.held) e, ap (λ (x : Uses). x.held) f))
+    (omega (arith, ap (λ (x : Uses). x.spent) e, ap (λ (x : Uses). x.spent) f))
 
 -- the same of all places together: what has come and gone out uses none, so each side takes off of one amount, whose exits are among its paid ones
 pub total_both : (u v gone come : Usage) → u.exited ≤ u.paid → v.exited ≤ v.paid → plus u gone ≡ plus v come → total u + (adds gone + come.exited) ≡ total v + (adds come + gone.exited)

@@ -12,6 +12,7 @@ unfolding usage_of blocked_by
 unshifted lists catalogue at shifts none gone = record {
   quotas = λ q stood. rw none refl;
   vouchers = λ v. rw gone refl;
+  spent = λ v. rw gone refl;
   stands = λ v. rw gone refl;
   quota_order = rw none tt;
   voucher_order = rw gone tt;

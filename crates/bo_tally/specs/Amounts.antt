@@ -1,4 +1,4 @@
--- Amounts that come and go: what uses a quota, and how often a voucher is used.
+-- Amounts that come and go: what uses a quota, how often a voucher is used, and what is spent of it.
 use Rattle.std.specs.Prelude.{ℕ, ◌+◌}
 use Rattle.bo_lists.specs.declared.rows.Usage.{Usage}
 use Rattle.bo_tally.specs.declared.amount.Uses.{Uses}
@@ -15,8 +15,8 @@ abbrev pub adds : Usage → ℕ
 adds usage = usage.paid + usage.pending + usage.blocked + usage.carts + usage.waiting
 
 abbrev pub no_uses : Uses
-no_uses = record { used = 0; held = 0 }
+no_uses = record { used = 0; held = 0; spent = 0 }
 
 -- both together
 abbrev pub plus_uses : Uses → Uses → Uses
-plus_uses a b = record { used = a.used + b.used; held = a.held + b.held }
+plus_uses a b = record { used = a.used + b.used; held = a.held + b.held; spent = a.spent + b.spent }

@@ -23,11 +23,13 @@ pub trait Amount: Copy {
         ensures { IfOk result (λ new. new ≡ sum self more) };
 }
 
-/// How often a voucher is used: by the positions of pending and paid orders, and by live cart positions.
+/// How often a voucher is used: by the positions of pending and paid orders, and by live cart positions. And what these
+/// positions of orders spend of its budget, in cents.
 #[derive(Clone, Copy)]
 pub struct Uses {
     pub used: u64,
     pub held: u64,
+    pub spent: u64,
 }
 
 impl Amount for Usage {
@@ -64,13 +66,18 @@ impl Amount for Uses {
     ghost sum = { plus_uses };
 
     fn none() -> Self {
-        Uses { used: 0, held: 0 }
+        Uses {
+            used: 0,
+            held: 0,
+            spent: 0,
+        }
     }
 
     fn with(self, more: Self) -> Result<Self, AllocError> {
         Ok(Uses {
             used: sum(self.used, more.used)?,
             held: sum(self.held, more.held)?,
+            spent: sum(self.spent, more.spent)?,
         })
     }
 }

@@ -14,13 +14,15 @@ pub struct QuotaShift {
     pub gone: Usage,
 }
 
-/// How many uses of a voucher by positions of pending and paid orders came, and how many went; and whether the voucher is a
-/// row after the changes.
+/// How many uses of a voucher by positions of pending and paid orders came, and how many went; how many cents these took of
+/// its budget, and how many they gave back; and whether the voucher is a row after the changes.
 #[derive(Clone, Copy)]
 pub struct VoucherShift {
     pub voucher: u64,
     pub come: u64,
     pub gone: u64,
+    pub spent_come: u64,
+    pub spent_gone: u64,
     pub stands: bool,
 }
 

@@ -31,7 +31,7 @@ use Rattle.bo_columns.specs.Changes.{head_of_quota, head_of_voucher, head_of_pos
 use Rattle.bo_columns.specs.Fit.{IsDigest, IsFitToken, IsFitKept}
 use Rattle.bo_columns.specs.Tables.{Tables, no_rows}
 use Rattle.bo_stand.specs.Free.{IsFree}
-use Rattle.bo_stand.specs.Made.{made_by, next_by, made, next_after, put_shop, set_redeemed, put_count, each, counted, with_listed, without_past, done}
+use Rattle.bo_stand.specs.Made.{made_by, next_by, made, next_after, put_shop, put_uses, put_count, each, counted, with_listed, without_past, done}
 use Rattle.bo_stand.specs.Rows.{redeemed_in}
 use Rattle.bo_stand.specs.RowsAfter.{redeemed_of}
 use Rattle.bo_stand.proofs.Carried.{tokens_stay}
@@ -84,16 +84,16 @@ all_recounted : (c : VoucherCount) (rows : List VoucherRow) → All OfVoucher ro
 all_recounted c [] h = All-nil OfVoucher
 all_recounted c (r ∷ rows) h = All-cons OfVoucher (recounted c r) (map (recounted c) rows) (one_recounted c r (All-head OfVoucher r rows h)) (all_recounted c rows (All-tail OfVoucher r rows h))
 
-redeemed_typed : (cs : List VoucherCount) (t : Tables) → AreTyped t → AreTyped (each set_redeemed cs t)
-redeemed_typed [] t h = h
-redeemed_typed (c ∷ cs) t h = redeemed_typed cs (set_redeemed c t) (set_vouchers h (all_recounted c t.vouchers h.vouchers))
+uses_typed : (cs : List VoucherCount) (t : Tables) → AreTyped t → AreTyped (each put_uses cs t)
+uses_typed [] t h = h
+uses_typed (c ∷ cs) t h = uses_typed cs (put_uses c t) (set_vouchers h (all_recounted c t.vouchers h.vouchers))
 
 used_typed : (cs : List QuotaCount) (t : Tables) → AreTyped t → AreTyped (each put_count cs t)
 used_typed [] t h = h
 used_typed (c ∷ cs) t h = used_typed cs (put_count c t) h
 
 counted_typed : (counts : CountRows) (t : Tables) → AreTyped t → AreTyped (counted counts t)
-counted_typed counts t h = used_typed counts.quotas (each set_redeemed counts.vouchers t) (redeemed_typed counts.vouchers t h)
+counted_typed counts t h = used_typed counts.quotas (each put_uses counts.vouchers t) (uses_typed counts.vouchers t h)
 
 listed_typed : (rowid : ℕ) (ks : List Kept) (t : Tables) → AllByRecursion IsTypedKept ks → AreTyped t → AreTyped (with_listed rowid ks t)
 listed_typed rowid [] t is h = h

@@ -1,4 +1,5 @@
 pub mod OrderSums
 pub mod Redeemed
+pub mod Spent
 pub mod VoucherCounts
 pub mod CoverLemmas

@@ -6,7 +6,7 @@ ghost use Rattle.std.specs.Option.{option_copied};
 ghost use Rattle.bo_lists.specs.declared.rows.OrderPos.{OrderPos};
 ghost use Rattle.bo_lists.specs.Lists.{State, voucher_at, cart_at, order_at, position_at, positions_of, waiting_at, checkin_list_at, checkin_at, checkins_by};
 ghost use Rattle.bo_lists.specs.Passages.{last_at};
-ghost use Rattle.bo_lists.specs.Usage.{redeemed, usage_of};
+ghost use Rattle.bo_lists.specs.Usage.{redeemed, spent, usage_of};
 ghost use Rattle.bo_lists.specs.Change.{applied};
 ghost use Rattle.bo_lists.specs.Weight.{weight};
 ghost use Rattle.bo_lists.specs.Headroom.{held, held_in};
@@ -191,6 +191,11 @@ pub trait Book {
     fn redeemed(&self, voucher: u64) -> u64
         ensures value { result ≡ redeemed voucher (state self.now).lists }
         ensures few { result ≤ 4294967296 };
+
+    /// What is spent of the voucher's budget, in cents: the discounts of the positions of pending and paid orders that name it, added up.
+    fn spent(&self, voucher: u64) -> u128
+        ensures value { result ≡ spent voucher (state self.now).lists }
+        ensures few { result ≤ 42949672955705032704 };
 
     /// How many cart positions that are live at a moment name the voucher.
     fn held(&self, voucher: u64, at: Moment) -> u64

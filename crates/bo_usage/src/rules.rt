@@ -5,7 +5,7 @@ ghost use Rattle.std.specs.Option.{option_copied};
 ghost use Rattle.bo_lists.specs.Conditions.{is_paid, is_pending, is_in_force, same_id};
 ghost use Rattle.bo_lists.specs.Fits.{fits};
 ghost use Rattle.bo_lists.specs.Over.{ignores};
-ghost use Rattle.bo_lists.specs.Usage.{stands_as, is_released, exit_counts, holds_place, takes_place, position_counts, uses, blocks_if, is_covered_by, cart_counts};
+ghost use Rattle.bo_lists.specs.Usage.{stands_as, is_released, exit_counts, holds_place, takes_place, position_counts, uses, spends, blocks_if, is_covered_by, cart_counts};
 ghost use Rattle.bo_usage.specs.Covers.{cover_alike};
 ghost use Rattle.bo_usage.specs.Shares.{status_share, exited_share, cart_share, waiting_share, blocked_share, held_name, used_name};
 
@@ -94,6 +94,18 @@ pub fn uses<R: LookUps>(rows: &R, voucher: u64, position: &OrderPos) -> bool
     ensures { result ≡ uses voucher (R.rows rows.now) position.now }
 {
     position.voucher == Some(voucher) && is_in_force(rows.order(position.order))
+}
+
+/// What an order position takes of the voucher's budget, in cents: its discount, where it uses the voucher, else 0.
+pub fn spends<R: LookUps>(rows: &R, voucher: u64, position: &OrderPos) -> u64
+    ensures value { result ≡ spends voucher (R.rows rows.now) position.now }
+    ensures small { result ≤ 9999999999 }
+{
+    if uses(rows, voucher, position) {
+        position.discount.get()
+    } else {
+        0
+    }
 }
 
 /// Whether a voucher, if there is one, blocks places of the quota.

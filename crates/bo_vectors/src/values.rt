@@ -1,8 +1,8 @@
 //! Money, moments, prices, codes, secrets and days.
 
 use bo_base::{
-    Cents, Draw, Moment, PriceMode, ValueRefusal, cents_text, order_code, price, read_cents,
-    read_code, secret,
+    Cents, Draw, Moment, PriceMode, ValueRefusal, cents_text, order_code, price_within,
+    read_cents, read_code, secret,
 };
 use bo_times::{moment_text, read_day, read_moment};
 use std::process::Abort;
@@ -107,18 +107,48 @@ fn moments(rt: HostRuntime) -> Result<(), Fail> {
 #[test]
 fn prices(rt: HostRuntime) {
     let base = Cents::new(500);
-    let third = price(PriceMode::Percent, Some(Cents::new(3333)), Cents::new(2300));
+    let third = price_within(
+        PriceMode::Percent,
+        Some(Cents::new(3333)),
+        Cents::new(2300),
+        None,
+    );
     assert_eq!(rt; third.get(), 1533);
-    let half = price(PriceMode::Percent, Some(Cents::new(5000)), Cents::new(3));
+    let half = price_within(
+        PriceMode::Percent,
+        Some(Cents::new(5000)),
+        Cents::new(3),
+        None,
+    );
     assert_eq!(rt; half.get(), 2);
-    let less = price(PriceMode::Subtract, Some(Cents::new(750)), base);
+    let less = price_within(PriceMode::Subtract, Some(Cents::new(750)), base, None);
     assert_eq!(rt; less.get(), 0);
-    let set = price(PriceMode::Set, Some(Cents::new(750)), base);
+    let set = price_within(PriceMode::Set, Some(Cents::new(750)), base, None);
     assert_eq!(rt; set.get(), 750);
-    let unchanged = price(PriceMode::None, Some(Cents::new(750)), base);
+    let unchanged = price_within(PriceMode::None, Some(Cents::new(750)), base, None);
     assert_eq!(rt; unchanged.get(), 500);
-    let unset = price(PriceMode::Set, None, base);
+    let unset = price_within(PriceMode::Set, None, base, None);
     assert_eq!(rt; unset.get(), 500);
+}
+
+// The price, in cents, of what costs 5.00 by a voucher of the value 7.50 with so much left of its budget.
+fn priced(mode: PriceMode, left: Cents) -> u64 {
+    let value = Some(Cents::new(750));
+    price_within(mode, value, Cents::new(500), Some(left)).get()
+}
+
+#[test]
+fn prices_within_a_budget(rt: HostRuntime) {
+    for (left, lowered) in [
+        (Cents::new(0), 500),
+        (Cents::new(1), 499),
+        (Cents::new(499), 1),
+        (Cents::new(500), 0),
+        (Cents::new(900), 0),
+    ] {
+        assert_eq!(rt; priced(PriceMode::Subtract, left), lowered);
+        assert_eq!(rt; priced(PriceMode::Set, left), 750);
+    }
 }
 
 #[test]

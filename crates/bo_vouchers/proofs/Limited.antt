@@ -57,6 +57,7 @@ made_limited new draw id sixteen small fit fits = record {
   value = value_limited new.price_mode new.value fits fit.value;
   tag = fit.tag;
   comment = fit.comment;
+  budget = fit.budget;
 }
 
 -- that of a changed one
@@ -68,4 +69,5 @@ changed_limited patch old fit limits fits = record {
   value = value_limited (unwrap_or patch.price_mode old.price_mode) (unwrap_or patch.value old.value) fits (given_or (λ value. IfSome value IsMoney) patch.value old.value fit.value (money_if old.price_mode old.value limits.value));
   tag = given_or IsText patch.tag old.tag fit.tag limits.tag;
   comment = given_or IsText patch.comment old.comment fit.comment limits.comment;
+  budget = given_or (λ budget. IfSome budget IsMoney) patch.budget old.budget fit.budget limits.budget;
 }

@@ -46,7 +46,8 @@ has_terms new row =
 abbrev pub has_target : NewVoucher → Voucher → Bool
 has_target new row = (same_id new.item row.item && same_id new.variation row.variation && same_id new.quota row.quota) && (same_text new.tag row.tag && same_text new.comment row.comment)
 
--- the voucher of a row's code has what the row says, in all the other eleven fields
+-- the voucher of a row's code has what the row says, in all the other eleven fields; a file has no budgets, and they aren't
+-- compared
 abbrev pub is_as_given : NewVoucher → Voucher → Bool
 is_as_given new row = has_terms new row && has_target new row
 

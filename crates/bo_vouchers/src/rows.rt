@@ -32,6 +32,7 @@ pub(crate) fn new_row(
         quota: new.quota,
         tag: new.tag.copy(alloc)?,
         comment: new.comment.copy(alloc)?,
+        budget: new.budget,
     })
 }
 
@@ -57,6 +58,7 @@ pub(crate) fn patched_row(
         quota: patch.quota.unwrap_or(old.quota),
         tag: text_or(alloc, &patch.tag, &old.tag)?,
         comment: text_or(alloc, &patch.comment, &old.comment)?,
+        budget: patch.budget.unwrap_or(old.budget),
     })
 }
 

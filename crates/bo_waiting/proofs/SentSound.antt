@@ -74,6 +74,7 @@ sent_limited draw state product sixteen small = record {
   value = tt;
   tag = tag_text;
   comment = no_text;
+  budget = tt;
 }
 
 -- the new voucher stands

@@ -77,7 +77,7 @@ gone_out releases = record {
   lists = record no_rows {
     catalogue = record { items = item 1 ∷ []; variations = []; quotas = record (quota 1 1 1) { release_after_exit = releases } ∷ [] };
     orders = record { id = 1; email = None; status = Paid; made_at = 50; expires = 60 } ∷ [];
-    positions = record { id = 1; order = 1; positionid = 1; product = record { item = 1; variation = None }; price = 0; voucher = None; secret = [] } ∷ [];
+    positions = record { id = 1; order = 1; positionid = 1; product = record { item = 1; variation = None }; price = 0; voucher = None; secret = []; discount = 0 } ∷ [];
     waiting = waits 1 (pos 0) 1 ∷ [];
     checkins = scan 1 Entry 70 ∷ scan 2 Exit 80 ∷ [];
   };

@@ -44,6 +44,7 @@ sent_voucher draw state product = record {
   quota = None;
   tag = codes "waiting-list";
   comment = [];
+  budget = None;
 }
 
 -- the entry with that voucher

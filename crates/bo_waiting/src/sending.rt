@@ -135,5 +135,6 @@ fn new_voucher<B: Book>(
         quota: None,
         tag: Text::copy_of(alloc, "waiting-list")?,
         comment: Text::copy_of(alloc, "")?,
+        budget: None,
     })
 }

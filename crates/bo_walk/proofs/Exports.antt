@@ -20,13 +20,12 @@ use Rattle.bo_schema.specs.Shapes.{plainly}
 use Rattle.bo_schema.proofs.Keyed.{same_filter}
 use Rattle.bo_sorted.specs.Tables.{AreInOrder, row_at}
 use Rattle.bo_stand.proofs.Order.{rows_at, same_order}
-use Rattle.bo_stand.proofs.Told.{map_back}
-use Rattle.bo_stand.specs.Rows.{voucher_of, position_of}
 use Rattle.bo_stand.specs.Stands.{Stand}
 use Rattle.bo_columns.specs.Tables.{Tables, Holds}
 use Rattle.bo_columns.specs.Changes.{head_of_voucher, head_of_position}
 use Rattle.bo_columns.specs.Rows.{position_row as row_of_position, order_row, voucher_row}
 use Rattle.bo_columns.specs.declared.rows.ShopRow.{ShopRow}
+use Rattle.bo_columns.specs.declared.rows.VoucherHead.{VoucherHead}
 use Rattle.bo_columns.specs.declared.rows.VoucherRow.{VoucherRow}
 use Rattle.bo_kept.specs.declared.kept.Kept.{Kept}
 use Rattle.bo_lists.specs.declared.rows.Order.{Order}
@@ -83,7 +82,7 @@ one_image f [] b h = absurd (cc)
 one_image f (a ∷ []) b h = (a, refl, cc)
 one_image f (a ∷ c ∷ xs) b h = absurd (cc)
 
-module _ (lists : Lists) (t_orders : List Order) (t_vouchers : List VoucherRow) (orders : IsPermutation t_orders lists.orders) (vouchers : IsPermutation (map (λ (r : VoucherRow). voucher_of r.voucher) t_vouchers) lists.vouchers)
+module _ (lists : Lists) (t_orders : List Order) (t_vouchers : List VoucherRow) (orders : IsPermutation t_orders lists.orders) (vouchers : IsPermutation (map (λ (r : VoucherRow). r.voucher) t_vouchers) (map head_of_voucher lists.vouchers))
     (in_order : AreInOrder (λ (o : Order). o.id) lists.orders) (vouchers_in_order : AreInOrder (λ (v : Voucher). v.id) lists.vouchers) where
   one_order : (p : OrderPos) (o : Order) → order_at p.order lists ≡ Some o → filter (is_of (position_row p)) (map order_row t_orders) ≡ order_row o ∷ []
   one_order p o at =
@@ -94,11 +93,14 @@ module _ (lists : Lists) (t_orders : List Order) (t_vouchers : List VoucherRow) 
   names_voucher : (p : OrderPos) → filter (is_named (position_row p)) (map voucher_row t_vouchers) ≡ map voucher_row (filter (partner.names p.voucher) t_vouchers)
   names_voucher p = filter-map (is_named (position_row p)) voucher_row t_vouchers ∙ ap (map voucher_row) (same_filter (λ v. is_named (position_row p) (voucher_row v)) (partner.names p.voucher) (partner.of_voucher (head_of_position p)) t_vouchers)
 
-  one_voucher : (id : ℕ) (v : Voucher) → voucher_at id lists ≡ Some v → (r : VoucherRow) × (filter (partner.names (Some id)) t_vouchers ≡ r ∷ []) × (voucher_of r.voucher ≡ v)
+  one_head : (id : ℕ) (v : Voucher) → voucher_at id lists ≡ Some v → filter (λ (h : VoucherHead). h.id == id) (map head_of_voucher lists.vouchers) ≡ head_of_voucher v ∷ []
+  one_head id v at = filter-map (λ (h : VoucherHead). h.id == id) head_of_voucher lists.vouchers ∙ ap (map head_of_voucher) (partner.only_one (λ (v : Voucher). v.id) 0 id lists.vouchers v vouchers_in_order at)
+
+  one_voucher : (id : ℕ) (v : Voucher) → voucher_at id lists ≡ Some v → (r : VoucherRow) × (filter (partner.names (Some id)) t_vouchers ≡ r ∷ []) × (r.voucher ≡ head_of_voucher v)
   one_voucher id v at =
-      let here = one_permutation v _ (subst (λ l. IsPermutation l (filter (λ (v : Voucher). v.id == id) (map (λ (r : VoucherRow). voucher_of r.voucher) t_vouchers))) (partner.only_one (λ (v : Voucher). v.id) 0 id lists.vouchers v vouchers_in_order at)
-      (IsPermutation-filter (λ (v : Voucher). v.id == id) lists.vouchers _ (IsPermutation-sym _ _ vouchers))) in
-      one_image (λ (r : VoucherRow). voucher_of r.voucher) (filter (partner.names (Some id)) t_vouchers) v (sym (filter-map (λ (v : Voucher). v.id == id) (λ (r : VoucherRow). voucher_of r.voucher) t_vouchers) ∙ here)
+      let here = one_permutation (head_of_voucher v) _ (subst (λ l. IsPermutation l (filter (λ (h : VoucherHead). h.id == id) (map (λ (r : VoucherRow). r.voucher) t_vouchers))) (one_head id v at)
+      (IsPermutation-filter (λ (h : VoucherHead). h.id == id) (map head_of_voucher lists.vouchers) _ (IsPermutation-sym _ _ vouchers))) in
+      one_image (λ (r : VoucherRow). r.voucher) (filter (partner.names (Some id)) t_vouchers) (head_of_voucher v) (sym (filter-map (λ (h : VoucherHead). h.id == id) (λ (r : VoucherRow). r.voucher) t_vouchers) ∙ here)
 
   -- what is named, or nothing
   coded : (p : OrderPos) (o : Order) (n : Option ℕ) → is_of (position_row p) (order_row o) ≡ true → filter (is_named (position_row p)) (map voucher_row t_vouchers) ≡ map voucher_row (filter (partner.names n) t_vouchers)
@@ -108,7 +110,7 @@ module _ (lists : Lists) (t_orders : List Order) (t_vouchers : List VoucherRow) 
       let stands = fitting (voucher_at id lists) fit in
       let one = one_voucher id stands.0 stands.1 in
       with_code (position_row p) (map voucher_row t_vouchers) (order_row o) (voucher_row one.0) is (named ∙ ap (map voucher_row) one.1)
-      ∙ ap (λ c. line (position_row p) (order_row o) c ∷ []) (ap (λ (v : Voucher). Text v.code) one.2 ∙ sym (ap (λ f. or_null Text (option_map (λ (v : Voucher). v.code) f)) stands.1))
+      ∙ ap (λ c. line (position_row p) (order_row o) c ∷ []) (ap (λ (h : VoucherHead). Text h.code) one.2 ∙ sym (ap (λ f. or_null Text (option_map (λ (v : Voucher). v.code) f)) stands.1))
     where
       fitting : (f : Option Voucher) → Rattle.bo_lists.specs.Fits.fits_if lists.catalogue p.product f ≡ true → (v : Voucher) × (f ≡ Some v)
       fitting (Some v) h = (v, refl)
@@ -170,19 +172,10 @@ in_order db d is rows a =
     IsPermutation-trans _ _ _ (IsPermutation-same _ _ (sym (a.distinct ∙ outs))) a.same
 
 module _ (db : Trees) (t : Tables) (held : Holds db t) (shop : ShopRow) (s : State) (ks : List Kept) (st : Stand shop t s ks) (so : IsSound s) where
-  abbrev positions : List OrderPos
-  positions = map position_of t.positions
-
-  positions_same : IsPermutation positions s.lists.positions
-  positions_same = subst (IsPermutation positions) (map_back head_of_position position_of (λ p. refl) s.lists.positions) (IsPermutation-map position_of _ _ st.rows.positions)
-
-  vouchers_same : IsPermutation (map (λ (r : VoucherRow). voucher_of r.voucher) t.vouchers) s.lists.vouchers
-  vouchers_same =
-      subst (λ l. IsPermutation l s.lists.vouchers) (map-map voucher_of (λ (r : VoucherRow). r.voucher) t.vouchers)
-      (subst (IsPermutation (map voucher_of (map (λ (r : VoucherRow). r.voucher) t.vouchers))) (map_back head_of_voucher voucher_of (λ v. refl) s.lists.vouchers) (IsPermutation-map voucher_of _ _ st.rows.vouchers))
-
-  position_rows : IsPermutation (map position_row positions) (map (shown schema 12) (db 12))
-  position_rows = subst (λ l. IsPermutation l (map (shown schema 12) (db 12))) (sym (map-map position_row position_of t.positions)) held.1.1.1.1.1.1.1.1.1.0
+  position_rows : IsPermutation (map position_row s.lists.positions) (map (shown schema 12) (db 12))
+  position_rows =
+      subst (λ l. IsPermutation l (map (shown schema 12) (db 12))) (map-map row_of_position head_of_position s.lists.positions)
+      (IsPermutation-trans _ _ _ (IsPermutation-map row_of_position _ _ (IsPermutation-sym _ _ st.rows.positions)) held.1.1.1.1.1.1.1.1.1.0)
 
   order_rows : IsPermutation (map order_row t.orders) (map (shown schema 11) (db 11))
   order_rows = held.1.1.1.1.1.1.1.1.0
@@ -190,17 +183,11 @@ module _ (db : Trees) (t : Tables) (held : Holds db t) (shop : ShopRow) (s : Sta
   voucher_rows : IsPermutation (map voucher_row t.vouchers) (map (shown schema 8) (db 8))
   voucher_rows = held.1.1.1.1.1.1.0
 
-  stand_in : AllByRecursion (λ p. is_some (order_at p.order s.lists) ≡ true) positions
-  stand_in = all-permutation (λ (p : OrderPos). is_some (order_at p.order s.lists) ≡ true) s.lists.positions positions (IsPermutation-sym _ _ positions_same) so.ordered.each.stand
-
-  fit_in : AllByRecursion (λ p. is_fit s.lists p.product p.voucher ≡ true) positions
-  fit_in = all-permutation (λ (p : OrderPos). is_fit s.lists p.product p.voucher ≡ true) s.lists.positions positions (IsPermutation-sym _ _ positions_same) so.fit.positions
-
-  shown_lines : lines (map position_row positions) (map order_row t.orders) (map voucher_row t.vouchers) ≡ map (λ p. sorted_as (line_of s.lists p)) positions
+  shown_lines : lines (map position_row s.lists.positions) (map order_row t.orders) (map voucher_row t.vouchers) ≡ map (λ p. sorted_as (line_of s.lists p)) s.lists.positions
   shown_lines =
-      flat_map-map (λ p. flat_map (lines_of p (map voucher_row t.vouchers)) (map order_row t.orders)) position_row positions
-      ∙ flat_map_singles (λ p. flat_map (lines_of (position_row p) (map voucher_row t.vouchers)) (map order_row t.orders)) (λ p. sorted_as (line_of s.lists p)) positions
-      (each_line s.lists t.orders t.vouchers positions (one_line s.lists t.orders t.vouchers st.rows.orders vouchers_same so.ids.orders.in_order so.ids.vouchers.in_order) stand_in fit_in)
+      flat_map-map (λ p. flat_map (lines_of p (map voucher_row t.vouchers)) (map order_row t.orders)) position_row s.lists.positions
+      ∙ flat_map_singles (λ p. flat_map (lines_of (position_row p) (map voucher_row t.vouchers)) (map order_row t.orders)) (λ p. sorted_as (line_of s.lists p)) s.lists.positions
+      (each_line s.lists t.orders t.vouchers s.lists.positions (one_line s.lists t.orders t.vouchers st.rows.orders st.rows.vouchers so.ids.orders.in_order so.ids.vouchers.in_order) so.ordered.each.stand so.fit.positions)
 
   own : IsPermutation (exported s.lists) (map (line_of s.lists) s.lists.positions)
   own = IsPermutation-trans _ _ _ (exported_same s.lists) (one_each (export_row s.lists) (line_of s.lists) s.lists.orders s.lists.positions (own_line s.lists so.ids.orders.in_order s.lists.positions so.ordered.each.stand))
@@ -209,9 +196,8 @@ module _ (db : Trees) (t : Tables) (held : Holds db t) (shop : ShopRow) (s : Sta
   all_lines =
       IsPermutation-trans _ _ _ (IsPermutation-map sorted_as _ _ own)
       (IsPermutation-trans _ _ _ (IsPermutation-same _ _ (map-map sorted_as (line_of s.lists) s.lists.positions))
-      (IsPermutation-trans _ _ _ (IsPermutation-map (λ p. sorted_as (line_of s.lists p)) _ _ (IsPermutation-sym _ _ positions_same))
       (IsPermutation-trans _ _ _ (IsPermutation-same _ _ (sym shown_lines))
-      (lines_turned _ _ _ _ _ _ position_rows order_rows voucher_rows))))
+      (lines_turned _ _ _ _ _ _ position_rows order_rows voucher_rows)))
 
   -- an answer shows the lines of the export, in their order
   pub answers : (d : Database) → d.trees ≡ db → (rows : List Row) → Reads (Select (plainly joined) names) d [] rows → rows ≡ map cells (exported s.lists)

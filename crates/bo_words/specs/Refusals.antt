@@ -65,6 +65,7 @@ voucher_detail voucher.WrongProduct = Some (codes "Voucher does not fit.")
 voucher_detail voucher.InUse = Some (codes "In use.")
 voucher_detail (voucher.SoldOut quota) = Some (codes "Sold out.")
 voucher_detail voucher.ReservedCode = Some (codes "Code is reserved.")
+voucher_detail voucher.OverBudget = Some (codes "Voucher budget is spent.")
 
 -- the sentence for an order or a cart; a refusal of a position or of its voucher has a voucher's
 abbrev pub order_detail : OrderRefusal → Option (List ℕ)

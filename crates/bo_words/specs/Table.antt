@@ -16,10 +16,10 @@ numbers missing others = record { missing = missing; others = others }
 -- that is needed, 13 no quota, 14 wrong members, 15 not active, 16 a full table, 17 an item without variations, 18 in no
 -- quota, 20 a taken code, 21 a wrong target, 22 what can't be blocked, 23 no voucher, 24 an expired one, 25 one without
 -- uses left, 26 one for another product, 27 one in use, 28 sold out, 29 what can be had without waiting, 30 who waits
--- already, 31 an entry that was sent its voucher, 32 no entry, 33 a reserved code, 40 no cart position, 41 no order, 42 a
--- status that doesn't allow it, 43 no positions, 44 too many, 45 a wrong cart id, 50 no check-in list, 51 no such ticket,
--- 52 one of an expired or cancelled order, 53 one that isn't on the list, 54 an unpaid one, 55 one that was let in already,
--- 59 no such page
+-- already, 31 an entry that was sent its voucher, 32 no entry, 33 a reserved code, 34 more taken off than a voucher's budget,
+-- 40 no cart position, 41 no order, 42 a status that doesn't allow it, 43 no positions, 44 too many, 45 a wrong cart id, 50 no
+-- check-in list, 51 no such ticket, 52 one of an expired or cancelled order, 53 one that isn't on the list, 54 an unpaid one,
+-- 55 one that was let in already, 59 no such page
 abbrev pub row_of : Kind → KindRefusals
 row_of kinds.AddItem = numbers [] (16 ∷ [])
 row_of kinds.ChangeItem = numbers (10 ∷ []) []
@@ -27,13 +27,13 @@ row_of kinds.AddVariation = numbers (10 ∷ []) (17 ∷ 16 ∷ [])
 row_of kinds.AddQuota = numbers [] (10 ∷ 11 ∷ 14 ∷ 16 ∷ [])
 row_of kinds.ResizeQuota = numbers (13 ∷ []) []
 row_of kinds.AddVoucher = numbers [] (2 ∷ 33 ∷ 20 ∷ 10 ∷ 11 ∷ 13 ∷ 21 ∷ 22 ∷ 28 ∷ 16 ∷ [])
-row_of kinds.ChangeVoucher = numbers (23 ∷ []) (2 ∷ 33 ∷ 20 ∷ 10 ∷ 11 ∷ 13 ∷ 21 ∷ 22 ∷ 27 ∷ 25 ∷ 28 ∷ [])
+row_of kinds.ChangeVoucher = numbers (23 ∷ []) (2 ∷ 33 ∷ 20 ∷ 10 ∷ 11 ∷ 13 ∷ 21 ∷ 22 ∷ 27 ∷ 25 ∷ 34 ∷ 28 ∷ [])
 row_of kinds.DropVoucher = numbers (23 ∷ []) (27 ∷ [])
 row_of kinds.AddCart = numbers [] (45 ∷ 10 ∷ 11 ∷ 12 ∷ 15 ∷ 18 ∷ 23 ∷ 24 ∷ 26 ∷ 25 ∷ 28 ∷ 16 ∷ [])
 row_of kinds.AddCarts = numbers [] (44 ∷ [])
 row_of kinds.DropCart = numbers (40 ∷ []) []
-row_of kinds.AddOrder = numbers [] (43 ∷ 44 ∷ 10 ∷ 11 ∷ 12 ∷ 15 ∷ 18 ∷ 23 ∷ 24 ∷ 26 ∷ 25 ∷ 28 ∷ 16 ∷ [])
-row_of kinds.MoveOrder = numbers (41 ∷ []) (42 ∷ 25 ∷ 28 ∷ [])
+row_of kinds.AddOrder = numbers [] (43 ∷ 44 ∷ 10 ∷ 11 ∷ 12 ∷ 15 ∷ 18 ∷ 23 ∷ 24 ∷ 26 ∷ 25 ∷ 34 ∷ 28 ∷ 16 ∷ [])
+row_of kinds.MoveOrder = numbers (41 ∷ []) (42 ∷ 25 ∷ 34 ∷ 28 ∷ [])
 row_of kinds.AddWaiting = numbers [] (10 ∷ 11 ∷ 12 ∷ 15 ∷ 30 ∷ 29 ∷ 16 ∷ [])
 row_of kinds.ChangeWaiting = numbers (32 ∷ []) (31 ∷ [])
 row_of kinds.DropWaiting = numbers (32 ∷ []) (31 ∷ [])

@@ -53,6 +53,7 @@ fn voucher_detail(refusal: VoucherRefusal) -> Option<&'static str>
         VoucherRefusal::InUse => Some("In use."),
         VoucherRefusal::SoldOut(_) => Some("Sold out."),
         VoucherRefusal::ReservedCode => Some("Code is reserved."),
+        VoucherRefusal::OverBudget => Some("Voucher budget is spent."),
     }
 }
 

@@ -1,7 +1,7 @@
 """The doors: check-in lists, scans and their nonces."""
 
 from forms import *
-from orders import ONE, move, new_order, one, order_row, position_row
+from orders import ONE, extend, move, new_order, one, order_row, position_row
 
 half_past = "2026-05-01T10:30:00Z"
 PAID = '{"email":"a@x","status":"p","positions":[{"item":1}]}'
@@ -80,7 +80,7 @@ case("a_ticket_is_admitted_once", house() + [
         checkin(3, nonce='"n1"'), checkin(4, "exit", '"n3"'), checkin(5, nonce='"n4"')])], 2)),
     (T, show_numbers(), numbers(1, 0, 1)),
     (T, show_numbers(2), numbers(1, 1, 1)),
-    (T, ask, answer(200, '{"available":true,"available_number":null,"blocking_vouchers":0,"cart_positions":0,"paid_orders":1,"pending_orders":0,"total_size":null,"waiting_list":0}')),
+    (T, ask, answer(200, '{"available":true,"available_number":null,"blocking_vouchers":0,"cart_positions":0,"exited_orders":0,"paid_orders":1,"pending_orders":0,"total_size":null,"waiting_list":0}')),
 ])
 
 case("the_last_check_in_is_the_latest", house() + [
@@ -167,4 +167,71 @@ case("what_a_list_is_for", house() + [
     (T, get("/checkinlists/3/positions/?page=x"), INVALID_PAGE),
     (T, get("/checkinlists/3/positions/?page=9"), NOT_FOUND),
     (T, get("/checkinlists/2/positions/?page=2"), INVALID_PAGE),
+])
+
+
+def releasing_house(more=()):
+    """An item in a quota of one place, which releases it, what comes then, and a list that admits again who went out."""
+    return [(T, new_item, item(1, "Stalls", "23.00")),
+            (T, post("/quotas/", '{"name":"A","size":1,"items":[1],"release_after_exit":true}'), answer(201, quota_row(1, "A", 1, "1", releases="true"))),
+            *more, (T, new_list(',"allow_entry_after_exit":true'), answer(201, list_row(1, after_exit="true")))]
+
+
+paid = (T, new_order(PAID), answer(201, order_row([ticket], status="p")))
+
+case("places_that_exits_set_free", releasing_house([paid]) + [
+    (T, scan(), admitted()),
+    (T, ask, availability(1, 0, paid=1)),
+    (T, hold, sold_out(1)),
+    (T, scan('{"type":"exit"}'), admitted()),
+    (T, ask, availability(1, 1, paid=1, exited=1)),
+    (T, hold, cart(1, 10, T, half_past)),
+    (T, ask, availability(1, 0, carts=1, paid=1, exited=1)),
+    (T, scan(), admitted()),
+    (T, ask, availability(1, 0, carts=1, paid=1)),
+    (T, hold, sold_out(1)),
+    (T, scan('{"type":"exit","datetime":"2026-05-01T09:59:59Z"}'), admitted()),
+    (T, ask, availability(1, 0, carts=1, paid=1)),
+])
+
+case("an_exit_by_another_list", releasing_house([paid]) + [
+    (T, new_list(), answer(201, list_row(2))),
+    (T, new_quota(9, "B"), quota(2, "B", 9)),
+    (T, scan('{"datetime":"2026-05-01T10:00:10Z"}'), admitted()),
+    (T, scan('{"type":"exit","datetime":"2026-05-01T10:00:20Z"}', list=2), admitted()),
+    (T, ask, availability(1, 1, paid=1, exited=1)),
+    (T, get("/quotas/2/availability/"), availability(9, 8, paid=1)),
+    (T, move("mark_pending"), one()),
+    (T, ask, availability(1, 0, pending=1)),
+    (T, move("mark_paid"), one("p")),
+    (T, ask, availability(1, 1, paid=1, exited=1)),
+])
+
+covered = position_row(1, 4, voucher=1)
+
+case("a_place_that_is_blocked_again", releasing_house([
+    (T, post("/vouchers/", '{"code":"V","block_quota":true,"quota":1}'), answer(201, voucher_row(1, "V", block_quota="true", quota=1))),
+    (T, new_order('{"email":"a@x","status":"p","positions":[{"item":1,"voucher":"V"}]}'), answer(201, order_row([covered], status="p"))),
+]) + [
+    (T, scan(), admitted(covered)),
+    (T, ask, availability(1, 0, paid=1)),
+    (T, scan('{"type":"exit"}'), admitted(covered)),
+    (T, ask, availability(1, 1, paid=1, exited=1)),
+    (T, move("mark_canceled"), answer(200, order_row([covered], status="c"))),
+    (T, ask, availability(1, 0, blocking=1)),
+])
+
+# It takes none where its order is paid again, and one where that is pending.
+case("a_ticket_that_is_out_takes_no_place", releasing_house([paid]) + [
+    (T, scan(), admitted()),
+    (T, scan('{"type":"exit"}'), admitted()),
+    (T, move("mark_pending"), one()),
+    (T, move("mark_expired"), one("e")),
+    (T, ask, availability(1, 1)),
+    (T, hold, cart(1, 10, T, half_past)),
+    (T, extend("2026-05-15T10:00:00Z"), sold_out(1)),
+    (T, move("mark_paid"), one("p")),
+    (T, ask, availability(1, 0, carts=1, paid=1, exited=1)),
+    (T, move("mark_pending"), one()),
+    (T, ask, availability(1, 0, carts=1, pending=1)),
 ])

@@ -8,7 +8,7 @@ from forms import *
 from doors import admitted, list_row, new_list, scan
 from keys import keyed
 from orders import ONE, move, new_order, order_row, position_row
-from vouchers import half_past, made, new_voucher
+from vouchers import half_past, made, new_voucher, shown
 from waiting import joined
 
 TILL = "Authorization: Token till\r\n"
@@ -58,9 +58,9 @@ def failed(number):
 NEW = [told("init", "made\n"), token("feed", 1)]
 
 
-def run(name, deeds):
-    """A run over a new shop."""
-    runs.append((name, [*NEW, *deeds]))
+def run(name, deeds, new=True):
+    """A run over a new shop, or over no file."""
+    runs.append((name, [*NEW, *deeds] if new else deeds))
 
 
 # Keys.
@@ -102,12 +102,18 @@ VERDICTS = [
     (row("C3", quota=LAST_ID), "refused 13"),
 ]
 
+of_club = {"max_usages": 3, "block_quota": "true", "price_mode": '"percent"', "value": '"33.33"', "quota": 1}
+
 run("vouchers_of_a_file", [
     requests(setup(3)),
     imported([line for line, _ in VERDICTS], [f"{line.split(',')[0]} {verdict}" for line, verdict in VERDICTS]),
     imported(["CLUB,3,,true,false,percent,33.33,,,1,,"], ["CLUB added"]),
     imported(["CLUB,3,,true,false,percent,33.33,,,1,,"], ["CLUB same"]),
     imported(["CLUB,4,,true,false,percent,33.33,,,1,,"], ["CLUB other"]),
+    requests([(T, get("/vouchers/2/"), shown(2, "CLUB", **of_club))]),
+    # no file has a budget, nor is one compared
+    requests([(T, patch("/vouchers/2/", '{"budget":"9.00"}'), shown(2, "CLUB", budget='"9.00"', **of_club))]),
+    imported(["CLUB,3,,true,false,percent,33.33,,,1,,"], ["CLUB same"]),
     imported([row("A1", item=1), "C4,1,,maybe,false,none,,1,,,,"], [unread(2, 4)]),
     imported([row("D1", item=0)], [unread(1, 8)]),
     imported([row("D2", item=LAST_ID + 1)], [unread(1, 8)]),
@@ -117,7 +123,7 @@ run("vouchers_of_a_file", [
     imported([row("D6", quota=LAST_ID + 1)], [unread(1, 10)]),
     requests([(T, get("/vouchers/"), listed("/vouchers/", 2, [
         voucher_row(1, "A1", item=1),
-        voucher_row(2, "CLUB", max_usages=3, block_quota="true", price_mode='"percent"', value='"33.33"', quota=1)]))]),
+        voucher_row(2, "CLUB", budget='"9.00"', **of_club)]))]),
 ])
 
 # Reports.
@@ -177,9 +183,10 @@ run("reports_beside_wide_counts", [
 # Damaged files.
 
 
-def paid(number, tick, code, voucher="null", item=1):
+def paid(number, tick, code, price, voucher="null", item=1):
     """An order of one position that was paid when it was made, as it is shown."""
-    return answer(201, order_row([position_row(number, tick, order=number, code=code, item=item, voucher=voucher)], code=code, status="p"))
+    row = position_row(number, tick, order=number, code=code, price=price, item=item, voucher=voucher)
+    return answer(201, order_row([row], code=code, status="p", total=price))
 
 
 def pay(item, voucher):
@@ -189,14 +196,15 @@ def pay(item, voucher):
 some_rows = ("a_shop_of_some_rows", setup(9) + [
     (T, post("/items/", '{"name":"Balcony","default_price":"23.00"}'), item(2, "Balcony", "23.00")),
     (T, post("/quotas/", '{"name":"B","size":9,"items":[2],"variations":[]}'), answer(201, quota_row(2, "B", 9, items="2"))),
-    (T, new_voucher('{"code":"CLUB","max_usages":2,"block_quota":true,"item":1}'), made(1, "CLUB", max_usages=2, block_quota="true", item=1)),
+    (T, new_voucher('{"code":"CLUB","max_usages":2,"block_quota":true,"price_mode":"subtract","value":"3.00","item":1,"budget":"5.00"}'),
+     made(1, "CLUB", max_usages=2, block_quota="true", price_mode='"subtract"', value='"3.00"', item=1, budget='"5.00"')),
     (T, new_voucher('{"code":"HIGH","item":2}'), made(2, "HIGH", item=2)),
-    (T, pay(1, "CLUB"), paid(1, 7, "AAAAB", voucher=1)),
-    (T, pay(1, "CLUB"), paid(2, 8, "AAAAC", voucher=1)),
+    (T, pay(1, "CLUB"), paid(1, 7, "AAAAB", "20.00", voucher=1)),
+    (T, pay(1, "CLUB"), paid(2, 8, "AAAAC", "21.00", voucher=1)),
     (T, keyed("/orders/", ONE, "k"), answer(201, order_row([position_row(3, 9, order=3, code="AAAAD")], code="AAAAD"))),
     (T, hold, cart(1, 10, T, half_past)),
     (T, new_list(), answer(201, list_row(1))),
-    (T, scan('{"nonce":"n1"}'), admitted(position_row(1, 7, voucher=1))),
+    (T, scan('{"nonce":"n1"}'), admitted(position_row(1, 7, price="20.00", voucher=1))),
     (T, post("/items/", '{"name":"Box","default_price":"40.00","variations":[{"value":"Left"}]}'),
      answer(201, item_row(3, "Box", "40.00", variations=[variation_row(1, "Left", "40.00")]))),
     (T, post("/quotas/", '{"name":"C","size":0,"items":[3],"variations":[1]}'), answer(201, quota_row(3, "C", 0, items="3", variations="1"))),
@@ -205,8 +213,8 @@ some_rows = ("a_shop_of_some_rows", setup(9) + [
 
 run("damaged_files", [
     requests(some_rows[1]),
-    told("open", "version 1\n"),
-    told("spoil UPDATE items SET name = 'Stalls'", "version 1\n"),
+    told("open", "version 3\n"),
+    told("spoil UPDATE items SET name = 'Stalls'", "version 3\n"),
     told("spoil DROP TABLE kept", failed("60")),
     told("spoil UPDATE shop SET version = 9", failed("61")),
     told("spoil UPDATE shop SET moment = -1", failed("62.1")),
@@ -217,7 +225,23 @@ run("damaged_files", [
     told("spoil DELETE FROM order_positions WHERE id = 3", failed("62.5")),
     told("spoil UPDATE vouchers SET max_usages = 1 WHERE id = 1", failed("62.6")),
     told("spoil UPDATE quota_count SET paid = paid + 1 WHERE quota_id = 1", failed("62.7")),
-    told("open", "version 1\n"),
+    told("spoil UPDATE quota_exited SET exited = exited + 1 WHERE quota_id = 1", failed("62.7")),
+    told("spoil DELETE FROM quota_exited WHERE quota_id = 1", failed("62.7")),
+    told("spoil INSERT INTO quota_release VALUES (1)", "version 3\n"),
+    told("spoil DROP TABLE quota_exited", failed("60")),
+    told("spoil UPDATE voucher_spent SET spent = spent + 1 WHERE voucher_id = 1", failed("62.7")),
+    told("spoil DELETE FROM voucher_spent WHERE voucher_id = 2", failed("62.7")),
+    told("spoil UPDATE position_discount SET discount = discount + 1 WHERE position_id = 1", failed("62.7")),
+    told("spoil DELETE FROM position_discount", failed("62.7")),
+    told("spoil UPDATE voucher_budget SET budget = -1", failed("62.2")),
+    told("spoil UPDATE position_discount SET discount = 10000000000", failed("62.2")),
+    told("spoil UPDATE voucher_budget SET budget = budget - 1", failed("62.8")),
+    told("spoil UPDATE voucher_budget SET budget = budget - 1; UPDATE voucher_spent SET spent = spent - 1 WHERE voucher_id = 1", failed("62.7")),
+    told("spoil INSERT INTO voucher_budget VALUES (2, 0)", "version 3\n"),
+    told("spoil DELETE FROM voucher_budget", "version 3\n"),
+    told("spoil DELETE FROM position_discount; UPDATE voucher_spent SET spent = 0", "version 3\n"),
+    *(told(f"spoil DROP TABLE {it}", failed("60")) for it in ("voucher_budget", "voucher_spent", "position_discount")),
+    told("open", "version 3\n"),
 ])
 
 

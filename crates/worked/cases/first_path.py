@@ -60,13 +60,13 @@ case("quota_without_a_size", [
     (T, new_quota("null"), quota(1, "A", "null")),
     (T, hold, cart(1, 3, T, "2026-05-01T10:30:00Z")),
     (T, ask, answer(200, '{"available":true,"available_number":null,"blocking_vouchers":0,"cart_positions":1,'
-                         '"paid_orders":0,"pending_orders":0,"total_size":null,"waiting_list":0}')),
+                         '"exited_orders":0,"paid_orders":0,"pending_orders":0,"total_size":null,"waiting_list":0}')),
 ])
 
 case("quota_members_rise", [
     (T, new_item, item(1, "Stalls", "23.00")),
     (T, post("/items/", '{"name":"Pit","default_price":"5"}'), item(2, "Pit", "5.00")),
-    (T, post("/quotas/", '{"name":"A","size":null,"items":[2,1,2]}'), answer(201, '{"id":1,"items":[1,2],"name":"A","size":null,"variations":[]}')),
+    (T, post("/quotas/", '{"name":"A","size":null,"items":[2,1,2]}'), answer(201, quota_row(1, "A", "null", "1,2"))),
     (T, post("/cartpositions/", '{"item":2}'), cart(1, 4, T, "2026-05-01T10:30:00Z", "5.00", 2)),
 ])
 
@@ -196,8 +196,18 @@ case("quota_fields", [(T, post("/quotas/", body), told) for body, told in [
     ('{"name":"Q","size":1,"items":null}', fault("items", NULL)),
     ('{"name":"Q","size":1,"variations":[1]}', refused(11, "Variation not found.")),
     ('{"name":"Q","size":1,"items":[1]}', refused(10, "Item not found.")),
-    ('{"name":"Q","size":1000000}', answer(201, '{"id":1,"items":[],"name":"Q","size":1000000,"variations":[]}')),
-]])
+    ('{"name":"Q","size":1000000}', answer(201, quota_row(1, "Q", 1000000))),
+    ('{"name":"Q","size":1,"release_after_exit":null}', fault("release_after_exit", NULL)),
+    ('{"name":"Q","size":1,"release_after_exit":1}', fault("release_after_exit", INVALID)),
+    ('{"name":"Q","size":1,"variations":{},"release_after_exit":1}', fault("variations", INVALID)),
+    ('{"name":"Q","size":1,"items":[1],"release_after_exit":"true"}', fault("release_after_exit", INVALID)),
+    ('{"name":"Q","size":1,"release_after_exit":false}', answer(201, quota_row(2, "Q", 1))),
+    ('{"release_after_exit":true,"size":1,"name":"Q"}', answer(201, quota_row(3, "Q", 1, releases="true"))),
+]] + [
+    (T, patch("/quotas/3/", '{"release_after_exit":false,"size":2}'), answer(200, quota_row(3, "Q", 2, releases="true"))),
+    (T, patch("/quotas/2/", '{"release_after_exit":1}'), answer(200, quota_row(2, "Q", 1))),
+    (T, get("/quotas/3/"), answer(200, quota_row(3, "Q", 2, releases="true"))),
+])
 
 case("cart_fields", setup(1) + [(T, post("/cartpositions/", body), told) for body, told in [
     ("{}", fault("item", REQUIRED)),

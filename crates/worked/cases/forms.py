@@ -43,7 +43,7 @@ def item(number, name, price):
 
 
 def quota(number, name, size):
-    return answer(201, f'{{"id":{number},"items":[1],"name":"{name}","size":{size},"variations":[]}}')
+    return answer(201, quota_row(number, name, size, "1"))
 
 
 def cart(number, tick, made, expires, price="23.00", item=1):
@@ -59,7 +59,7 @@ def left(size, carts):
     return answer(
         200,
         f'{{"available":{"true" if number else "false"},"available_number":{number},"blocking_vouchers":0,'
-        f'"cart_positions":{carts},"paid_orders":0,"pending_orders":0,"total_size":{size},"waiting_list":0}}',
+        f'"cart_positions":{carts},"exited_orders":0,"paid_orders":0,"pending_orders":0,"total_size":{size},"waiting_list":0}}',
     )
 
 
@@ -138,8 +138,8 @@ def variation_row(number, name, price, own=None, active="true"):
     return f'{{"active":{active},"default_price":{default},"id":{number},"price":"{price}","value":"{name}"}}'
 
 
-def quota_row(number, name, size, items="", variations=""):
-    return f'{{"id":{number},"items":[{items}],"name":"{name}","size":{size},"variations":[{variations}]}}'
+def quota_row(number, name, size, items="", variations="", releases="false"):
+    return f'{{"id":{number},"items":[{items}],"name":"{name}","release_after_exit":{releases},"size":{size},"variations":[{variations}]}}'
 
 
 def cart_row(number, tick, made, expires, price="23.00", item=1, variation="null", voucher="null"):
@@ -150,7 +150,7 @@ def cart_row(number, tick, made, expires, price="23.00", item=1, variation="null
 def voucher_row(number, code, **given):
     """A voucher as it is shown; what isn't given is what a POST gives without it."""
     fields = {
-        "allow_ignore_quota": "false", "block_quota": "false", "code": f'"{code}"', "comment": '""', "id": number,
+        "allow_ignore_quota": "false", "block_quota": "false", "budget": "null", "code": f'"{code}"', "comment": '""', "id": number,
         "item": "null", "max_usages": 1, "price_mode": '"none"', "quota": "null", "redeemed": 0, "tag": '""',
         "valid_until": "null", "value": "null", "variation": "null",
     }
@@ -159,11 +159,11 @@ def voucher_row(number, code, **given):
     return "{" + ",".join(f'"{name}":{fields[name]}' for name in sorted(fields)) + "}"
 
 
-def availability(size, number, blocking=0, carts=0, paid=0, pending=0, waiting=0, available=None):
+def availability(size, number, blocking=0, carts=0, paid=0, pending=0, waiting=0, available=None, exited=0):
     if available is None:
         available = "true" if number != 0 else "false"
     return answer(200, f'{{"available":{available},"available_number":{number},"blocking_vouchers":{blocking},'
-                       f'"cart_positions":{carts},"paid_orders":{paid},"pending_orders":{pending},"total_size":{size},'
+                       f'"cart_positions":{carts},"exited_orders":{exited},"paid_orders":{paid},"pending_orders":{pending},"total_size":{size},'
                        f'"waiting_list":{waiting}}}')
 
 

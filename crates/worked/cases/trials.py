@@ -7,18 +7,19 @@ a file, so these numbers alone (`COUNTS`) are read from a run, and change with t
 """
 
 from forms import *
-from files import NEW, TILL, deed_text, failed, imported, requests, row, token
+from files import NEW, TILL, deed_text, failed, imported, requests, row, told, token
 from keys import keyed
 from orders import ONE, move, new_order, one, order_row, position_row
+from versions import NEWEST, OLDER, asked_again, migrated, old_file
 from waiting import entry_row, join, joined, sent_row, work, worked
 
 trials = []
 
 
-def trial(name, before, first, then, outcomes, kind="stops"):
-    """An outcome has a name, what the first deed tells, and what each deed behind it tells."""
+def trial(name, before, first, then, outcomes, kind="stops", new=True):
+    """An outcome has a name, what the first deed tells, and what each deed behind it tells. Those before it begin over a new shop, or no file."""
     assert all(len(it) == 2 + len(then) for it in outcomes)
-    trials.append((kind, name, [*NEW, *before], first, then, outcomes))
+    trials.append((kind, name, [*NEW, *before] if new else before, first, then, outcomes))
 
 
 # Stops.
@@ -125,6 +126,24 @@ trial("import", [requests(setup(1))], two_vouchers, [listed_vouchers, two_vouche
        ("out, fault 63", NOT_READ, *found_neither),
        ("out, not opened", NOT_OPENED, *found_neither)])
 
+
+
+def migration(version):
+    """What is found then: whether the file is of this version or still of the older one; that `migrate` takes it, which it wouldn't if an
+    older one had a table of this version, or one of this version lacked one; and that it holds what it held."""
+    again = requests(asked_again(version))
+    whole = [NEWEST, again[2]]
+    found_new, found_old = [NEWEST, *whole], [failed("61"), *whole]
+    outcomes = [("in, answered", NEWEST, *found_new),
+                ("in, fault 63", NOT_READ, *found_new),
+                ("out, fault 63", NOT_READ, *found_old),
+                ("out, not opened", NOT_OPENED, *found_old)]
+    return f"migrate_from_{version}", [old_file(version)], migrated, [told("open", ""), migrated, again], outcomes
+
+
+for older in OLDER:
+    trial(*migration(older), new=False)
+
 # Refused calls, while the shop stays open.
 
 delivered_twice = [(T, the_order, ""), (T, get("/orders/"), ""), (T60, the_order, ""), (T60, get("/orders/"), "")]
@@ -146,32 +165,46 @@ trial("order_under_a_key", [requests(setup(1))],
        ("out, not read", NOT_READ, found(7)),
        ("out, not opened", NOT_OPENED, found(7))],
       kind="refusals")
+for older in OLDER:
+    trial(*migration(older), kind="refusals", new=False)
 
 
 # How often each outcome came, and behind them how often something else did, where it did, as a run printed it.
 COUNTS = {
-    ("stops", "order_under_a_key", "log", "what wasn't synced is lost"): [26, 0, 6, 0, 28],
-    ("stops", "order_under_a_key", "log", "what was written is kept"): [26, 1, 5, 0, 28],
-    ("stops", "order_under_a_key", "database file", "what wasn't synced is lost"): [11, 0, 0, 0, 100],
-    ("stops", "order_under_a_key", "database file", "what was written is kept"): [11, 0, 0, 0, 100],
-    ("stops", "periodic_work", "log", "what wasn't synced is lost"): [18, 0, 6, 0, 28],
-    ("stops", "periodic_work", "log", "what was written is kept"): [18, 1, 5, 0, 28],
-    ("stops", "periodic_work", "database file", "what wasn't synced is lost"): [7, 0, 0, 0, 100],
-    ("stops", "periodic_work", "database file", "what was written is kept"): [7, 0, 0, 0, 100],
+    ("stops", "order_under_a_key", "log", "what wasn't synced is lost"): [28, 0, 6, 0, 28],
+    ("stops", "order_under_a_key", "log", "what was written is kept"): [28, 1, 5, 0, 28],
+    ("stops", "order_under_a_key", "database file", "what wasn't synced is lost"): [12, 0, 0, 0, 115],
+    ("stops", "order_under_a_key", "database file", "what was written is kept"): [12, 0, 0, 0, 115],
+    ("stops", "periodic_work", "log", "what wasn't synced is lost"): [22, 0, 6, 0, 28],
+    ("stops", "periodic_work", "log", "what was written is kept"): [22, 1, 5, 0, 28],
+    ("stops", "periodic_work", "database file", "what wasn't synced is lost"): [9, 0, 0, 0, 115],
+    ("stops", "periodic_work", "database file", "what was written is kept"): [9, 0, 0, 0, 115],
     ("stops", "token", "log", "what wasn't synced is lost"): [14, 0, 6, 28],
     ("stops", "token", "log", "what was written is kept"): [14, 1, 5, 28],
-    ("stops", "token", "database file", "what wasn't synced is lost"): [5, 0, 0, 100],
-    ("stops", "token", "database file", "what was written is kept"): [5, 0, 0, 100],
+    ("stops", "token", "database file", "what wasn't synced is lost"): [5, 0, 0, 115],
+    ("stops", "token", "database file", "what was written is kept"): [5, 0, 0, 115],
     ("stops", "token_with_an_outcome_too_few", "log", "what wasn't synced is lost"): [14, 0, 6, 28],
     ("stops", "token_with_an_outcome_too_few", "log", "what was written is kept"): [14, 1, 5, 28],
-    ("stops", "token_with_an_outcome_too_few", "database file", "what wasn't synced is lost"): [5, 0, 0, 100],
-    ("stops", "token_with_an_outcome_too_few", "database file", "what was written is kept"): [5, 0, 0, 100],
-    ("stops", "import", "log", "what wasn't synced is lost"): [14, 0, 6, 28],
-    ("stops", "import", "log", "what was written is kept"): [14, 1, 5, 28],
-    ("stops", "import", "database file", "what wasn't synced is lost"): [5, 0, 0, 100],
-    ("stops", "import", "database file", "what was written is kept"): [5, 0, 0, 100],
-    ("refusals", "order_under_a_key", "log", "the files stay"): [26, 3, 1, 2, 0, 28],
-    ("refusals", "order_under_a_key", "database file", "the files stay"): [11, 0, 0, 0, 0, 100],
+    ("stops", "token_with_an_outcome_too_few", "database file", "what wasn't synced is lost"): [5, 0, 0, 115],
+    ("stops", "token_with_an_outcome_too_few", "database file", "what was written is kept"): [5, 0, 0, 115],
+    ("stops", "import", "log", "what wasn't synced is lost"): [16, 0, 6, 28],
+    ("stops", "import", "log", "what was written is kept"): [16, 1, 5, 28],
+    ("stops", "import", "database file", "what wasn't synced is lost"): [6, 0, 0, 115],
+    ("stops", "import", "database file", "what was written is kept"): [6, 0, 0, 115],
+    ("stops", "migrate_from_1", "log", "what wasn't synced is lost"): [24, 0, 6, 28],
+    ("stops", "migrate_from_1", "log", "what was written is kept"): [24, 1, 5, 28],
+    ("stops", "migrate_from_1", "database file", "what wasn't synced is lost"): [10, 0, 0, 100],
+    ("stops", "migrate_from_1", "database file", "what was written is kept"): [10, 0, 0, 100],
+    ("stops", "migrate_from_2", "log", "what wasn't synced is lost"): [20, 0, 6, 28],
+    ("stops", "migrate_from_2", "log", "what was written is kept"): [20, 1, 5, 28],
+    ("stops", "migrate_from_2", "database file", "what wasn't synced is lost"): [8, 0, 0, 106],
+    ("stops", "migrate_from_2", "database file", "what was written is kept"): [8, 0, 0, 106],
+    ("refusals", "order_under_a_key", "log", "the files stay"): [28, 3, 1, 2, 0, 28],
+    ("refusals", "order_under_a_key", "database file", "the files stay"): [12, 0, 0, 0, 0, 115],
+    ("refusals", "migrate_from_1", "log", "the files stay"): [24, 1, 5, 28],
+    ("refusals", "migrate_from_1", "database file", "the files stay"): [10, 0, 0, 100],
+    ("refusals", "migrate_from_2", "log", "the files stay"): [20, 1, 5, 28],
+    ("refusals", "migrate_from_2", "database file", "the files stay"): [8, 0, 0, 106],
 }
 
 

@@ -17,6 +17,7 @@ import catalogue  # noqa: F401
 import vouchers  # noqa: F401
 import orders  # noqa: F401
 import bulk  # noqa: F401
+import budgets  # noqa: F401
 import limits  # noqa: F401
 import edges  # noqa: F401
 import waiting  # noqa: F401

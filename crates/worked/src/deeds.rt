@@ -4,6 +4,7 @@ use crate::clock::{Shown, at};
 use crate::shop::{Answered, answer_opened};
 use bo_base::{Body, Slug};
 use bo_file::open_file;
+use bo_house::migrating::migrate_shop;
 use bo_house::{Filed, add_shop_token, fault_of_opening, import_shop, make_new_shop, report_shop};
 use bo_line::{Advice, Report, RunFault};
 use bo_opens::Quiet;
@@ -159,6 +160,18 @@ fn report<S: Alter + Drop>(alloc: Global, connection: Connection<S>, report: Rep
     }
 }
 
+// Brings the shop to this program's version.
+fn migrate<S: Alter + Drop>(alloc: Global, connection: Connection<S>) -> Acted<S> {
+    let Filed {
+        connection,
+        outcome,
+    } = migrate_shop(&system(), alloc, connection);
+    Acted {
+        connection,
+        told: told_text(alloc, outcome),
+    }
+}
+
 // Runs statements through a connection that knows nothing of shops.
 fn execute<S: Alter + Drop>(
     alloc: Global,
@@ -190,6 +203,7 @@ impl Acts for Clerk {
             "import" => import(alloc, connection, deed.text),
             "sales" => report(alloc, connection, Report::Sales),
             "door" => report(alloc, connection, Report::Door(1)),
+            "migrate" => migrate(alloc, connection),
             "rows" => execute(alloc, connection, deed.text),
             "spoil" => execute(alloc, connection, deed.word),
             _ => report(alloc, connection, Report::Version),

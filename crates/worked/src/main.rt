@@ -3,9 +3,10 @@
 //! Each stream of requests under `data/` is answered by a box office of its own, once in one piece and once byte by byte.
 //! Printed are its name, how it ends, and what is written. Behind them comes what is read of clocks; what callers are told
 //! who are there at once (`cases/together.py`); shops whose files are in memory (`cases/files.py`): closed and opened,
-//! damaged, imported into and reported on, and stopped or refused at each of their calls (`cases/trials.py`); order
-//! positions that are exported (`cases/exports.txt`); and what comes of command lines, one of them over devices that fail
-//! (`cases/devices.txt`): all in the same program, since a second one would have to read all libraries again.
+//! damaged, imported into and reported on, of version 1 (`cases/versions.py`), and stopped or refused at each of their
+//! calls (`cases/trials.py`); order positions that are exported (`cases/exports.txt`); and what comes of command lines, one
+//! of them over devices that fail (`cases/devices.txt`): all in the same program, since a second one would have to read all
+//! libraries again.
 //!
 //! A case file begins with a line of moments, one for each whole request, with a space between two. What follows are the
 //! bytes of the stream. `data/names` has the names of the cases, one a line. `cases/write.py` writes them, and `stdout`, from the

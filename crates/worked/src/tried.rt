@@ -97,7 +97,7 @@ impl HouseFiles for OneFile {
             Report::Sales => " total       0       0       0       0           0.00\n",
             Report::Door(1) => " total         0         0         0\n",
             Report::Door(_) => return Err(RunFault::NoList),
-            Report::Version => "version 1\n",
+            Report::Version => "version 3\n",
         };
         let mut text = Vec::new(alloc);
         text.extend_from_slice(line.as_bytes())?;

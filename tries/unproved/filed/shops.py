@@ -11,9 +11,10 @@ TOP = os.path.dirname(os.path.dirname(os.path.dirname(os.path.dirname(os.path.ab
 sys.path[:0] = [f"{TOP}/bin", f"{TOP}/crates/worked/cases"]
 import unproved
 from forms import *
-import first_path, catalogue, vouchers, orders, bulk, limits, edges, waiting, doors, keys, together  # noqa: E401, F401 (they list their cases)
+import first_path, catalogue, vouchers, orders, bulk, budgets, limits, edges, waiting, doors, keys, together  # noqa: E401, F401 (they list their cases)
 from files import TILL, some_rows, two_orders
 from keys import LAST_SECOND, NEXT_DAY, keyed
+from versions import OLDER, OLD_QUOTA, OLD_VOUCHER, THIS, made_by, rows_at  # noqa: F401 (tries/filed and tries/sqlite3 make older files of them)
 from orders import ONE, order_row, position_row
 from vouchers import half_past
 
@@ -25,6 +26,10 @@ ON_KEYS = [
     "a_repeat_closes_where_it_asks_for_it", "a_fault_is_told_again", "a_read_has_no_key", "no_key_and_the_first_key",
     "a_repeat_changes_no_moment",
 ]
+# Those on places that exits set free.
+ON_EXITS = ["places_that_exits_set_free", "an_exit_by_another_list", "a_place_that_is_blocked_again"]
+# Those on budgets.
+ON_BUDGETS = ["a_budget_is_spent_in_turn", "a_given_price_spends_of_a_budget", "what_was_spent_without_a_budget_counts"]
 
 each_has_its_own = ("each_token_has_keys_of_its_own", setup(2) + [
     (T, keyed("/cartpositions/", '{"item":1}', "k"), cart(1, 3, T, half_past)),
@@ -40,10 +45,23 @@ each_has_its_own = ("each_token_has_keys_of_its_own", setup(2) + [
 SPOILT = [
     ("0", "UPDATE items SET name = 'Stalls'"),
     ("0", "UPDATE waiting SET priority = -1000000"),
+    ("0", "INSERT INTO quota_release VALUES (1)"),
+    ("0", "UPDATE voucher_budget SET budget = 500"),
+    ("0", "DELETE FROM voucher_budget"),
+    ("0", "INSERT INTO voucher_budget VALUES (2, 0)"),
+    ("0", "DELETE FROM position_discount; UPDATE voucher_spent SET spent = 0"),
     ("60", "DROP TABLE kept"),
     ("60", "DROP TABLE quota_count"),
+    ("60", "DROP TABLE quota_release"),
+    ("60", "DROP TABLE quota_exited"),
+    ("60", "DROP TABLE voucher_budget"),
+    ("60", "DROP TABLE voucher_spent"),
+    ("60", "DROP TABLE position_discount"),
     ("60", "DROP TABLE shop"),
     ("61.9", "UPDATE shop SET version = 9"),
+    ("61.4", "UPDATE shop SET version = 4"),
+    ("61.2", "UPDATE shop SET version = 2"),
+    ("61.1", "UPDATE shop SET version = 1"),
     ("61.0", "UPDATE shop SET version = 0"),
     ("61.-1", "UPDATE shop SET version = -1"),
     ("62.1", "UPDATE shop SET moment = -1"),
@@ -61,6 +79,12 @@ SPOILT = [
     ("62.2", "UPDATE checkins SET kind = 'pass'"),
     ("62.2", "INSERT INTO items VALUES (0, 'None', 0, 1, 0)"),
     ("62.2", "UPDATE quotas SET size = 1000001 WHERE id = 1"),
+    ("62.2", "UPDATE quota_exited SET exited = -1 WHERE quota_id = 1"),
+    ("62.2", "UPDATE voucher_budget SET budget = -1"),
+    ("62.2", "UPDATE voucher_budget SET budget = 10000000000"),
+    ("62.2", "UPDATE voucher_spent SET spent = -1 WHERE voucher_id = 1"),
+    ("62.2", "UPDATE position_discount SET discount = -1 WHERE position_id = 1"),
+    ("62.2", "UPDATE position_discount SET discount = 10000000000 WHERE position_id = 1"),
     ("62.3", "UPDATE shop SET next_order = 3"),
     ("62.3", "UPDATE shop SET next_item = 3"),
     ("62.3", "UPDATE shop SET next_checkin = 1"),
@@ -71,6 +95,7 @@ SPOILT = [
     ("62.4", "UPDATE items SET varied = 0 WHERE id = 3"),
     ("62.4", "UPDATE waiting SET variation_id = NULL"),
     ("62.4", "UPDATE cart_positions SET variation_id = 1"),
+    ("62.4", "UPDATE position_discount SET discount = 0 WHERE position_id = 1"),
     ("62.5", "DELETE FROM order_positions WHERE id = 3"),
     ("62.5", "UPDATE order_positions SET positionid = 2, secret = '00000000000000000000000000000009z3z2' WHERE id = 3"),
     ("62.6", "UPDATE vouchers SET max_usages = 1 WHERE id = 1"),
@@ -78,8 +103,20 @@ SPOILT = [
     ("62.7", "UPDATE quota_count SET carts = 0 WHERE quota_id = 1"),
     ("62.7", "UPDATE quota_count SET waiting = 0 WHERE quota_id = 3"),
     ("62.7", "DELETE FROM quota_count WHERE quota_id = 2"),
+    ("62.7", "UPDATE quota_exited SET exited = 1 WHERE quota_id = 1"),
+    ("62.7", "DELETE FROM quota_exited WHERE quota_id = 2"),
+    ("62.7", "DELETE FROM quota_exited"),
+    ("62.7", "INSERT INTO quota_release VALUES (1); UPDATE checkins SET kind = 'exit'"),
+    ("0", "INSERT INTO quota_release VALUES (1); UPDATE checkins SET kind = 'exit'; UPDATE quota_exited SET exited = 1 WHERE quota_id = 1"),
     ("62.7", "UPDATE vouchers SET redeemed = 0 WHERE id = 1"),
     ("62.7", "UPDATE orders SET status = 'c' WHERE id = 3"),
+    ("62.7", "UPDATE voucher_spent SET spent = 499 WHERE voucher_id = 1"),
+    ("62.7", "UPDATE voucher_spent SET spent = 1 WHERE voucher_id = 2"),
+    ("62.7", "DELETE FROM voucher_spent WHERE voucher_id = 2"),
+    ("62.7", "DELETE FROM voucher_spent"),
+    ("62.7", "DELETE FROM position_discount"),
+    ("62.7", "UPDATE position_discount SET discount = 299 WHERE position_id = 1"),
+    ("62.8", "UPDATE voucher_budget SET budget = 499"),
     # Where two fail, the first one is told.
     ("60", "DROP TABLE shop; UPDATE items SET default_price = -1"),
     ("61.9", "DROP TABLE kept; UPDATE shop SET version = 9"),
@@ -91,12 +128,18 @@ SPOILT = [
     ("62.4", "DELETE FROM order_positions WHERE id = 3; UPDATE order_positions SET voucher_id = 2 WHERE id = 1"),
     ("62.5", "UPDATE vouchers SET max_usages = 1 WHERE id = 1; DELETE FROM order_positions WHERE id = 3"),
     ("62.6", "UPDATE quota_count SET paid = 0 WHERE quota_id = 1; UPDATE vouchers SET max_usages = 1 WHERE id = 1"),
+    ("62.6", "UPDATE voucher_budget SET budget = 499; UPDATE vouchers SET max_usages = 1 WHERE id = 1"),
+    ("62.7", "UPDATE voucher_budget SET budget = 499; UPDATE quota_count SET paid = 0 WHERE quota_id = 1"),
+    ("62.7", "UPDATE voucher_budget SET budget = 499; DELETE FROM voucher_spent WHERE voucher_id = 2"),
+    ("62.7", "UPDATE voucher_budget SET budget = 499; UPDATE voucher_spent SET spent = 499 WHERE voucher_id = 1"),
 ]
 # The same of statements that the kit's crate doesn't know.
 RENAMED = [
     ("60", "ALTER TABLE items RENAME TO things"),
     ("60", "ALTER TABLE waiting RENAME COLUMN priority TO rank"),
     ("60", "ALTER TABLE shop RENAME TO house"),
+    ("60", "ALTER TABLE quota_exited RENAME COLUMN exited TO gone"),
+    ("60", "ALTER TABLE voucher_spent RENAME COLUMN spent TO gone"),
     ("61.9", "UPDATE shop SET version = 9; ALTER TABLE kept RENAME COLUMN body TO text"),
     ("60", "ALTER TABLE kept RENAME COLUMN body TO text; UPDATE shop SET moment = -1"),
 ]

@@ -4,7 +4,7 @@ ghost use Rattle.bo_stand.specs.Made.{made_by, next_by};
 ghost use Rattle.bo_tables.specs.Free.{change_stays_free};
 
 use crate::writes::members::{write_list, write_quota};
-use crate::writes::rows::{drop_row, drop_voucher, put_row, put_voucher_row};
+use crate::writes::rows::{drop_row, drop_voucher, put_position_row, put_row, put_voucher_row};
 use crate::writes::writable::Writable;
 use bo_lists::{CartPos, Change, Waiting};
 use bo_schema::RowError;
@@ -29,7 +29,7 @@ impl Writable for Change {
             Change::PutVoucher(row) => put_voucher_row(tx, row, from),
             Change::PutCart(row) => put_row(tx, row, from),
             Change::PutOrder(row) => put_row(tx, row, from),
-            Change::PutPosition(row) => put_row(tx, row, from),
+            Change::PutPosition(row) => put_position_row(tx, row, from),
             Change::PutWaiting(row) => put_row(tx, row, from),
             Change::DropVoucher(id) => drop_voucher(tx, *id, from),
             Change::DropCart(id) => drop_row::<S, CartPos>(tx, *id, from),

@@ -5,11 +5,11 @@ ghost use Rattle.sqlite.specs.Held.{state};
 ghost use Rattle.sqlite.specs.State.{HasCleanDisk, Survives, KeepsCommit};
 ghost use Rattle.bo_columns.specs.Changes.{IsInside, ChangesFit};
 ghost use Rattle.bo_stand.specs.Free.{IsFree};
-ghost use Rattle.bo_stand.specs.Made.{put_count, set_redeemed, counted};
-ghost use Rattle.bo_tables.specs.Free.{count_stays_free, redeemed_stays_free};
+ghost use Rattle.bo_stand.specs.Made.{put_count, put_uses, counted};
+ghost use Rattle.bo_tables.specs.Free.{count_stays_free, uses_stay_free};
 
-use crate::writes::rows::put_row;
 use crate::writes::writable::{Writable, write_each};
+use bo_columns::{ExitRow, SpentRow};
 use bo_lists::{CountRows, QuotaCount, VoucherCount};
 use bo_schema::RowError;
 use sqlite::{Alter, Transaction};
@@ -26,14 +26,20 @@ impl Writable for QuotaCount {
         tx: &mut Transaction<'_, S>,
         from: u64,
     ) -> Result<u64, RowError> {
-        put_row(tx, self, from)
+        let exits = ExitRow {
+            quota: self.quota,
+            exited: self.usage.exited,
+        };
+        bo_rows::put(tx, self)?;
+        bo_rows::put(tx, &exits)?;
+        Ok(from)
     }
 
     ghost stays_free = { count_stays_free };
 }
 
 impl Writable for VoucherCount {
-    ghost made = { λ count from. set_redeemed count };
+    ghost made = { λ count from. put_uses count };
 
     ghost next = { λ count from. from };
 
@@ -43,11 +49,16 @@ impl Writable for VoucherCount {
         tx: &mut Transaction<'_, S>,
         from: u64,
     ) -> Result<u64, RowError> {
+        let spent = SpentRow {
+            voucher_id: self.voucher,
+            spent: self.spent,
+        };
         bo_rows::put_redeemed(tx, *self)?;
+        bo_rows::put(tx, &spent)?;
         Ok(from)
     }
 
-    ghost stays_free = { redeemed_stays_free };
+    ghost stays_free = { uses_stay_free };
 }
 
 /// Puts the counts that changed. Refusal: 63 where a voucher that is counted isn't there.

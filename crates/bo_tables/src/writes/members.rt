@@ -9,11 +9,11 @@ ghost use Rattle.bo_columns.specs.Tables.{Tables, Holds};
 ghost use Rattle.bo_rows.specs.Removed.{AreApart};
 ghost use Rattle.bo_stand.specs.Free.{IsFree};
 ghost use Rattle.bo_stand.specs.Links.{are_just};
-ghost use Rattle.bo_stand.specs.Made.{put_links, put_quota, put_list};
+ghost use Rattle.bo_stand.specs.Made.{put_links, put_release, put_quota, put_list};
 ghost use Rattle.bo_tables.specs.Steps.{made_each};
 
 use bo_catalogue::Quota;
-use bo_columns::{ListItem, Member, QuotaItem, QuotaVariation};
+use bo_columns::{ListItem, Member, QuotaItem, QuotaVariation, ReleaseRow};
 use bo_lists::CheckinList;
 use bo_loads::{FindByOwner, members_of};
 use bo_rows::{RemoveByOwner, Stored, remove_members};
@@ -136,8 +136,22 @@ fn write_members<S: Alter, T: FindByOwner + RemoveByOwner>(
     add_members::<S, T>(tx, owner, from, members)
 }
 
+// Puts the row by which a quota releases places; removes it where the quota keeps them.
+fn write_release<S: Alter>(tx: &mut Transaction<'_, S>, row: &Quota) -> Result<(), RowError>
+    ensures same { tx.new.conn.ghost_name ≡ tx.old.conn.ghost_name }
+    ensures written { HasCleanDisk (state S.Store tx.new.conn.now) → IsInside (state S.Store tx.old.conn.now) → OnOk result (Changes (put_release row.now) (state S.Store tx.old.conn.now) (state S.Store tx.new.conn.now)) }
+    ensures kept { HasCleanDisk (state S.Store tx.new.conn.now) → KeepsCommit (state S.Store tx.old.conn.now) (state S.Store tx.new.conn.now) }
+    ensures crash { Survives (state S.Store tx.old.conn.now) (state S.Store tx.new.conn.now) (λ _. ⊥) }
+{
+    if row.release_after_exit {
+        bo_rows::put(tx, &ReleaseRow { quota: row.id })
+    } else {
+        ReleaseRow::remove(tx, row.id)
+    }
+}
+
 /// Puts the quota in the place of its id, and its members in the place of those that it had. Members that stand already aren't
-/// written: a quota that is resized is one row.
+/// written: a quota that is resized is one row, and a look at the one by which it releases places.
 pub(crate) fn write_quota<S: Alter>(
     alloc: Global,
     tx: &mut Transaction<'_, S>,
@@ -151,6 +165,7 @@ pub(crate) fn write_quota<S: Alter>(
     ensures crash { Survives (state S.Store tx.old.conn.now) (state S.Store tx.new.conn.now) (λ _. ⊥) }
 {
     bo_rows::put(tx, row)?;
+    write_release(tx, row)?;
     let mid = write_members::<S, QuotaItem>(alloc, tx, row.id, from, row.items.as_slice())?;
     write_members::<S, QuotaVariation>(alloc, tx, row.id, mid, row.variations.as_slice())
 }

@@ -1,13 +1,15 @@
 //! Rows with an id of their own: no row number is used.
 
-ghost use Rattle.std.specs.Prelude.{◌≡◌, IfOk};
+ghost use Rattle.std.specs.Prelude.{◌≡◌, ◌++◌, if◌then◌else◌, map, IfOk, OnOk};
 ghost use Rattle.sqlite.specs.Held.{state};
 ghost use Rattle.sqlite.specs.State.{HasCleanDisk, Survives, KeepsCommit};
-ghost use Rattle.bo_columns.specs.Changes.{IsInside, ChangesFit};
+ghost use Rattle.bo_columns.specs.Changes.{IsInside, Changes, ChangesFit, without_discount};
 ghost use Rattle.bo_stand.specs.Free.{IsFree};
-ghost use Rattle.bo_stand.specs.Made.{put_voucher, without_voucher};
+ghost use Rattle.bo_stand.specs.Made.{put_budget, put_voucher, drop_voucher, put_position};
+ghost use Rattle.bo_stand.specs.Rows.{discounts_of};
 
-use bo_lists::Voucher;
+use bo_columns::{BudgetRow, DiscountRow, SpentRow};
+use bo_lists::{OrderPos, Voucher};
 use bo_rows::Stored;
 use bo_schema::RowError;
 use sqlite::{Alter, Transaction};
@@ -43,32 +45,106 @@ pub(crate) fn drop_row<S: Alter, T: Stored>(
     Ok(from)
 }
 
-/// Puts the voucher in the place of its id. Its count stays as it is.
+// Puts the row of a voucher's budget; removes it where the voucher has none.
+fn write_budget<S: Alter>(tx: &mut Transaction<'_, S>, row: &Voucher) -> Result<(), RowError>
+    ensures same { tx.new.conn.ghost_name ≡ tx.old.conn.ghost_name }
+    ensures written { HasCleanDisk (state S.Store tx.new.conn.now) → IsInside (state S.Store tx.old.conn.now) → OnOk result (Changes (put_budget row.now) (state S.Store tx.old.conn.now) (state S.Store tx.new.conn.now)) }
+    ensures kept { HasCleanDisk (state S.Store tx.new.conn.now) → KeepsCommit (state S.Store tx.old.conn.now) (state S.Store tx.new.conn.now) }
+    ensures crash { Survives (state S.Store tx.old.conn.now) (state S.Store tx.new.conn.now) (λ _. ⊥) }
+{
+    match row.budget {
+        Some(budget) => bo_rows::put(
+            tx,
+            &BudgetRow {
+                voucher_id: row.id,
+                budget,
+            },
+        ),
+        None => BudgetRow::remove(tx, row.id),
+    }
+}
+
+/// Puts the voucher in the place of its id, and its budget in the place of the one that it had. Its counts stay as they are.
 pub(crate) fn put_voucher_row<S: Alter>(
     tx: &mut Transaction<'_, S>,
     row: &Voucher,
     from: u64,
 ) -> Result<u64, RowError>
     ensures same { tx.new.conn.ghost_name ≡ tx.old.conn.ghost_name }
-    ensures written { HasCleanDisk (state S.Store tx.new.conn.now) → IsInside (state S.Store tx.old.conn.now) → IfOk result (λ free. (free ≡ from) × ChangesFit (IsFree from) (put_voucher row.now) (state S.Store tx.old.conn.now) (state S.Store tx.new.conn.now)) }
+    ensures written { HasCleanDisk (state S.Store tx.new.conn.now) → IsInside (state S.Store tx.old.conn.now) → IfOk result (λ free. (free ≡ from) × ChangesFit (IsFree from) (λ t. put_budget row.now (put_voucher row.now t)) (state S.Store tx.old.conn.now) (state S.Store tx.new.conn.now)) }
     ensures kept { HasCleanDisk (state S.Store tx.new.conn.now) → KeepsCommit (state S.Store tx.old.conn.now) (state S.Store tx.new.conn.now) }
     ensures crash { Survives (state S.Store tx.old.conn.now) (state S.Store tx.new.conn.now) (λ _. ⊥) }
 {
     bo_rows::put_voucher(tx, row)?;
+    write_budget(tx, row)?;
     Ok(from)
 }
 
-/// Removes the voucher of an id, if there is one.
+/// Removes the voucher of an id, if there is one: first its budget and what is spent of it, which refer to it.
 pub(crate) fn drop_voucher<S: Alter>(
     tx: &mut Transaction<'_, S>,
     id: u64,
     from: u64,
 ) -> Result<u64, RowError>
     ensures same { tx.new.conn.ghost_name ≡ tx.old.conn.ghost_name }
-    ensures written { HasCleanDisk (state S.Store tx.new.conn.now) → IsInside (state S.Store tx.old.conn.now) → IfOk result (λ free. (free ≡ from) × ChangesFit (IsFree from) (without_voucher id) (state S.Store tx.old.conn.now) (state S.Store tx.new.conn.now)) }
+    ensures written { HasCleanDisk (state S.Store tx.new.conn.now) → IsInside (state S.Store tx.old.conn.now) → IfOk result (λ free. (free ≡ from) × ChangesFit (IsFree from) (drop_voucher id) (state S.Store tx.old.conn.now) (state S.Store tx.new.conn.now)) }
     ensures kept { HasCleanDisk (state S.Store tx.new.conn.now) → KeepsCommit (state S.Store tx.old.conn.now) (state S.Store tx.new.conn.now) }
     ensures crash { Survives (state S.Store tx.old.conn.now) (state S.Store tx.new.conn.now) (λ _. ⊥) }
 {
+    BudgetRow::remove(tx, id)?;
+    SpentRow::remove(tx, id)?;
     bo_rows::remove_voucher(tx, id)?;
+    Ok(from)
+}
+
+// Removes the discount of the order position that stood, if one did.
+fn drop_discount<S: Alter>(
+    tx: &mut Transaction<'_, S>,
+    id: u64,
+    stood: bool,
+) -> Result<(), RowError>
+    ensures same { tx.new.conn.ghost_name ≡ tx.old.conn.ghost_name }
+    ensures written { HasCleanDisk (state S.Store tx.new.conn.now) → IsInside (state S.Store tx.old.conn.now) → OnOk result (Changes (λ t. if stood then without_discount id t else t) (state S.Store tx.old.conn.now) (state S.Store tx.new.conn.now)) }
+    ensures kept { HasCleanDisk (state S.Store tx.new.conn.now) → KeepsCommit (state S.Store tx.old.conn.now) (state S.Store tx.new.conn.now) }
+    ensures crash { Survives (state S.Store tx.old.conn.now) (state S.Store tx.new.conn.now) (λ _. ⊥) }
+{
+    if stood {
+        return DiscountRow::remove(tx, id);
+    }
+    Ok(())
+}
+
+// Adds the row of what was taken off the position's price, if anything was.
+fn add_discount<S: Alter>(tx: &mut Transaction<'_, S>, row: &OrderPos) -> Result<(), RowError>
+    ensures same { tx.new.conn.ghost_name ≡ tx.old.conn.ghost_name }
+    ensures written { HasCleanDisk (state S.Store tx.new.conn.now) → IsInside (state S.Store tx.old.conn.now) → OnOk result (Changes (λ t. record t { discounts = map (λ n. record { position_id = row.now.id; discount = n }) (discounts_of row.now) ++ t.discounts }) (state S.Store tx.old.conn.now) (state S.Store tx.new.conn.now)) }
+    ensures kept { HasCleanDisk (state S.Store tx.new.conn.now) → KeepsCommit (state S.Store tx.old.conn.now) (state S.Store tx.new.conn.now) }
+    ensures crash { Survives (state S.Store tx.old.conn.now) (state S.Store tx.new.conn.now) (λ _. ⊥) }
+{
+    if row.discount.get() == 0 {
+        return Ok(());
+    }
+    let discount = DiscountRow {
+        position_id: row.id,
+        discount: row.discount,
+    };
+    discount.insert(tx)
+}
+
+/// Puts the order position in the place of its id, and its discount in the place of that of the one that stood. Of a new one without a
+/// discount its own row alone is written.
+pub(crate) fn put_position_row<S: Alter>(
+    tx: &mut Transaction<'_, S>,
+    row: &OrderPos,
+    from: u64,
+) -> Result<u64, RowError>
+    ensures same { tx.new.conn.ghost_name ≡ tx.old.conn.ghost_name }
+    ensures written { HasCleanDisk (state S.Store tx.new.conn.now) → IsInside (state S.Store tx.old.conn.now) → IfOk result (λ free. (free ≡ from) × ChangesFit (IsFree from) (put_position row.now) (state S.Store tx.old.conn.now) (state S.Store tx.new.conn.now)) }
+    ensures kept { HasCleanDisk (state S.Store tx.new.conn.now) → KeepsCommit (state S.Store tx.old.conn.now) (state S.Store tx.new.conn.now) }
+    ensures crash { Survives (state S.Store tx.old.conn.now) (state S.Store tx.new.conn.now) (λ _. ⊥) }
+{
+    let stood = bo_rows::put_position(tx, row)?;
+    drop_discount(tx, row.id, stood)?;
+    add_discount(tx, row)?;
     Ok(from)
 }

@@ -27,11 +27,11 @@ fn rises(ids: &[u64]) -> bool
     true
 }
 
-// Whether a quota's members rise, and it keeps its places.
-fn is_kept(quota: &Quota) -> bool
+// Whether a quota's members rise.
+fn has_rising_members(quota: &Quota) -> bool
     ensures { IsTrue result ↔ MembersRise quota.now }
 {
-    !quota.release_after_exit && rises(quota.items.as_slice()) && rises(quota.variations.as_slice())
+    rises(quota.items.as_slice()) && rises(quota.variations.as_slice())
 }
 
 // Whether so it is of a quota, and the items of a check-in list rise.
@@ -40,7 +40,7 @@ fn is_rising(change: &Change) -> bool
     ensures no { result ≡ false → ¬ IsRising change.now }
 {
     match change {
-        Change::PutQuota(row) => is_kept(row),
+        Change::PutQuota(row) => has_rising_members(row),
         Change::PutCheckinList(row) => rises(row.limit_products.as_slice()),
         _ => true,
     }
@@ -83,8 +83,8 @@ fn are_puts_first(changes: &[Change]) -> bool
     true
 }
 
-/// Whether a file takes these changes: no voucher is put after one was dropped, the members of each quota and the items of each
-/// check-in list rise, and no quota releases places.
+/// Whether a file takes these changes: no voucher is put after one was dropped, and the members of each quota and the items of each
+/// check-in list rise.
 pub fn takes(changes: &[Change]) -> bool
     ensures rising { IsTrue result → AllByRecursion IsRising changes.now }
     ensures first { IsTrue result → puts_come_first false changes.now ≡ true }

@@ -18,10 +18,10 @@ returns-in-Ok-book_of-clause-sound g c = subst IsSound (sym c.in-Ok-book_of.ensu
 
 pub returns-in-Ok-book_of-clause-held : goal.returns-in-Ok-book_of-clause-held
 returns-in-Ok-book_of-clause-held g c = λ t of. (
-  stand_as t c.args.file (file_of c.in-Ok.rows) _ c.in-Ok.ensures.told c.in-Ok-book_of.ensures.state of c.in-Ok.ensures.order c.in-Ok.ensures.whole (c.in-Ok-book_of.ensures.kept Counters),
+  stand_as t c.args.file (file_of c.in-Ok.rows) _ c.in-Ok.ensures.told c.in-Ok-book_of.ensures.state of c.in-Ok.ensures.order c.in-Ok.ensures.whole (c.in-Ok.ensures.paired.0 c.in-Ok-book_of.ensures.paired) (c.in-Ok-book_of.ensures.kept Counters),
   c.in-Some.ensures.next t of.tables,
   c.in-Some.ensures.least t of.tables,
 )
 
 pub returns-in-Err-book_of-clause-refused : goal.returns-in-Err-book_of-clause-refused
-returns-in-Err-book_of-clause-refused g c = why c.args.file (file_of c.in-Ok.rows) c.in-Err-book_of.error c.in-Ok.ensures.told c.in-Ok.ensures.order c.in-Ok.ensures.numbered c.in-Ok.ensures.whole c.in-Err-book_of.ensures.refused
+returns-in-Err-book_of-clause-refused g c = why c.args.file (file_of c.in-Ok.rows) c.in-Ok.paired c.in-Err-book_of.error c.in-Ok.ensures.told c.in-Ok.ensures.order c.in-Ok.ensures.numbered c.in-Ok.ensures.whole c.in-Ok.ensures.paired c.in-Err-book_of.ensures.refused

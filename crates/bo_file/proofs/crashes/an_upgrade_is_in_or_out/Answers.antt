@@ -13,6 +13,6 @@ returns-clause-crash g c = λ from head t s ks its crash found.
     let opened = state g.S.Store c.args.opened.now in
     let listed = (c.schema_known-2.ensures found.at.is_open).0 in
     elim (crash.crash found.clean fresh.now.trees found.may) [
-      | inl may ↦ inl (found_as_it_was from head t s ks old opened its fresh listed (c.schema_known.ensures its.is_open).0 (g.met.S.Store.settled c.args.old.now.store fresh.now.trees its.is_open may))
+      | inl may ↦ inl (found_as_it_was old fresh its.settled listed (c.schema_known.ensures its.is_open).0 (g.met.S.Store.settled c.args.old.now.store fresh.now.trees its.is_open may))
       | inr may ↦ inr (found_upgraded from head t s ks old opened its fresh listed may)
     ]

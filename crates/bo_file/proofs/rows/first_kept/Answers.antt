@@ -1,7 +1,7 @@
 use Rattle.std.proofs.Common.{◌↔◌, IsTrue, subst}
 use Rattle.bo_rules.specs.Rules.{File}
 use Rattle.bo_stand.specs.Stands.{AreRowsOf}
-use Rattle.bo_arrange.specs.Arranged.{rows_in}
+use Rattle.bo_arrange.specs.Arranged.{rows_in, ArePaired}
 use Rattle.bo_typed.specs.Typed.{AreBelowNext}
 use Rattle.bo_file.specs.Opened.{IsLeastIn}
 use Rattle.bo_file.proofs.rows.first_kept.Goals as goal
@@ -13,8 +13,8 @@ returns-in-Some-clause-refused c =
     let tokens = c.args.tables.others.tokens.items in
     let is = c.in-Ok.ensures.told in (
       c.in-Ok.ensures.order,
-      subst (λ (f : File). IsLeastIn shop tokens rows f c.in-Some.rule) is
-          (c.in-Some.ensures.broken shop tokens rows (subst (λ l. IsTrue c.are_below-numbered.result ↔ AreBelowNext shop l) c.as_slice.ensures.value c.are_below-numbered.ensures) (λ w. c.in-Ok.ensures.whole.1 (subst (λ (f : File). AreRowsOf f.state.lists rows) is w))),
+      subst (λ (f : File). IsLeastIn shop tokens rows (ArePaired c.args.tables) f c.in-Some.rule) is
+          (c.in-Some.ensures.broken shop tokens rows c.args.tables (subst (λ l. IsTrue c.are_below-numbered.result ↔ AreBelowNext shop l) c.as_slice.ensures.value c.are_below-numbered.ensures) (λ w. c.in-Ok.ensures.whole.1 (subst (λ (f : File). AreRowsOf f.state.lists rows) is w))),
     )
 
 pub returns-in-None-clause-numbered : goal.returns-in-None-clause-numbered

@@ -1,8 +1,8 @@
-use Rattle.std.proofs.Common.{◌∷◌, [], None, refl, ap, subst}
+use Rattle.std.proofs.Common.{◌∷◌, [], None, refl, subst}
 use Rattle.bo_deliveries.specs.Histories.{Crashed, MayLeave, Running, opened}
 use Rattle.bo_deliveries.proofs.Crashes.{happens_on}
 use Rattle.bo_desk.specs.Streams.{words_of}
-use Rattle.bo_turns.specs.Acts.{Between, between}
+use Rattle.bo_turns.specs.Acts.{between}
 use Rattle.bo_turns.specs.Halls.{story}
 use Rattle.bo_house.proofs.ServeLemmas.{nobody_came}
 use Rattle.bo_house.specs.Evening.{over}

@@ -1,4 +1,4 @@
-use Rattle.std.proofs.Common.{◌≡◌, ◌∙◌, ◌⊎◌, Ok, Err, ap, sym, subst, inl, inr, refl}
+use Rattle.std.proofs.Common.{◌≡◌, ◌∙◌, Ok, Err, ap, sym, subst, inl, inr, refl}
 use Rattle.sqlite.specs.Held.{state}
 use Rattle.bo_line.specs.declared.fault.RunFault.{RunFault}
 use Rattle.sqlite.specs.Effect.{Database}

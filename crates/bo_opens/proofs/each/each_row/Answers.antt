@@ -8,7 +8,6 @@ use Rattle.bo_schema.specs.Failures.{failure_of}
 use Rattle.bo_loads.specs.Damage.{HasNoMeaning, IsFor}
 use Rattle.bo_loads.proofs.Causes.{failed}
 use Rattle.bo_opens.proofs.Stays.{query_stays, commits_none, begun_reads, begins_from, shown_from}
-use Rattle.bo_schema.specs.Tables.{schema}
 use Rattle.bo_opens.specs.Stopped.{WhereStopped}
 use Rattle.bo_opens.proofs.Refusing.{unchanged}
 use Rattle.bo_opens.proofs.Stopping.{endless, stopped_later, stops, where_stopped}

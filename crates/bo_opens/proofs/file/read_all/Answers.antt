@@ -2,6 +2,7 @@ use Rattle.std.proofs.Common.{IsTrue, arith}
 use Rattle.sqlite.specs.Held.{state}
 use Rattle.sqlite.specs.State.{HasCleanDisk}
 use Rattle.bo_schema.specs.declared.error.RowError.TheVariants.{Damaged}
+use Rattle.bo_loads.proofs.SinceLemmas.{since_before}
 use Rattle.sqlite.proofs.Callers.{unchanged_then}
 use Rattle.bo_opens.proofs.ReadLemmas.{then, if_some, was_ok, was_err}
 use Rattle.bo_opens.proofs.Shown.{shown_either}
@@ -82,3 +83,6 @@ returns-in-Ok-readable-clause-same g c clean =
     let clean_mid : HasCleanDisk mid = omega (arith, clean, c.read_tables.ensures.crash.clean) in
     unchanged_then start mid end (c.in-Ok.ensures.same clean_mid)
     (shown_either c.in-Ok-readable.tables c.read_tables.result _ c.in-Ok-readable.ensures.read c.in-Ok-readable.ensures.unread (c.read_tables.ensures.same clean))
+
+pub returns-in-Err-clause-store : goal.returns-in-Err-clause-store
+returns-in-Err-clause-store g c clean db at known = c.in-Err.ensures.store clean db at (since_before 1 c.args.own c.requires.first db.schema known)

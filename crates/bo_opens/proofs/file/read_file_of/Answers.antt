@@ -2,7 +2,7 @@ use Rattle.std.proofs.Common.{◌∙◌, sym, subst}
 use Rattle.bo_columns.specs.Tables.{HoldsAt}
 use Rattle.bo_loads.specs.Texts.{shop_text}
 use Rattle.bo_loads.proofs.SinceLemmas.{since_before}
-use Rattle.bo_opens.specs.Read.{tables_of}
+use Rattle.bo_opens.specs.Read.{HoldsRows, tables_of}
 use Rattle.bo_opens.specs.Causes.{ShowsBy, HasNoOtherVersion}
 use Rattle.bo_opens.proofs.FitLemmas.{read_holds, readable, held_at}
 use Rattle.bo_opens.proofs.ReadLemmas.{both_ok, on_always, was_some}
@@ -14,9 +14,11 @@ returns-in-Ok-clause-held g c clean db at known =
     let found = c.in-Ok.ensures.found clean db at in
     let own = c.args.own in
     let since = since_before 1 own c.requires.first db.schema known in
-    let loaded = c.in-Ok.ensures.loaded clean db at since in
+    let loaded = c.in-Ok.ensures.loaded clean db at known in
     both_ok c.whole_file.result _ _ (λ file. HoldsAt own db.trees (tables_of file)) c.whole_file.ensures.shop c.whole_file.ensures.tables
-    (λ file is some. held_at own c.requires.first c.requires.version db.trees (tables_of file) (read_holds db c.in-Ok.rows.items file since found.0 (sym c.as_slice.ensures.value ∙ is) (was_some c.in-Ok.tables file.tables _ some loaded)))
+    (λ file is some.
+    let rows = was_some c.in-Ok.tables file.tables (HoldsRows own db.trees) some loaded in
+    held_at own c.requires.first c.requires.version db.trees file (read_holds db c.in-Ok.rows.items file since found.0 (sym c.as_slice.ensures.value ∙ is) rows.first) rows)
 
 pub returns-in-Ok-clause-limits : goal.returns-in-Ok-clause-limits
 returns-in-Ok-clause-limits g c = c.whole_file.ensures.limits c.in-Ok.ensures.limits
@@ -24,7 +26,7 @@ returns-in-Ok-clause-limits g c = c.whole_file.ensures.limits c.in-Ok.ensures.li
 pub returns-in-Ok-clause-found : goal.returns-in-Ok-clause-found
 returns-in-Ok-clause-found g c clean db at =
     let found = c.in-Ok.ensures.found clean db at in
-    readable c.args.own db c.as_slice.result.now c.in-Ok.tables c.whole_file.result (subst (ShowsBy shop_text db) (sym c.as_slice.ensures.value) found.0) c.whole_file.ensures.shop c.whole_file.ensures.version c.whole_file.ensures.tables (c.whole_file.ensures.limits c.in-Ok.ensures.limits)
+    readable c.args.own c.requires.first db c.as_slice.result.now c.in-Ok.tables c.whole_file.result (subst (ShowsBy shop_text db) (sym c.as_slice.ensures.value) found.0) c.whole_file.ensures.shop c.whole_file.ensures.version c.whole_file.ensures.tables (c.whole_file.ensures.limits c.in-Ok.ensures.limits)
     found.2 (c.in-Ok.ensures.loaded clean db at)
 
 pub returns-in-Ok-clause-cause : goal.returns-in-Ok-clause-cause
@@ -39,4 +41,4 @@ pub returns-in-Ok-clause-same : goal.returns-in-Ok-clause-same
 returns-in-Ok-clause-same g c clean = on_always c.whole_file.result _ (c.in-Ok.ensures.same clean)
 
 pub returns-in-Err-clause-store : goal.returns-in-Err-clause-store
-returns-in-Err-clause-store g c clean db at known = c.in-Err.ensures.store clean db at (since_before 1 c.args.own c.requires.first db.schema known)
+returns-in-Err-clause-store g c clean db at known = c.in-Err.ensures.store clean db at known

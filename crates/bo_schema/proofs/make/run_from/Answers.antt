@@ -25,7 +25,7 @@ statements-preserved g c =
     let new = state g.S.Store c.run.new.tx.conn.now in
     let i = c.statements.at in
     let first = schema_after c.args.from in
-    let all : length c.args.statements.now ≡ 18 = sym (length-map c.args.statements.now (λ (s : Bor (List ℕ)). s.now)) ∙ ap length c.requires in
+    let all : length c.args.statements.now ≡ 23 = sym (length-map c.args.statements.now (λ (s : Bor (List ℕ)). s.now)) ∙ ap length c.requires in
     let inv = c.statements.invariant in
     let step = c.run.ensures in
     let whole : Survives old new (λ _. ⊥) = survives_then old mid new _ _ (λ _. ⊥) (λ _ db none. none) (λ _ db none. none) inv.1 step.crash in (
@@ -50,6 +50,6 @@ returns-clause-grown g c clean at =
     let old = state g.S.Store c.args.tx.now.conn.now in
     let new = state g.S.Store c.statements.tx.conn.now in
     let first = schema_after c.args.from in
-    let all : length c.args.statements.now ≡ 18 = sym (length-map c.args.statements.now (λ (s : Bor (List ℕ)). s.now)) ∙ ap length c.requires in
+    let all : length c.args.statements.now ≡ 23 = sym (length-map c.args.statements.now (λ (s : Bor (List ℕ)). s.now)) ∙ ap length c.requires in
     let made = c.statements.invariant.3 clean at in
     subst (λ s. Grows first s old new) (all_made c.statements.at (omega (arith, all, c.statements-test.false))) (grows made.0 first (schema_after c.statements.at) old new made.1)

@@ -7,16 +7,30 @@ use Rattle.bo_lists.specs.declared.rows.Voucher.{Voucher}
 use Rattle.bo_lists.specs.Change.{applied}
 use Rattle.bo_lists.specs.CountRows.{counts_after}
 use Rattle.bo_lists.specs.Lists.{State}
-use Rattle.bo_settle.specs.Settled.{used_at, redeemed_at, ArePutsNew}
-use Rattle.bo_settle.proofs.SparedLemmas.{spared_new}
-use Rattle.bo_settle.proofs.Told.{settle_is, redeems_are}
+use Rattle.bo_lists.specs.Usage.{redeemed}
+use Rattle.bo_shifts.specs.Spends.{AreSpent}
+use Rattle.bo_settle.specs.Settled.{used_at, redeemed_at, spent_at, ArePutsNew}
+use Rattle.bo_settle.proofs.SparedLemmas.{spared_new, spared_unspent}
+use Rattle.bo_settle.proofs.Told.{settle_is, redeems_are, spents_are}
 use Rattle.bo_settle.proofs.settle.settle.Goals as goal
+
+pub carry_all-requires-clause-redeems : goal.carry_all-requires-clause-redeems
+carry_all-requires-clause-redeems c = subst (λ (s : State). c.args.redeems.now.items ≡ map (λ (v : Voucher). redeemed v.id s.lists) s.lists.vouchers) (sym c.set.ensures.state) c.requires.redeems
+
+pub carry_all-requires-clause-spents : goal.carry_all-requires-clause-spents
+carry_all-requires-clause-spents c = subst (λ (s : State). AreSpent s.lists c.args.spents.now.items) (sym c.set.ensures.state) c.requires.spents
 
 pub carry_all-requires-clause-new : goal.carry_all-requires-clause-new
 carry_all-requires-clause-new c =
     let old : State = c.args.store.now.state in
     let given = subst (λ (l : List Change). ArePutsNew (redeemed_at old) l old.lists) (sym c.into_parts-list.ensures.list) (spared_new old c.args.changes.list c.requires.spared) in
     subst (λ (s : State). ArePutsNew (redeemed_at s) c.into_parts-list.result.0.items s.lists) (sym c.set.ensures.state) given
+
+pub carry_all-requires-clause-unspent : goal.carry_all-requires-clause-unspent
+carry_all-requires-clause-unspent c =
+    let old : State = c.args.store.now.state in
+    let given = subst (λ (l : List Change). ArePutsNew (spent_at old) l old.lists) (sym c.into_parts-list.ensures.list) (spared_unspent old c.args.changes.list c.requires.spared) in
+    subst (λ (s : State). ArePutsNew (spent_at s) c.into_parts-list.result.0.items s.lists) (sym c.set.ensures.state) given
 
 pub returns-clause-usages : goal.returns-clause-usages
 returns-clause-usages c =
@@ -43,3 +57,14 @@ returns-clause-redeems c =
     ∙ ap (λ (s : State). map (λ (v : Voucher). redeemed_at s v.id) new.lists.vouchers) c.set.ensures.state
     ∙ ap (λ (l : List Voucher). map (λ v. redeemed_at old v.id) l) (sym c.vouchers.ensures) in
     redeems_are old new c.carry_all.new.redeems.items c.set_redeems.new.redeems.items c.args.counts.now c.vouchers-2.result.now c.vouchers.result.now c.known.ensures.vouchers.in_order c.known-3.ensures.vouchers.in_order c.vouchers.ensures (c.requires.counts ∙ ap (counts_after old) (sym is)) c.vouchers-2.ensures kept c.set_redeems.ensures.kept
+
+pub returns-clause-spents : goal.returns-clause-spents
+returns-clause-spents c =
+    let old : State = c.args.store.now.state in
+    let new : State = c.carry_all.new.store.state in
+    let is : new ≡ applied c.args.changes c.args.at old = search rules in
+    let kept =
+    c.carry_all.ensures.spents
+    ∙ ap (λ (s : State). map (λ (v : Voucher). spent_at s v.id) new.lists.vouchers) c.set.ensures.state
+    ∙ ap (λ (l : List Voucher). map (λ v. spent_at old v.id) l) (sym c.vouchers-3.ensures) in
+    spents_are old new c.carry_all.new.spents.items c.set_spents.new.spents.items c.args.counts.now c.vouchers-4.result.now c.vouchers-3.result.now c.known.ensures.vouchers.in_order c.known-3.ensures.vouchers.in_order c.vouchers-3.ensures (c.requires.counts ∙ ap (counts_after old) (sym is)) c.vouchers-4.ensures kept c.set_spents.ensures.kept

@@ -2,7 +2,7 @@ use Rattle.std.proofs.Common.{sym, subst}
 use Rattle.bo_lists.specs.declared.changes.Change.{Change}
 use Rattle.bo_lists.specs.Change.{after_change}
 use Rattle.bo_settle.specs.Settled.{AreSmall}
-use Rattle.bo_settle.proofs.Carries.{small_stays, small_put, small_drop}
+use Rattle.bo_settle.proofs.Carries.{small_stays, small_put, small_drop, small_position}
 use Rattle.bo_settle.proofs.settle.stay_small.Goals as goal
 
 pub returns-in-PutVoucher : goal.returns-in-PutVoucher
@@ -11,5 +11,8 @@ returns-in-PutVoucher c = subst (λ (change : Change). AreSmall (after_change ch
 pub returns-in-DropVoucher : goal.returns-in-DropVoucher
 returns-in-DropVoucher c = subst (λ (change : Change). AreSmall (after_change change c.args.store.now.state.lists)) (sym c.in-DropVoucher.is) (small_drop c.in-DropVoucher.field-0 c.args.store.now.state.lists c.requires)
 
+pub returns-in-PutPosition : goal.returns-in-PutPosition
+returns-in-PutPosition c = subst (λ (change : Change). AreSmall (after_change change c.args.store.now.state.lists)) (sym c.in-PutPosition.is) (small_position c.in-PutPosition.row c.args.store.now.state.lists c.few_cents.ensures c.requires)
+
 pub returns-in_default : goal.returns-in_default
-returns-in_default c = small_stays c.args.change.now c.args.store.now.state.lists c.in_default.not-PutVoucher c.in_default.not-DropVoucher c.requires
+returns-in_default c = small_stays c.args.change.now c.args.store.now.state.lists c.in_default.not-PutVoucher c.in_default.not-DropVoucher c.in_default.not-PutPosition c.requires

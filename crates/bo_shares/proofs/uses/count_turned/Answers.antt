@@ -1,12 +1,13 @@
 use mathlib.Core.Bool.{beq}
-use Rattle.std.proofs.Common.{◌≡◌, ℕ, Bool, false, sym, ap, ◌∙◌}
+use Rattle.std.proofs.Common.{◌≡◌, ℕ, Bool, false, sym, ap, ap₂, ◌∙◌}
 use Rattle.std.proofs.lemmas.Result.{on_ok_weaker}
 use Rattle.bo_lists.specs.Lists.{order_at}
 use Rattle.bo_lists.specs.Conditions.{is_in_force, names}
 use Rattle.bo_lists.specs.Usage.{stands_as}
 use Rattle.bo_overlay.specs.Logs.{rows_of}
+use Rattle.bo_overlay.proofs.OfOrder.{purchases_count}
 use Rattle.bo_usage.specs.OfOrder.{count_ordered}
-use Rattle.bo_shares.specs.Uses.{used_since}
+use Rattle.bo_shares.specs.Uses.{one_discount, ordered_discounts, used_since}
 use Rattle.bo_shares.proofs.UseShifts.{equal, force_turns}
 use Rattle.bo_shares.proofs.UseCounts.{none_since, same_more, no_more_uses}
 use Rattle.bo_shares.proofs.uses.count_turned.Goals as goal
@@ -20,8 +21,8 @@ returns-then-force-stood-clause-more g c =
     let stood = c.is_in_force-stood.ensures ∙ ap (stands_as is_in_force) c.order.ensures in
     let same : is_in_force row.status ≡ stands_as is_in_force old = sym force ∙ equal _ _ c.if-force-stood.true ∙ stood in
     same_more _ _ _ _ c.args.uses.now c.args.uses.now
-    (λ v. none_since (is_in_force row.status) (stands_as is_in_force old) (count_ordered row.id (λ p. names v p.voucher) lists) same)
-    (λ v. none_since (stands_as is_in_force old) (is_in_force row.status) (count_ordered row.id (λ p. names v p.voucher) lists) (sym same))
+    (λ v. none_since (is_in_force row.status) (stands_as is_in_force old) (count_ordered row.id (λ p. names v p.voucher) lists) (ordered_discounts lists row.id v) same)
+    (λ v. none_since (stands_as is_in_force old) (is_in_force row.status) (count_ordered row.id (λ p. names v p.voucher) lists) (ordered_discounts lists row.id v) (sym same))
     (no_more_uses c.args.uses.now)
 
 pub returns-clause-more : goal.returns-clause-more
@@ -32,13 +33,13 @@ returns-clause-more g c =
     let force = c.is_in_force-force.ensures in
     let stood = c.is_in_force-stood.ensures ∙ ap (stands_as is_in_force) c.order.ensures in
     let turns : beq (is_in_force row.status) (stands_as is_in_force old) ≡ false = ap (λ (b : Bool). beq b (stands_as is_in_force old)) (sym force) ∙ ap (beq c.is_in_force-force.result) (sym stood) ∙ c.if-force-stood.false in
-    let count = λ (v : ℕ). c.requires.turned (force_turns row old turns) (λ t. names v t.voucher) in
+    let are = c.requires.turned (force_turns row old turns) in
+    let count = λ (v : ℕ). purchases_count row.id lists c.args.purchases.now are (λ t. names v t.voucher) in
+    let cents = λ (v : ℕ). are (λ t. one_discount v t.voucher t.discount) in
     on_ok_weaker c.count_names.result
     (same_more _ _ _ _ c.args.uses.now c.count_names.new.uses
-    (λ v. ap (used_since c.is_in_force-force.result c.is_in_force-stood.result) (count v)
-    ∙ ap (λ (b : Bool). used_since b c.is_in_force-stood.result (count_ordered row.id (λ p. names v p.voucher) lists)) force
-    ∙ ap (λ (b : Bool). used_since (is_in_force row.status) b (count_ordered row.id (λ p. names v p.voucher) lists)) stood)
-    (λ v. ap (used_since c.is_in_force-stood.result c.is_in_force-force.result) (count v)
-    ∙ ap (λ (b : Bool). used_since c.is_in_force-stood.result b (count_ordered row.id (λ p. names v p.voucher) lists)) force
-    ∙ ap (λ (b : Bool). used_since b (is_in_force row.status) (count_ordered row.id (λ p. names v p.voucher) lists)) stood))
+    (λ v. ap₂ (used_since c.is_in_force-force.result c.is_in_force-stood.result) (count v) (cents v)
+    ∙ ap₂ (λ (a b : Bool). used_since a b (count_ordered row.id (λ p. names v p.voucher) lists) (ordered_discounts lists row.id v)) force stood)
+    (λ v. ap₂ (used_since c.is_in_force-stood.result c.is_in_force-force.result) (count v) (cents v)
+    ∙ ap₂ (λ (a b : Bool). used_since a b (count_ordered row.id (λ p. names v p.voucher) lists) (ordered_discounts lists row.id v)) stood force))
     c.count_names.ensures.more

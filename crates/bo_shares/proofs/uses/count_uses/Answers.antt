@@ -1,4 +1,4 @@
-use Rattle.std.proofs.Common.{OnOk, refl, sym, ap, ◌∙◌, subst}
+use Rattle.std.proofs.Common.{ℕ, OnOk, Option, refl, sym, ap, ◌∙◌, subst}
 use Rattle.std.proofs.lemmas.Result.{on_ok_weaker}
 use Rattle.bo_lists.specs.declared.changes.Change.{Change}
 use Rattle.bo_overlay.specs.Logs.{rows_of}
@@ -27,7 +27,7 @@ returns-in-PutPosition-clause-more g c =
     let lists = rows_of c.args.overlay.now in
     let at = c.args.at in
     subst (λ (change : Change). OnOk c.count_used.result (AreMoreUses (use_come lists at change) (use_gone lists at change) c.args.uses.now c.count_used.new.uses)) (sym c.in-PutPosition.is)
-    (on_ok_weaker c.count_used.result (same_more _ _ _ _ c.args.uses.now c.count_used.new.uses (λ v. ap (used_by v) c.used_name.ensures) (λ v. refl)) c.count_used.ensures.more)
+    (on_ok_weaker c.count_used.result (same_more _ _ _ _ c.args.uses.now c.count_used.new.uses (λ v. ap (λ (o : Option ℕ). used_by v o c.in-PutPosition.row.discount) c.used_name.ensures) (λ v. refl)) c.count_used.ensures.more)
 
 pub returns-in-PutOrder-clause-more : goal.returns-in-PutOrder-clause-more
 returns-in-PutOrder-clause-more g c =

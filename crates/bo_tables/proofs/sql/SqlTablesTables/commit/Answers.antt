@@ -1,11 +1,7 @@
-use Rattle.std.proofs.Common.{◌≡◌, false, true, rules, sym, subst}
+use Rattle.std.proofs.Common.{◌≡◌, false, true, rules, subst}
 use Rattle.std.specs.List.{AllByRecursion}
 use Rattle.sqlite.specs.Held.{state}
-use Rattle.sqlite.specs.State.{Survives}
-use Rattle.bo_schema.specs.Tables.{schema}
-use Rattle.bo_lists.specs.declared.changes.Change.{Change}
 use Rattle.bo_columns.specs.declared.rows.ShopRow.{ShopRow}
-use Rattle.bo_schema.specs.Whole.{IsWritten, MayBeWritten}
 use Rattle.bo_stand.specs.Lawful.{puts_come_first}
 use Rattle.bo_stand.specs.Stands.{IsRising}
 use Rattle.bo_tables.proofs.ShopLemmas.{moved_on, written_holds, written_house, written_leaves, leaves_or, leaves_written, still_knows}

@@ -4,7 +4,7 @@ use Rattle.sqlite.specs.State.{HasCleanDisk}
 use Rattle.bo_lists.specs.declared.count_rows.VoucherCount.{VoucherCount}
 use Rattle.bo_columns.specs.Changes.{ChangesFit}
 use Rattle.bo_stand.specs.Free.{IsFree}
-use Rattle.bo_stand.specs.Made.{set_redeemed}
+use Rattle.bo_stand.specs.Made.{put_uses}
 use Rattle.bo_tables.specs.Steps.{next_each}
 use Rattle.bo_tables.proofs.CountLemmas.{each_of, all_counted}
 use Rattle.bo_tables.proofs.Steps.{inside_fit}
@@ -19,6 +19,6 @@ returns-clause-written g c clean at =
     let from = c.args.from in
     let free = c.in_ok-free.free in
     let early : HasCleanDisk s1 = omega (arith, c.write_each-2.ensures.crash.clean) in
-    let a : (free ≡ next_each (λ (x : VoucherCount) n. n) counts.vouchers from) × ChangesFit (IsFree from) (each_of set_redeemed counts.vouchers from) s0 s1 = rw c.vouchers.ensures at (c.in_ok-free.ensures.written early at) in
+    let a : (free ≡ next_each (λ (x : VoucherCount) n. n) counts.vouchers from) × ChangesFit (IsFree from) (each_of put_uses counts.vouchers from) s0 s1 = rw c.vouchers.ensures at (c.in_ok-free.ensures.written early at) in
     let b = rw c.quotas.ensures at (c.in_ok-write_each.ensures.written clean (inside_fit _ _ s0 s1 a.1)) in
     all_counted counts from free s0 s1 s2 a.0 a.1 b.1

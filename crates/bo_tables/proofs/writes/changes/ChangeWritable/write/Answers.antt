@@ -21,7 +21,7 @@ pub returns-in-PutOrder-clause-written : goal.returns-in-PutOrder-clause-written
 returns-in-PutOrder-clause-written g c clean at = as_asked c.put_row-in-PutOrder.result c.args.self.now _ c.args.from (state g.S.Store c.args.tx.now.conn.now) (state g.S.Store c.put_row-in-PutOrder.new.tx.conn.now) c.in-PutOrder.is (c.put_row-in-PutOrder.ensures.written clean at)
 
 pub returns-in-PutPosition-clause-written : goal.returns-in-PutPosition-clause-written
-returns-in-PutPosition-clause-written g c clean at = as_asked c.put_row-in-PutPosition.result c.args.self.now _ c.args.from (state g.S.Store c.args.tx.now.conn.now) (state g.S.Store c.put_row-in-PutPosition.new.tx.conn.now) c.in-PutPosition.is (c.put_row-in-PutPosition.ensures.written clean at)
+returns-in-PutPosition-clause-written g c clean at = as_asked c.put_position_row.result c.args.self.now _ c.args.from (state g.S.Store c.args.tx.now.conn.now) (state g.S.Store c.put_position_row.new.tx.conn.now) c.in-PutPosition.is (c.put_position_row.ensures.written clean at)
 
 pub returns-in-PutWaiting-clause-written : goal.returns-in-PutWaiting-clause-written
 returns-in-PutWaiting-clause-written g c clean at = as_asked c.put_row-in-PutWaiting.result c.args.self.now _ c.args.from (state g.S.Store c.args.tx.now.conn.now) (state g.S.Store c.put_row-in-PutWaiting.new.tx.conn.now) c.in-PutWaiting.is (c.put_row-in-PutWaiting.ensures.written clean at)

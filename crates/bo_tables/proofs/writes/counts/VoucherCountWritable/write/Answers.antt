@@ -1,9 +1,17 @@
-use Rattle.std.proofs.Common.{refl}
+use Rattle.std.proofs.Common.{refl, arith}
 use Rattle.sqlite.specs.Held.{state}
+use Rattle.sqlite.specs.State.{HasCleanDisk}
 use Rattle.bo_stand.specs.Free.{IsFree}
-use Rattle.bo_tables.proofs.RowLemmas.{redeemed_set}
+use Rattle.bo_tables.proofs.CountLemmas.{uses_put}
+use Rattle.bo_tables.proofs.Steps.{inside_after}
 use Rattle.bo_tables.proofs.writes.counts.VoucherCountWritable.write.Goals as goal
 
 pub returns-clause-written : goal.returns-clause-written
 returns-clause-written g c clean at =
-    (refl, redeemed_set (IsFree c.args.from) c.args.self.now (state g.S.Store c.args.tx.now.conn.now) (state g.S.Store c.put_redeemed.new.tx.conn.now) (c.in_ok-put_redeemed.ensures.written clean at))
+    let s0 = state g.S.Store c.args.tx.now.conn.now in
+    let s1 = state g.S.Store c.put_redeemed.new.tx.conn.now in
+    let s2 = state g.S.Store c.put.new.tx.conn.now in
+    let early : HasCleanDisk s1 = omega (arith, c.put.ensures.crash.clean) in
+    let a = c.in_ok-put_redeemed.ensures.written early at in
+    let b = c.in_ok-put.ensures.written clean (inside_after _ s0 s1 a) in
+    (refl, uses_put (IsFree c.args.from) c.args.self.now s0 s1 s2 a b)
