@@ -1,13 +1,13 @@
 //! Shops' files on the disk, by their names.
 
 ghost use Rattle.std.specs.Prelude.{⊤, IsTrue};
-ghost use Rattle.bo_house.specs.Shelved.{is_shelf_fault};
+ghost use Rattle.app_files.specs.Shelved.{is_shelf_fault};
 
-use bo_base::Body;
-use bo_house::Shelf;
-use bo_line::{Console, RunFault};
+use app_files::Shelf;
+use base_values::Body;
 use sqlite::{Connection, Error, ErrorCode, File, FileStore};
 use std::{fs, io};
+use web_cli::{Console, RunFault};
 
 // A file of so many bytes takes about a second to open.
 const LARGE: u64 = 10_000_000;

@@ -6,15 +6,15 @@ ghost use Rattle.std.specs.Prelude.{◌≡◌, ◌<◌};
 mod files;
 
 use crate::files::HostFiles;
-use bo_feed::run;
-use bo_house::{House, Shelf};
-use bo_line::{LineEnd, counted, tell_words};
+use app_files::{House, Shelf};
+use app_run::run;
 use sqlite::{Alter, Connection, File, FileStore};
 use std::io;
 use std::io::{Stdin, Stdout};
 use std::marker::Brand;
 use std::process::ExitCode;
 use std::sync::ledger::{Blank, Ledger};
+use web_cli::{LineEnd, counted, tell_words};
 
 // The words of the command line.
 fn words(rt: &HostRuntime) -> io::Result<Vec<String>> {

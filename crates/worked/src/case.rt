@@ -4,15 +4,15 @@ ghost use Rattle.std.specs.Prelude.{◌≡◌, ◌<◌};
 
 use crate::cut::Cut;
 use crate::listed::Listed;
-use bo_base::{Moment, Steps};
-use bo_connection::Failure;
-use bo_devices::{Device, Drain, Source, Ticks};
-use bo_feed::serve_house;
-use bo_times::read_moment;
+use app_run::serve_house;
+use base_dates::read_moment;
+use base_devices::{Device, Drain, Source, Ticks};
+use base_values::{Moment, Steps};
 use std::alloc::{AllocError, Global};
 use std::io::Write;
 use std::marker::Brand;
 use std::sync::ledger::{Blank, Ledger};
+use web_connection::Failure;
 
 /// The most bytes that come at a time where a case comes in one piece.
 pub(crate) const WHOLE: usize = 65536;

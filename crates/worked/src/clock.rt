@@ -1,12 +1,12 @@
 //! What is read of a system's clock and its chance.
 
-use bo_line::Console;
-use bo_serve::read_tick;
 use std::fmt::Display;
 use std::io;
 use std::io::{Eprint, ErrorKind, Print};
 use std::random::RandomSource;
 use std::time::{Clock, Duration};
+use web_cli::Console;
+use web_server::read_tick;
 
 /// A system whose clock shows so many seconds since 1970, or can't be read. Its chance gives the bytes 1 to 16, or nothing.
 #[derive(Clone, Copy)]

@@ -2,17 +2,17 @@
 
 use crate::clock::{Shown, at};
 use crate::shop::{Answered, answer_opened};
-use bo_base::{Body, Slug};
-use bo_file::open_file;
-use bo_house::migrating::migrate_shop;
-use bo_house::{Filed, add_shop_token, fault_of_opening, import_shop, make_new_shop, report_shop};
-use bo_line::{Advice, Report, RunFault};
-use bo_opens::Quiet;
-use bo_tables::HandedBack;
-use bo_trials::{Acted, Acts, Deed, TrialError};
+use app_files::migrating::migrate_shop;
+use app_files::{Filed, add_shop_token, fault_of_opening, import_shop, make_new_shop, report_shop};
+use base_values::{Body, Slug};
+use file_open::open_file;
+use file_scan::Quiet;
+use file_tables::HandedBack;
 use sqlite::{Alter, Connection};
 use std::alloc::{AllocError, Global};
 use std::io::Write;
+use tests_crashes::{Acted, Acts, Deed, TrialError};
+use web_cli::{Advice, Report, RunFault};
 
 // What is told of a fault, as a person reads it.
 fn told_fault(alloc: Global, fault: RunFault) -> Result<Vec<u8>, TrialError> {
@@ -79,7 +79,7 @@ fn answer<S: Alter + Drop>(alloc: Global, connection: Connection<S>, case: &str)
 }
 
 // The names of the organizer and of the event.
-#[tactic(auto, unfolding(bo_base::specs::Slugs::is_slug))]
+#[tactic(auto, unfolding(base_values::specs::Slugs::is_slug))]
 fn names(alloc: Global) -> Result<(Slug, Slug), AllocError> {
     Ok((
         Slug::copy_of(alloc, "house")?,

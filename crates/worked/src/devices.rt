@@ -5,9 +5,9 @@ use crate::endless::{REQUEST, Repeated};
 use crate::failing::FailingReader;
 use crate::lines::show_lines;
 use crate::tried::{Tried, run_line, words};
-use bo_connection::Failure;
-use bo_line::{LineEnd, RunFault};
 use std::io::Read;
+use web_cli::{LineEnd, RunFault};
+use web_connection::Failure;
 
 // What the line comes to where the reader fails at its call number `reads + 1`, and the writer at its call number
 // `writes + 1`.

@@ -2,17 +2,17 @@
 
 ghost use Rattle.std.specs.Prelude.{◌≡◌, ◌<◌, []};
 
-use bo_feed::open_memory;
-use bo_line::counted;
-use bo_opens::Quiet;
-use bo_tables::SqlTables;
-use bo_walk::write_positions;
+use app_export::write_positions;
+use app_run::open_memory;
+use file_scan::Quiet;
+use file_tables::SqlTables;
 use sqlite::{Alter, Connection, MemStore};
 use std::alloc::Global;
 use std::io;
 use std::io::Write;
 use std::marker::Brand;
 use std::sync::ledger::{Blank, Ledger};
+use web_cli::counted;
 
 /// Three orders of two positions, whose numbers there fall while their ids rise, one of them with a voucher.
 static ROWS: &str = "INSERT INTO items VALUES (1, 'Stalls', 2300, 1, 0);

@@ -1,8 +1,8 @@
 //! Shops in files: what is done with them one after another, and while calls of the files are refused.
 
 use crate::deeds::Clerk;
-use bo_trials::{Kind, run_told, trial_told};
 use std::fs;
+use tests_crashes::{Kind, run_told, trial_told};
 
 // Prints a run over files.
 fn show_run(rt: &HostRuntime, name: &str) -> anyhow::Result<()> {

@@ -2,7 +2,7 @@
 
 use crate::failing::FailingReader;
 use crate::tried::{run_line, words};
-use bo_line::LineEnd;
+use web_cli::LineEnd;
 
 /// The lines, each with its words.
 static LINES: [&str; 47] = [

@@ -1,12 +1,12 @@
 //! A case that a shop answers whose file is open.
 
 use crate::case::{Answers, WHOLE, answer_case};
-use bo_connection::{Desk, Failure, Room, run_stream};
-use bo_desk::{HouseWords, Office, ShopDesk};
-use bo_devices::{Drain, Source, Ticks};
-use bo_dues::Dues;
-use bo_kept::Tables;
+use base_devices::{Drain, Source, Ticks};
+use book_usage::Dues;
+use model_answers::Tables;
 use std::alloc::Global;
+use web_connection::{Desk, Failure, Room, run_stream};
+use web_handler::{HouseWords, Office, ShopDesk};
 
 /// The tables of a shop that answered a case; how it ended, and what was written.
 pub(crate) struct Answered<T> {

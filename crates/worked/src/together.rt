@@ -4,17 +4,17 @@ ghost use Rattle.std.specs.Prelude.{◌≡◌, ◌<◌};
 
 use crate::case::moments;
 use crate::listed::Listed;
-use bo_base::{Moment, Steps};
-use bo_connection::Desk;
-use bo_desk::{Office, ShopDesk};
-use bo_dues::Dues;
-use bo_feed::open_memory;
-use bo_kept::Tables;
-use bo_together::{Houses, Next, Party, TogetherError, together_told};
+use app_run::open_memory;
+use base_values::{Moment, Steps};
+use book_usage::Dues;
+use model_answers::Tables;
 use std::alloc::Global;
 use std::fs;
 use std::marker::Brand;
 use std::sync::ledger::{Blank, Ledger};
+use tests_callers::{Houses, Next, Party, TogetherError, together_told};
+use web_connection::Desk;
+use web_handler::{Office, ShopDesk};
 
 /// What makes a shop in SQLite's memory, each time anew.
 #[derive(Clone, Copy)]

@@ -3,15 +3,15 @@
 ghost use Rattle.std.specs.Prelude.{⊤, ◌≡◌, ◌<◌};
 
 use crate::failing::FailingWriter;
-use bo_base::Body;
-use bo_devices::Drain;
-use bo_feed::run;
-use bo_http::write_all;
-use bo_line::{HouseFiles, LineEnd, Place, Report, RunFault, counted, said, say};
+use app_run::run;
+use base_devices::Drain;
+use base_values::Body;
 use std::alloc::{AllocError, Global};
 use std::io::Read;
 use std::marker::Brand;
 use std::sync::ledger::{Blank, Ledger};
+use web_cli::{HouseFiles, LineEnd, Place, Report, RunFault, counted, said, say};
+use web_http::write_all;
 
 /// What a command line came to.
 #[derive(Drop)]

@@ -1,5 +1,5 @@
 use Rattle.std.proofs.Common.{Err, Ok}
-use Rattle.bo_line.proofs.SayLemmas.{says_listening}
+use Rattle.web_cli.proofs.SayLemmas.{says_listening}
 use Rattle.worked.proofs.tried.OneFileHouseFiles.serve.Goals as goal
 
 pub returns-in-Ok-clause-said : goal.returns-in-Ok-clause-said

@@ -1,0 +1,38 @@
+-- What serving a shop's database comes to.
+use Rattle.std.proofs.Common.{◌≡◌, ◌∙◌, ◌⊎◌, inl, ℕ, List, [], Option, None, Result, Err, ap₂, refl, subst, arith}
+use Rattle.sqlite_trees.specs.declared.store.Store.{Ghosts}
+use Rattle.sqlite.specs.State.{State as Connected}
+use Rattle.sqlite.specs.declared.connection.Connection.{Connection}
+use Rattle.model_rows.specs.Lists.{State}
+use Rattle.file_tables.specs.declared.sql.SqlTables.{SqlTables}
+use Rattle.web_handler.specs.Streams.{DeskView, Meaning, desk_with}
+use Rattle.base_devices.specs.declared.device.Tick.{Tick}
+use Rattle.web_http.specs.Written.{Page}
+use Rattle.web_cli.specs.declared.fault.RunFault.{RunFault}
+use Rattle.web_cli.specs.declared.fault.RunFault.TheVariants as faults
+use Rattle.web_http.specs.Messages.{Message}
+use Rattle.base_values.specs.declared.answer.Answer.{Answer}
+use Rattle.web_turns.specs.Acts.{Between, between}
+use Rattle.web_turns.specs.Halls.{Hall, story}
+use Rattle.web_turns.proofs.StoryLemmas.{story_opens}
+use Rattle.app_files.specs.Served.{IsOpenedAndServed, IsSilent, LeadsFrom, OpensAs, StaysUnopened}
+
+-- a hall into which nobody came
+pub nobody_came : {D : Type 0} (Serves : D → Tick → Message → Answer → D → Type 0) (at : Between D) → Hall Serves 0 at at (story [] [] [])
+nobody_came Serves at = (story_opens Serves at 0).hall
+
+module _ {S : Type 0} (reads : Option Tick → Type 0) (tables : Meaning (SqlTables S)) (most : ℕ) where
+  -- the desk of words that were made of an office's names is the office's
+  pub leads_by_names : (it : SqlTables S) (desk : DeskView (SqlTables S)) (organizer event said_organizer said_event : List ℕ) (state : State) (left : Connection S) (outcome : Result (Unit {0}) RunFault)
+      → desk ≡ desk_with it said_organizer said_event state → said_organizer ≡ organizer → said_event ≡ event
+      → LeadsFrom reads tables most desk left outcome → LeadsFrom reads tables most (desk_with it organizer event state) left outcome
+  leads_by_names it desk organizer event said_organizer said_event state left outcome is names_organizer names_event =
+      subst (λ (d : DeskView (SqlTables S)). LeadsFrom reads tables most d left outcome) (is ∙ ap₂ (λ (a b : List ℕ). desk_with it a b state) names_organizer names_event)
+
+  -- there was no memory for the words
+  pub nobody_answered : (first : DeskView (SqlTables S)) (left : Connection S) → left ≡ first.tables.connection → LeadsFrom reads tables most first left (Err faults.Memory)
+  nobody_answered first left is = record { last = first; serving = (record { came = 0; within = omega arith; all = story [] [] []; hall = nobody_came _ (between None first) }, refl); connection = is }
+
+  pub is_served : (g : Ghosts S) (old : Connected) (before after : Page) (desk : DeskView (SqlTables S)) (left : Connection S) (outcome : Result (Unit {0}) RunFault) → OpensAs g old desk
+      → LeadsFrom reads tables most desk left outcome → IsOpenedAndServed reads g tables most old left outcome ⊎ (StaysUnopened g old left outcome × IsSilent before after)
+  is_served g old before after desk left outcome opens leads = inl (record { desk = desk; opens = opens; leads = leads })

@@ -1,0 +1,27 @@
+-- One command after another on the file of a shop, as one history.
+use Rattle.std.specs.Prelude.{List}
+use Rattle.sqlite_trees.specs.declared.store.Store.{Ghosts}
+use Rattle.sqlite.specs.Held.{state}
+use Rattle.sqlite.specs.State.{State as Connected, HasCleanDisk}
+use Rattle.office_deliveries.specs.Histories.{Event, Happens, IsRunning, Running}
+use Rattle.file_tables.specs.declared.sql.SqlTables.{SqlTables}
+use Rattle.web_handler.specs.Streams.{DeskView, House, IsOf, Meaning, desk_with, words_of}
+use Rattle.file_open.specs.Found.{IsFound}
+use Rattle.app_files.specs.Served.{OpensAs}
+
+-- a desk with other tables
+abbrev pub over : {T : Type 0} → T → DeskView T → DeskView T
+over tables desk = desk_with tables desk.organizer desk.event desk.state
+
+-- A desk of this house is running, as these events left the shop that had begun so. What they were told, they were told in the house's words.
+pub record RunsSo {T : Type 0} (tables : Meaning T) (house : House) (begun : Running) (events : List Event) (desk : DeskView T) (r : Running) : Type 0 where
+  pub of : IsOf tables house desk
+  pub happened : Happens (words_of house) begun events r
+  pub running : IsRunning (words_of house) tables.holds tables.may_leave desk.tables desk.state r
+
+-- What was left so is found again by a new connection, after a crash or because a command has ended; and it is opened as this desk, over a
+-- disk that returned what was written.
+pub record IsOpenedAgain {S : Type 0} (g : Ghosts S) (left fresh : Connected) (desk : DeskView (SqlTables S)) : Type 0 where
+  pub found : IsFound left fresh
+  pub opens : OpensAs g fresh desk
+  pub clean : HasCleanDisk (state g desk.tables.connection)

@@ -1,0 +1,61 @@
+-- What becomes of a shop's database that is served.
+use Rattle.std.specs.Prelude.{◌≡◌, ℕ, Option, None, Result, Err}
+use Rattle.sqlite_trees.specs.declared.store.Store.{Ghosts}
+use Rattle.sqlite.specs.Effect.{Database}
+use Rattle.sqlite.specs.Held.{state}
+use Rattle.sqlite.specs.State.{State as Connected, HasCleanDisk, IsUnchanged, Survives}
+use Rattle.sqlite.specs.declared.connection.Connection.{Connection}
+use Rattle.file_schema.specs.Tables.{schema, this_version}
+use Rattle.model_invariant.specs.Sound.{IsSound}
+use Rattle.file_scan.specs.Rests.{IsOpenAt, Rests}
+use Rattle.file_scan.specs.declared.error.OpenError.{OpenError}
+use Rattle.file_scan.specs.Stopped.{WhereClosed}
+use Rattle.file_open.specs.Opened.{IsOpened, IsReason, IsWithheld}
+use Rattle.file_tables.specs.declared.sql.SqlTables.{SqlTables}
+use Rattle.web_connection.specs.Run.{AtTick}
+use Rattle.web_handler.specs.Streams.{DeskView, Meaning, Serves}
+use Rattle.base_devices.specs.declared.device.Tick.{Tick}
+use Rattle.web_http.specs.Written.{Page}
+use Rattle.web_cli.specs.declared.fault.RunFault.{RunFault}
+use Rattle.web_server.specs.Visits.{AnswersCallers, most_of}
+use Rattle.web_turns.specs.Acts.{between}
+use Rattle.app_files.specs.Faults.{fault_of_opening}
+
+-- The desk is that of the shop in the database: where the disk returned what was written and the connection was open, its tables and its
+-- office are what the rows are opened as. The tables are of this version, the office is sound, and opening changed nothing, in a crash too.
+pub record OpensAs {S : Type 0} (g : Ghosts S) (old : Connected) (desk : DeskView (SqlTables S)) : Type 0 where
+  pub opened : HasCleanDisk (state g desk.tables.connection) → (db : Database) → IsOpenAt db old → db.schema ≡ schema
+      → IsOpened db.trees desk.tables.head desk.tables.next_row desk.state (state g desk.tables.connection)
+  pub organizer : desk.organizer ≡ desk.tables.head.organizer
+  pub event : desk.event ≡ desk.tables.head.event
+  pub version : desk.tables.head.version ≡ this_version
+  pub sound : IsSound desk.state
+  pub same : HasCleanDisk (state g desk.tables.connection) → IsUnchanged old (state g desk.tables.connection)
+  pub rests : Rests old (state g desk.tables.connection)
+  pub crash : Survives old (state g desk.tables.connection) (λ _. ⊥)
+
+-- from this desk callers are answered, at most so many, each request at a tick that was read of the system; and the connection is that of the
+-- desk as they left it
+pub record LeadsFrom {S : Type 0} (reads : Option Tick → Type 0) (tables : Meaning (SqlTables S)) (most : ℕ) (first : DeskView (SqlTables S)) (left : Connection S) (outcome : Result (Unit {0}) RunFault) : Type 0 where
+  pub last : DeskView (SqlTables S)
+  pub serving : AnswersCallers (AtTick reads (Serves tables)) (most_of most) (between None first) (between None last) outcome
+  pub connection : left ≡ last.tables.connection
+
+-- the shop in the database is served, from the desk that it is opened as
+pub record IsOpenedAndServed {S : Type 0} (reads : Option Tick → Type 0) (g : Ghosts S) (tables : Meaning (SqlTables S)) (most : ℕ) (old : Connected) (left : Connection S) (outcome : Result (Unit {0}) RunFault) : Type 0 where
+  pub desk : DeskView (SqlTables S)
+  pub opens : OpensAs g old desk
+  pub leads : LeadsFrom reads tables most desk left outcome
+
+-- nothing is said
+abbrev pub IsSilent : Page → Page → Type 0
+IsSilent old new = new ≡ old
+
+-- the database isn't opened, for its cause alone, and nothing in it has changed, in a crash too
+pub record StaysUnopened {S A : Type 0} (g : Ghosts S) (old : Connected) (left : Connection S) (outcome : Result A RunFault) : Type 0 where
+  pub error : OpenError
+  pub told : outcome ≡ Err (fault_of_opening error)
+  pub cause : HasCleanDisk (state g left) → (db : Database) → IsOpenAt db old → IsReason db error
+  pub store : HasCleanDisk (state g left) → (db : Database) → IsOpenAt db old → db.schema ≡ schema → WhereClosed (IsWithheld db old (state g left)) error
+  pub rests : Rests old (state g left)
+  pub crash : Survives old (state g left) (λ _. ⊥)

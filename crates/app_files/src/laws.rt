@@ -1,0 +1,149 @@
+//! Laws of a shop that is served from its file, and worked on there, over crashes.
+
+ghost use Rattle.std.specs.Prelude.{◌≡◌, ◌++◌, ℕ, List, [], ◌∷◌, None, Option, Result, codes};
+ghost use Rattle.sqlite.specs.Held.{state};
+ghost use Rattle.sqlite.specs.State.{HasCleanDisk};
+ghost use Rattle.base_values.specs.declared.answer.Answer.{Answer};
+ghost use Rattle.base_values.specs.declared.answer.Response.{Response};
+ghost use Rattle.base_values.specs.declared.draw.Draw.{Draw};
+ghost use Rattle.model_commands.specs.declared.replies.Reply.{Reply};
+ghost use Rattle.model_commands.specs.declared.replies.Reply.TheVariants as replies;
+ghost use Rattle.model_commands.specs.declared.requests.Command.{Command};
+ghost use Rattle.model_commands.specs.declared.requests.Command.TheVariants.{ImportVouchers, Periodic};
+ghost use Rattle.model_commands.specs.declared.vouchers.NewVoucher.{NewVoucher};
+ghost use Rattle.model_commands.specs.declared.vouchers.Verdict.{Verdict};
+ghost use Rattle.model_commands.specs.declared.waiting.PeriodicCounts.{PeriodicCounts};
+ghost use Rattle.web_connection.specs.Run.{AtTick};
+ghost use Rattle.base_devices.specs.declared.device.Tick.{Tick};
+ghost use Rattle.model_rows.specs.Lists.{State};
+ghost use Rattle.model_answers.specs.House.{House};
+ghost use Rattle.model_answers.specs.ShopView.{ShopView};
+ghost use Rattle.app_csv.specs.VerdictLines.{verdict_lines};
+ghost use Rattle.office_deliveries.specs.Deliveries.{step};
+ghost use Rattle.office_deliveries.specs.Histories.{AreKeyless, Crashed, Event, IsRunning, MayLeave, Running, after_act, event_of, opened};
+ghost use Rattle.web_handler.specs.Streams.{DeskView, IsOf, Serves, ServesRunning, desk_with, meaning, words_of};
+ghost use Rattle.file_open.specs.Found.{IsFound};
+ghost use Rattle.file_open.specs.Opened.{IsReason};
+ghost use Rattle.app_files.specs.Acting.{Acts, own_arrival, told_of};
+ghost use Rattle.app_files.specs.Evening.{IsOpenedAgain, RunsSo, over};
+ghost use Rattle.app_files.specs.Imported.{import_words};
+ghost use Rattle.app_files.specs.Served.{OpensAs};
+ghost use Rattle.app_files.specs.Worked.{work_text, work_words};
+ghost use Rattle.web_cli.specs.declared.fault.RunFault.{RunFault};
+ghost use Rattle.file_scan.specs.Lawful.{IsOfMachine};
+ghost use Rattle.file_scan.specs.declared.error.OpenError.{OpenError};
+ghost use Rattle.web_arrivals.specs.Streams.{ServesHistory};
+ghost use Rattle.file_tables.specs.declared.sql.SqlTables.{SqlTables};
+ghost use Rattle.web_turns.specs.Acts.{Between, between, seen_at};
+ghost use Rattle.web_turns.specs.Halls.{Hall, Story};
+
+use base_devices::Ticks;
+use file_open::crashes::{a_crash_damages_nothing, a_shop_runs_on_after_a_crash};
+use file_tables::SqlTables;
+use model_answers::Tables;
+use office_deliveries::laws::shops_run_in_any_words;
+use sqlite::{Alter, Connection};
+use web_callers::laws::{callers_go_on_with_a_history, callers_run_on};
+
+/// A shop that was running has answered callers, and the machine stops; its file is opened again. It is the desk of the same house: the
+/// same names, the same tokens by their numbers, the same next one. It is running again, as it was or with one write carried out that had
+/// no answer; so what is said of callers goes on from there (`callers_run_on`), however often that happens. Where it isn't opened, that is
+/// for want of memory or because the store fails, and never told as 60, 61 or 62.
+pub fn callers_go_on_after_a_crash<S: Alter, K: Ticks>(
+    last: &SqlTables<S>,
+    fresh: &Connection<S>,
+    again: &SqlTables<S>,
+)
+    ensures goes_on { (house : House) (r : Running) (came : ℕ) (all : Story) (first : Between (DeskView (SqlTables S))) (told : Option (List Tick)) (organizer event : List ℕ) (s : State)
+        → let tables = meaning ⟦<SqlTables<S> as Tables>⟧.sure ⟦<SqlTables<S> as Tables>⟧.holds ⟦<SqlTables<S> as Tables>⟧.knows ⟦<SqlTables<S> as Tables>⟧.may_leave in
+        let end = between told (desk_with last.now organizer event s) in
+        Hall (AtTick K.reads (Serves tables)) came first end all → IsOf tables house first.desk → IsRunning (words_of house) tables.holds tables.may_leave first.desk.tables first.desk.state r
+        → IsFound (state S.Store last.now.connection) (state S.Store fresh.now)
+        → (name happening : List ℕ) (z : State) → OpensAs S.Store (state S.Store fresh.now) (desk_with again.now name happening z)
+        → HasCleanDisk (state S.Store again.now.connection)
+        → (q : Running) × (x : ShopView) × Hall (AtTick K.reads (ServesRunning house)) came (seen_at first r) (seen_at end q) all × MayLeave (words_of house) q x
+        × IsOf tables house (desk_with again.now name happening z) × IsRunning (words_of house) tables.holds tables.may_leave again.now z (opened (words_of house) x) }
+    ensures unharmed { (house : House) (r : Running) (came : ℕ) (all : Story) (first : Between (DeskView (SqlTables S))) (told : Option (List Tick)) (organizer event : List ℕ) (s : State)
+        → let tables = meaning ⟦<SqlTables<S> as Tables>⟧.sure ⟦<SqlTables<S> as Tables>⟧.holds ⟦<SqlTables<S> as Tables>⟧.knows ⟦<SqlTables<S> as Tables>⟧.may_leave in
+        Hall (AtTick K.reads (Serves tables)) came first (between told (desk_with last.now organizer event s)) all → IsOf tables house first.desk
+        → IsRunning (words_of house) tables.holds tables.may_leave first.desk.tables first.desk.state r
+        → IsFound (state S.Store last.now.connection) (state S.Store fresh.now) → (error : OpenError) → IsReason (state S.Store fresh.now).now error → IsOfMachine error }
+{
+    callers_run_on::<SqlTables<S>, K>();
+    a_shop_runs_on_after_a_crash(last, fresh, again);
+    a_crash_damages_nothing(last, fresh);
+}
+
+/// A shop was running, and its file is opened again, after a crash or because a command has ended: that is an event of its history, by which
+/// nothing is undecided any more.
+pub fn a_history_goes_on_after_a_crash<S: Alter, K: Ticks>(
+    last: &SqlTables<S>,
+    fresh: &Connection<S>,
+    again: &SqlTables<S>,
+)
+    ensures { (house : House) (begun r : Running) (es : List Event) (before after : DeskView (SqlTables S))
+        → let tables = meaning ⟦<SqlTables<S> as Tables>⟧.sure ⟦<SqlTables<S> as Tables>⟧.holds ⟦<SqlTables<S> as Tables>⟧.knows ⟦<SqlTables<S> as Tables>⟧.may_leave in
+        RunsSo tables house begun es (over last.now before) r → IsOpenedAgain S.Store (state S.Store last.now.connection) (state S.Store fresh.now) (over again.now after)
+        → (x : ShopView) × RunsSo tables house begun (es ++ Crashed ∷ []) (over again.now after) (opened (words_of house) x) }
+{
+    callers_go_on_after_a_crash::<S, K>(last, fresh, again);
+}
+
+/// A command of the program's own, whatever words tell it, is an event of a shop's history where it is carried out, as a caller's write without
+/// key would be: told in the house's words, or without an answer. That holds of a shop of which no undecided write has a key, as of one that
+/// was opened for that command.
+pub fn a_command_goes_on_with_a_history<S: Alter>()
+    ensures { (house : House) (begun r : Running) (es : List Event) (words : Reply → Response) (command : Command) (tick : Tick) (first last : DeskView (SqlTables S)) (outcome : Result (List ℕ) RunFault)
+        → let tables = meaning ⟦<SqlTables<S> as Tables>⟧.sure ⟦<SqlTables<S> as Tables>⟧.holds ⟦<SqlTables<S> as Tables>⟧.knows ⟦<SqlTables<S> as Tables>⟧.may_leave in
+        let a = own_arrival command tick in
+        RunsSo tables house begun es first r → AreKeyless r.undecided → Acts words command tick tables first last outcome → tables.sure last.tables
+        → (answer : Answer) × (outcome ≡ told_of answer)
+        × RunsSo tables house begun (es ++ event_of (words_of house) a answer r.shop ∷ []) last (after_act (words_of house) a answer r) }
+{
+    shops_run_in_any_words::<SqlTables<S>>();
+}
+
+/// An evening is one history: callers are served; then the file is opened for a command of the program's own, periodic work or an import, which
+/// is carried out; then the machine stops, the file is opened again, and callers are served. What happened is one list of events behind those
+/// before it: those of the first callers' messages, a stop, the command, a stop, and those of the other callers' messages; and the shop is running
+/// as they leave it. So there is one list of arrivals for which it stands (`histories_come_to_one_run`).
+pub fn an_evening_is_one_history<S: Alter, K: Ticks>(
+    served: &SqlTables<S>,
+    closed: &Connection<S>,
+    opened_for: &SqlTables<S>,
+    acted: &SqlTables<S>,
+    fresh: &Connection<S>,
+    again: &SqlTables<S>,
+)
+    ensures { (house : House) (begun r : Running) (es : List Event) (n m : ℕ) (before after : Story) (first end : Between (DeskView (SqlTables S))) (told : Option (List Tick)) (a b c d : DeskView (SqlTables S))
+        (words : Reply → Response) (command : Command) (tick : Tick) (outcome : Result (List ℕ) RunFault)
+        → let tables = meaning ⟦<SqlTables<S> as Tables>⟧.sure ⟦<SqlTables<S> as Tables>⟧.holds ⟦<SqlTables<S> as Tables>⟧.knows ⟦<SqlTables<S> as Tables>⟧.may_leave in
+        RunsSo tables house begun es first.desk r
+        → Hall (AtTick K.reads (Serves tables)) n first (between told (over served.now a)) before
+        → IsOpenedAgain S.Store (state S.Store served.now.connection) (state S.Store closed.now) (over opened_for.now b)
+        → Acts words command tick tables (over opened_for.now b) (over acted.now c) outcome
+        → IsOpenedAgain S.Store (state S.Store acted.now.connection) (state S.Store fresh.now) (over again.now d)
+        → Hall (AtTick K.reads (Serves tables)) m (between None (over again.now d)) end after → HasCleanDisk (state S.Store end.desk.tables.connection)
+        → (fs : List Event) × (x : ShopView) × (answer : Answer) × (gs : List Event) × (q : Running)
+        × Hall (AtTick K.reads (ServesHistory house)) n (seen_at first es) (between told fs) before
+        × (outcome ≡ told_of answer)
+        × Hall (AtTick K.reads (ServesHistory house)) m (between None (((fs ++ Crashed ∷ []) ++ event_of (words_of house) (own_arrival command tick) answer x ∷ []) ++ Crashed ∷ [])) (seen_at end gs) after
+        × RunsSo tables house begun gs end.desk q }
+{
+    callers_go_on_with_a_history::<SqlTables<S>, K>();
+    a_history_goes_on_after_a_crash::<S, K>(served, closed, opened_for);
+    a_command_goes_on_with_a_history::<S>();
+    a_history_goes_on_after_a_crash::<S, K>(acted, fresh, again);
+}
+
+/// The program's own commands tell what they did, whatever the office, the moment and the draw: periodic work its counts, an import a line
+/// for each row. No run has any other reply; what would be told of one is `{}`.
+pub fn own_commands_tell_what_they_did()
+    ensures work { (at : ℕ) (draw : Draw) (state : State)
+        → (counts : PeriodicCounts) × ((work_words (step Periodic at draw state).1).body ≡ work_text counts) }
+    ensures imports { (given : List (List ℕ)) (vouchers : List NewVoucher) (at : ℕ) (draw : Draw) (state : State)
+        → (verdicts : List Verdict) × ((import_words given (step (ImportVouchers vouchers) at draw state).1).body ≡ verdict_lines given verdicts) }
+    ensures other_work { (reply : Reply) → ((counts : PeriodicCounts) → reply ≡ replies.Periodic counts → ⊥) → (work_words reply).body ≡ codes "{}" }
+    ensures other_imports { (given : List (List ℕ)) (reply : Reply)
+        → ((verdicts : List Verdict) → reply ≡ replies.Imported verdicts → ⊥) → (import_words given reply).body ≡ codes "{}" }
+{}

@@ -1,0 +1,111 @@
+//! The shop in a database is served.
+
+ghost use Rattle.std.specs.Prelude.{◌⊎◌};
+ghost use Rattle.sqlite.specs.Held.{state};
+ghost use Rattle.web_handler.specs.Streams.{DeskView, desk_with, meaning};
+ghost use Rattle.web_cli.specs.Saying.{TellsListening};
+ghost use Rattle.web_server.specs.Clock.{IsRead};
+ghost use Rattle.app_files.specs.Served.{IsOpenedAndServed, IsSilent, LeadsFrom, StaysUnopened};
+
+use crate::filed::{Filed, connection_of};
+use crate::opening::open_counted;
+use base_devices::Drain;
+use book_usage::Dues;
+use file_tables::SqlTables;
+use model_answers::Tables;
+use sqlite::{Alter, Connection};
+use std::alloc::Global;
+use std::net::{Net, TcpListener, TcpStream};
+use std::time::Clock;
+use web_cli::{Console, Place, RunFault};
+use web_handler::{HouseWords, Office, ShopDesk};
+use web_server::{Log, Noted, System, serve_at};
+
+// Serves a desk, and hands back the connection of its tables.
+fn serve_desk<
+    R: Net<Listener = TcpListener, Stream = TcpStream> + Clock + System + Console,
+    S: Alter + Drop,
+    B: Dues + Drop,
+    W: Drain,
+>(
+    rt: &R,
+    alloc: Global,
+    log: &Log<'_, R>,
+    place: &Place<'_>,
+    desk: ShopDesk<SqlTables<S>, B>,
+    writer: &mut W,
+) -> Filed<S, ()>
+    ensures said { TellsListening place.now.text.now (record { taken = W.taken writer.old; failures = W.failures writer.old }) (record { taken = W.taken writer.new; failures = W.failures writer.new }) result.outcome }
+    ensures leads { LeadsFrom (IsRead R.shows R.gives) (meaning ⟦<SqlTables<S> as Tables>⟧.sure ⟦<SqlTables<S> as Tables>⟧.holds ⟦<SqlTables<S> as Tables>⟧.knows ⟦<SqlTables<S> as Tables>⟧.may_leave)
+        place.now.connections desk result.connection result.outcome }
+{
+    let mut noted = Noted::new(log, desk);
+    let outcome = serve_at(rt, alloc, log, place, &mut noted, writer);
+    Filed {
+        connection: noted.into_desk().into_tables().into_connection(),
+        outcome,
+    }
+}
+
+// Serves tables that were opened together with their office.
+fn serve_opened<
+    R: Net<Listener = TcpListener, Stream = TcpStream> + Clock + System + Console,
+    S: Alter + Drop,
+    B: Dues + Drop,
+    W: Drain,
+>(
+    rt: &R,
+    alloc: Global,
+    log: &Log<'_, R>,
+    place: &Place<'_>,
+    opened: (SqlTables<S>, Office<B>),
+    writer: &mut W,
+) -> Filed<S, ()>
+    ensures said { TellsListening place.now.text.now (record { taken = W.taken writer.old; failures = W.failures writer.old }) (record { taken = W.taken writer.new; failures = W.failures writer.new }) result.outcome }
+    ensures leads { LeadsFrom (IsRead R.shows R.gives) (meaning ⟦<SqlTables<S> as Tables>⟧.sure ⟦<SqlTables<S> as Tables>⟧.holds ⟦<SqlTables<S> as Tables>⟧.knows ⟦<SqlTables<S> as Tables>⟧.may_leave)
+        place.now.connections (desk_with opened.0 opened.1.organizer opened.1.event opened.1.state) result.connection result.outcome }
+{
+    match HouseWords::new(alloc, opened.1.organizer(), opened.1.event()) {
+        Ok(words) => {
+            let (tables, office) = opened;
+            let desk = ShopDesk::with_words(tables, office, words);
+            serve_desk(rt, alloc, log, place, desk, writer)
+        }
+        Err(_) => Filed {
+            connection: connection_of(opened),
+            outcome: Err(RunFault::Memory),
+        },
+    }
+}
+
+/// `serve`: opens the shop in a database, listens at an address, says so, and answers the callers that come, many of them at once, each request
+/// from the shop as the one before left it; a log is told what happens. Faults: 60, 61 and 62 where the database holds no shop that is whole, each for its cause alone, 63
+/// and 6, and then nothing is said and nothing has changed; 81 where the address can't be listened at or takes no callers any more; 83
+/// where that it listens couldn't be said.
+pub fn serve_shop<
+    R: Net<Listener = TcpListener, Stream = TcpStream> + Clock + System + Console,
+    S: Alter + Drop,
+    W: Drain,
+>(
+    rt: &R,
+    alloc: Global,
+    connection: Connection<S>,
+    log: &Log<'_, R>,
+    place: &Place<'_>,
+    writer: &mut W,
+) -> Filed<S, ()>
+    ensures said { TellsListening place.now.text.now (record { taken = W.taken writer.old; failures = W.failures writer.old }) (record { taken = W.taken writer.new; failures = W.failures writer.new }) result.outcome }
+    ensures served { IsOpenedAndServed (IsRead R.shows R.gives) S.Store (meaning ⟦<SqlTables<S> as Tables>⟧.sure ⟦<SqlTables<S> as Tables>⟧.holds ⟦<SqlTables<S> as Tables>⟧.knows ⟦<SqlTables<S> as Tables>⟧.may_leave)
+        place.now.connections (state S.Store connection) result.connection result.outcome
+        ⊎ (StaysUnopened S.Store (state S.Store connection) result.connection result.outcome
+        × IsSilent (record { taken = W.taken writer.old; failures = W.failures writer.old }) (record { taken = W.taken writer.new; failures = W.failures writer.new })) }
+{
+    let mut rows = 0;
+    match open_counted(rt, alloc, connection, &mut rows) {
+        Ok(opened) => {
+            log.tell_opened(rows);
+            serve_opened(rt, alloc, log, place, opened, writer)
+        }
+        Err(filed) => filed,
+    }
+}

@@ -1,0 +1,22 @@
+-- What `feed` does.
+use Rattle.std.specs.Prelude.{◌≡◌, ◌⊎◌, ℕ, Option, Some, None, Result, Err}
+use Rattle.web_connection.specs.declared.failure.Failure.{Failure}
+use Rattle.web_connection.specs.declared.failure.Failure.TheVariants as failures
+use Rattle.web_handler.specs.Fed.{FeedsDesk, Ports}
+use Rattle.app_run.specs.Fresh.{IsFresh}
+use Rattle.app_run.specs.Stored.{MemoryDesk, in_memory}
+use Rattle.web_cli.specs.declared.fault.RunFault.{RunFault}
+use Rattle.web_cli.specs.declared.fault.RunFault.TheVariants as faults
+use Rattle.web_cli.specs.Faults.{as_fault}
+
+-- the same from a fresh shop whose tables are in SQLite's memory; or there was no memory for that shop, and then nothing is read
+-- and nothing written
+abbrev pub Feeds : ℕ → ℕ → Ports → Ports → Result (Unit {0}) Failure → Type 0
+Feeds from step old new result =
+    ((first : MemoryDesk) × IsFresh in_memory first × FeedsDesk in_memory first from step old new result)
+    ⊎ ((result ≡ Err failures.Memory) × (new ≡ old))
+
+-- a value that can't be read is found before anything is read or written
+abbrev pub FeedsTexts : Option (ℕ × ℕ) → Ports → Ports → Result (Unit {0}) RunFault → Type 0
+FeedsTexts None old new result = (result ≡ Err faults.Argument) × (new ≡ old)
+FeedsTexts (Some (from, step)) old new result = (run : Result (Unit {0}) Failure) × Feeds from step old new run × (result ≡ as_fault run)

@@ -1,0 +1,22 @@
+-- What is said of a shop's tables in SQLite.
+use Rattle.sqlite_trees.specs.declared.memory.MemStore.{MemStore}
+use Rattle.sqlite_trees.specs.declared.store.Store.{Ghosts}
+use Rattle.sqlite.specs.Held.{state}
+use Rattle.sqlite.specs.State.{HasCleanDisk}
+use Rattle.sqlite.specs.Steps.{over_memory}
+use Rattle.file_tables.specs.declared.sql.SqlTables.{SqlTables}
+use Rattle.file_tables.specs.Shops.{HoldsWhileOpen, IsOfHouse, Leaves}
+use Rattle.web_handler.specs.Streams.{DeskView, Meaning, meaning}
+
+-- whatever SQLite keeps them in
+abbrev pub in_store : {S : Type 0} → Ghosts S → Meaning (SqlTables S)
+in_store g = meaning (λ t. HasCleanDisk (state g t.connection)) (λ t s ks. HoldsWhileOpen t.head t.next_row (state g t.connection) s ks)
+    (λ t house. IsOfHouse t.head t.next_row (state g t.connection) house) (λ t left. Leaves (state g t.connection) left)
+
+-- in its memory
+abbrev pub in_memory : Meaning (SqlTables MemStore)
+in_memory = in_store over_memory
+
+-- a desk over tables there
+abbrev pub MemoryDesk : Type 0
+MemoryDesk = DeskView (SqlTables MemStore)

@@ -1,0 +1,51 @@
+//! `feed`: requests from a reader, answers to a writer.
+
+ghost use Rattle.app_run.specs.Feed.{Feeds, FeedsTexts};
+ghost use Rattle.web_cli.specs.Values.{feed_values};
+
+use crate::opening::open_memory;
+use base_devices::{Drain, Source};
+use base_values::Moment;
+use std::alloc::Global;
+use web_cli::fault::ended;
+use web_cli::{RunFault, feed_values};
+use web_connection::Failure;
+use web_handler::feed_office;
+
+/// Reads requests to the end of the input, and writes the answers that a fresh shop gives, which is opened for it and whose tables are
+/// SQLite's, in its memory. Ticks, reads and faults are those of `feed_office`; fault 6 also where there is no memory for that shop, and
+/// then nothing is read.
+pub fn feed<R: Source, W: Drain>(
+    alloc: Global,
+    from: Moment,
+    step: u64,
+    reader: &mut R,
+    writer: &mut W,
+) -> Result<(), Failure>
+    ensures { Feeds from step
+        (record { left = R.left reader.old; taken = W.taken writer.old; calls = R.calls reader.old; input = R.failures reader.old; output = W.failures writer.old })
+        (record { left = R.left reader.new; taken = W.taken writer.new; calls = R.calls reader.new; input = R.failures reader.new; output = W.failures writer.new }) result }
+{
+    match open_memory(alloc) {
+        Ok((tables, office)) => feed_office(alloc, tables, office, from, step, reader, writer),
+        Err(_) => Err(Failure::Memory),
+    }
+}
+
+/// The same from the texts of the command line. Where one of them can't be read, nothing is read and nothing written.
+pub fn feed_texts<R: Source, W: Drain>(
+    alloc: Global,
+    from: &str,
+    step: &str,
+    reader: &mut R,
+    writer: &mut W,
+) -> Result<(), RunFault>
+    ensures { FeedsTexts (feed_values from.now step.now)
+        (record { left = R.left reader.old; taken = W.taken writer.old; calls = R.calls reader.old; input = R.failures reader.old; output = W.failures writer.old })
+        (record { left = R.left reader.new; taken = W.taken writer.new; calls = R.calls reader.new; input = R.failures reader.new; output = W.failures writer.new }) result }
+{
+    let Some((from, step)) = feed_values(from, step) else {
+        return Err(RunFault::Argument);
+    };
+    ended(feed(alloc, from, step, reader, writer))
+}

@@ -1,0 +1,82 @@
+//! What a command line comes to.
+
+ghost use Rattle.std.specs.Prelude.{map, option_map, string_bytes};
+ghost use Rattle.app_run.specs.Line.{Ran, ReportsWhere};
+ghost use Rattle.web_cli.specs.Values.{report_of};
+
+use crate::feeding::feed_texts;
+use crate::filing::{
+    add_token, export_shop, import_vouchers, make_shop, report_shop, serve_shop, work_shop,
+};
+use base_devices::{Drain, Source};
+use std::alloc::Global;
+use web_cli::{
+    Console, HouseFiles, Line, LineEnd, Report, ReportFault, RunFault, answer_line, plain_words,
+    read_line, report_of, tell_fault, tell_run, tell_unknown,
+};
+
+// What a line of `report` comes to.
+fn report_file<O: Console, F: HouseFiles, W: Drain>(
+    rt: &O,
+    alloc: Global,
+    files: &F,
+    file: &str,
+    name: &str,
+    list: Option<&str>,
+    writer: &mut W,
+) -> LineEnd
+    ensures { ReportsWhere (report_of name.now (option_map (λ t. t.now) list.entry)) F.reported file.now (record { taken = W.taken writer.old; failures = W.failures writer.old }) (record { taken = W.taken writer.new; failures = W.failures writer.new }) result }
+{
+    match report_of(name, list) {
+        Ok(report) => tell_run(rt, report_shop(alloc, files, file, report, writer)),
+        Err(ReportFault::Unknown) => tell_unknown(rt, name),
+        Err(ReportFault::Argument) => tell_fault(rt, RunFault::Argument),
+    }
+}
+
+/// Runs a command line, whose first word is the program, from the reader to the writer. What it asks for decides: the command
+/// that it names, help, or a wrong line; the last two, and a value that can't be read, read nothing and write nothing. The commands on a
+/// shop's file read nothing.
+pub fn run<O: Console, F: HouseFiles, R: Source, W: Drain>(
+    rt: &O,
+    alloc: Global,
+    files: &F,
+    words: &[String],
+    reader: &mut R,
+    writer: &mut W,
+) -> LineEnd
+    ensures { Ran F.made F.added F.served F.worked F.reported F.exported F.imported (map string_bytes words.now)
+        (record { left = R.left reader.old; taken = W.taken writer.old; calls = R.calls reader.old; input = R.failures reader.old; output = W.failures writer.old })
+        (record { left = R.left reader.new; taken = W.taken writer.new; calls = R.calls reader.new; input = R.failures reader.new; output = W.failures writer.new }) result }
+{
+    let Ok(words) = plain_words(alloc, words) else {
+        return tell_fault(rt, RunFault::Memory);
+    };
+    match read_line(alloc, words.as_slice()) {
+        Ok(Line::Feed(line)) => {
+            tell_run(rt, feed_texts(alloc, line.from, line.step, reader, writer))
+        }
+        Ok(Line::Init(line)) => tell_run(
+            rt,
+            make_shop(alloc, files, line.file, line.organizer, line.event, writer),
+        ),
+        Ok(Line::TokenAdd(line)) => {
+            tell_run(rt, add_token(alloc, files, line.file, line.token, writer))
+        }
+        Ok(Line::Serve(line)) => tell_run(rt, serve_shop(alloc, files, line, writer)),
+        Ok(Line::Periodic(line)) => tell_run(rt, work_shop(alloc, files, line.file, writer)),
+        Ok(Line::Report(line)) => {
+            report_file(rt, alloc, files, line.file, line.report, line.list, writer)
+        }
+        Ok(Line::Export(line)) => tell_run(rt, export_shop(alloc, files, line.file, writer)),
+        Ok(Line::Import(line)) => tell_run(
+            rt,
+            import_vouchers(alloc, files, line.file, line.csv, writer),
+        ),
+        Ok(Line::Migrate(line)) => tell_run(
+            rt,
+            report_shop(alloc, files, line.file, Report::Version, writer),
+        ),
+        Err(error) => answer_line(rt, &error),
+    }
+}

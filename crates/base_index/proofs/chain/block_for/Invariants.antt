@@ -1,0 +1,12 @@
+use Rattle.std.proofs.Common.{◌+◌, ◌-◌, ◌<◌, ◌≤◌, [], get_or}
+use Rattle.base_index.proofs.chain.block_for.Given as goal
+
+abbrev pub invariant-halve : goal.invariant-halve
+invariant-halve l = record {
+  within : (l.low ≤ l.high) × (l.high ≤ l.last);
+  from : 0 < l.low → get_or (get_or l.blocks l.low []) 0 0 ≤ l.entry;
+  before : l.high < l.last → l.entry < get_or (get_or l.blocks (l.high + 1) []) 0 0;
+}
+
+abbrev pub decreases-halve : goal.decreases-halve
+decreases-halve l = l.high - l.low

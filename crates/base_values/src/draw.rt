@@ -1,0 +1,18 @@
+//! Draws.
+
+ghost use Rattle.base_values.specs.Draws.{IsDraw};
+
+/// Sixteen bytes by chance, handed in with each request. Nothing is promised of their being hard to guess.
+#[derive(Clone, Copy, PartialEq, Eq)]
+pub struct Draw {
+    pub bytes: [u8; 16],
+}
+
+impl Draw {
+    /// It is sixteen bytes.
+    pub fn known(self)
+        ensures { IsDraw self }
+    {
+        let _bytes = self.bytes;
+    }
+}

@@ -1,2 +1,0 @@
-pub mod Likes
-pub mod OwnKeys

@@ -1,8 +1,0 @@
-use Rattle.std.proofs.Common.{◌≡◌, ◌↔◌, true, drop}
-use Rattle.std.specs.List.{AllByRecursion}
-use Rattle.bo_sound.specs.Checkins.{repeats}
-use Rattle.bo_alike.specs.Firsts.{is_first}
-use Rattle.bo_alike.proofs.nonces.all_are_new.Given as goal
-
-abbrev pub invariant-loop-row : goal.invariant-loop-row
-invariant-loop-row g l = let lists = (g.B.Book.state l.book).lists in AllByRecursion (λ c. is_first (λ d. d.id) repeats lists.checkins c ≡ true) (drop l.row-index l.checkins) ↔ AllByRecursion (λ c. is_first (λ d. d.id) repeats lists.checkins c ≡ true) l.checkins

@@ -1,5 +1,0 @@
-use Rattle.bo_api.proofs.OrderNames.{unnamed}
-use Rattle.bo_api.proofs.path.order_named.Goals as goal
-
-pub returns-in-Err : goal.returns-in-Err
-returns-in-Err c = unnamed c.args.code.now c.in-Err.ensures.cases.0

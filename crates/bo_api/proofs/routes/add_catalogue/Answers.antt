@@ -1,7 +1,0 @@
-use Rattle.std.proofs.Common.{refl}
-use Rattle.bo_api.specs.Routes.{catalogue_routes}
-use Rattle.bo_api.proofs.routes.add_catalogue.Goals as goal
-
-pub returns : goal.returns
-unfolding catalogue_routes
-returns c = rw (c.in_ok-add-6.ensures, c.in_ok-add-5.ensures, c.in_ok-add-4.ensures, c.in_ok-add-3.ensures, c.in_ok-add-2.ensures, c.in_ok-add.ensures) refl

@@ -1,5 +1,0 @@
-pub mod Telling
-pub mod Parts
-pub mod Offices
-pub mod Amounts
-pub mod Joined

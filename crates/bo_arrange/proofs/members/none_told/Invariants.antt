@@ -1,6 +1,0 @@
-use Rattle.std.proofs.Common.{◌≡◌, [], map, take}
-use Rattle.bo_arrange.specs.Members.{told}
-use Rattle.bo_arrange.proofs.members.none_told.Given as goal
-
-abbrev pub invariant-loop-id : goal.invariant-loop-id
-invariant-loop-id l = map (λ v. v.items) l.all.items ≡ map (λ id. told id []) (take l._id-index l.ids)

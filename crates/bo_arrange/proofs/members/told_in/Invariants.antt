@@ -1,6 +1,0 @@
-use Rattle.std.proofs.Common.{◌≡◌, map, take}
-use Rattle.bo_arrange.specs.Members.{told}
-use Rattle.bo_arrange.proofs.members.told_in.Given as goal
-
-abbrev pub invariant-loop-link : goal.invariant-loop-link
-invariant-loop-link g l = map (λ v. v.items) l.all.items ≡ map (λ id. told id (map g.L.Linking.link (take l.link-index l.links))) l.ids

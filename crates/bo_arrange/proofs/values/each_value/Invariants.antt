@@ -1,7 +1,0 @@
-use Rattle.std.proofs.Common.{◌≡◌, map, take}
-use Rattle.std.specs.Prelude.{option_map}
-use Rattle.bo_sorted.specs.Tables.{row_at}
-use Rattle.bo_arrange.proofs.values.each_value.Given as goal
-
-abbrev pub invariant-loop-id : goal.invariant-loop-id
-invariant-loop-id g l = l.all.items ≡ map (λ id. option_map g.V.Valued.value_of (row_at g.V.Row.key id l.rows)) (take l.id-index l.ids)

@@ -1,6 +1,0 @@
-use Rattle.std.proofs.Common.{◌%◌, arith}
-use Rattle.bo_base.proofs.CodeLemmas.{letter_ascii}
-use Rattle.bo_base.proofs.codes.letter.Goals as goal
-
-pub returns-clause-ascii : goal.returns-clause-ascii
-returns-clause-ascii c = letter_ascii (c.args.number % 28) (omega arith)

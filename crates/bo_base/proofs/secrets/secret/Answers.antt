@@ -1,8 +1,0 @@
-use Rattle.std.proofs.Common.{subst, sym, arith}
-use Rattle.bo_base.specs.Texts.{IsText}
-use Rattle.bo_base.proofs.Pieces.{secret_text}
-use Rattle.bo_base.proofs.secrets.secret.Goals as goal
-
-pub new-requires : goal.new-requires
-new-requires c =
-    subst IsText (sym c.in_ok-secret_chars.ensures) (secret_text c.args.draw c.args.order c.args.position c.known.ensures c.ranges.order.fits (omega (arith, c.ranges.position.fits)))

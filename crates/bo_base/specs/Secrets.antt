@@ -1,9 +1,0 @@
--- The secrets of order positions.
-use Rattle.std.specs.Prelude.{ℕ, List, ◌++◌, codes}
-use Rattle.std.specs.Fmt.{decimal}
-use Rattle.hex.specs.Hex.{encode_lower}
-use Rattle.bo_base.specs.declared.draw.Draw.{Draw}
-
--- the draw as 32 lower case hex digits, `z`, the order's number, `z` and the position's number in its order
-unfoldable pub secret : Draw → ℕ → ℕ → List ℕ
-secret draw order position = encode_lower draw.bytes ++ codes "z" ++ decimal order ++ codes "z" ++ decimal position

@@ -1,5 +1,0 @@
-use Rattle.bo_bodies.proofs.Enough.{front_said}
-use Rattle.bo_bodies.proofs.order_bodies.front_entries.Goals as goal
-
-pub returns : goal.returns
-returns c = rw (front_said c.args.list.now c.min.result c.min.ensures) at c.entries.ensures

@@ -1,7 +1,0 @@
-use Rattle.bo_streams.specs.DeskView.{meaning}
-use Rattle.bo_callers.proofs.LawLemmas.{history_on}
-use Rattle.bo_callers.proofs.laws.callers_go_on_with_a_history.Goals as goal
-
-pub returns : goal.returns
-returns g c = λ house begun r es came old new all hall sure of happened running.
-    history_on (meaning g.T.Tables.sure g.T.Tables.holds g.T.Tables.knows g.T.Tables.may_leave) g.K.Ticks.reads house came old new all hall sure of begun r es happened running

@@ -1,7 +1,0 @@
-use Rattle.std.proofs.Common.{◌↔◌, drop}
-use Rattle.std.specs.List.{AllByRecursion}
-use Rattle.bo_checks.specs.Room.{HasRoom}
-use Rattle.bo_checks.proofs.headroom.all_have_room.Given as goal
-
-abbrev pub invariant-loop-row : goal.invariant-loop-row
-invariant-loop-row g l = let state = g.B.Book.state l.book in AllByRecursion (HasRoom state.moment state.lists) (drop l.row-index l.vouchers) ↔ AllByRecursion (HasRoom state.moment state.lists) l.vouchers

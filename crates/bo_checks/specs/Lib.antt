@@ -1,4 +1,0 @@
-pub mod Room
-pub mod Spent
-pub mod Counted
-pub mod Last

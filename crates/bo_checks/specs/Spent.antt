@@ -1,8 +1,0 @@
--- A voucher's budget, named as one thing where it goes over all vouchers.
-use Rattle.bo_lists.specs.declared.rows.Voucher.{Voucher}
-use Rattle.bo_lists.specs.Budgets.{HasBudget}
-use Rattle.bo_lists.specs.Lists.{Lists}
-
--- no more of it is spent than its budget, if it has one
-unfoldable pub StaysWithin : Lists → Voucher → Type 0
-StaysWithin lists voucher = HasBudget lists voucher

@@ -1,5 +1,0 @@
-use Rattle.bo_columns.proofs.UnreadLemmas.{unread, slug_utf8}
-use Rattle.bo_columns.proofs.words.SlugColumn.read.Goals as goal
-
-pub returns-in-Err-clause-refused : goal.returns-in-Err-clause-refused
-returns-in-Err-clause-refused c within = unread _ _ (λ no slug fit is. no (slug, is, slug_utf8 slug fit)) c.in-Err.error (c.in-Err.ensures.refused within)

@@ -1,4 +1,0 @@
-pub mod Starts
-pub mod Refusals
-pub mod FitRequests
-pub mod Fit

@@ -1,5 +1,0 @@
-use Rattle.bo_connection.proofs.LawLemmas.{all_answered}
-use Rattle.bo_connection.proofs.laws.all_are_answered.Goals as goal
-
-pub returns : goal.returns
-returns c = all_answered

@@ -1,5 +1,0 @@
-use Rattle.bo_connection.proofs.CountLemmas.{numbers_counted}
-use Rattle.bo_connection.proofs.laws.numbers_are_counted.Goals as goal
-
-pub returns : goal.returns
-returns c = numbers_counted

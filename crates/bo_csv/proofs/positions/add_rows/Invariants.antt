@@ -1,9 +1,0 @@
-use Rattle.std.proofs.Common.{◌≡◌, ◌++◌, drop, map}
-use Rattle.std.specs.List.{concat}
-use Rattle.bo_csv.specs.Handing.{IsReady, gathered}
-use Rattle.bo_csv.specs.PositionLines.{row_line}
-use Rattle.bo_csv.proofs.positions.add_rows.Given as goal
-
--- the lines that are left, behind what is gathered, are all lines behind what was
-abbrev pub invariant-loop-row : goal.invariant-loop-row
-invariant-loop-row l = IsReady l.lines × (gathered l.lines ++ concat (map row_line (drop l.row-index l.rows)) ≡ gathered l.fn.lines ++ concat (map row_line l.rows))

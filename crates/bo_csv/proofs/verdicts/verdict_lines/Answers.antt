@@ -1,8 +1,0 @@
-use Rattle.std.proofs.Common.{◌∙◌, sym, drop, arith}
-use Rattle.bo_csv.proofs.Said.{all_said}
-use Rattle.bo_csv.proofs.verdicts.verdict_lines.Goals as goal
-
-pub returns : goal.returns
-returns c =
-    let here = c.loop-verdict in
-    sym (all_said here.text.items (drop here.at c.args.codes.now) here.verdict-index c.args.verdicts.now (omega (arith, c.loop-verdict-test.false))) ∙ here.invariant.1

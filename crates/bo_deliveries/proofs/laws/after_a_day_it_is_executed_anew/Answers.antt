@@ -1,5 +1,0 @@
-use Rattle.bo_deliveries.proofs.Again.{executed_anew}
-use Rattle.bo_deliveries.proofs.laws.after_a_day_it_is_executed_anew.Goals as goal
-
-pub returns : goal.returns
-returns c = executed_anew

@@ -1,5 +1,0 @@
-use Rattle.bo_deliveries.proofs.Whole.{all_more}
-use Rattle.bo_deliveries.proofs.laws.answers_are_those_of_one_run.Goals as goal
-
-pub returns : goal.returns
-returns c = all_more

@@ -1,5 +1,0 @@
-use Rattle.bo_deliveries.proofs.Apart.{day_apart}
-use Rattle.bo_deliveries.proofs.laws.executions_are_a_day_apart.Goals as goal
-
-pub returns : goal.returns
-returns c = day_apart

@@ -1,5 +1,0 @@
-use Rattle.bo_deliveries.proofs.OneEach.{one_each}
-use Rattle.bo_deliveries.proofs.laws.one_answer_for_each_key.Goals as goal
-
-pub returns : goal.returns
-returns c = one_each

@@ -1,5 +1,0 @@
-use Rattle.bo_deliveries.proofs.Again.{told_again}
-use Rattle.bo_deliveries.proofs.laws.repeats_are_told_again.Goals as goal
-
-pub returns : goal.returns
-returns c = told_again

@@ -1,7 +1,0 @@
-use Rattle.bo_streams.specs.DeskView.{meaning, worded}
-use Rattle.bo_desk.proofs.DeskLemmas.{unavailable}
-use Rattle.bo_desk.proofs.desk.ShopDesk.answer.Goals as goal
-
-pub returns-in-Err-clause-once : goal.returns-in-Err-clause-once
-returns-in-Err-clause-once g c = λ sure.
-    unavailable (meaning g.T.Tables.sure g.T.Tables.holds g.T.Tables.knows g.T.Tables.may_leave) (worded c.args.self.now) c.args.self.now _

@@ -1,5 +1,0 @@
-use Rattle.bo_door.proofs.Again.{once_after}
-use Rattle.bo_door.proofs.laws.a_nonce_is_stored_once.Goals as goal
-
-pub returns : goal.returns
-returns c = once_after

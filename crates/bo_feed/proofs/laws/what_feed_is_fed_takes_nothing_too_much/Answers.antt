@@ -1,5 +1,0 @@
-use Rattle.bo_feed.proofs.FreshLemmas.{feeds_fairly}
-use Rattle.bo_feed.proofs.laws.what_feed_is_fed_takes_nothing_too_much.Goals as goal
-
-pub returns : goal.returns
-returns c = feeds_fairly

@@ -1,6 +1,0 @@
-use Rattle.bo_desk.specs.Streams.{meaning}
-use Rattle.bo_feed.proofs.FreshLemmas.{fed_fairly}
-use Rattle.bo_feed.proofs.laws.what_is_fed_takes_nothing_too_much.Goals as goal
-
-pub returns : goal.returns
-returns g c = λ first from step old new result fresh fed sure. fed_fairly (meaning g.T.Tables.sure g.T.Tables.holds g.T.Tables.knows g.T.Tables.may_leave) first from step old new result fresh fed sure

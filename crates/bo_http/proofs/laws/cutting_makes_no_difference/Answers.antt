@@ -1,5 +1,0 @@
-use Rattle.bo_http.proofs.MessageLemmas.{Messages_cut}
-use Rattle.bo_http.proofs.laws.cutting_makes_no_difference.Goals as goal
-
-pub returns : goal.returns
-returns c = Messages_cut

@@ -1,5 +1,0 @@
-use Rattle.bo_index.proofs.RoomLemmas.{few_places}
-use Rattle.bo_index.proofs.blocks.Blocks.known.Goals as goal
-
-pub returns : goal.returns
-returns c = rw (← c.self.view_is) (few_places c.self.inside.chain c.self.inside.last c.self.inside.room c.self.invariant)

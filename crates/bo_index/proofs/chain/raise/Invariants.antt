@@ -1,9 +1,0 @@
-use Rattle.std.proofs.Common.{◌≡◌, ℕ, ◌+◌, ◌≤◌, ◌++◌, length, get_or, map, take, drop}
-use Rattle.bo_index.proofs.chain.raise.Given as goal
-
-abbrev pub invariant-loop-at : goal.invariant-loop-at
-invariant-loop-at l = record {
-  same : take l.at l.starts.items ++ map (λ s. s + 1) (drop l.at l.starts.items) ≡ take l.from l.initial.starts.items ++ map (λ s. s + 1) (drop l.from l.initial.starts.items);
-  count : length l.starts.items ≡ length l.initial.starts.items;
-  few : (k : ℕ) → l.at ≤ k → get_or l.starts.items k 0 ≤ 4294967296;
-}

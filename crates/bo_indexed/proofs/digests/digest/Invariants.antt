@@ -1,9 +1,0 @@
-use Rattle.std.proofs.Common.{◌≡◌, ◌<◌, drop}
-use Rattle.bo_indexed.specs.Digests.{digest_from}
-use Rattle.bo_indexed.proofs.digests.digest.Given as goal
-
-abbrev pub invariant-loop-b : goal.invariant-loop-b
-invariant-loop-b l = record {
-  rest : digest_from l.h (drop l.b-index l.bytes) ≡ digest_from 0 l.bytes;
-  small : l.h < 36028797018963968;
-}

@@ -1,5 +1,0 @@
-use Rattle.bo_kept.proofs.AnyOrder.{in-any-order}
-use Rattle.bo_kept.proofs.laws.the_order_of_answers_does_not_matter.Goals as goal
-
-pub returns : goal.returns
-returns c = in-any-order

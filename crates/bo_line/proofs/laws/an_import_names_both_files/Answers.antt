@@ -1,5 +1,0 @@
-use Rattle.bo_line.proofs.LineLaws.{imports_vouchers, no_csv}
-use Rattle.bo_line.proofs.laws.an_import_names_both_files.Goals as goal
-
-pub returns : goal.returns
-returns c = λ program. (imports_vouchers program, no_csv program)

@@ -1,5 +1,0 @@
-use Rattle.bo_line.proofs.LineLaws.{shows_help, shows_help_of_feed}
-use Rattle.bo_line.proofs.laws.help_is_shown.Goals as goal
-
-pub returns : goal.returns
-returns c = λ program. (shows_help program, shows_help_of_feed program)

@@ -1,6 +1,0 @@
-use Rattle.std.proofs.Common.{◌≡◌, ◌+◌, drop}
-use Rattle.bo_lists.specs.Weight.{weight}
-use Rattle.bo_lists.proofs.changes.Changes.weight.Given as goal
-
-abbrev pub invariant-loop-change : goal.invariant-loop-change
-invariant-loop-change l = l.count + weight (drop l.change-index l.change-items) ≡ weight l.self.list

@@ -1,5 +1,0 @@
-use Rattle.bo_columns.proofs.UnreadLemmas.{unread}
-use Rattle.bo_loads.proofs.quotas.QuotaRowLoaded.read.Goals as goal
-
-pub returns-in-Err-clause-refused : goal.returns-in-Err-clause-refused
-returns-in-Err-clause-refused c = unread _ _ (λ no w fit is. no (w.id, (w.name, (w.size, tt))) (tt, (fit.name, (fit.size, tt))) is) c.in-Err.error c.in-Err.ensures.refused

@@ -1,9 +1,0 @@
-use Rattle.bo_log.specs.Places.{number}
-use Rattle.bo_log.proofs.EarlierPlaces.{IsLater, height}
-use Rattle.bo_log.proofs.change_log.ChangeLog.last_before.Given as goal
-
-abbrev pub invariant-earlier : goal.invariant-earlier
-invariant-earlier l = IsLater (number l.fn.table) l.id l.self l.count l.found
-
-abbrev pub decreases-earlier : goal.decreases-earlier
-decreases-earlier l = height l.found

@@ -1,2 +1,0 @@
--- What a decision sees of its draft, passed on.
-pub use Rattle.bo_orders.specs.Drafts.{DraftState, now, Extends}

@@ -1,5 +1,0 @@
-use Rattle.std.proofs.Common.{◌≡◌, map, take}
-use Rattle.bo_office.proofs.office.Office.shown_rows.Given as goal
-
-abbrev pub invariant-loop-row : goal.invariant-loop-row
-invariant-loop-row g l = l.shown.items ≡ map (g.R.ShownRow.show l.self.state.lists) (map (λ r. r.now) (take l.row-index l.rows))

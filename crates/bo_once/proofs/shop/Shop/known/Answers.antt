@@ -1,6 +1,0 @@
-use Rattle.std.proofs.Common.{subst}
-use Rattle.bo_sound.specs.Sound.{IsSound}
-use Rattle.bo_once.proofs.shop.Shop.known.Goals as goal
-
-pub returns : goal.returns
-returns g c = rw (← c.self.view_is) (subst IsSound c.book.ensures.state c.book.ensures.sound)

@@ -1,5 +1,0 @@
-use Rattle.bo_opens.proofs.LimitLemmas.{sound_fits}
-use Rattle.bo_opens.proofs.laws.a_sound_office_is_fit.Goals as goal
-
-pub returns : goal.returns
-returns c = λ shop t state answers first organizer event token stand sound typed. sound_fits shop t state answers first organizer event token stand sound typed

@@ -1,5 +1,0 @@
-use Rattle.bo_opens.proofs.FitLemmas.{told_as}
-use Rattle.bo_opens.proofs.laws.another_version_is_told.Goals as goal
-
-pub returns : goal.returns
-returns c = λ from t db known held shop one other e cause. told_as from t db known held shop one other e cause

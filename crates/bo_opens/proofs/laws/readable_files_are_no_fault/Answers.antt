@@ -1,5 +1,0 @@
-use Rattle.bo_opens.proofs.FitLemmas.{of_readable}
-use Rattle.bo_opens.proofs.laws.readable_files_are_no_fault.Goals as goal
-
-pub returns : goal.returns
-returns c = λ db known r e cause. of_readable db known r e cause

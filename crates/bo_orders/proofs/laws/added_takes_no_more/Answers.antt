@@ -1,5 +1,0 @@
-use Rattle.bo_orders.proofs.Added.{added_takes_no_more}
-use Rattle.bo_orders.proofs.laws.added_takes_no_more.Goals as goal
-
-pub returns : goal.returns
-returns c = added_takes_no_more

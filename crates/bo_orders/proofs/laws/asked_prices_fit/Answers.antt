@@ -1,5 +1,0 @@
-use Rattle.bo_orders.proofs.OverBudgets.{asked_prices_fit}
-use Rattle.bo_orders.proofs.laws.asked_prices_fit.Goals as goal
-
-pub returns : goal.returns
-returns c = asked_prices_fit

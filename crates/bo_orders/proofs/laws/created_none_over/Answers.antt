@@ -1,5 +1,0 @@
-use Rattle.bo_orders.proofs.Created.{created_none_over}
-use Rattle.bo_orders.proofs.laws.created_none_over.Goals as goal
-
-pub returns : goal.returns
-returns c = created_none_over

@@ -1,5 +1,0 @@
-use Rattle.bo_orders.proofs.Created.{created_sound}
-use Rattle.bo_orders.proofs.laws.created_sound.Goals as goal
-
-pub returns : goal.returns
-returns c = created_sound

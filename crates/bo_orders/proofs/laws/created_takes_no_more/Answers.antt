@@ -1,5 +1,0 @@
-use Rattle.bo_orders.proofs.CreatedTakes.{created_takes_no_more}
-use Rattle.bo_orders.proofs.laws.created_takes_no_more.Goals as goal
-
-pub returns : goal.returns
-returns c = created_takes_no_more

@@ -1,5 +1,0 @@
-use Rattle.bo_orders.proofs.Dropped.{dropped_lowers}
-use Rattle.bo_orders.proofs.laws.dropping_lowers.Goals as goal
-
-pub returns : goal.returns
-returns c = λ id before after quota h. dropped_lowers id before after quota h

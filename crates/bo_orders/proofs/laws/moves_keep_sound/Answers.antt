@@ -1,5 +1,0 @@
-use Rattle.bo_orders.proofs.Moved.{moved_sound}
-use Rattle.bo_orders.proofs.laws.moves_keep_sound.Goals as goal
-
-pub returns : goal.returns
-returns c = moved_sound

@@ -1,4 +1,0 @@
-use Rattle.bo_overlay.proofs.overlay.Overlay.checkin.Goals as goal
-
-pub returns : goal.returns
-returns g c = rw (← c.self.view_is) (c.checkin_in.ensures _ c.checkin.ensures)

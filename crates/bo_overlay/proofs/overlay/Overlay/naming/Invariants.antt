@@ -1,7 +1,0 @@
-use Rattle.std.proofs.Common.{◌≡◌, ◌+◌, ◌≤◌}
-use Rattle.bo_usage.specs.Naming.{naming}
-use Rattle.bo_overlay.specs.Logs.{rows_at}
-use Rattle.bo_overlay.proofs.overlay.Overlay.naming.Given as goal
-
-abbrev pub invariant-loop-i : goal.invariant-loop-i
-invariant-loop-i g l = (l.count ≡ naming l.voucher (rows_at l.i l.self)) × (l.count ≤ 12884901888 + l.i)

@@ -1,4 +1,0 @@
-use Rattle.bo_overlay.proofs.overlay.Overlay.waiting_at.Goals as goal
-
-pub returns : goal.returns
-returns g c = rw (← c.self.view_is) (c.waiting_after.ensures _ c.entry.ensures)

@@ -1,4 +1,0 @@
-use Rattle.bo_overlay.proofs.overlay.OverlayLookUps.cart.Goals as goal
-
-pub returns : goal.returns
-returns g c = rw (← c.self.view_is) (c.cart_in.ensures _ c.cart.ensures)

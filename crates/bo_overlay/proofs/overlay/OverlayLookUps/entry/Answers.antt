@@ -1,4 +1,0 @@
-use Rattle.bo_overlay.proofs.overlay.OverlayLookUps.entry.Goals as goal
-
-pub returns : goal.returns
-returns g c = rw (← c.self.view_is) (c.waiting_in.ensures _ c.entry.ensures)

@@ -1,4 +1,0 @@
-//! Which rows of a list are on a page?
-#![tactic(auto)]
-
-pub mod pages;

@@ -1,5 +1,0 @@
-use Rattle.bo_reports.proofs.Totals.{Summed}
-use Rattle.bo_reports.proofs.text.total.Given as goal
-
-abbrev pub invariant-loop-row : goal.invariant-loop-row
-invariant-loop-row l = Summed l.rows l.row-index l.total

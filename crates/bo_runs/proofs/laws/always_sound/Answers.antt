@@ -1,5 +1,0 @@
-use Rattle.bo_runs.proofs.Runs.{sound_all}
-use Rattle.bo_runs.proofs.laws.always_sound.Goals as goal
-
-pub returns : goal.returns
-returns c = sound_all

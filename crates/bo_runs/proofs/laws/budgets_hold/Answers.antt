@@ -1,5 +1,0 @@
-use Rattle.bo_runs.proofs.BudgetRuns.{budgets_all}
-use Rattle.bo_runs.proofs.laws.budgets_hold.Goals as goal
-
-pub returns : goal.returns
-returns c = budgets_all

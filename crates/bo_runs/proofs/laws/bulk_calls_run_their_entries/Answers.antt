@@ -1,5 +1,0 @@
-use Rattle.bo_runs.proofs.BulkRuns.{entries_all}
-use Rattle.bo_runs.proofs.laws.bulk_calls_run_their_entries.Goals as goal
-
-pub returns : goal.returns
-returns c = entries_all

@@ -1,5 +1,0 @@
-use Rattle.bo_runs.proofs.Changes.{changes_all}
-use Rattle.bo_runs.proofs.laws.changes_can_be_made.Goals as goal
-
-pub returns : goal.returns
-returns c = changes_all

@@ -1,8 +1,0 @@
-use Rattle.bo_runs.proofs.Runs.{ids_all, ids_over}
-use Rattle.bo_runs.proofs.laws.ids_are_never_used_again.Goals as goal
-
-pub returns-clause-each : goal.returns-clause-each
-returns-clause-each c = ids_all
-
-pub returns-clause-run : goal.returns-clause-run
-returns-clause-run c = ids_over

@@ -1,5 +1,0 @@
-use Rattle.bo_runs.proofs.ImportAgain.{same_again}
-use Rattle.bo_runs.proofs.laws.importing_again_adds_nothing.Goals as goal
-
-pub returns : goal.returns
-returns c = same_again

@@ -1,5 +1,0 @@
-use Rattle.bo_runs.proofs.ScansAgain.{nonces_all}
-use Rattle.bo_runs.proofs.laws.nonce_once.Goals as goal
-
-pub returns : goal.returns
-returns c = nonces_all

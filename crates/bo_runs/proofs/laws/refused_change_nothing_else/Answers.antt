@@ -1,5 +1,0 @@
-use Rattle.bo_runs.proofs.Runs.{refused_all}
-use Rattle.bo_runs.proofs.laws.refused_change_nothing_else.Goals as goal
-
-pub returns : goal.returns
-returns c = refused_all

@@ -1,5 +1,0 @@
-use Rattle.bo_runs.proofs.Runs.{within_all}
-use Rattle.bo_runs.proofs.laws.takings_stay_within.Goals as goal
-
-pub returns : goal.returns
-returns c = within_all

@@ -1,9 +1,0 @@
-use Rattle.bo_runs.proofs.Refilled.{filled_released}
-use Rattle.bo_runs.proofs.Runs.{lowers_all}
-use Rattle.bo_runs.proofs.laws.the_rest_raises_nothing.Goals as goal
-
-pub returns-clause-rest : goal.returns-clause-rest
-returns-clause-rest c = lowers_all
-
-pub returns-clause-again : goal.returns-clause-again
-returns-clause-again c = filled_released

@@ -1,7 +1,0 @@
-use Rattle.std.proofs.Common.{◌≡◌, codes}
-use Rattle.sqlite.specs.Held.{state}
-use Rattle.bo_schema.proofs.WholeLemmas.{prepared}
-use Rattle.bo_schema.proofs.writing.test_open.Goals as goal
-
-pub returns-clause-kept : goal.returns-clause-kept
-returns-clause-kept g c clean = prepared (λ s. s.text ≡ codes "SELECT 1") c.prepare.result (state g.S.Store c.args.tx.now.conn.now) (state g.S.Store c.prepare.new.self.conn.now) (codes "SELECT 1") (c.prepare.ensures.ok clean) (c.prepare.ensures.err clean)

@@ -1,9 +1,0 @@
-use Rattle.std.proofs.Common.{◌∙◌}
-use Rattle.bo_shifts.proofs.OfProducts.{entry_comes_one}
-use Rattle.bo_settle.proofs.fresh.add_entry.Goals as goal
-
-pub returns-clause-items : goal.returns-clause-items
-returns-clause-items c =
-    let lists = c.args.store.now.state.lists in
-    let shifted = rw c.catalogue.ensures at c.shift_product.ensures.items in
-    shifted ∙ entry_comes_one lists.catalogue.quotas c.args.usages.now.items c.args.row.now

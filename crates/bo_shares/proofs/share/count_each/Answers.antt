@@ -1,7 +1,0 @@
-use Rattle.std.proofs.lemmas.Result.{on_ok_weaker}
-use Rattle.bo_shares.proofs.Reached.{more_all}
-use Rattle.bo_shares.proofs.share.count_each.Goals as goal
-
-pub returns-clause-more : goal.returns-clause-more
-returns-clause-more g c =
-    on_ok_weaker c.count_touched.result (more_all (g.S.Share.come c.args.share.now) (g.S.Share.gone c.args.share.now) c.args.catalogue.now.lists c.touch.new.ids.items c.sorted-ids.result c.args.counts.now c.count_touched.new.counts c.known.ensures.in_order c.sorted-ids.ensures c.in_ok-touch.ensures.come c.in_ok-touch.ensures.gone) (rw (c.as_slice.ensures, c.quotas.ensures) at c.count_touched.ensures.more)

@@ -1,2 +1,0 @@
--- The log of an overlay and its rows, passed on to drafts.
-pub use Rattle.bo_overlay.specs.Logs.{Log, rows_of, rows_at, IsSale}

@@ -1,9 +1,0 @@
-use Rattle.std.proofs.Common.{◌≡◌, ◌≤◌, ◌*◌, take}
-use Rattle.bo_shown.specs.OrderRows.{order_total}
-use Rattle.bo_shown.proofs.orders.total.Given as goal
-
-abbrev pub invariant-loop-position : goal.invariant-loop-position
-invariant-loop-position l = record {
-  counted : l.cents ≡ order_total (take l.position-index l.positions);
-  small : l.cents ≤ l.position-index * 9999999999;
-}

@@ -1,7 +1,0 @@
-use Rattle.std.proofs.Common.{ap, ◌∙◌}
-use Rattle.serde_json.specs.Written.{has_float}
-use Rattle.bo_shown.proofs.Floats.{priced_no_float}
-use Rattle.bo_shown.proofs.rows.append_priced.Goals as goal
-
-pub append_value-requires : goal.append_value-requires
-append_value-requires c = ap has_float c.in_ok-value.ensures ∙ priced_no_float c.args.priced.now

@@ -1,7 +1,0 @@
-use Rattle.std.proofs.Common.{ap, ◌∙◌}
-use Rattle.serde_json.specs.Written.{has_float}
-use Rattle.bo_shown.proofs.Floats.{waiting_no_float}
-use Rattle.bo_shown.proofs.waiting.append_waiting.Goals as goal
-
-pub append_value-requires : goal.append_value-requires
-append_value-requires c = ap has_float c.in_ok-value.ensures ∙ waiting_no_float c.args.entry.now

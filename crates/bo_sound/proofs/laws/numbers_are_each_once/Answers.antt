@@ -1,5 +1,0 @@
-use Rattle.bo_sound.proofs.ByNumber.{each_once}
-use Rattle.bo_sound.proofs.laws.numbers_are_each_once.Goals as goal
-
-pub returns : goal.returns
-returns c = λ positions. each_once positions

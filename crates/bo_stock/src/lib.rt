@@ -1,8 +1,0 @@
-//! What is for sale, and which quotas list a product, found by keys?
-#![tactic(auto)]
-
-pub mod catalogue;
-pub mod members;
-
-pub use bo_index::Found;
-pub use catalogue::Catalogue;

@@ -1,8 +1,0 @@
-use Rattle.bo_streams.specs.DeskView.{meaning}
-use Rattle.bo_streams.proofs.CutLemmas.{cuts-alike}
-use Rattle.bo_streams.proofs.laws.cuts_are_alike.Goals as goal
-
-pub returns : goal.returns
-returns g c = λ house v bytes ticks written old new other newer.
-    cuts-alike (meaning g.T.Tables.sure g.T.Tables.holds g.T.Tables.knows g.T.Tables.may_leave) (meaning g.U.Tables.sure g.U.Tables.holds g.U.Tables.knows g.U.Tables.may_leave)
-    house v bytes ticks written old new other newer

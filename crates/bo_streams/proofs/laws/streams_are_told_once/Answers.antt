@@ -1,6 +1,0 @@
-use Rattle.bo_streams.specs.DeskView.{meaning}
-use Rattle.bo_streams.proofs.StreamLemmas.{told-once}
-use Rattle.bo_streams.proofs.laws.streams_are_told_once.Goals as goal
-
-pub returns : goal.returns
-returns g c = λ house p ds old new result. told-once (meaning g.T.Tables.sure g.T.Tables.holds g.T.Tables.knows g.T.Tables.may_leave) house p ds old new result

@@ -1,6 +1,0 @@
-use Rattle.bo_streams.specs.DeskView.{meaning}
-use Rattle.bo_streams.proofs.StreamLemmas.{run-on}
-use Rattle.bo_streams.proofs.laws.streams_run_on.Goals as goal
-
-pub returns : goal.returns
-returns g c = λ house r old new result. run-on (meaning g.T.Tables.sure g.T.Tables.holds g.T.Tables.knows g.T.Tables.may_leave) house r old new result

@@ -1,8 +1,0 @@
-use Rattle.std.proofs.Common.{refl}
-use Rattle.sqlite.specs.Held.{state}
-use Rattle.bo_stand.specs.Free.{IsFree}
-use Rattle.bo_tables.proofs.Steps.{fits_all}
-use Rattle.bo_tables.proofs.writes.rows.drop_row.Goals as goal
-
-pub returns-clause-written : goal.returns-clause-written
-returns-clause-written g c clean at = (refl, fits_all (IsFree c.args.from) _ (state g.S.Store c.args.tx.now.conn.now) (state g.S.Store c.remove.new.tx.conn.now) (c.in_ok-remove.ensures.written clean at))

@@ -1,9 +1,0 @@
-use Rattle.std.proofs.Common.{drop}
-use Rattle.bo_sorted.specs.Tables.{InOrderFrom, AreInOrder}
-use Rattle.bo_tables.proofs.TakenLemmas.{above}
-use Rattle.bo_tables.proofs.writes.taken.rises.Given as goal
-
-abbrev pub invariant-ids : goal.invariant-ids
-invariant-ids l =
-    let left = drop l.id-index l.ids in
-    (InOrderFrom (λ n. n) (above l.last) left → AreInOrder (λ n. n) l.ids) × (AreInOrder (λ n. n) l.ids → InOrderFrom (λ n. n) (above l.last) left)

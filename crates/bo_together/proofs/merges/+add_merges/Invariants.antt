@@ -1,5 +1,0 @@
-use Rattle.std.proofs.Common.{◌+◌, length}
-use Rattle.bo_together.proofs.merges.+add_merges.Given as goal
-
-abbrev pub decreases-add_merges : goal.decreases-add_merges
-decreases-add_merges l = length l.one.now + length l.other.now

@@ -1,6 +1,0 @@
-use Rattle.bo_connection.specs.Run.{AtTick}
-use Rattle.bo_turns.proofs.StoryLemmas.{own_story}
-use Rattle.bo_turns.proofs.laws.each_has_its_own.Goals as goal
-
-pub returns : goal.returns
-returns g c = λ from to count now order does. own_story (AtTick g.T.Ticks.reads g.D.Desk.serves) from to count now order does

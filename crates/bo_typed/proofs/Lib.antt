@@ -1,2 +1,0 @@
-pub mod EachTyped
-pub mod Typed

@@ -1,7 +1,0 @@
-use Rattle.std.proofs.Common.{drop}
-use Rattle.std.specs.List.{AllByRecursion}
-use Rattle.bo_typed.specs.Typed.{IsTypedChange}
-use Rattle.bo_typed.proofs.known.changes_known.Given as goal
-
-abbrev pub invariant-loop-change : goal.invariant-loop-change
-invariant-loop-change l = AllByRecursion IsTypedChange (drop l.change-index l.changes) → AllByRecursion IsTypedChange l.changes

@@ -1,7 +1,0 @@
--- What a contract sees of a book: its state, and the weight of the changes that it has room for.
-use Rattle.std.specs.Prelude.{ℕ}
-use Rattle.bo_lists.specs.Lists.{State}
-
-pub record BookView : Type 0 where
-  pub state : State
-  pub room : ℕ

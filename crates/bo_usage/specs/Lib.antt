@@ -1,5 +1,0 @@
-pub mod BookView
-pub mod Naming
-pub mod Covers
-pub mod OfOrder
-pub mod Shares

@@ -1,5 +1,0 @@
-use Rattle.bo_waiting.proofs.Joins.{joined_takes_one}
-use Rattle.bo_waiting.proofs.laws.joining_takes_one.Goals as goal
-
-pub returns : goal.returns
-returns c = λ new before after row quota sound h. joined_takes_one new before after row quota sound h

@@ -1,5 +1,0 @@
-use Rattle.bo_waiting.proofs.SentTexts.{tag_text}
-use Rattle.bo_waiting.proofs.sending.new_voucher.Goals as goal
-
-pub copy_of-requires : goal.copy_of-requires
-copy_of-requires g c = tag_text

@@ -1,9 +1,0 @@
-use Rattle.std.proofs.Common.{◌≡◌, ◌++◌, drop, map}
-use Rattle.bo_draft.specs.DraftState.{now}
-use Rattle.bo_lists.specs.Waits.{waiters}
-use Rattle.bo_waiting.specs.Turns.{turn_of}
-use Rattle.bo_waiting.proofs.turns.turns_of.Given as goal
-
--- the turns so far, and those of the entries that are left
-abbrev pub invariant-loop-id : goal.invariant-loop-id
-invariant-loop-id g l = l.turns.items ++ map turn_of (drop l.id-index (waiters (now l.draft).lists)) ≡ map turn_of (waiters (now l.draft).lists)

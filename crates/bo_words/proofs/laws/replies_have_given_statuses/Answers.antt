@@ -1,5 +1,0 @@
-use Rattle.bo_words.proofs.StatusLemmas.{words_given}
-use Rattle.bo_words.proofs.laws.replies_have_given_statuses.Goals as goal
-
-pub returns-clause-replies : goal.returns-clause-replies
-returns-clause-replies c = words_given

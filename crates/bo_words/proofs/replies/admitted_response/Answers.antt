@@ -1,7 +1,0 @@
-use Rattle.std.proofs.Common.{ap, ◌∙◌}
-use Rattle.serde_json.specs.Written.{has_float}
-use Rattle.bo_shown.proofs.Floats.{admitted_no_float}
-use Rattle.bo_words.proofs.replies.admitted_response.Goals as goal
-
-pub value_response-requires : goal.value_response-requires
-value_response-requires c = ap has_float c.in_ok-value.ensures ∙ admitted_no_float c.args.position.now

@@ -1,0 +1,8 @@
+use Rattle.std.proofs.Common.{arith}
+use Rattle.book_deltas.proofs.Later.{naming_is}
+use Rattle.book_deltas.proofs.usage_later.later.Goals as goal
+
+pub returns-clause-cost : goal.returns-clause-cost
+returns-clause-cost g c =
+    let lists = c.args.ended.now.state.lists in
+    omega (arith, c.lapsed-lapsed.ensures.cost, c.released-released.ensures.cost, naming_is c.args.quota.now lists c.args.ended.now.state.moment c.args.at c.requires.moment c.known.ensures)

@@ -1,0 +1,43 @@
+-- What a walk over what came due counts of each row.
+use Rattle.std.specs.Prelude.{◌≡◌, ◌≤◌, ℕ, ◌-◌, Bool, ◌&&◌, List, map, Option, Some, None, count_by, if◌then◌else◌}
+use Rattle.std.specs.List.{AllByRecursion}
+use Rattle.base_sorted.specs.Tables.{sum_at}
+use Rattle.model_catalogue.specs.declared.rows.Quota.{Quota}
+use Rattle.model_rows.specs.declared.rows.Voucher.{Voucher}
+use Rattle.model_rows.specs.declared.rows.Usage.{Usage}
+use Rattle.model_rows.specs.Conditions.{names, hits}
+use Rattle.model_rows.specs.Lists.{Lists, voucher_at}
+use Rattle.model_rows.specs.Usage.{redeemed, usage_of}
+use Rattle.model_rows.specs.Headroom.{held_in}
+
+-- the cart positions that name a voucher
+abbrev pub named_in : ℕ → Lists → ℕ
+named_in id lists = count_by (λ c. names id c.voucher) lists.carts
+
+-- the voucher, if there is one, is the one of its id
+abbrev pub Stands : Lists → Option Voucher → Type 0
+Stands lists None = Unit {0}
+Stands lists (Some v) = voucher_at v.id lists ≡ Some v
+
+-- it blocks places of the quota while it is live
+abbrev pub may_block : Quota → Voucher → Bool
+may_block quota voucher = voucher.block_quota && hits quota voucher
+
+-- the places that a voucher blocked, while it was live
+unfoldable pub release_if : Lists → Quota → Option Voucher → ℕ
+release_if lists quota voucher = sum_at (λ v. if may_block quota v then v.max_usages - redeemed v.id lists else 0) voucher
+
+-- the cart positions that it covered, and that are live
+unfoldable pub free_if : Lists → ℕ → Quota → Option Voucher → ℕ
+free_if lists at quota voucher = sum_at (λ v. if may_block quota v then held_in at quota v.id lists else 0) voucher
+
+unfoldable pub naming_if : Lists → Option Voucher → ℕ
+naming_if lists voucher = sum_at (λ v. named_in v.id lists) voucher
+
+-- the numbers are those of the lists at the moment
+pub record IsCounted (lists : Lists) (at : ℕ) (used : List Usage) (spent : List ℕ) : Type 0 where
+  -- the usage of each quota
+  pub usages : used ≡ map (usage_of lists at) lists.catalogue.quotas
+  -- how often each voucher is redeemed
+  pub redeems : spent ≡ map (λ v. redeemed v.id lists) lists.vouchers
+  pub small : AllByRecursion (λ v. v.max_usages ≤ 4294967295) lists.vouchers

@@ -1,0 +1,40 @@
+//! Uses of vouchers, as they are kept.
+
+ghost use Rattle.std.specs.Prelude.{◌≡◌, ◌≤◌, map};
+ghost use Rattle.model_rows.specs.Usage.{redeemed};
+ghost use Rattle.book_deltas.specs.Turns.{turned};
+
+use base_sorted::place_of;
+use book_store::Store;
+use model_rows::Voucher;
+
+/// All vouchers, by id.
+pub fn vouchers(store: &Store) -> &[Voucher]
+    ensures { result.now ≡ store.now.state.lists.vouchers }
+{
+    store.vouchers().rows().as_slice()
+}
+
+/// How many positions of pending and paid orders name the voucher: as it is kept, or else counted afresh.
+pub fn redeemed_in(store: &Store, redeems: &[u64], voucher: u64) -> u64
+    requires { redeems.now ≡ map (λ v. redeemed v.id store.now.state.lists) store.now.state.lists.vouchers }
+    ensures value { result ≡ redeemed voucher store.now.state.lists }
+    ensures few { result ≤ 4294967296 }
+{
+    store.known();
+    match place_of(vouchers(store), voucher) {
+        Ok(at) => redeems[at],
+        Err(_) => store.redeemed(voucher),
+    }
+}
+
+/// One more, or one less.
+pub fn turned(count: u64, up: bool) -> u64
+    ensures { result ≡ turned up count }
+{
+    if up {
+        count.saturating_add(1)
+    } else {
+        count.saturating_sub(1)
+    }
+}

@@ -1,0 +1,17 @@
+use Rattle.std.proofs.Common.{◌∙◌, sym, arith}
+use Rattle.book_settle.specs.Fresh.{voucher_comes}
+use Rattle.book_settle.proofs.FreshLemmas.{rest_more, rest_none}
+use Rattle.book_settle.proofs.fresh.add_vouchers.Goals as goal
+
+pub loop-row-preserved : goal.loop-row-preserved
+loop-row-preserved c =
+    let lists = c.args.store.now.state.lists in
+    record {
+      items = rest_more (voucher_comes lists c.args.at) lists.catalogue.quotas c.args.rows.now c.loop-row.row-index c.row-item.result c.loop-row.usages.items c.add_voucher.new.usages.items c.loop-row-test.true c.row-item.is c.add_voucher.ensures.items ∙ c.loop-row.invariant.items;
+      same = c.add_voucher.ensures.same ∙ c.loop-row.invariant.same;
+    }
+
+pub returns-clause-items : goal.returns-clause-items
+returns-clause-items c =
+    let lists = c.args.store.now.state.lists in
+    sym (rest_none (voucher_comes lists c.args.at) lists.catalogue.quotas c.args.rows.now c.loop-row.row-index c.loop-row.usages.items (omega (arith, c.loop-row-test.false)) (c.loop-row.invariant.same ∙ c.requires.same)) ∙ c.loop-row.invariant.items

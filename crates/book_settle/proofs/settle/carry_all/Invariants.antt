@@ -1,0 +1,31 @@
+use Rattle.std.proofs.Common.{◌≡◌, ◌≤◌, ◌-◌, ℕ, None, length, map, reverse, vec_len, vec_capacity}
+use Rattle.base_sorted.specs.Tables.{row_at}
+use Rattle.model_rows.specs.Change.{after_all}
+use Rattle.model_rows.specs.Weight.{weight}
+use Rattle.book_deltas.specs.Held.{AreHeld}
+use Rattle.book_settle.specs.Settled.{used_at, redeemed_at, spent_at, ArePutsNew, AreSmall}
+use Rattle.book_settle.proofs.settle.carry_all.Given as goal
+
+-- the changes that are left lead to where all lead; no quota goes, and beside each row stands what was kept of its id
+abbrev pub invariant-loop-change : goal.invariant-loop-change
+invariant-loop-change l = record {
+  rest : after_all (reverse l.list.items) l.store.state.lists ≡ after_all l.fn.list.items l.fn.store.state.lists;
+  next : l.store.state.next ≡ l.fn.store.state.next;
+  moment : l.store.state.moment ≡ l.fn.store.state.moment;
+  room : weight (reverse l.list.items) ≤ l.store.room;
+  usages_room : weight (reverse l.list.items) ≤ vec_capacity l.usages - length l.usages.items;
+  redeems_room : weight (reverse l.list.items) ≤ vec_capacity l.redeems - length l.redeems.items;
+  spents_room : weight (reverse l.list.items) ≤ vec_capacity l.spents - length l.spents.items;
+  holds_room : weight (reverse l.list.items) ≤ vec_capacity l.holds - length l.holds.items;
+  stay : (id : ℕ) → row_at (λ q. q.id) id l.store.state.lists.catalogue.quotas ≡ None → row_at (λ q. q.id) id l.fn.store.state.lists.catalogue.quotas ≡ None;
+  new : ArePutsNew (redeemed_at l.fn.store.state) (reverse l.list.items) l.store.state.lists;
+  unspent : ArePutsNew (spent_at l.fn.store.state) (reverse l.list.items) l.store.state.lists;
+  usages : l.usages.items ≡ map (λ q. used_at (record l.fn.store.state { moment = l.fn.from }) q.id) l.store.state.lists.catalogue.quotas;
+  redeems : l.redeems.items ≡ map (λ v. redeemed_at l.fn.store.state v.id) l.store.state.lists.vouchers;
+  spents : l.spents.items ≡ map (λ v. spent_at l.fn.store.state v.id) l.store.state.lists.vouchers;
+  small : AreSmall l.store.state.lists;
+  held : AreHeld l.store.state.lists l.store.state.moment l.holds.items;
+}
+
+abbrev pub decreases-loop-change : goal.decreases-loop-change
+decreases-loop-change l = vec_len l.list

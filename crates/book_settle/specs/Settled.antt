@@ -1,0 +1,60 @@
+-- What is kept beside rows, by their ids, and some of it put.
+use Rattle.std.specs.List.{AllByRecursion}
+use Rattle.std.specs.Prelude.{◌≡◌, ◌≤◌, ℕ, ◌==◌, List, [], ◌∷◌, Option, Some, None, if◌then◌else◌}
+use Rattle.model_catalogue.specs.declared.rows.Quota.{Quota}
+use Rattle.model_catalogue.specs.CatalogueLists.{quota_at}
+use Rattle.model_rows.specs.declared.changes.Change.{Change}
+use Rattle.model_rows.specs.declared.changes.Change.TheVariants.{PutVoucher}
+use Rattle.model_rows.specs.declared.rows.Usage.{Usage}
+use Rattle.model_rows.specs.declared.rows.Voucher.{Voucher}
+use Rattle.model_rows.specs.Change.{after_change}
+use Rattle.model_rows.specs.Lists.{Lists, State, voucher_at}
+use Rattle.model_rows.specs.Usage.{usage_of, redeemed, spent}
+use Rattle.book_deltas.specs.Spends.{ArePriced}
+
+abbrev pub nothing : Usage
+nothing = record { paid = 0; pending = 0; blocked = 0; carts = 0; waiting = 0; exited = 0 }
+
+abbrev pub used_if : State → Option Quota → Usage
+used_if state None = nothing
+used_if state (Some quota) = usage_of state.lists state.moment quota
+
+-- what the quota of an id uses, and nothing where there is none
+abbrev pub used_at : State → ℕ → Usage
+used_at state id = used_if state (quota_at id state.lists.catalogue)
+
+abbrev pub redeemed_if : State → Option Voucher → ℕ
+redeemed_if state None = 0
+redeemed_if state (Some voucher) = redeemed voucher.id state.lists
+
+-- how often the voucher of an id is redeemed, and 0 where there is none
+abbrev pub redeemed_at : State → ℕ → ℕ
+redeemed_at state id = redeemed_if state (voucher_at id state.lists)
+
+abbrev pub spent_if : State → Option Voucher → ℕ
+spent_if state None = 0
+spent_if state (Some voucher) = spent voucher.id state.lists
+
+-- what is spent of the voucher of an id, and 0 where there is none
+abbrev pub spent_at : State → ℕ → ℕ
+spent_at state id = spent_if state (voucher_at id state.lists)
+
+-- the same with one value put
+abbrev pub put_at : {U : Type 0} → ℕ → U → (ℕ → U) → ℕ → U
+put_at id value f x = if id == x then value else f x
+
+-- and with that of each of these
+abbrev pub put_each : {C U : Type 0} → (C → ℕ) → (C → U) → List C → (ℕ → U) → ℕ → U
+put_each of value [] f x = f x
+put_each of value (count ∷ counts) f x = put_each of value counts (put_at (of count) (value count) f) x
+
+-- of a voucher that is put where none stands nothing is kept: it is a new one
+abbrev pub ArePutsNew : (ℕ → ℕ) → List Change → Lists → Type 0
+ArePutsNew kept [] lists = Unit {0}
+ArePutsNew kept (PutVoucher row ∷ changes) lists = (voucher_at row.id lists ≡ None → kept row.id ≡ 0) × ArePutsNew kept changes (after_change (PutVoucher row) lists)
+ArePutsNew kept (change ∷ changes) lists = ArePutsNew kept changes (after_change change lists)
+
+-- how often vouchers may be used, and the discounts of order positions: as their types have it
+pub record AreSmall (lists : Lists) : Type 0 where
+  pub uses : AllByRecursion (λ v. v.max_usages ≤ 4294967295) lists.vouchers
+  pub discounts : ArePriced lists

@@ -1,0 +1,79 @@
+//! Changes of which it isn't known which counts they change: the rows are put, and then all that is kept beside them is counted afresh.
+
+ghost use Rattle.std.specs.Prelude.{◌≡◌, ◌≤◌, ◌+◌, ◌-◌, length, map, vec_capacity};
+ghost use Rattle.model_rows.specs.Change.{after_change, after_all, applied};
+ghost use Rattle.model_rows.specs.Usage.{redeemed, usage_of};
+ghost use Rattle.model_rows.specs.Weight.{change_weight, weight};
+ghost use Rattle.book_deltas.specs.Held.{AreHeld};
+ghost use Rattle.book_deltas.specs.Spends.{AreSpent};
+ghost use Rattle.book_settle.specs.Settled.{AreSmall};
+
+use crate::fresh::{count_holds, count_redeems, count_spents, count_usages};
+use crate::settle::stay_small;
+use base_values::Moment;
+use book_deltas::turns::vouchers;
+use book_store::Store;
+use model_rows::{Change, Changes, Usage};
+
+// Makes one change of the rows.
+fn put_row(store: &mut Store, change: Change)
+    requires room { change_weight change ≤ store.old.room }
+    requires small { AreSmall store.old.state.lists }
+    ensures state { store.new.state ≡ record store.old.state { lists = after_change change store.old.state.lists } }
+    ensures room { store.old.room ≤ store.new.room + change_weight change }
+    ensures small { AreSmall (after_change change store.old.state.lists) }
+{
+    stay_small(store, &change);
+    store.apply_one(change);
+}
+
+// Makes these changes of the rows in order. No more rows come than these changes have weight.
+fn put_rows(store: &mut Store, mut list: Vec<Change>)
+    requires room { weight list.items ≤ store.old.room }
+    requires small { AreSmall store.old.state.lists }
+    ensures state { store.new.state ≡ record store.old.state { lists = after_all list.items store.old.state.lists } }
+    ensures small { AreSmall store.new.state.lists }
+    ensures quotas { length store.new.state.lists.catalogue.quotas ≤ length store.old.state.lists.catalogue.quotas + weight list.items }
+    ensures vouchers { length store.new.state.lists.vouchers ≤ length store.old.state.lists.vouchers + weight list.items }
+{
+    list.reverse();
+    while let Some(change) = list.pop() {
+        put_row(store, change);
+    }
+}
+
+/// Makes these changes at a moment, and counts all that is kept beside the rows afresh. It costs all rows.
+pub fn count_again(
+    store: &mut Store,
+    usages: &mut Vec<Usage>,
+    redeems: &mut Vec<u64>,
+    spents: &mut Vec<u128>,
+    holds: &mut Vec<u64>,
+    changes: Changes,
+    at: Moment,
+)
+    requires usages { length usages.old.items ≡ length store.old.state.lists.catalogue.quotas }
+    requires redeems { length redeems.old.items ≡ length store.old.state.lists.vouchers }
+    requires spents { length spents.old.items ≡ length store.old.state.lists.vouchers }
+    requires holds { length holds.old.items ≡ length store.old.state.lists.vouchers }
+    requires small { AreSmall store.old.state.lists }
+    requires room { weight changes.list ≤ store.old.room }
+    requires usages_room { weight changes.list ≤ vec_capacity usages.old - length usages.old.items }
+    requires redeems_room { weight changes.list ≤ vec_capacity redeems.old - length redeems.old.items }
+    requires spents_room { weight changes.list ≤ vec_capacity spents.old - length spents.old.items }
+    requires holds_room { weight changes.list ≤ vec_capacity holds.old - length holds.old.items }
+    ensures state { store.new.state ≡ applied changes at store.old.state }
+    ensures usages { usages.new.items ≡ map (usage_of store.new.state.lists store.new.state.moment) store.new.state.lists.catalogue.quotas }
+    ensures redeems { redeems.new.items ≡ map (λ v. redeemed v.id store.new.state.lists) store.new.state.lists.vouchers }
+    ensures spents { AreSpent store.new.state.lists spents.new.items }
+    ensures held { AreHeld store.new.state.lists store.new.state.moment holds.new.items }
+    ensures small { AreSmall store.new.state.lists }
+{
+    let (list, next) = changes.into_parts();
+    store.set(next, at);
+    put_rows(store, list);
+    count_redeems(store, redeems, vouchers(store));
+    count_spents(store, spents, vouchers(store));
+    count_holds(store, holds, store.moment(), vouchers(store));
+    count_usages(store, usages, redeems);
+}

@@ -1,0 +1,34 @@
+//! Whether changes leave each voucher that is redeemed.
+
+ghost use Rattle.std.specs.Prelude.{◌≡◌, map};
+ghost use Rattle.std.specs.List.{list_all};
+ghost use Rattle.model_rows.specs.Usage.{redeemed};
+ghost use Rattle.book_settle.specs.Spared.{spares_used};
+
+use book_deltas::turns::redeemed_in;
+use book_store::Store;
+use model_rows::Change;
+
+/// Whether these changes drop no voucher that is redeemed by the rows before them.
+pub fn spare_used(store: &Store, redeems: &[u64], changes: &[Change]) -> bool
+    requires { redeems.now ≡ map (λ v. redeemed v.id store.now.state.lists) store.now.state.lists.vouchers }
+    ensures { result ≡ list_all (spares_used store.now.state.lists) changes.now }
+{
+    for change in changes {
+        if !spares_used(store, redeems, change) {
+            return false;
+        }
+    }
+    true
+}
+
+// Whether one of them does.
+fn spares_used(store: &Store, redeems: &[u64], change: &Change) -> bool
+    requires { redeems.now ≡ map (λ v. redeemed v.id store.now.state.lists) store.now.state.lists.vouchers }
+    ensures { result ≡ spares_used store.now.state.lists change.now }
+{
+    match change {
+        Change::DropVoucher(id) => redeemed_in(store, redeems, *id) == 0,
+        _ => true,
+    }
+}

@@ -1,0 +1,60 @@
+//! Vouchers by their codes, and what came due.
+
+ghost use Rattle.std.specs.Prelude.{◌≡◌, ◌≤◌, length, is_some};
+ghost use Rattle.std.specs.Option.{option_copied};
+ghost use Rattle.base_values.specs.Texts.{same_text};
+ghost use Rattle.model_rows.specs.Lists.{voucher_at};
+ghost use Rattle.model_rows.specs.Named.{voucher_of};
+ghost use Rattle.model_rows.specs.CameDue.{is_due_cart, is_due_voucher};
+ghost use Rattle.book_indexes.specs.Indexes.{Finds};
+ghost use Rattle.book_store.specs.Walks.{passing};
+
+use crate::store::Store;
+use base_index::Found;
+use base_values::Moment;
+use book_indexes::digest;
+use book_usage::LookUps;
+use model_rows::Voucher;
+
+impl Store {
+    // The voucher of an id, if it has the code.
+    fn coded_at(&self, id: u64, code: &str) -> Option<&Voucher>
+        ensures found { option_copied result ≡ passing (λ v. same_text v.code code.now) (voucher_at id self.now.state.lists) }
+        ensures some { is_some result ≡ is_some (passing (λ v. same_text v.code code.now) (voucher_at id self.now.state.lists)) }
+    {
+        self.voucher(id).filter(|row| row.code.same(code))
+    }
+
+    /// The first voucher with that code: a walk over those whose codes have its digest.
+    pub fn voucher_of(&self, code: &str) -> Option<&Voucher>
+        ensures { option_copied result ≡ voucher_of code.now self.now.state.lists }
+    {
+        self.known();
+        let ids = self.vouchers().with_text(digest(code));
+        for place in 0..ids.len() {
+            let found = self.coded_at(ids.at(place), code);
+            if found.is_some() {
+                return found;
+            }
+        }
+        None
+    }
+
+    /// The ids of the vouchers that end at one moment or later, and before another.
+    pub fn vouchers_due(&self, from: Moment, to: Moment) -> Found<'_>
+        requires { from ≤ to }
+        ensures finds { Finds (λ r. r.id) (is_due_voucher from to) self.now.state.lists.vouchers result }
+        ensures few { length result ≤ 4294967296 }
+    {
+        self.vouchers().ending(from.get(), to.get())
+    }
+
+    /// The ids of the cart positions that end at one moment or later, and before another.
+    pub fn carts_due(&self, from: Moment, to: Moment) -> Found<'_>
+        requires { from ≤ to }
+        ensures finds { Finds (λ r. r.id) (is_due_cart from to) self.now.state.lists.carts result }
+        ensures few { length result ≤ 4294967296 }
+    {
+        self.carts().ending(from.get(), to.get())
+    }
+}

@@ -1,0 +1,5 @@
+use Rattle.decide_orders.proofs.Added.{added_takes_no_more}
+use Rattle.decide_orders.proofs.laws.added_takes_no_more.Goals as goal
+
+pub returns : goal.returns
+returns c = added_takes_no_more

@@ -1,0 +1,5 @@
+use Rattle.decide_orders.proofs.Created.{created_none_over}
+use Rattle.decide_orders.proofs.laws.created_none_over.Goals as goal
+
+pub returns : goal.returns
+returns c = created_none_over

@@ -1,0 +1,284 @@
+//! The moves of an order.
+
+ghost use Rattle.std.specs.Prelude.{◌≡◌, ◌≢◌, ◌+◌, true, false, Ok, Err, IfOk, IfErr, OnErr, Some, None, [], ◌∷◌, ◌++◌, map, count_by};
+ghost use Rattle.draft_changes.specs.DraftState.{now, Extends};
+ghost use Rattle.model_rows.specs.declared.changes.Change.TheVariants.{PutOrder};
+ghost use Rattle.model_rows.specs.declared.rows.Own.TheVariants.{Position};
+ghost use Rattle.model_rows.specs.Change.{after_change};
+ghost use Rattle.model_rows.specs.Headroom.{held, has_room};
+ghost use Rattle.model_rows.specs.Lists.{order_at, positions_of};
+ghost use Rattle.model_invariant.specs.Sound.{IsSound};
+ghost use Rattle.model_rows.specs.Conditions.{is_in_force, names};
+ghost use Rattle.model_rows.specs.Usage.{stands_as, redeemed};
+ghost use Rattle.decide_orders.specs.Moves.{to, revived, turned, end_after, moved_row, moved_to, moved_as, have_uses_again, revival, order_moved};
+
+use crate::places::test_sale;
+use base_values::Moment;
+use book_usage::{Book, LookUps};
+use draft_changes::Draft;
+use model_commands::{Move, OrderRefusal, VoucherRefusal};
+use model_invariant::numbers::by_positionid;
+use model_rows::{Order, OrderPos, OrderRows, Own, Status};
+use std::alloc::{AllocError, Global};
+
+/// The status that follows, and whether an order comes back to life.
+#[derive(Clone, Copy, PartialEq, Eq)]
+pub struct Transition {
+    pub status: Status,
+    pub revival: bool,
+}
+
+fn to(status: Status) -> Option<Transition>
+    ensures { result ≡ to status }
+{
+    Some(Transition {
+        status,
+        revival: false,
+    })
+}
+
+fn revived(status: Status) -> Option<Transition>
+    ensures { result ≡ revived status }
+{
+    Some(Transition {
+        status,
+        revival: true,
+    })
+}
+
+/// What a move makes of an order of this status; none where it isn't possible.
+pub fn turned(status: Status, change: Move) -> Option<Transition>
+    ensures { result ≡ turned status change }
+{
+    match (status, change) {
+        (Status::Cancelled, _) => None,
+        (_, Move::MarkCanceled) => to(Status::Cancelled),
+        (Status::Pending, Move::MarkPaid) => to(Status::Paid),
+        (Status::Pending, Move::MarkExpired) => to(Status::Expired),
+        (Status::Pending, Move::Extend(_)) => to(Status::Pending),
+        (Status::Paid, Move::MarkPending) => to(Status::Pending),
+        (Status::Expired, Move::MarkPaid) => revived(Status::Paid),
+        (Status::Expired, Move::Extend(_)) => revived(Status::Pending),
+        _ => None,
+    }
+}
+
+/// Moves the order of a number, in a draft without changes, and answers it with its positions, as copies.
+/// A refusal leaves the draft as it was.
+/// Refusals, in this order: 41 `NoOrder`; 42 `WrongStatus`; where it comes back to life 25 `NoHeadroom`, 34 `OverBudget` with the
+/// discounts that its positions keep, and 28 `SoldOut` with the least quota of which it takes too much. 6 `Memory` may come
+/// anywhere after the first.
+#[tactic(auto, unfolding(crate::specs::Moves::order_moved))]
+pub fn move_order<B: Book>(
+    draft: &mut Draft<'_, B>,
+    alloc: Global,
+    number: u64,
+    change: Move,
+) -> Result<OrderRows, OrderRefusal>
+    requires fresh { draft.old.log.changes ≡ [] }
+    requires sound { IsSound (now draft.old) }
+    ensures done { IfOk result (λ rows. order_moved number change (now draft.old) ≡ Ok (now draft.new, rows)) }
+    ensures refused { IfErr result (λ e. e ≢ OrderRefusal.Memory → order_moved number change (now draft.old) ≡ Err e) }
+    ensures changes { IfOk result (λ rows. draft.new.log.changes ≡ draft.old.log.changes ++ PutOrder rows.order ∷ []) }
+    ensures extends { Extends draft.old draft.new }
+    ensures same { OnErr result (draft.new ≡ draft.old) }
+{
+    let order = order_of(draft, alloc, number)?;
+    let turn = turn_of(order.status, &change)?;
+    move_as(draft, alloc, order, &change, turn)
+}
+
+// A copy of the order of a number.
+fn order_of<B: Book>(
+    draft: &Draft<'_, B>,
+    alloc: Global,
+    number: u64,
+) -> Result<Order, OrderRefusal>
+    ensures done { IfOk result (λ order. order_at number (now draft.now).lists ≡ Some order) }
+    ensures id { IfOk result (λ order. order.id ≡ number) }
+    ensures absent { IfErr result (λ e. e ≢ OrderRefusal.Memory → order_at number (now draft.now).lists ≡ None) }
+    ensures refused { IfErr result (λ e. e ≢ OrderRefusal.Memory → e ≡ OrderRefusal.NoOrder) }
+{
+    match draft.rows().order(number) {
+        None => Err(OrderRefusal::NoOrder),
+        Some(order) => Ok(order.copy(alloc)?),
+    }
+}
+
+// The turn of an order of this status, where the move is possible.
+fn turn_of(status: Status, change: &Move) -> Result<Transition, OrderRefusal>
+    ensures done { IfOk result (λ turn. turned status change.now ≡ Some turn) }
+    ensures none { IfErr result (λ _. turned status change.now ≡ None) }
+    ensures refused { IfErr result (λ e. e ≡ OrderRefusal.WrongStatus status) }
+{
+    turned(status, *change).ok_or(OrderRefusal::WrongStatus(status))
+}
+
+// Moves an order that stands, as its turn says.
+fn move_as<B: Book>(
+    draft: &mut Draft<'_, B>,
+    alloc: Global,
+    order: Order,
+    change: &Move,
+    turn: Transition,
+) -> Result<OrderRows, OrderRefusal>
+    requires fresh { draft.old.log.changes ≡ [] }
+    requires sound { IsSound (now draft.old) }
+    requires stands { order_at order.id (now draft.old).lists ≡ Some order }
+    requires turn { turned order.status change.now ≡ Some turn }
+    ensures done { IfOk result (λ rows. moved_as order change.now (now draft.old) turn ≡ Ok (now draft.new, rows)) }
+    ensures refused { IfErr result (λ e. e ≢ OrderRefusal.Memory → moved_as order change.now (now draft.old) turn ≡ Err e) }
+    ensures changes { IfOk result (λ rows. draft.new.log.changes ≡ draft.old.log.changes ++ PutOrder rows.order ∷ []) }
+    ensures extends { Extends draft.old draft.new }
+    ensures same { OnErr result (draft.new ≡ draft.old) }
+{
+    let row = moved_row(order, turn.status, change);
+    if turn.revival {
+        revive(draft, alloc, row)
+    } else {
+        put(draft, alloc, row)
+    }
+}
+
+// The end that a move sets.
+fn end_after(change: &Move, old: Moment) -> Moment
+    ensures { result ≡ end_after change.now old }
+{
+    match change {
+        Move::Extend(end) => *end,
+        _ => old,
+    }
+}
+
+// The order's row with another status, and the end that the move sets.
+fn moved_row(order: Order, status: Status, change: &Move) -> Order
+    ensures { result ≡ moved_row order status change.now }
+{
+    let expires = end_after(change, order.expires);
+    Order {
+        status,
+        expires,
+        ..order
+    }
+}
+
+// Puts an order that doesn't come back to life, and answers it with its positions.
+fn put<B: Book>(
+    draft: &mut Draft<'_, B>,
+    alloc: Global,
+    row: Order,
+) -> Result<OrderRows, OrderRefusal>
+    requires fresh { draft.old.log.changes ≡ [] }
+    requires sound { IsSound (now draft.old) }
+    requires kept { is_in_force row.status ≡ true → stands_as is_in_force (order_at row.id (now draft.old).lists) ≡ true }
+    ensures done { IfOk result (λ rows. (now draft.new, rows) ≡ moved_to row (now draft.old)) }
+    ensures refused { IfErr result (λ e. e ≡ OrderRefusal.Memory) }
+    ensures changes { IfOk result (λ rows. draft.new.log.changes ≡ draft.old.log.changes ++ PutOrder rows.order ∷ []) }
+    ensures extends { Extends draft.old draft.new }
+    ensures same { OnErr result (draft.new ≡ draft.old) }
+{
+    let positions = by_positionid(alloc, draft.book().positions_of(alloc, row.id)?)?;
+    let order = row.copy(alloc)?;
+    draft.put_order(alloc, row)?;
+    Ok(OrderRows { order, positions })
+}
+
+// Puts an order that comes back to life, if its vouchers have the uses that it takes again, and then no more is spent of them
+// than their budgets and no quota is over; and answers it with its positions.
+#[tactic(auto, unfolding(crate::specs::Moves::revival))]
+fn revive<B: Book>(
+    draft: &mut Draft<'_, B>,
+    alloc: Global,
+    row: Order,
+) -> Result<OrderRows, OrderRefusal>
+    requires fresh { draft.old.log.changes ≡ [] }
+    requires sound { IsSound (now draft.old) }
+    requires ended { stands_as is_in_force (order_at row.id (now draft.old).lists) ≡ false }
+    requires back { is_in_force row.status ≡ true }
+    ensures done { IfOk result (λ rows. revival row (now draft.old) ≡ Ok (now draft.new, rows)) }
+    ensures refused { IfErr result (λ e. e ≢ OrderRefusal.Memory → revival row (now draft.old) ≡ Err e) }
+    ensures changes { IfOk result (λ rows. draft.new.log.changes ≡ draft.old.log.changes ++ PutOrder rows.order ∷ []) }
+    ensures extends { Extends draft.old draft.new }
+    ensures same { OnErr result (draft.new ≡ draft.old) }
+{
+    let positions = draft.book().positions_of(alloc, row.id)?;
+    if !have_uses_again(draft, &row, positions.as_slice()) {
+        return Err(OrderRefusal::Voucher(VoucherRefusal::NoHeadroom));
+    }
+    let own = own_rows(alloc, positions.as_slice())?;
+    let positions = by_positionid(alloc, positions)?;
+    let order = row.copy(alloc)?;
+    let mark = draft.mark();
+    draft.put_order(alloc, row)?;
+    let tested = test_sale(draft, &mark, positions.as_slice(), &own, true);
+    draft.end_attempt(mark, tested)?;
+    Ok(OrderRows { order, positions })
+}
+
+// The positions as rows that the request revives.
+fn own_rows(alloc: Global, positions: &[OrderPos]) -> Result<Vec<Own>, AllocError>
+    ensures { IfOk result (λ own. own.items ≡ map (λ p. Position p.id) positions.now) }
+{
+    positions
+        .iter()
+        .map(|row| Own::Position(row.id))
+        .collect(alloc)
+}
+
+// Whether the vouchers of the positions have the uses that the order takes again.
+fn have_uses_again<B: Book>(draft: &Draft<'_, B>, row: &Order, positions: &[OrderPos]) -> bool
+    requires positions { positions.now ≡ positions_of row.now.id (now draft.now).lists }
+    requires ended { stands_as is_in_force (order_at row.now.id (now draft.now).lists) ≡ false }
+    requires back { is_in_force row.now.status ≡ true }
+    ensures { result ≡ have_uses_again row.now (now draft.now) }
+{
+    positions.iter().all(|position| has_room_again(draft, row, positions, position.voucher))
+}
+
+// Whether the voucher, if there is one, has the uses that the order takes again.
+fn has_room_again<B: Book>(
+    draft: &Draft<'_, B>,
+    row: &Order,
+    positions: &[OrderPos],
+    voucher: Option<u64>,
+) -> bool
+    requires positions { positions.now ≡ positions_of row.now.id (now draft.now).lists }
+    requires ended { stands_as is_in_force (order_at row.now.id (now draft.now).lists) ≡ false }
+    requires back { is_in_force row.now.status ≡ true }
+    ensures { result ≡ has_room (now draft.now).moment (after_change (PutOrder row.now) (now draft.now).lists) voucher }
+{
+    let Some(id) = voucher else {
+        return true;
+    };
+    match draft.rows().voucher(id) {
+        None => true,
+        Some(voucher) => {
+            uses_again(draft, row, positions, voucher.id) <= u128::from(voucher.max_usages.get())
+        }
+    }
+}
+
+// How often the voucher is used once the order has come back.
+fn uses_again<B: Book>(
+    draft: &Draft<'_, B>,
+    row: &Order,
+    positions: &[OrderPos],
+    voucher: u64,
+) -> u128
+    requires positions { positions.now ≡ positions_of row.now.id (now draft.now).lists }
+    requires ended { stands_as is_in_force (order_at row.now.id (now draft.now).lists) ≡ false }
+    requires back { is_in_force row.now.status ≡ true }
+    ensures { result ≡ redeemed voucher (after_change (PutOrder row.now) (now draft.now).lists) + held (now draft.now).moment voucher (now draft.now).lists }
+{
+    draft.uses(voucher) + named_by(positions, voucher) as u128
+}
+
+// How many of the positions name the voucher.
+fn named_by(positions: &[OrderPos], voucher: u64) -> usize
+    ensures { result ≡ count_by (λ p. names voucher p.voucher) positions.now }
+{
+    positions
+        .iter()
+        .filter(|row| row.voucher == Some(voucher))
+        .count()
+}

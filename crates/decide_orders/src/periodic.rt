@@ -1,0 +1,91 @@
+//! What is overdue: orders that expire, and cart positions that go.
+
+ghost use Rattle.std.specs.Prelude.{◌≡◌, ◌++◌, length, IfOk, OnOk, OnErr};
+ghost use Rattle.draft_changes.specs.DraftState.{now, Extends};
+ghost use Rattle.model_rows.specs.Lists.{order_at};
+ghost use Rattle.model_rows.specs.Due.{due_orders, dead_carts};
+ghost use Rattle.model_invariant.specs.Sound.{IsSound};
+ghost use Rattle.decide_orders.specs.Expired.{expired_row, expired_changes, orders_expired, expired_at, each_expired, expiry_of, each_expiry, dropped_changes, carts_dropped};
+
+use crate::creating::drop_carts;
+use book_usage::{Book, LookUps};
+use draft_changes::Draft;
+use model_rows::{Order, Status};
+use std::alloc::{AllocError, Global};
+
+/// Each pending order that ended before the draft's moment becomes expired, in a draft that has changed no order.
+/// Answers how many. `Err` where there is no memory; the draft is then as it was.
+pub fn expire_orders<B: Book>(draft: &mut Draft<'_, B>, alloc: Global) -> Result<u64, AllocError>
+    requires sound { IsSound (now draft.old) }
+    requires orders { (now draft.old).lists.orders ≡ draft.old.log.base.orders }
+    ensures done { OnOk result (now draft.new ≡ orders_expired (now draft.old)) }
+    ensures count { IfOk result (λ n. n ≡ length (due_orders (now draft.old).moment (now draft.old).lists)) }
+    ensures extends { Extends draft.old draft.new }
+    ensures same { OnErr result (draft.new ≡ draft.old) }
+    ensures changes { OnOk result (draft.new.log.changes ≡ draft.old.log.changes ++ expired_changes (now draft.old)) }
+{
+    let ids = draft.book().due_orders(alloc, draft.moment())?;
+    let mark = draft.mark();
+    let expired = expire_each(draft, alloc, &ids);
+    draft.end_attempt(mark, expired)?;
+    Ok(ids.len() as u64)
+}
+
+// Expires the orders of these numbers, one after another.
+fn expire_each<B: Book>(
+    draft: &mut Draft<'_, B>,
+    alloc: Global,
+    ids: &[u64],
+) -> Result<(), AllocError>
+    ensures done { OnOk result (now draft.new ≡ each_expired ids.now (now draft.old)) }
+    ensures changes { OnOk result (draft.new.log.changes ≡ draft.old.log.changes ++ each_expiry ids.now (now draft.old).lists.orders) }
+    ensures extends { Extends draft.old draft.new }
+{
+    for id in ids {
+        expire(draft, alloc, *id)?;
+    }
+    Ok(())
+}
+
+// Expires the order of a number, if it stands.
+fn expire<B: Book>(draft: &mut Draft<'_, B>, alloc: Global, id: u64) -> Result<(), AllocError>
+    ensures done { OnOk result (now draft.new ≡ expired_at id (now draft.old)) }
+    ensures changes { OnOk result (draft.new.log.changes ≡ draft.old.log.changes ++ expiry_of (order_at id (now draft.old).lists)) }
+    ensures extends { Extends draft.old draft.new }
+{
+    let row = match draft.rows().order(id) {
+        None => return Ok(()),
+        Some(order) => expired_row(alloc, order)?,
+    };
+    draft.known();
+    draft.put_order(alloc, row)
+}
+
+// A copy of the order, expired.
+fn expired_row(alloc: Global, order: &Order) -> Result<Order, AllocError>
+    ensures { IfOk result (λ row. row ≡ expired_row order.now) }
+{
+    let copy = order.copy(alloc)?;
+    Ok(Order {
+        status: Status::Expired,
+        ..copy
+    })
+}
+
+/// Each cart position that ended before the draft's moment is deleted, in a draft that has changed no cart position.
+/// Answers how many. `Err` where there is no memory; the draft is then as it was.
+pub fn drop_dead_carts<B: Book>(draft: &mut Draft<'_, B>, alloc: Global) -> Result<u64, AllocError>
+    requires carts { (now draft.old).lists.carts ≡ draft.old.log.base.carts }
+    ensures done { OnOk result (now draft.new ≡ carts_dropped (now draft.old)) }
+    ensures count { IfOk result (λ n. n ≡ length (dead_carts (now draft.old).moment (now draft.old).lists)) }
+    ensures extends { Extends draft.old draft.new }
+    ensures same { OnErr result (draft.new ≡ draft.old) }
+    ensures changes { OnOk result (draft.new.log.changes ≡ draft.old.log.changes ++ dropped_changes (now draft.old)) }
+{
+    draft.known();
+    let ids = draft.book().dead_carts(alloc, draft.moment())?;
+    let mark = draft.mark();
+    let dropped = drop_carts(draft, alloc, &ids);
+    draft.end_attempt(mark, dropped)?;
+    Ok(ids.len() as u64)
+}

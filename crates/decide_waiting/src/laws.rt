@@ -1,0 +1,80 @@
+//! Laws of the decisions on the waiting list.
+
+ghost use Rattle.std.specs.Prelude.{◌≡◌, ◌≤◌, ◌+◌, ℕ, Ok, IsPermutation};
+ghost use Rattle.std.specs.List.Sorted.{IsStrictlySortedBy};
+ghost use Rattle.base_values.specs.Draws.{IsDraw};
+ghost use Rattle.base_values.specs.declared.draw.Draw.{Draw};
+ghost use Rattle.model_catalogue.specs.declared.rows.Quota.{Quota};
+ghost use Rattle.model_rows.specs.Lists.{Lists, State};
+ghost use Rattle.model_rows.specs.Takes.{used};
+ghost use Rattle.model_rows.specs.Usage.{usage_of};
+ghost use Rattle.model_rows.specs.Waits.{waiters};
+ghost use Rattle.model_rows.specs.declared.rows.Waiting.{Waiting};
+ghost use Rattle.base_sorted.specs.Tables.{AreInOrder};
+ghost use Rattle.model_invariant.specs.Sound.{IsSound};
+ghost use Rattle.model_commands.specs.FitRequests.{IsFitWaiting, IsFitWaitingPatch};
+ghost use Rattle.model_commands.specs.declared.waiting.NewWaiting.{NewWaiting};
+ghost use Rattle.model_commands.specs.declared.waiting.WaitingPatch.{WaitingPatch};
+ghost use Rattle.decide_waiting.specs.Joined.{entry_joined};
+ghost use Rattle.decide_waiting.specs.Changed.{entry_changed};
+ghost use Rattle.decide_waiting.specs.Left.{entry_left};
+ghost use Rattle.decide_waiting.specs.Sending.{place_in, TradesPlace, voucher_sent};
+ghost use Rattle.decide_waiting.specs.Serving.{served_in_turn, all_served, queue, turn};
+
+/// The queue has the entries without voucher, all of them and no others. Where ids rise, each entry goes before all that
+/// stand behind it: by priority downward, then by the moment it was made, then by id.
+pub fn the_queue_is_in_turn()
+    ensures same_entries { (lists : Lists) → IsPermutation (waiters lists) (queue lists) }
+    ensures earlier_first { (lists : Lists) → AreInOrder (λ e. e.id) lists.waiting →
+        IsStrictlySortedBy turn (queue lists) }
+{}
+
+/// Sending a voucher to a waiting entry leaves every quota's usage as it was: one waits less, and one is blocked more,
+/// in exactly the quotas of the product.
+pub fn sending_keeps_usage()
+    ensures trades { (id : ℕ) (draw : Draw) (before after : State) (row : Waiting) → IsSound before →
+        voucher_sent id draw before ≡ Ok (after, row) → (quota : Quota) →
+        TradesPlace quota row.product (usage_of before.lists before.moment quota) (usage_of after.lists after.moment quota) }
+    ensures used { (id : ℕ) (draw : Draw) (before after : State) (row : Waiting) → IsSound before →
+        voucher_sent id draw before ≡ Ok (after, row) → (quota : Quota) → used after quota ≡ used before quota }
+{}
+
+/// Serving one after another, each tested in the box office as it then is, sends to those who are chosen at once by the box
+/// office as it is before, in their order, and leads to the same box office.
+pub fn serving_is_at_once()
+    ensures { (draw : Draw) (state : State) → IsSound state → served_in_turn draw state ≡ all_served draw state }
+{}
+
+/// Serving leaves every quota's usage as it was.
+pub fn serving_keeps_usage()
+    ensures { (draw : Draw) (state : State) (quota : Quota) → IsSound state →
+        used (all_served draw state).0 quota ≡ used state quota }
+{}
+
+/// Joining uses one place more in each quota of the product, and leaves all others as they were.
+pub fn joining_takes_one()
+    ensures { (new : NewWaiting) (before after : State) (row : Waiting) (quota : Quota) → IsSound before →
+        entry_joined new before ≡ Ok (after, row) → used after quota ≡ used before quota + place_in quota row.product }
+{}
+
+/// Another priority uses as much as the old one, and leaving raises no usage.
+pub fn others_raise_none()
+    ensures changed { (id : ℕ) (patch : WaitingPatch) (before after : State) (row : Waiting) (quota : Quota) →
+        IsSound before → entry_changed id patch before ≡ Ok (after, row) → used after quota ≡ used before quota }
+    ensures left { (id : ℕ) (before after : State) (quota : Quota) → IsSound before →
+        entry_left id before ≡ Ok after → used after quota ≤ used before quota }
+{}
+
+/// A sound box office stays sound where somebody joins, leaves or gets another priority, where a voucher is sent to an
+/// entry, and where all are served.
+pub fn waiting_keeps_sound()
+    ensures joined { (new : NewWaiting) (before after : State) (row : Waiting) → IsFitWaiting new →
+        IsSound before → entry_joined new before ≡ Ok (after, row) → IsSound after }
+    ensures changed { (id : ℕ) (patch : WaitingPatch) (before after : State) (row : Waiting) → IsFitWaitingPatch patch →
+        IsSound before → entry_changed id patch before ≡ Ok (after, row) → IsSound after }
+    ensures left { (id : ℕ) (before after : State) →
+        IsSound before → entry_left id before ≡ Ok after → IsSound after }
+    ensures sent { (id : ℕ) (draw : Draw) (before after : State) (row : Waiting) → IsDraw draw →
+        IsSound before → voucher_sent id draw before ≡ Ok (after, row) → IsSound after }
+    ensures served { (draw : Draw) (before : State) → IsDraw draw → IsSound before → IsSound (all_served draw before).0 }
+{}

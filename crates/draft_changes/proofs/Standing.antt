@@ -1,0 +1,14 @@
+-- A quota that is one of the catalogue's is the one of its id.
+use Rattle.std.proofs.Common.{◌≡◌, ℕ, ◌<◌, List, length, get_or, Some, sym, ap, ◌∙◌, subst}
+use Rattle.base_sorted.specs.Tables.{row_at, AreInOrder}
+use Rattle.model_catalogue.proofs.Standing.{stands_at}
+use Rattle.model_catalogue.specs.declared.rows.Quota.{Quota}
+use Rattle.model_catalogue.specs.CatalogueLists.{CatalogueLists, quota_at}
+
+pub quota_stands : (catalogue lists : CatalogueLists) (quotas : List Quota) (quota : Quota) (i : ℕ) → catalogue ≡ lists → quotas ≡ lists.quotas → AreInOrder (λ r. r.id) catalogue.quotas → i < length quotas → quota ≡ get_or quotas i quota → quota_at quota.id lists ≡ Some quota
+quota_stands catalogue lists quotas quota i same sold order lt is =
+    let sorted : AreInOrder (λ (r : Quota). r.id) quotas = subst (λ (l : List Quota). AreInOrder (λ r. r.id) l) (ap (λ (c : CatalogueLists). c.quotas) same ∙ sym sold) order in
+    ap (λ (l : List Quota). row_at (λ r. r.id) quota.id l) (sym sold)
+    ∙ ap (λ (q : Quota). row_at (λ r. r.id) q.id quotas) is
+    ∙ stands_at quotas i quota lt sorted
+    ∙ ap (λ (q : Quota). Some q) (sym is)

@@ -1,0 +1,14 @@
+//! What does a change bring to each count of a quota and to a voucher's uses, and what does it take?
+#![tactic(auto)]
+
+mod checkins;
+mod numbers;
+mod orders;
+mod share;
+mod shift;
+mod tallies;
+mod touched;
+mod uses;
+
+pub use draft_overlay::Overlay;
+pub use tallies::{Reach, Standing, Tallies};

@@ -1,0 +1,3 @@
+pub mod Recounts
+pub mod Likes
+pub mod OwnKeys

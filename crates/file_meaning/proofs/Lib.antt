@@ -1,0 +1,14 @@
+pub mod Order
+pub mod Links
+pub mod Counts
+pub mod EachRow
+pub mod Changed
+pub mod Told
+pub mod CountsBack
+pub mod Counting
+pub mod Follow
+pub mod Just
+pub mod Made
+pub mod Carried
+pub mod EachTyped
+pub mod Typed

@@ -1,0 +1,10 @@
+pub mod Links
+pub mod Counts
+pub mod Rows
+pub mod RowsAfter
+pub mod Stands
+pub mod Free
+pub mod Turned
+pub mod Lawful
+pub mod Made
+pub mod Typed

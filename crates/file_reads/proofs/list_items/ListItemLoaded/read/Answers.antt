@@ -1,0 +1,5 @@
+use Rattle.file_rows.proofs.UnreadLemmas.{unread}
+use Rattle.file_reads.proofs.list_items.ListItemLoaded.read.Goals as goal
+
+pub returns-in-Err-clause-refused : goal.returns-in-Err-clause-refused
+returns-in-Err-clause-refused c = unread _ _ (λ no w fit is. no (w.rowid, (w.list, (w.item, tt))) (tt, (tt, (tt, tt))) is) c.in-Err.error c.in-Err.ensures.refused

@@ -1,0 +1,47 @@
+-- A connection that is only read.
+use Rattle.std.specs.Prelude.{◌≡◌, IsTrue, Result, Ok, Err}
+use Rattle.sqlite.specs.Effect.{Database}
+use Rattle.sqlite.specs.State.{State, HasCleanDisk}
+use Rattle.file_schema.specs.Tables.{schema}
+use Rattle.file_schema.specs.declared.error.RowError.{RowError}
+use Rattle.file_schema.specs.declared.error.RowError.TheVariants.{Memory, Foreign, Damaged, Store}
+use Rattle.file_rows.specs.Tables.{Tables, Holds}
+
+-- the connection shows this, and so did the last commit leave it
+pub record IsAt (db : Database) (s : State) : Type 0 where
+  pub now : s.now ≡ db
+  pub committed : s.committed ≡ db
+
+-- the same of one that is open
+pub record IsOpenAt (db : Database) (s : State) : Type 0 where
+  pub is_open : IsTrue s.is_open
+  pub now : s.now ≡ db
+  pub committed : s.committed ≡ db
+
+-- it shows these tables
+pub record ShowsTables (t : Tables) (s : State) : Type 0 where
+  pub db : Database
+  pub at : IsAt db s
+  pub known : db.schema ≡ schema
+  pub holds : Holds db.trees t
+
+-- what is open was open, and shows what it showed
+pub record StaysOpen (old new : State) : Type 0 where
+  pub was_open : IsTrue old.is_open
+  pub stays : (db : Database) → IsAt db old → IsAt db new
+
+-- so it is while the connection is open
+abbrev pub Rests : State → State → Type 0
+Rests old new = HasCleanDisk new → IsTrue new.is_open → StaysOpen old new
+
+-- this holds where each row of a table was shown, also where a value of one can't be read
+abbrev pub WhereDamaged : RowError → Type 0 → Type 0
+WhereDamaged Memory holds = Unit {0}
+WhereDamaged Foreign holds = Unit {0}
+WhereDamaged Damaged holds = holds
+WhereDamaged Store holds = Unit {0}
+
+-- this holds where the rows of a table were read, and where one of them has a value that can't be read
+abbrev pub WhereShown : {A : Type 0} → Result A RowError → Type 0 → Type 0
+WhereShown (Ok a) holds = holds
+WhereShown (Err e) holds = WhereDamaged e holds

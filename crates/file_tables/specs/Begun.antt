@@ -1,0 +1,50 @@
+-- A shop before its first change, and what a new version and a new token make of its tables.
+use Rattle.std.specs.Prelude.{◌≡◌, ℕ, List, ◌++◌}
+use Rattle.sqlite.specs.Effect.{Database}
+use Rattle.file_schema.specs.Tables.{schema, this_version}
+use Rattle.file_rows.specs.declared.rows.ExitRow.{ExitRow}
+use Rattle.file_rows.specs.declared.rows.ShopRow.{ShopRow}
+use Rattle.file_rows.specs.declared.rows.SpentRow.{SpentRow}
+use Rattle.file_rows.specs.declared.rows.Token.{Token}
+use Rattle.file_rows.specs.Changes.{with_shop, without_shop, with_token}
+use Rattle.file_rows.specs.Tables.{Tables, Holds, HoldsAt, no_rows}
+
+-- no row but the shop's own
+abbrev pub first_tables : ShopRow → Tables
+first_tables shop = with_shop shop no_rows
+
+-- the database has a shop's tables, with no row but the shop's own
+pub record IsBegun (shop : ShopRow) (db : Database) : Type 0 where
+  pub known : db.schema ≡ schema
+  pub held : Holds db.trees (first_tables shop)
+
+-- the shop's row of an earlier version, once its tables are of this one
+abbrev pub of_this_version : ShopRow → ShopRow
+of_this_version head = record head { version = this_version }
+
+-- the shop's row is this one, and all else as it was
+abbrev pub with_head : ShopRow → Tables → Tables
+with_head shop t = with_shop shop (without_shop 1 t)
+
+-- with these rows of exits beside those that stand
+abbrev pub with_exits : List ExitRow → Tables → Tables
+with_exits exits t = record t { exits = exits ++ t.exits }
+
+-- with these rows of what is spent of vouchers beside those that stand
+abbrev pub with_spents : List SpentRow → Tables → Tables
+with_spents spents t = record t { spents = spents ++ t.spents }
+
+-- what becomes of a database of that version which is brought to this one: of the tables that it hadn't, these rows of exits and of what is
+-- spent are added to two, and the others have none
+pub record IsUpgraded (shop : ShopRow) (exits : List ExitRow) (spents : List SpentRow) (from : ℕ) (db after : Database) : Type 0 where
+  pub known : after.schema ≡ schema
+  pub holds : (t : Tables) → HoldsAt from db.trees t → Holds after.trees (with_head shop (with_spents spents (with_exits exits t)))
+
+-- one token more, and the shop's row is this one
+abbrev pub token_added : ShopRow → Token → Tables → Tables
+token_added shop token t = with_token token (with_head shop t)
+
+-- what a new token makes of a database over the schema
+pub record HasToken (shop : ShopRow) (token : Token) (db after : Database) : Type 0 where
+  pub known : after.schema ≡ schema
+  pub holds : (t : Tables) → Holds db.trees t → Holds after.trees (token_added shop token t)

@@ -1,0 +1,26 @@
+-- What a database of a shop's tables holds beside the office.
+use Rattle.std.specs.Prelude.{◌≡◌, ℕ, List, map, find, Option, option_map, IsPermutation}
+use Rattle.sqlite.specs.Effect.{Database}
+use Rattle.file_schema.specs.Tables.{schema}
+use Rattle.model_answers.specs.declared.kept.Kept.{Kept}
+use Rattle.file_rows.specs.declared.rows.Token.{Token}
+use Rattle.file_rows.specs.Tables.{Tables, Holds}
+use Rattle.file_reads.specs.Lookups.{has_digest}
+
+-- the number of the token with this digest
+abbrev pub number_of : List Token → List ℕ → Option ℕ
+number_of tokens digest = option_map (λ t. t.id) (find (has_digest digest) tokens)
+
+-- it has a shop's tables, and in that of kept answers these, in some order
+pub record KeepsAnswers (db : Database) (answers : List Kept) : Type 0 where
+  pub known : db.schema ≡ schema
+  pub tables : Tables
+  pub held : Holds db.trees tables
+  pub kept : IsPermutation (map (λ r. r.kept) tables.kept) answers
+
+-- it has a shop's tables, and that of tokens tells the number of each digest
+pub record KnowsTokens (db : Database) (tokens : List ℕ → Option ℕ) : Type 0 where
+  pub known : db.schema ≡ schema
+  pub tables : Tables
+  pub held : Holds db.trees tables
+  pub told : (digest : List ℕ) → tokens digest ≡ number_of tables.tokens digest

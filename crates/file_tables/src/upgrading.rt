@@ -1,0 +1,73 @@
+//! A file is brought to this version.
+
+ghost use Rattle.std.specs.Prelude.{◌≡◌, OnOk, OnErr};
+ghost use Rattle.sqlite.specs.Held.{state};
+ghost use Rattle.sqlite.specs.State.{HasCleanDisk, Survives, KeepsCommit};
+ghost use Rattle.file_rows.specs.Changes.{IsInside, Changes};
+ghost use Rattle.file_schema.specs.Versions.{schema_of_version};
+ghost use Rattle.file_schema.specs.Whole.{IsOver, IsStill, IsWritten, MayBeWritten};
+ghost use Rattle.file_meaning.specs.Made.{each};
+ghost use Rattle.file_tables.specs.Begun.{IsUpgraded};
+
+use file_rows::{ExitRow, ShopRow, SpentRow};
+use file_schema::{RowError, Writing, add_tables, write_whole};
+use file_writes::{Stored, put};
+use sqlite::{Alter, Connection, Transaction};
+
+// Adds rows, whose keys have to be new.
+fn add_rows<S: Alter, T: Stored>(tx: &mut Transaction<'_, S>, rows: &[T]) -> Result<(), RowError>
+    ensures same { tx.new.conn.ghost_name ≡ tx.old.conn.ghost_name }
+    ensures written { HasCleanDisk (state S.Store tx.new.conn.now) → IsInside (state S.Store tx.old.conn.now) → OnOk result (Changes (each T.Stored.with_row rows.now) (state S.Store tx.old.conn.now) (state S.Store tx.new.conn.now)) }
+    ensures kept { HasCleanDisk (state S.Store tx.new.conn.now) → KeepsCommit (state S.Store tx.old.conn.now) (state S.Store tx.new.conn.now) }
+    ensures crash { Survives (state S.Store tx.old.conn.now) (state S.Store tx.new.conn.now) (λ _. ⊥) }
+{
+    'rows: for row in rows {
+        row.insert(tx)?;
+    }
+    Ok(())
+}
+
+// The tables that an earlier version hasn't, the rows of exits and of what is spent, and the shop's row.
+#[derive(Drop)]
+struct ToThisVersion<'a> {
+    shop: &'a ShopRow,
+    exits: &'a [ExitRow],
+    spents: &'a [SpentRow],
+    from: u64,
+}
+
+impl Writing<()> for ToThisVersion<'_> {
+    ghost over = { λ what. schema_of_version what.from };
+
+    ghost turns = { λ what _ db after. IsUpgraded what.shop.now what.exits.now what.spents.now what.from db after };
+
+    fn write<S: Alter>(&self, tx: &mut Transaction<'_, S>) -> Result<(), RowError> {
+        add_tables(tx, self.from)?;
+        add_rows(tx, self.exits)?;
+        add_rows(tx, self.spents)?;
+        put(tx, self.shop)
+    }
+}
+
+/// Brings a file of an earlier version to this one: makes the tables that it hasn't, adds these rows of exits and of what is spent, and puts
+/// the shop's row; all else stays as it is. A file of version 0 has no table. All of it is done or nothing, in a crash too. Refusals: 6, and
+/// 63 where a transaction is open, the connection is shut or the store fails.
+pub fn upgrade<S: Alter>(
+    connection: &mut Connection<S>,
+    shop: &ShopRow,
+    exits: &[ExitRow],
+    spents: &[SpentRow],
+    from: u64,
+) -> Result<(), RowError>
+    ensures all { HasCleanDisk (state S.Store connection.new) → IsOver (schema_of_version from) (state S.Store connection.old) → OnOk result (IsWritten (IsUpgraded shop.now exits.now spents.now from) (state S.Store connection.old) (state S.Store connection.new)) }
+    ensures none { HasCleanDisk (state S.Store connection.new) → IsOver (schema_of_version from) (state S.Store connection.old) → OnErr result (IsStill (state S.Store connection.old) (state S.Store connection.new)) }
+    ensures crash { Survives (state S.Store connection.old) (state S.Store connection.new) (MayBeWritten (schema_of_version from) (λ (_ : Unit {0}). IsUpgraded shop.now exits.now spents.now from) (state S.Store connection.old)) }
+{
+    let what = ToThisVersion {
+        shop,
+        exits,
+        spents,
+        from,
+    };
+    write_whole(connection, &what)
+}

@@ -1,0 +1,150 @@
+//! Rows with an id of their own: no row number is used.
+
+ghost use Rattle.std.specs.Prelude.{◌≡◌, ◌++◌, if◌then◌else◌, map, IfOk, OnOk};
+ghost use Rattle.sqlite.specs.Held.{state};
+ghost use Rattle.sqlite.specs.State.{HasCleanDisk, Survives, KeepsCommit};
+ghost use Rattle.file_rows.specs.Changes.{IsInside, Changes, ChangesFit, without_discount};
+ghost use Rattle.file_meaning.specs.Free.{IsFree};
+ghost use Rattle.file_meaning.specs.Made.{put_budget, put_voucher, drop_voucher, put_position};
+ghost use Rattle.file_meaning.specs.Rows.{discounts_of};
+
+use file_rows::{BudgetRow, DiscountRow, SpentRow};
+use file_schema::RowError;
+use file_writes::Stored;
+use model_rows::{OrderPos, Voucher};
+use sqlite::{Alter, Transaction};
+
+/// Puts the row in the place of its id.
+pub(crate) fn put_row<S: Alter, T: Stored>(
+    tx: &mut Transaction<'_, S>,
+    row: &T,
+    from: u64,
+) -> Result<u64, RowError>
+    ensures same { tx.new.conn.ghost_name ≡ tx.old.conn.ghost_name }
+    ensures written { HasCleanDisk (state S.Store tx.new.conn.now) → IsInside (state S.Store tx.old.conn.now)
+        → IfOk result (λ free. (free ≡ from) × ChangesFit (IsFree from) (λ t. T.Stored.with_row row.now (T.Stored.without_row (T.Stored.key row.now) t)) (state S.Store tx.old.conn.now) (state S.Store tx.new.conn.now)) }
+    ensures kept { HasCleanDisk (state S.Store tx.new.conn.now) → KeepsCommit (state S.Store tx.old.conn.now) (state S.Store tx.new.conn.now) }
+    ensures crash { Survives (state S.Store tx.old.conn.now) (state S.Store tx.new.conn.now) (λ _. ⊥) }
+{
+    file_writes::put(tx, row)?;
+    Ok(from)
+}
+
+/// Removes the row of an id, if there is one.
+pub(crate) fn drop_row<S: Alter, T: Stored>(
+    tx: &mut Transaction<'_, S>,
+    id: u64,
+    from: u64,
+) -> Result<u64, RowError>
+    ensures same { tx.new.conn.ghost_name ≡ tx.old.conn.ghost_name }
+    ensures written { HasCleanDisk (state S.Store tx.new.conn.now) → IsInside (state S.Store tx.old.conn.now) → IfOk result (λ free. (free ≡ from) × ChangesFit (IsFree from) (T.Stored.without_row id) (state S.Store tx.old.conn.now) (state S.Store tx.new.conn.now)) }
+    ensures kept { HasCleanDisk (state S.Store tx.new.conn.now) → KeepsCommit (state S.Store tx.old.conn.now) (state S.Store tx.new.conn.now) }
+    ensures crash { Survives (state S.Store tx.old.conn.now) (state S.Store tx.new.conn.now) (λ _. ⊥) }
+{
+    T::remove(tx, id)?;
+    Ok(from)
+}
+
+// Puts the row of a voucher's budget; removes it where the voucher has none.
+fn write_budget<S: Alter>(tx: &mut Transaction<'_, S>, row: &Voucher) -> Result<(), RowError>
+    ensures same { tx.new.conn.ghost_name ≡ tx.old.conn.ghost_name }
+    ensures written { HasCleanDisk (state S.Store tx.new.conn.now) → IsInside (state S.Store tx.old.conn.now) → OnOk result (Changes (put_budget row.now) (state S.Store tx.old.conn.now) (state S.Store tx.new.conn.now)) }
+    ensures kept { HasCleanDisk (state S.Store tx.new.conn.now) → KeepsCommit (state S.Store tx.old.conn.now) (state S.Store tx.new.conn.now) }
+    ensures crash { Survives (state S.Store tx.old.conn.now) (state S.Store tx.new.conn.now) (λ _. ⊥) }
+{
+    match row.budget {
+        Some(budget) => file_writes::put(
+            tx,
+            &BudgetRow {
+                voucher_id: row.id,
+                budget,
+            },
+        ),
+        None => BudgetRow::remove(tx, row.id),
+    }
+}
+
+/// Puts the voucher in the place of its id, and its budget in the place of the one that it had. Its counts stay as they are.
+pub(crate) fn put_voucher_row<S: Alter>(
+    tx: &mut Transaction<'_, S>,
+    row: &Voucher,
+    from: u64,
+) -> Result<u64, RowError>
+    ensures same { tx.new.conn.ghost_name ≡ tx.old.conn.ghost_name }
+    ensures written { HasCleanDisk (state S.Store tx.new.conn.now) → IsInside (state S.Store tx.old.conn.now) → IfOk result (λ free. (free ≡ from) × ChangesFit (IsFree from) (λ t. put_budget row.now (put_voucher row.now t)) (state S.Store tx.old.conn.now) (state S.Store tx.new.conn.now)) }
+    ensures kept { HasCleanDisk (state S.Store tx.new.conn.now) → KeepsCommit (state S.Store tx.old.conn.now) (state S.Store tx.new.conn.now) }
+    ensures crash { Survives (state S.Store tx.old.conn.now) (state S.Store tx.new.conn.now) (λ _. ⊥) }
+{
+    file_writes::put_voucher(tx, row)?;
+    write_budget(tx, row)?;
+    Ok(from)
+}
+
+/// Removes the voucher of an id, if there is one: first its budget and what is spent of it, which refer to it.
+pub(crate) fn drop_voucher<S: Alter>(
+    tx: &mut Transaction<'_, S>,
+    id: u64,
+    from: u64,
+) -> Result<u64, RowError>
+    ensures same { tx.new.conn.ghost_name ≡ tx.old.conn.ghost_name }
+    ensures written { HasCleanDisk (state S.Store tx.new.conn.now) → IsInside (state S.Store tx.old.conn.now) → IfOk result (λ free. (free ≡ from) × ChangesFit (IsFree from) (drop_voucher id) (state S.Store tx.old.conn.now) (state S.Store tx.new.conn.now)) }
+    ensures kept { HasCleanDisk (state S.Store tx.new.conn.now) → KeepsCommit (state S.Store tx.old.conn.now) (state S.Store tx.new.conn.now) }
+    ensures crash { Survives (state S.Store tx.old.conn.now) (state S.Store tx.new.conn.now) (λ _. ⊥) }
+{
+    BudgetRow::remove(tx, id)?;
+    SpentRow::remove(tx, id)?;
+    file_writes::remove_voucher(tx, id)?;
+    Ok(from)
+}
+
+// Removes the discount of the order position that stood, if one did.
+fn drop_discount<S: Alter>(
+    tx: &mut Transaction<'_, S>,
+    id: u64,
+    stood: bool,
+) -> Result<(), RowError>
+    ensures same { tx.new.conn.ghost_name ≡ tx.old.conn.ghost_name }
+    ensures written { HasCleanDisk (state S.Store tx.new.conn.now) → IsInside (state S.Store tx.old.conn.now) → OnOk result (Changes (λ t. if stood then without_discount id t else t) (state S.Store tx.old.conn.now) (state S.Store tx.new.conn.now)) }
+    ensures kept { HasCleanDisk (state S.Store tx.new.conn.now) → KeepsCommit (state S.Store tx.old.conn.now) (state S.Store tx.new.conn.now) }
+    ensures crash { Survives (state S.Store tx.old.conn.now) (state S.Store tx.new.conn.now) (λ _. ⊥) }
+{
+    if stood {
+        return DiscountRow::remove(tx, id);
+    }
+    Ok(())
+}
+
+// Adds the row of what was taken off the position's price, if anything was.
+fn add_discount<S: Alter>(tx: &mut Transaction<'_, S>, row: &OrderPos) -> Result<(), RowError>
+    ensures same { tx.new.conn.ghost_name ≡ tx.old.conn.ghost_name }
+    ensures written { HasCleanDisk (state S.Store tx.new.conn.now) → IsInside (state S.Store tx.old.conn.now) → OnOk result (Changes (λ t. record t { discounts = map (λ n. record { position_id = row.now.id; discount = n }) (discounts_of row.now) ++ t.discounts }) (state S.Store tx.old.conn.now) (state S.Store tx.new.conn.now)) }
+    ensures kept { HasCleanDisk (state S.Store tx.new.conn.now) → KeepsCommit (state S.Store tx.old.conn.now) (state S.Store tx.new.conn.now) }
+    ensures crash { Survives (state S.Store tx.old.conn.now) (state S.Store tx.new.conn.now) (λ _. ⊥) }
+{
+    if row.discount.get() == 0 {
+        return Ok(());
+    }
+    let discount = DiscountRow {
+        position_id: row.id,
+        discount: row.discount,
+    };
+    discount.insert(tx)
+}
+
+/// Puts the order position in the place of its id, and its discount in the place of that of the one that stood. Of a new one without a
+/// discount its own row alone is written.
+pub(crate) fn put_position_row<S: Alter>(
+    tx: &mut Transaction<'_, S>,
+    row: &OrderPos,
+    from: u64,
+) -> Result<u64, RowError>
+    ensures same { tx.new.conn.ghost_name ≡ tx.old.conn.ghost_name }
+    ensures written { HasCleanDisk (state S.Store tx.new.conn.now) → IsInside (state S.Store tx.old.conn.now) → IfOk result (λ free. (free ≡ from) × ChangesFit (IsFree from) (put_position row.now) (state S.Store tx.old.conn.now) (state S.Store tx.new.conn.now)) }
+    ensures kept { HasCleanDisk (state S.Store tx.new.conn.now) → KeepsCommit (state S.Store tx.old.conn.now) (state S.Store tx.new.conn.now) }
+    ensures crash { Survives (state S.Store tx.old.conn.now) (state S.Store tx.new.conn.now) (λ _. ⊥) }
+{
+    let stood = file_writes::put_position(tx, row)?;
+    drop_discount(tx, row.id, stood)?;
+    add_discount(tx, row)?;
+    Ok(from)
+}

@@ -1,0 +1,112 @@
+//! The table `vouchers`, which has a count beside each voucher.
+
+ghost use Rattle.std.specs.Prelude.{◌≡◌, true, Ok, OnOk, IfOk};
+ghost use Rattle.sqlite.specs.Held.{state};
+ghost use Rattle.sqlite.specs.State.{HasCleanDisk, Survives, KeepsCommit, Executes};
+ghost use Rattle.file_rows.specs.Changes.{IsInside, Changes};
+ghost use Rattle.file_writes.specs.Vouchers.{voucher_values, with_new_voucher, put_voucher, set_redeemed, without_voucher};
+
+use crate::bound::run_bound;
+use file_rows::Column;
+use file_schema::{RowError, run};
+use model_rows::{Voucher, VoucherCount};
+use sqlite::{Alter, Transaction};
+
+// Runs a statement whose parameters are a voucher's columns in order.
+#[tactic(auto, using(crate::proofs::BoundLemmas::runs_with))]
+fn run_with<S: Alter>(
+    tx: &mut Transaction<'_, S>,
+    sql: &str,
+    row: &Voucher,
+) -> Result<usize, RowError>
+    ensures same { tx.new.conn.ghost_name ≡ tx.old.conn.ghost_name }
+    ensures ran { HasCleanDisk (state S.Store tx.new.conn.now) → (state S.Store tx.old.conn.now).in_transaction ≡ true → IfOk result (λ count. Executes sql.now (voucher_values row.now) (state S.Store tx.old.conn.now) (state S.Store tx.new.conn.now) (Ok count)) }
+    ensures kept { HasCleanDisk (state S.Store tx.new.conn.now) → KeepsCommit (state S.Store tx.old.conn.now) (state S.Store tx.new.conn.now) }
+    ensures crash { Survives (state S.Store tx.old.conn.now) (state S.Store tx.new.conn.now) (λ _. ⊥) }
+{
+    let columns = [
+        row.id.bind(),
+        row.code.bind(),
+        row.max_usages.bind(),
+        row.valid_until.bind(),
+        row.block_quota.bind(),
+        row.allow_ignore_quota.bind(),
+        row.price_mode.bind(),
+        row.value.bind(),
+        row.item.bind(),
+        row.variation.bind(),
+        row.quota.bind(),
+        row.tag.bind(),
+        row.comment.bind(),
+    ];
+    run_bound(tx, sql, &columns)
+}
+
+// Adds a voucher, redeemed 0 times.
+fn insert_voucher<S: Alter>(tx: &mut Transaction<'_, S>, row: &Voucher) -> Result<(), RowError>
+    ensures same { tx.new.conn.ghost_name ≡ tx.old.conn.ghost_name }
+    ensures written { HasCleanDisk (state S.Store tx.new.conn.now) → IsInside (state S.Store tx.old.conn.now) → OnOk result (Changes (with_new_voucher row.now) (state S.Store tx.old.conn.now) (state S.Store tx.new.conn.now)) }
+    ensures kept { HasCleanDisk (state S.Store tx.new.conn.now) → KeepsCommit (state S.Store tx.old.conn.now) (state S.Store tx.new.conn.now) }
+    ensures crash { Survives (state S.Store tx.old.conn.now) (state S.Store tx.new.conn.now) (λ _. ⊥) }
+{
+    run_with(
+        tx,
+        "INSERT INTO vouchers (id, code, max_usages, valid_until, block_quota, allow_ignore_quota, price_mode, amount, item_id, variation_id, quota_id, tag, comment, redeemed) VALUES (?1, ?2, ?3, ?4, ?5, ?6, ?7, ?8, ?9, ?10, ?11, ?12, ?13, 0)",
+        row,
+    )?;
+    Ok(())
+}
+
+/// Puts the voucher in the place of its id, and leaves its count as it is. A new one is redeemed 0 times.
+pub fn put_voucher<S: Alter>(tx: &mut Transaction<'_, S>, row: &Voucher) -> Result<(), RowError>
+    ensures same { tx.new.conn.ghost_name ≡ tx.old.conn.ghost_name }
+    ensures written { HasCleanDisk (state S.Store tx.new.conn.now) → IsInside (state S.Store tx.old.conn.now) → OnOk result (Changes (put_voucher row.now) (state S.Store tx.old.conn.now) (state S.Store tx.new.conn.now)) }
+    ensures kept { HasCleanDisk (state S.Store tx.new.conn.now) → KeepsCommit (state S.Store tx.old.conn.now) (state S.Store tx.new.conn.now) }
+    ensures crash { Survives (state S.Store tx.old.conn.now) (state S.Store tx.new.conn.now) (λ _. ⊥) }
+{
+    let count = run_with(
+        tx,
+        "UPDATE vouchers SET code = ?2, max_usages = ?3, valid_until = ?4, block_quota = ?5, allow_ignore_quota = ?6, price_mode = ?7, amount = ?8, item_id = ?9, variation_id = ?10, quota_id = ?11, tag = ?12, comment = ?13 WHERE id = ?1",
+        row,
+    )?;
+    match count {
+        0 => insert_voucher(tx, row),
+        1 => Ok(()),
+        _ => Err(RowError::Store),
+    }
+}
+
+/// Sets how often a voucher is redeemed. Refusal: 63 where the file has no such voucher.
+pub fn put_redeemed<S: Alter>(
+    tx: &mut Transaction<'_, S>,
+    count: VoucherCount,
+) -> Result<(), RowError>
+    ensures same { tx.new.conn.ghost_name ≡ tx.old.conn.ghost_name }
+    ensures written { HasCleanDisk (state S.Store tx.new.conn.now) → IsInside (state S.Store tx.old.conn.now) → OnOk result (Changes (set_redeemed count) (state S.Store tx.old.conn.now) (state S.Store tx.new.conn.now)) }
+    ensures kept { HasCleanDisk (state S.Store tx.new.conn.now) → KeepsCommit (state S.Store tx.old.conn.now) (state S.Store tx.new.conn.now) }
+    ensures crash { Survives (state S.Store tx.old.conn.now) (state S.Store tx.new.conn.now) (λ _. ⊥) }
+{
+    let id = count.voucher.bind()?;
+    let redeemed = count.redeemed.bind()?;
+    let rows = run(
+        tx,
+        "UPDATE vouchers SET redeemed = ?2 WHERE id = ?1",
+        &[id, redeemed],
+    )?;
+    if rows != 1 {
+        return Err(RowError::Store);
+    }
+    Ok(())
+}
+
+/// Removes the voucher of this id, if there is one.
+pub fn remove_voucher<S: Alter>(tx: &mut Transaction<'_, S>, id: u64) -> Result<(), RowError>
+    ensures same { tx.new.conn.ghost_name ≡ tx.old.conn.ghost_name }
+    ensures written { HasCleanDisk (state S.Store tx.new.conn.now) → IsInside (state S.Store tx.old.conn.now) → OnOk result (Changes (without_voucher id) (state S.Store tx.old.conn.now) (state S.Store tx.new.conn.now)) }
+    ensures kept { HasCleanDisk (state S.Store tx.new.conn.now) → KeepsCommit (state S.Store tx.old.conn.now) (state S.Store tx.new.conn.now) }
+    ensures crash { Survives (state S.Store tx.old.conn.now) (state S.Store tx.new.conn.now) (λ _. ⊥) }
+{
+    let key = id.bind()?;
+    run(tx, "DELETE FROM vouchers WHERE id = ?1", &[key])?;
+    Ok(())
+}

@@ -1,0 +1,17 @@
+-- Which products a quota has, and how much room that takes.
+use Rattle.std.specs.Prelude.{ℕ, ◌+◌, Bool, length, Option, Some, None}
+use Rattle.base_sorted.specs.Tables.{has}
+use Rattle.model_catalogue.specs.declared.rows.Quota.{Quota}
+use Rattle.model_catalogue.specs.declared.rows.Product.{Product}
+
+-- a variation is in a quota that lists it, and a product without one where its item is listed
+abbrev pub lists : Quota → Product → Option ℕ → Bool
+lists quota product None = has product.item quota.items
+lists quota product (Some variation) = has variation quota.variations
+
+abbrev pub is_in : Quota → Product → Bool
+is_in quota product = lists quota product product.variation
+
+-- how much room a quota takes: for its row, and for each of its members
+abbrev pub quota_weight : Quota → ℕ
+quota_weight quota = 1 + (length quota.items + length quota.variations)

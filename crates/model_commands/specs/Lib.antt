@@ -1,0 +1,5 @@
+pub mod Starts
+pub mod Refusals
+pub mod FitRequests
+pub mod Fit
+pub mod Pages

@@ -1,0 +1,5 @@
+use Rattle.office_deliveries.proofs.Again.{executed_anew}
+use Rattle.office_deliveries.proofs.laws.after_a_day_it_is_executed_anew.Goals as goal
+
+pub returns : goal.returns
+returns c = executed_anew

@@ -1,0 +1,5 @@
+use Rattle.office_deliveries.proofs.Again.{told_again}
+use Rattle.office_deliveries.proofs.laws.repeats_are_told_again.Goals as goal
+
+pub returns : goal.returns
+returns c = told_again

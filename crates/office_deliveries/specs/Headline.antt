@@ -1,0 +1,38 @@
+-- What the laws of every list of arrivals say.
+use Rattle.std.specs.Prelude.{◌≡◌, ◌+◌, ◌<◌, ◌≤◌, true, List, [], ◌∷◌, ◌++◌}
+use Rattle.std.specs.List.{AllByRecursion}
+use Rattle.base_values.specs.declared.answer.Response.{Response}
+use Rattle.model_commands.specs.declared.replies.Reply.{Reply}
+use Rattle.office_deliveries.specs.declared.arrival.Arrival.{Arrival}
+use Rattle.office_deliveries.specs.Deliveries.{Opening, Delivery, First, came, is_write, is_first, firsts, now, told}
+use Rattle.model_answers.specs.KeptAnswers.{has_key, a_day}
+
+-- it shows the key of that arrival, and its token
+pub record HasTheKeyOf (a b : Arrival) : Type 0 where
+  pub keyed : has_key a.key ≡ true
+  pub token : b.token ≡ a.token
+  pub key : b.key ≡ a.key
+  pub write : is_write b.request ≡ true
+
+-- what comes between is another request: a read, of another token, with another key, or without any
+abbrev pub IsAnother : Arrival → Delivery → Type 0
+IsAnother a d = HasTheKeyOf a d.arrival → ⊥
+
+module _ (words : Reply → Response) where
+  -- A repeat of an executed write that comes before a day has passed is told what that one was told, whatever it asks for
+  -- and whatever came between.
+  abbrev pub ToldAgain : Opening → List Delivery → Arrival → List Delivery → Arrival → Type 0
+  ToldAgain p ds a es b =
+      is_first p (firsts p ds) (came a) ≡ true → HasTheKeyOf a b → now p (firsts p (ds ++ came a ∷ es)) b < now p (firsts p ds) a + a_day
+      → told words p (ds ++ came a ∷ es) (came b) ≡ told words p ds (came a)
+
+-- Where a day has passed and no other request with the key came between, it is executed anew.
+abbrev pub ExecutedAnew : Opening → List Delivery → Arrival → List Delivery → Arrival → Type 0
+ExecutedAnew p ds a es b =
+    is_first p (firsts p ds) (came a) ≡ true → AllByRecursion (IsAnother a) es → HasTheKeyOf a b → now p (firsts p ds) a + a_day ≤ now p (firsts p (ds ++ came a ∷ es)) b
+    → is_first p (firsts p (ds ++ came a ∷ es)) (came b) ≡ true
+
+-- two executions under one key of one token are a day apart, or more
+abbrev pub AreADayApart : List First → Type 0
+AreADayApart [] = Unit {0}
+AreADayApart (f ∷ fs) = AllByRecursion (λ g. HasTheKeyOf f.arrival g.arrival → f.at + a_day ≤ g.at) fs × AreADayApart fs

@@ -1,0 +1,96 @@
+//! A shop: an office, its tables and its wording.
+
+ghost use Rattle.std.specs.Prelude.{◌≡◌, ◌≤◌, IfOk};
+ghost use Rattle.model_invariant.specs.Sound.{IsSound};
+ghost use Rattle.model_answers.specs.House.{House};
+ghost use Rattle.model_answers.specs.ShopView.{ShopView};
+ghost use Rattle.office_deliveries.specs.Shops.{Views, moment_at};
+
+use base_values::Moment;
+use book_usage::Book;
+use model_answers::{Tables, TablesError};
+use office_commands::Office;
+use office_deliveries::Wording;
+use std::marker::Model;
+
+/// A shop: an office whose rows stand in tables, beside the answers that are kept there.
+/// Contracts see the tables, the office's rows and the wording.
+#[derive(Drop)]
+pub struct Shop<T: Tables, B: Book, W: Wording> {
+    pub(crate) tables: T,
+    pub(crate) office: Office<B>,
+    pub(crate) wording: W,
+}
+
+impl<T: Tables, B: Book, W: Wording> Model for Shop<T, B, W> {
+    ghost use Rattle.office_once.specs.OpenShop.{OpenShop};
+
+    ghost Value = { OpenShop T W };
+
+    ghost view = { λ s. record { tables = s.tables; state = s.office.state; wording = s.wording } };
+}
+
+impl<T: Tables, B: Book, W: Wording> Shop<T, B, W> {
+    /// The shop of an office, over tables that hold its rows.
+    pub fn over(tables: T, office: Office<B>, wording: W) -> Self
+        ensures tables { result.tables ≡ tables }
+        ensures office { result.state ≡ office.state }
+        ensures wording { result.wording ≡ wording }
+    {
+        Shop {
+            tables,
+            office,
+            wording,
+        }
+    }
+
+    /// The wording.
+    pub fn wording(&self) -> &W
+        ensures { result.now ≡ self.now.wording }
+    {
+        &self.wording
+    }
+
+    /// The number of the token with this SHA-256 digest, if it is known. Nothing changes.
+    pub fn token_of(&mut self, digest: &[u8; 32]) -> Result<Option<u64>, TablesError>
+        ensures office { self.new.state ≡ self.old.state }
+        ensures wording { self.new.wording ≡ self.old.wording }
+        ensures sure { T.sure self.new.tables → T.sure self.old.tables }
+        ensures found { T.sure self.new.tables → (house : House) → T.knows self.old.tables house → IfOk result (λ number. number ≡ house.tokens digest.now) }
+        ensures same { T.sure self.new.tables → (v : ShopView) → Views T.holds self.old.tables self.old.state v → Views T.holds self.new.tables self.new.state v }
+        ensures house { T.sure self.new.tables → (house : House) → T.knows self.old.tables house → T.knows self.new.tables house }
+        ensures crash { (left : ShopView) → T.may_leave self.new.tables left → T.may_leave self.old.tables left }
+    {
+        self.tables.token_of(digest)
+    }
+
+    // Its office is sound.
+    pub(crate) fn known(&self)
+        ensures { IsSound self.now.state }
+    {
+        let _ = self.office.book();
+    }
+
+    // The moment of a request: the clock's, but never before the office's.
+    pub(crate) fn moment_at(&self, clock: Moment) -> Moment
+        ensures at { result ≡ moment_at clock self.now.state }
+        ensures later { self.now.state.moment ≤ result }
+    {
+        let _ = clock.get();
+        let stored = self.office.moment();
+        if stored.is_before(clock) {
+            clock
+        } else {
+            stored
+        }
+    }
+}
+
+impl<T: Tables, B: Book + Drop, W: Wording + Drop> Shop<T, B, W> {
+    /// The tables.
+    pub fn into_tables(self) -> T
+        ensures { result ≡ self.tables }
+    {
+        self.tables
+    }
+}

@@ -1,0 +1,33 @@
+-- Periodic work: what is overdue ends, and then those who wait are served.
+use Rattle.std.specs.Prelude.{ℕ, List, ◌++◌, length}
+use Rattle.base_values.specs.declared.draw.Draw.{Draw}
+use Rattle.model_rows.specs.declared.changes.Change.{Change}
+use Rattle.model_rows.specs.Lists.{State}
+use Rattle.model_rows.specs.Due.{due_orders, dead_carts}
+use Rattle.model_commands.specs.declared.waiting.PeriodicCounts.{PeriodicCounts}
+pub use Rattle.decide_orders.specs.Expired.{orders_expired, carts_dropped, expired_changes, dropped_changes}
+use Rattle.decide_waiting.specs.Serving.{all_served, served_changes}
+
+-- the pending orders whose end is before the moment are expired, and the dead cart positions are gone
+abbrev pub ended : State → State
+ended state = carts_dropped (orders_expired state)
+
+-- how many orders and cart positions end, and how many entries are then sent a voucher
+abbrev pub periodic_counts : State → List ℕ → PeriodicCounts
+periodic_counts state sent = record {
+  expired = length (due_orders state.moment state.lists);
+  deleted = length (dead_carts state.moment state.lists);
+  sent = length sent;
+}
+
+-- what was served, with these numbers
+abbrev pub counted : State → State × List ℕ → State × PeriodicCounts
+counted before served = (served.0, periodic_counts before served.1)
+
+-- first what is overdue ends, then all who wait are served, in the box office as it is then
+abbrev pub periodic_done : Draw → State → State × PeriodicCounts
+periodic_done draw state = counted state (all_served draw (ended state))
+
+-- what it changes: orders that expire, cart positions that go, then each voucher that is sent and the entry that has it
+abbrev pub periodic_changes : Draw → State → List Change
+periodic_changes draw state = expired_changes state ++ dropped_changes (orders_expired state) ++ served_changes draw (ended state)

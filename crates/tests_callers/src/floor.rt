@@ -1,0 +1,97 @@
+//! A hall, who is in it, and what those who left were told.
+
+ghost use Rattle.std.specs.Prelude.{◌<◌, ◌≤◌, length};
+
+use crate::party::Guest;
+use base_devices::{Device, Ticks};
+use std::alloc::{AllocError, Global};
+use std::sync::ledger::Ledger;
+use web_connection::Desk;
+use web_sockets::Script;
+use web_turns::{Hall, Next, serve_turns};
+
+/// A hall over memory, who is still to come, the last of them first, and what each caller was told who left.
+#[derive(Drop)]
+pub(crate) struct Floor<'a> {
+    hall: Hall<Script<'a>>,
+    comers: Vec<Script<'a>>,
+    told: Vec<Vec<u8>>,
+}
+
+// Those who are to come, the last of them first.
+fn comers<'a>(alloc: Global, guests: &'a [Guest<'a>]) -> Result<Vec<Script<'a>>, AllocError> {
+    let mut all = Vec::new(alloc);
+    for guest in guests.iter().rev() {
+        all.push(Script::new(
+            alloc,
+            guest.bytes.as_bytes(),
+            guest.reads.as_slice(),
+            guest.writes.as_slice(),
+        ))?;
+    }
+    Ok(all)
+}
+
+// So many texts without a byte.
+fn empty_texts(alloc: Global, count: usize) -> Result<Vec<Vec<u8>>, AllocError> {
+    let mut all = Vec::new(alloc);
+    for _ in 0..count {
+        all.push(Vec::new(alloc))?;
+    }
+    Ok(all)
+}
+
+impl<'a> Floor<'a> {
+    /// A hall of so many places, to which these are to come.
+    pub(crate) fn new(
+        alloc: Global,
+        places: usize,
+        guests: &'a [Guest<'a>],
+    ) -> Result<Floor<'a>, AllocError> {
+        let hall = Hall::new(alloc, places)?;
+        let comers = comers(alloc, guests)?;
+        let told = empty_texts(alloc, guests.len())?;
+        Ok(Floor { hall, comers, told })
+    }
+
+    // Whoever is at a place leaves. What it was told is kept under its number.
+    fn leave(&mut self, place: usize) {
+        let number = self.hall.number(place).unwrap_or(0) as usize;
+        if let Some(script) = self.hall.leave(place)
+            && let Some(told) = self.told.get_mut(number)
+        {
+            let Script { taken, .. } = script;
+            *told = taken;
+        }
+    }
+
+    /// What is next happens.
+    pub(crate) fn go<L: Ledger, M: Ledger, T: Ticks, D: Desk>(
+        &mut self,
+        alloc: Global,
+        next: Next,
+        piece: &mut [u8],
+        page: &mut Device<Vec<u8>, L, M>,
+        ticks: &mut T,
+        desk: &mut D,
+    )
+        requires some { 0 < length piece.old }
+        requires most { length piece.old ≤ 65536 }
+    {
+        if let Next::Leaves(place) = next {
+            return self.leave(place);
+        }
+        let (hall, comers) = (&mut self.hall, &mut self.comers);
+        serve_turns(alloc, piece, page, hall, comers, &[next], ticks, desk);
+    }
+
+    /// All leave: what each caller was told, by its number.
+    pub(crate) fn close(self) -> Vec<Vec<u8>> {
+        let mut floor = self;
+        for place in 0..floor.hall.size() {
+            floor.leave(place);
+        }
+        let Floor { told, .. } = floor;
+        told
+    }
+}

@@ -1,0 +1,77 @@
+//! Callers at a desk.
+
+ghost use Rattle.std.specs.Prelude.{◌≡◌, ◌<◌, ◌≤◌, length};
+
+use crate::error::TogetherError;
+use crate::floor::Floor;
+use crate::party::Party;
+use base_devices::{Device, Ticks};
+use base_values::Steps;
+use std::alloc::Global;
+use std::marker::Brand;
+use std::sync::ledger::{Blank, Ledger};
+use web_connection::{Desk, blank};
+use web_turns::Next;
+
+/// The most bytes that one read gives.
+const PIECE: usize = 4096;
+
+// All that happens, one after another.
+fn go_on<L: Ledger, M: Ledger, T: Ticks, D: Desk>(
+    alloc: Global,
+    floor: &mut Floor<'_>,
+    order: &[Next],
+    piece: &mut [u8],
+    page: &mut Device<Vec<u8>, L, M>,
+    ticks: &mut T,
+    desk: &mut D,
+)
+    requires some { 0 < length piece.old }
+    requires most { length piece.old ≤ 65536 }
+{
+    for next in order {
+        floor.go(alloc, *next, piece, page, ticks, desk);
+    }
+}
+
+impl Party<'_> {
+    // The same with a ledger for each count of the page.
+    fn serve_with<L: Ledger, M: Ledger, T: Ticks, D: Desk>(
+        &self,
+        alloc: Global,
+        order: &[Next],
+        ticks: &mut T,
+        desk: &mut D,
+        blanks: (Blank, Blank),
+    ) -> Result<Vec<Vec<u8>>, TogetherError>
+        requires calls { (blanks.0.name ≡ L.name) × (blanks.0.parts ≡ L.parts) × (0 < L.parts) }
+        requires failures { (blanks.1.name ≡ M.name) × (blanks.1.parts ≡ M.parts) × (0 < M.parts) }
+    {
+        let mut page = Device {
+            inner: Vec::new(alloc),
+            calls: Steps::<L>::new(blanks.0),
+            failures: Steps::<M>::new(blanks.1),
+        };
+        let mut piece = blank(alloc, PIECE)?;
+        let mut floor = Floor::new(alloc, self.places, self.guests.as_slice())?;
+        go_on(alloc, &mut floor, order, &mut piece, &mut page, ticks, desk);
+        Ok(floor.close())
+    }
+
+    /// What the callers are told at a desk, each by its number, where all that happens is this, one after another.
+    pub fn serve<T: Ticks, D: Desk>(
+        &self,
+        alloc: Global,
+        order: &[Next],
+        ticks: &mut T,
+        desk: &mut D,
+    ) -> Result<Vec<Vec<u8>>, TogetherError> {
+        self.serve_with::<Brand, Brand, T, D>(
+            alloc,
+            order,
+            ticks,
+            desk,
+            (Blank::new(1), Blank::new(1)),
+        )
+    }
+}

@@ -1,0 +1,66 @@
+-- What the desk of a shop does with one message, and what it answers.
+use Rattle.std.specs.Prelude.{◌≡◌, ⊤, List, [], ◌∷◌, ◌++◌, Result, Ok, Err}
+use Rattle.base_values.specs.declared.answer.Answer.{Answer}
+use Rattle.base_values.specs.declared.answer.Answer.TheVariants.{Decided, Unavailable}
+use Rattle.base_values.specs.declared.answer.Response.{Response}
+use Rattle.base_devices.specs.declared.device.Tick.{Tick}
+use Rattle.web_http.specs.Messages.{Message}
+use Rattle.model_commands.specs.declared.replies.Reply.{Reply}
+use Rattle.office_deliveries.specs.declared.arrival.Arrival.{Arrival}
+use Rattle.office_deliveries.specs.Deliveries.{Opening, Delivery, told}
+use Rattle.office_deliveries.specs.Fit.{IsFitArrival}
+use Rattle.office_deliveries.specs.Histories.{Running, IsRunning, after_act}
+use Rattle.office_deliveries.specs.Shops.{Views, StandsFor, IsAnswered, delivered}
+use Rattle.model_answers.specs.ShopView.{ShopView}
+use Rattle.web_arrivals.specs.Coming.{arrival}
+use Rattle.web_arrivals.specs.DeskView.{DeskView, House, Meaning, house_of, words_of}
+
+-- without an arrival it is 401, in these words, or 503
+abbrev pub IsRefused : Response → Answer → Type 0
+IsRefused refusal (Decided response) = response ≡ refusal
+IsRefused refusal Unavailable = ⊤
+
+-- what an arrival asks is within its limits, and its draw is sixteen bytes
+abbrev pub IsFitComing : Result Arrival Response → Answer → Type 0
+IsFitComing (Ok a) (Decided response) = IsFitArrival a
+IsFitComing (Ok a) Unavailable = ⊤
+IsFitComing (Err refusal) answer = ⊤
+
+module _ (words : Reply → Response) where
+  -- what a message is answered, and what it leads to: an arrival is served by the shop; without one nothing changes
+  abbrev pub IsServed : Result Arrival Response → ShopView → Answer → (ShopView → Type 0) → Type 0
+  IsServed (Ok a) old answer Leads = IsAnswered words a old answer Leads
+  IsServed (Err refusal) old answer Leads = Leads old × IsRefused refusal answer
+
+  -- The same over the list of arrivals till then: an arrival stands behind it, marked where it is answered 503, and is told what
+  -- is told of the list; without one the list stays.
+  abbrev pub IsListed : Result Arrival Response → Opening → List Delivery → Answer → (List Delivery → Type 0) → Type 0
+  IsListed (Ok a) p ds answer Leads = Leads (ds ++ delivered a answer ∷ []) × (told words p ds (delivered a answer) ≡ answer)
+  IsListed (Err refusal) p ds answer Leads = Leads ds × IsRefused refusal answer
+
+  -- a running shop after a message, with the writes that a crash may still carry out
+  abbrev pub after_message : Result Arrival Response → Answer → Running → Running
+  after_message (Ok a) answer r = after_act words a answer r
+  after_message (Err refusal) answer r = r
+
+-- A message that is this arrival, or none, is served once: as a shop is seen before, so it is served and seen after, whether it
+-- is seen by its rows and its kept answers, as a shop that stands for a list of arrivals, or as a running one, with what a crash
+-- may leave of it. Where it is answered 503, all stays as it was.
+pub record ServesOnce {T : Type 0} (tables : Meaning T) (words : Reply → Response) (old : DeskView T) (coming : Result Arrival Response) (answer : Answer) (new : DeskView T) : Type 0 where
+  pub served : (v : ShopView) → Views tables.holds old.tables old.state v → IsServed words coming v answer (λ w. Views tables.holds new.tables new.state w)
+  pub stands : (p : Opening) (ds : List Delivery) → StandsFor words tables.holds old.tables old.state p ds
+      → IsListed words coming p ds answer (λ es. StandsFor words tables.holds new.tables new.state p es)
+  pub running : (r : Running) → IsRunning words tables.holds tables.may_leave old.tables old.state r
+      → IsRunning words tables.holds tables.may_leave new.tables new.state (after_message words coming answer r)
+  pub house : (house : House) → tables.knows old.tables house → tables.knows new.tables house
+  pub fit : IsFitComing coming answer
+
+-- A desk keeps its names, and where it answers 503 its office, whatever became of its tables. Where these are sure after a message they
+-- were so before it, and the message is served once, as the arrival that it is by the house that they know.
+pub record Serves {T : Type 0} (tables : Meaning T) (old : DeskView T) (tick : Tick) (m : Message) (answer : Answer) (new : DeskView T) : Type 0 where
+  pub organizer : new.organizer ≡ old.organizer
+  pub event : new.event ≡ old.event
+  pub office : answer ≡ Unavailable → new.state ≡ old.state
+  pub was_sure : tables.sure new.tables → tables.sure old.tables
+  pub once : tables.sure new.tables → (known : House) → tables.knows old.tables known
+      → let house = house_of old known in ServesOnce tables (words_of house) old (arrival house tick m) answer new

@@ -1,0 +1,101 @@
+use Rattle.std.proofs.Common.{◌++◌, [], ℕ, List, refl, sym, ap, ◌∙◌, subst, arith, length-append}
+use Rattle.web_connection.specs.Run.{AtTick, Progress, cursor}
+use Rattle.base_devices.proofs.ToldLemmas.{Gives-nil, Gives-append}
+use Rattle.web_connection.proofs.RunLemmas.{progress_none, progress_more, progress_feed, finished_more, finished_none, finished_all, finished_at, broken_more, broken_at, limit_broken, read_broken, run_leads, run_ends}
+use Rattle.web_connection.proofs.run.serve_all.Goals as goal
+
+pub loop-turn-init : goal.loop-turn-init
+loop-turn-init g c = record {
+  done = (
+    [],
+    Gives-nil _,
+    progress_none (AtTick g.T.Ticks.reads g.D.Desk.serves) _ _ (ap (λ (l : List ℕ). cursor l (g.T.Ticks.told c.args.ticks.now) c.args.desk.now (g.W.Drain.taken c.args.writer.now)) c.requires.empty),
+    record { most = omega arith; some = omega arith },
+  );
+  clock = refl;
+  output = refl;
+  input = refl;
+  calls = omega arith;
+}
+
+pub returns-in-Ok-false-clause-leads : goal.returns-in-Ok-false-clause-leads
+returns-in-Ok-false-clause-leads g c =
+    let S = AtTick g.T.Ticks.reads g.D.Desk.serves in
+    let inv = c.loop-turn.invariant in
+    let done = inv.done in
+    let e = rw c.in-Ok-false.field-0-test at c.in-Ok-false.ensures in
+    run_leads S _ _ _ done.0 c.loop-turn.turn done.1 done.3 inv.calls (finished_at S _ _ _ _ _ _ _ (finished_all S _ _ _ (finished_more S _ _ _ done.2 e.leads)))
+
+pub returns-in-Err-clause-leads : goal.returns-in-Err-clause-leads
+returns-in-Err-clause-leads g c =
+    let S = AtTick g.T.Ticks.reads g.D.Desk.serves in
+    let inv = c.loop-turn.invariant in
+    let done = inv.done in
+    run_leads S _ _ _ done.0 c.loop-turn.turn done.1 done.3 inv.calls (broken_at S _ _ _ _ _ _ _ (broken_more S _ _ _ _ done.2 c.in-Err.ensures.leads))
+
+pub returns-in-Ok-false-take_in-clause-leads : goal.returns-in-Ok-false-take_in-clause-leads
+returns-in-Ok-false-take_in-clause-leads g c =
+    let S = AtTick g.T.Ticks.reads g.D.Desk.serves in
+    let inv = c.loop-turn.invariant in
+    let done = inv.done in
+    let e = rw c.in-Ok-true.field-0-test at c.in-Ok-true.ensures in
+    let read = rw c.in-Ok-false-take_in.field-0-test at c.in-Ok-false-take_in.ensures in
+    run_ends S _ _ _ done.0 _ c.loop-turn.turn done.1 read.leads.0 done.3 (omega (arith, read.calls, inv.calls))
+    (finished_at S _ _ _ _ _ _ _ (finished_none S _ _ _ (progress_more S _ _ _ done.2 e.leads.0) e.leads.1 read.leads.2))
+
+pub returns-in-Err-take_in-clause-leads : goal.returns-in-Err-take_in-clause-leads
+returns-in-Err-take_in-clause-leads g c =
+    let S = AtTick g.T.Ticks.reads g.D.Desk.serves in
+    let inv = c.loop-turn.invariant in
+    let done = inv.done in
+    let e = rw c.in-Ok-true.field-0-test at c.in-Ok-true.ensures in
+    let read = c.in-Err-take_in.ensures in
+    read_broken S _ _ _ done.0 _ _ _ c.loop-turn.turn _ _ done.1 done.3 (progress_more S _ _ _ done.2 e.leads.0) e.leads.1 (omega (arith, read.calls, inv.calls)) read.leads read.counted
+
+pub loop-turn-preserved : goal.loop-turn-preserved
+loop-turn-preserved g c =
+    let S = AtTick g.T.Ticks.reads g.D.Desk.serves in
+    let inv = c.loop-turn.invariant in
+    let done = inv.done in
+    let e = rw c.in-Ok-true.field-0-test at c.in-Ok-true.ensures in
+    let read = rw c.in-Ok-true-take_in.field-0-test at c.in-Ok-true-take_in.ensures in
+    let piece = read.leads.0 in
+    let fed = progress_feed S done.0 _ piece _ _ _ _ _ _ (progress_more S _ _ _ done.2 e.leads.0) in
+    record {
+      done = (
+        done.0 ++ piece,
+        Gives-append _ _ _ _ _ done.1 read.leads.1,
+        subst (λ (l : List ℕ). Progress S (cursor (done.0 ++ piece) (g.T.Ticks.told c.args.ticks.now) c.args.desk.now (g.W.Drain.taken c.args.writer.now)) (cursor l (g.T.Ticks.told c.serve_ready.new.ticks) c.serve_ready.new.desk (g.W.Drain.taken c.serve_ready.new.writer))) (sym read.leads.3) fed,
+        record {
+          most = omega (arith, length-append done.0 piece, done.3.most, read.leads.2.1);
+          some = omega (arith, length-append done.0 piece, done.3.some, read.leads.2.0);
+        },
+      );
+      clock = e.counted.0 ∙ inv.clock;
+      output = e.counted.1 ∙ inv.output;
+      input = read.counted ∙ inv.input;
+      calls = omega (arith, read.calls, inv.calls);
+    }
+
+pub returns-in-Ok-true-serve_ready-clause-leads : goal.returns-in-Ok-true-serve_ready-clause-leads
+returns-in-Ok-true-serve_ready-clause-leads g c =
+    let S = AtTick g.T.Ticks.reads g.D.Desk.serves in
+    let inv = c.loop-turn.invariant in
+    let done = inv.done in
+    let e = rw c.in-Ok-true-serve_ready.field-0-test at c.in-Ok-true-serve_ready.ensures in
+    run_leads S _ _ _ done.0 _ done.1 done.3 inv.calls (limit_broken S _ _ _ _ _ _ (progress_more S _ _ _ done.2 e.leads.0) e.leads.1)
+
+pub returns-in-Ok-false-serve_ready-clause-leads : goal.returns-in-Ok-false-serve_ready-clause-leads
+returns-in-Ok-false-serve_ready-clause-leads g c =
+    let S = AtTick g.T.Ticks.reads g.D.Desk.serves in
+    let inv = c.loop-turn.invariant in
+    let done = inv.done in
+    let e = rw c.in-Ok-false-serve_ready.field-0-test at c.in-Ok-false-serve_ready.ensures in
+    run_leads S _ _ _ done.0 _ done.1 done.3 inv.calls (finished_at S _ _ _ _ _ _ _ (finished_all S _ _ _ (finished_more S _ _ _ done.2 e.leads)))
+
+pub returns-in-Err-serve_ready-clause-leads : goal.returns-in-Err-serve_ready-clause-leads
+returns-in-Err-serve_ready-clause-leads g c =
+    let S = AtTick g.T.Ticks.reads g.D.Desk.serves in
+    let inv = c.loop-turn.invariant in
+    let done = inv.done in
+    run_leads S _ _ _ done.0 _ done.1 done.3 inv.calls (broken_at S _ _ _ _ _ _ _ (broken_more S _ _ _ _ done.2 c.in-Err-serve_ready.ensures.leads))

@@ -1,0 +1,124 @@
+//! A connection, from its first byte to its end.
+
+ghost use Rattle.std.specs.Prelude.{◌≡◌, ◌+◌, ◌≤◌, ◌<◌, [], length};
+ghost use Rattle.web_connection.specs.Run.{AtTick, RunLeads, CountedAll, TakesIn, CountedIn};
+
+use crate::desk::Desk;
+use crate::failure::Failure;
+use crate::room::Room;
+use crate::step::serve_ready;
+use base_devices::device::{Drain, Source, Ticks};
+use std::alloc::Global;
+use web_http::frames::Frames;
+
+/// Reads once, and adds what came. Whether anything came.
+fn take_in<R: Source>(
+    frames: &mut Frames,
+    piece: &mut [u8],
+    reader: &mut R,
+) -> Result<bool, Failure>
+    requires some { 0 < length piece.old }
+    requires most { length piece.old ≤ 65536 }
+    ensures leads { TakesIn result frames.old.left frames.new.left (R.left reader.old) (R.left reader.new) }
+    ensures counted { CountedIn result (R.failures reader.old) (R.failures reader.new) }
+    ensures calls { R.calls reader.new ≡ R.calls reader.old + 1 }
+{
+    let Ok(n) = reader.read(piece) else {
+        return Err(Failure::Input);
+    };
+    if n == 0 {
+        return Ok(false);
+    }
+    match frames.feed(&piece[..n]) {
+        Ok(()) => Ok(true),
+        Err(_) => Err(Failure::Memory),
+    }
+}
+
+/// Reads to the end, and answers each message.
+fn serve_all<R: Source, T: Ticks, D: Desk, W: Drain>(
+    alloc: Global,
+    frames: &mut Frames,
+    piece: &mut [u8],
+    reader: &mut R,
+    ticks: &mut T,
+    desk: &mut D,
+    writer: &mut W,
+) -> Result<(), Failure>
+    requires empty { frames.old.left ≡ [] }
+    requires some { 0 < length piece.old }
+    requires most { length piece.old ≤ 65536 }
+    ensures leads { RunLeads (AtTick T.reads D.serves)
+        (record { left = R.left reader.old; calls = R.calls reader.old; told = T.told ticks.old; desk = desk.old; taken = W.taken writer.old })
+        (record { left = R.left reader.new; calls = R.calls reader.new; told = T.told ticks.new; desk = desk.new; taken = W.taken writer.new }) result }
+    ensures counted { CountedAll result
+        (record { clock = T.failures ticks.old; output = W.failures writer.old; input = R.failures reader.old; calls = R.calls reader.old })
+        (record { clock = T.failures ticks.new; output = W.failures writer.new; input = R.failures reader.new; calls = R.calls reader.new }) }
+    ensures calls { R.calls reader.new ≤ R.calls reader.old + 1000000 }
+{
+    for turn in 0..1_000_000u32 {
+        match serve_ready(alloc, frames, ticks, desk, writer) {
+            Ok(true) => {}
+            Ok(false) => return Ok(()),
+            Err(failure) => return Err(failure),
+        }
+        match take_in(frames, piece, reader) {
+            Ok(true) => {}
+            Ok(false) => return Ok(()),
+            Err(failure) => return Err(failure),
+        }
+    }
+    match serve_ready(alloc, frames, ticks, desk, writer) {
+        Ok(true) => Err(Failure::Limit),
+        Ok(false) => Ok(()),
+        Err(failure) => Err(failure),
+    }
+}
+
+/// Reads to the end of the stream, or of the connection, and writes the answer of each message in order and nothing
+/// else. It reads at most 1,000,000 times, at most 65,536 bytes a time. Where it fails, what was written is the front of
+/// that text: faults 6 (there was no memory for what is read), 82 (the reader failed, or its limit is met), 83 (the writer
+/// failed), 85 (the clock failed). What the room held before makes no difference.
+pub fn run_stream<R: Source, T: Ticks, D: Desk, W: Drain>(
+    alloc: Global,
+    room: &mut Room,
+    reader: &mut R,
+    ticks: &mut T,
+    desk: &mut D,
+    writer: &mut W,
+) -> Result<(), Failure>
+    ensures leads { RunLeads (AtTick T.reads D.serves)
+        (record { left = R.left reader.old; calls = R.calls reader.old; told = T.told ticks.old; desk = desk.old; taken = W.taken writer.old })
+        (record { left = R.left reader.new; calls = R.calls reader.new; told = T.told ticks.new; desk = desk.new; taken = W.taken writer.new }) result }
+    ensures counted { CountedAll result
+        (record { clock = T.failures ticks.old; output = W.failures writer.old; input = R.failures reader.old; calls = R.calls reader.old })
+        (record { clock = T.failures ticks.new; output = W.failures writer.new; input = R.failures reader.new; calls = R.calls reader.new }) }
+    ensures calls { R.calls reader.new ≤ R.calls reader.old + 1000000 }
+{
+    let frames = &mut room.frames;
+    frames.clear();
+    serve_all(alloc, frames, &mut room.piece, reader, ticks, desk, writer)
+}
+
+/// Answers a stream of requests at a desk that is there for it alone.
+pub fn serve_desk<R: Source, T: Ticks, D: Desk + Drop, W: Drain>(
+    alloc: Global,
+    reader: &mut R,
+    ticks: &mut T,
+    desk: D,
+    writer: &mut W,
+) -> Result<(), Failure>
+    ensures leads { (last : D) × RunLeads (AtTick T.reads D.serves)
+        (record { left = R.left reader.old; calls = R.calls reader.old; told = T.told ticks.old; desk = desk; taken = W.taken writer.old })
+        (record { left = R.left reader.new; calls = R.calls reader.new; told = T.told ticks.new; desk = last; taken = W.taken writer.new }) result }
+    ensures counted { CountedAll result
+        (record { clock = T.failures ticks.old; output = W.failures writer.old; input = R.failures reader.old; calls = R.calls reader.old })
+        (record { clock = T.failures ticks.new; output = W.failures writer.new; input = R.failures reader.new; calls = R.calls reader.new }) }
+    ensures calls { R.calls reader.new ≤ R.calls reader.old + 1000000 }
+{
+    let mut desk = desk;
+    let Ok(mut room) = Room::new(alloc) else {
+        return Err(Failure::Memory);
+    };
+    run_stream(alloc, &mut room, reader, ticks, &mut desk, writer)
+}

@@ -1,0 +1,74 @@
+//! Requests from a reader, answers to a writer, at moments that count on.
+
+ghost use Rattle.std.specs.Prelude.{◌≡◌, ◌<◌};
+ghost use Rattle.web_arrivals.specs.DeskView.{desk_with, meaning};
+ghost use Rattle.web_handler.specs.Fed.{FeedsDesk};
+
+use crate::office::serve_office;
+use base_devices::{Drain, Source};
+use base_values::{Moment, Steps};
+use book_usage::Dues;
+use model_answers::Tables;
+use office_once::Office;
+use std::alloc::Global;
+use std::marker::{Brand, PhantomData};
+use std::sync::ledger::{Blank, Ledger};
+use web_cli::{FeedTicks, Pace};
+use web_connection::Failure;
+
+// The same as `feed_office`, with a ledger for the failures of its ticks.
+fn feed_with<P: Pace, E: Ledger, T: Tables + Drop, B: Dues + Drop, R: Source, W: Drain>(
+    alloc: Global,
+    tables: T,
+    office: Office<B>,
+    from: Moment,
+    step: u64,
+    reader: &mut R,
+    writer: &mut W,
+    blank: Blank,
+) -> Result<(), Failure>
+    requires from { from ≡ P.from }
+    requires step { step ≡ P.step }
+    requires blank { (blank.name ≡ E.name) × (blank.parts ≡ E.parts) × (0 < E.parts) }
+    ensures { FeedsDesk (meaning T.sure T.holds T.knows T.may_leave) (desk_with tables office.organizer office.event office.state) P.from P.step
+        (record { left = R.left reader.old; taken = W.taken writer.old; calls = R.calls reader.old; input = R.failures reader.old; output = W.failures writer.old })
+        (record { left = R.left reader.new; taken = W.taken writer.new; calls = R.calls reader.new; input = R.failures reader.new; output = W.failures writer.new }) result }
+{
+    let mut ticks = FeedTicks::<P, E> {
+        from,
+        step,
+        told: 0,
+        failures: Steps::<E>::new(blank),
+        pace: PhantomData,
+    };
+    serve_office(alloc, reader, &mut ticks, tables, office, writer)
+}
+
+/// Reads requests to the end of the input, and writes the answers that the shop of an office gives, whatever its tables are. The first request
+/// comes at that moment, and each other one that many seconds after the one before it, but none after the last moment that there
+/// is. It reads at most 1,000,000 times. Faults: 6 (there was no memory for the desk or for what is read), 82 (the reader failed, or its limit is
+/// met), 83 (the writer failed), 85 (2^64 - 1 ticks were told).
+pub fn feed_office<T: Tables + Drop, B: Dues + Drop, R: Source, W: Drain>(
+    alloc: Global,
+    tables: T,
+    office: Office<B>,
+    from: Moment,
+    step: u64,
+    reader: &mut R,
+    writer: &mut W,
+) -> Result<(), Failure>
+    ensures { FeedsDesk (meaning T.sure T.holds T.knows T.may_leave) (desk_with tables office.organizer office.event office.state) from step
+        (record { left = R.left reader.old; taken = W.taken writer.old; calls = R.calls reader.old; input = R.failures reader.old; output = W.failures writer.old })
+        (record { left = R.left reader.new; taken = W.taken writer.new; calls = R.calls reader.new; input = R.failures reader.new; output = W.failures writer.new }) result }
+{
+    feed_with::<Brand, Brand, T, B, R, W>(
+        alloc,
+        tables,
+        office,
+        from,
+        step,
+        reader,
+        writer,
+        Blank::new(1),
+    )
+}

@@ -1,0 +1,13 @@
+//! How does a shop answer each message of a connection once?
+#![tactic(auto)]
+
+pub mod desk;
+pub mod feeding;
+pub mod office;
+mod serving;
+
+pub use desk::ShopDesk;
+pub use feeding::feed_office;
+pub use office::serve_office;
+pub use office_once::Office;
+pub use web_arrivals::HouseWords;

@@ -1,0 +1,11 @@
+-- How the fields of a frame show its message.
+use Rattle.httparse.specs.Spans.{IsRequestWithin}
+use Rattle.web_http.specs.declared.frame.Frame.TheInside.{Inside}
+use Rattle.web_http.specs.Messages.{Message}
+use Rattle.web_http.specs.Found.{message_at}
+
+abbrev pub shown : Inside → Message
+shown f = message_at f.head.now f.headers.now f.spans f.body.now
+
+abbrev pub IsShown : Inside → Type 0
+IsShown f = IsRequestWithin f.head.now f.headers.now f.spans

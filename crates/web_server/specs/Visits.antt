@@ -1,0 +1,61 @@
+-- Callers at once, at one desk.
+use Rattle.std.specs.Prelude.{◌≡◌, ◌≤◌, ◌⊎◌, ⊤, ℕ, zero, suc, List, [], ◌∷◌, None, Result, Ok, Err}
+use Rattle.base_values.specs.declared.answer.Answer.{Answer}
+use Rattle.base_devices.specs.declared.device.Tick.{Tick}
+use Rattle.web_http.specs.Messages.{Message}
+use Rattle.web_connection.specs.declared.failure.Failure.TheVariants as failures
+use Rattle.web_cli.specs.declared.fault.RunFault.{RunFault}
+use Rattle.web_cli.specs.declared.fault.RunFault.TheVariants as faults
+use Rattle.web_turns.specs.declared.turns.Next.{Next}
+use Rattle.web_turns.specs.declared.turns.Next.TheVariants as nexts
+pub use Rattle.web_turns.specs.Acts.{Between, between, seen_at}
+use Rattle.web_turns.specs.Halls.{Callers, DoesAll, Hall, LetsIn, Story, with_place}
+
+-- callers come and leave, one after another, and nobody has a turn
+abbrev pub Rearranges : Callers → Callers → List Next → Type 0
+Rearranges old new [] = new ≡ old
+Rearranges old new (nexts.Comes ∷ others) = (amid : Callers) × LetsIn old amid × Rearranges amid new others
+Rearranges old new (nexts.Leaves place ∷ others) = Rearranges (with_place place None old) new others
+Rearranges old new (nexts.Turn place ∷ others) = ⊥
+
+pub record Rearranged (old new : Callers) : Type 0 where
+  pub order : List Next
+  pub all : Rearranges old new order
+
+-- callers come, have turns and leave, in some order
+pub record Happened {D : Type 0} (Serves : D → Tick → Message → Answer → D → Type 0) (from to : Between D) (old new : Callers) : Type 0 where
+  pub order : List Next
+  pub all : DoesAll Serves from to old new order
+
+-- At most so many callers came, many of them at once, and each has the conversation of its own bytes.
+pub record Served {D : Type 0} (Serves : D → Tick → Message → Answer → D → Type 0) (most : ℕ) (old new : Between D) : Type 0 where
+  pub came : ℕ
+  pub within : came ≤ most
+  pub all : Story
+  pub hall : Hall Serves came old new all
+
+-- how many callers are let in: so many, and for 0 as many as a `u64` counts, which no house sees the end of
+abbrev pub most_of : ℕ → ℕ
+most_of zero = 18446744073709551615
+most_of (suc n) = suc n
+
+-- Why that ends early: no more callers can be let in; or there is no room for a house, or where it listens couldn't be said, and then nobody came.
+abbrev pub EndsEarly : RunFault → ℕ → Type 0
+EndsEarly faults.Listen n = ⊤
+EndsEarly faults.Memory n = n ≡ 0
+EndsEarly (faults.Run failures.Output) n = n ≡ 0
+EndsEarly fault n = ⊥
+
+-- a house that can't be opened
+abbrev pub EndsAtOnce : RunFault → Type 0
+EndsAtOnce fault = (fault ≡ faults.Listen) ⊎ (fault ≡ faults.Memory)
+
+-- rounds end early only where no more callers can be let in; or there is no room for them, and nothing happened
+abbrev pub RoundsEnd : Result (Unit {0}) RunFault → Callers → Callers → Type 0
+RoundsEnd (Ok u) old new = ⊤
+RoundsEnd (Err fault) old new = (fault ≡ faults.Listen) ⊎ ((fault ≡ faults.Memory) × (new ≡ old))
+
+-- all of them came; or some did, and a fault ended it
+abbrev pub AnswersCallers : {D : Type 0} → (D → Tick → Message → Answer → D → Type 0) → ℕ → Between D → Between D → Result (Unit {0}) RunFault → Type 0
+AnswersCallers Serves most old new (Ok u) = Served Serves most old new
+AnswersCallers Serves most old new (Err fault) = (served : Served Serves most old new) × EndsEarly fault served.came

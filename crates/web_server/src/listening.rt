@@ -1,0 +1,74 @@
+//! A desk at an address.
+
+ghost use Rattle.std.specs.Prelude.{◌≡◌, ◌<◌, None};
+ghost use Rattle.web_connection.specs.Run.{AtTick};
+ghost use Rattle.web_cli.specs.Saying.{TellsListening};
+ghost use Rattle.web_server.specs.Clock.{IsRead};
+ghost use Rattle.web_server.specs.Visits.{AnswersCallers, between, most_of};
+
+use crate::clock::{ClockTicks, System};
+use crate::log::Log;
+use crate::noted::Attended;
+use crate::serving::serve_callers;
+use base_devices::Drain;
+use base_values::Steps;
+use std::alloc::Global;
+use std::marker::Brand;
+use std::net::{Net, TcpListener, TcpStream};
+use std::sync::ledger::{Blank, Ledger};
+use std::time::Clock;
+use web_cli::{Console, Place, RunFault, said, say};
+use web_connection::Desk;
+
+// Answers the callers of a listener by the system's clock, with a ledger for the failures of its ticks.
+fn serve_listener<M: Ledger, R: Net + Clock + System + Console, D: Desk + Attended>(
+    rt: &R,
+    alloc: Global,
+    log: &Log<'_, R>,
+    listener: TcpListener,
+    connections: u64,
+    desk: &mut D,
+    blank: Blank,
+) -> Result<(), RunFault>
+    requires blank { (blank.name ≡ M.name) × (blank.parts ≡ M.parts) × (0 < M.parts) }
+    ensures { AnswersCallers (AtTick (IsRead R.shows R.gives) D.serves) (most_of connections) (between None desk.old) (between None desk.new) result }
+{
+    let failures = Steps::<M>::new(blank);
+    let mut ticks = ClockTicks::<R, M> { rt, failures };
+    serve_callers(alloc, rt, log, listener, connections, &mut ticks, desk)
+}
+
+/// Listens at an address, says so, and answers the callers that come, many of them at once, by the system's clock and its draws. Faults: 81
+/// where the address can't be listened at, and then nothing is said; 83 where that couldn't be said, and then nobody is answered; 81 and 6
+/// as `serve_callers`.
+pub fn serve_at<
+    R: Net<Listener = TcpListener, Stream = TcpStream> + Clock + System + Console,
+    D: Desk + Attended,
+    W: Drain,
+>(
+    rt: &R,
+    alloc: Global,
+    log: &Log<'_, R>,
+    place: &Place<'_>,
+    desk: &mut D,
+    writer: &mut W,
+) -> Result<(), RunFault>
+    ensures said { TellsListening place.now.text.now (record { taken = W.taken writer.old; failures = W.failures writer.old }) (record { taken = W.taken writer.new; failures = W.failures writer.new }) result }
+    ensures leads { AnswersCallers (AtTick (IsRead R.shows R.gives) D.serves) (most_of place.now.connections) (between None desk.old) (between None desk.new) result }
+{
+    let Ok(listener) = rt.bind(place.addr) else {
+        return Err(RunFault::Listen);
+    };
+    match say(writer, b"listening on ", place.text.as_bytes()) {
+        Ok(()) => serve_listener::<Brand, R, D>(
+            rt,
+            alloc,
+            log,
+            listener,
+            place.connections,
+            desk,
+            Blank::new(1),
+        ),
+        Err(refused) => said(Err(refused)),
+    }
+}

@@ -1,0 +1,186 @@
+-- Many conversations at one desk, whose callers come and go.
+use Rattle.std.specs.Prelude.{◌≡◌, ⊤, ◌⊎◌, ℕ, ◌==◌, ◌+◌, ◌<◌, ◌≤◌, List, [], ◌∷◌, ◌++◌, length, map, Option, Some, None, if◌then◌else◌, slice_index_or, slice_set}
+use Rattle.base_values.specs.declared.answer.Answer.{Answer}
+use Rattle.base_devices.specs.declared.device.Tick.{Tick}
+use Rattle.base_devices.specs.Told.{Adds}
+use Rattle.web_http.specs.Messages.{Message}
+use Rattle.web_http.specs.Framed.{Framed}
+use Rattle.web_turns.specs.declared.stage.Needs.{Needs}
+use Rattle.web_turns.specs.declared.stage.Needs.TheVariants as needs
+use Rattle.web_turns.specs.declared.stage.Stage.TheVariants as stages
+use Rattle.web_turns.specs.declared.turns.Next.{Next}
+use Rattle.web_turns.specs.declared.turns.Next.TheVariants as nexts
+use Rattle.web_turns.specs.Acts.{Act, Acts, Between, ticks}
+use Rattle.web_turns.specs.Talks.{Seat, Takes, Talks, Turn, begun, needs_of}
+
+-- ---- places
+
+-- a caller: how many came before it, and how far its conversation is
+pub record Caller : Type 0 where
+  pub number : ℕ
+  pub seat : Seat
+
+-- the caller who has this number, with its conversation
+abbrev pub caller : ℕ → Seat → Caller
+caller number seat = record { number = number; seat = seat }
+
+-- a place, which is free or has a caller
+abbrev pub placed : ℕ → Option Seat → Option Caller
+placed number None = None
+placed number (Some seat) = Some (caller number seat)
+
+-- how many callers came, and who is at each place
+pub record Callers : Type 0 where
+  pub came : ℕ
+  pub places : List (Option Caller)
+
+-- how many came in all, and who is at each place now
+abbrev pub callers : ℕ → List (Option Caller) → Callers
+callers came places = record { came = came; places = places }
+
+-- who is at a place; beyond the last place nobody is
+abbrev pub at_place : ℕ → Callers → Option Caller
+at_place place now = slice_index_or now.places place None
+
+-- the same with another one at that place
+abbrev pub with_place : ℕ → Option Caller → Callers → Callers
+with_place place whoever now = callers now.came (slice_set now.places place whoever)
+
+-- the next caller takes a place, with the next number
+abbrev pub with_caller : ℕ → Seat → Callers → Callers
+with_caller place seat now = callers (now.came + 1) (slice_set now.places place (Some (caller now.came seat)))
+
+-- a turn of whoever is at a place: at a free one nothing happens
+abbrev pub TakesTurn : {D : Type 0} → (D → Tick → Message → Answer → D → Type 0) → Between D → Between D → Option Caller → Option Caller → Type 0
+TakesTurn Serves from to None new = (new ≡ None) × (to ≡ from)
+TakesTurn Serves from to (Some c) new = (seat : Seat) × (new ≡ Some (caller c.number seat)) × Turn Serves from to c.seat seat × Takes c.seat seat
+
+-- the turn of whoever is at a place
+abbrev pub TurnsAt : {D : Type 0} → (D → Tick → Message → Answer → D → Type 0) → Between D → Between D → ℕ → Callers → Callers → Type 0
+TurnsAt Serves from to place old new =
+    (whoever : Option Caller) × TakesTurn Serves from to (at_place place old) whoever × (new ≡ with_place place whoever old)
+
+-- a place is free for one more caller, who can have a number still
+pub record IsFree (place : ℕ) (now : Callers) : Type 0 where
+  pub within : place < length now.places
+  pub free : at_place place now ≡ None
+  pub number : now.came < 18446744073709551615
+
+-- one of the places, which is free, or none is
+abbrev pub FindsFree : List (Option Caller) → Option ℕ → Type 0
+FindsFree places (Some place) = (place < length places) × (slice_index_or places place None ≡ None)
+FindsFree places None = (place : ℕ) → place < length places → slice_index_or places place None ≡ None → ⊥
+
+-- what whoever is at a place needs for the next turn; a free place needs nothing
+abbrev pub place_needs : Option Caller → Needs
+place_needs None = needs.Nothing
+place_needs (Some c) = needs_of c.seat.unsent c.seat.stage
+
+-- whoever leaves takes the connection along as it is
+abbrev pub leaves_with : {E : Type 0} → (E → Option (List ℕ)) → (E → Option (List ℕ)) → Option Caller → Option E → Type 0
+leaves_with left taken None None = ⊤
+leaves_with left taken None (Some ends) = ⊥
+leaves_with left taken (Some c) None = ⊥
+leaves_with left taken (Some c) (Some ends) = (left ends ≡ c.seat.coming) × (taken ends ≡ c.seat.gone)
+
+-- room for a conversation that is there already has nothing of another one
+abbrev pub IsSpare : Option Framed → Type 0
+IsSpare None = ⊤
+IsSpare (Some frames) = frames.left ≡ []
+
+-- ---- what happens, one after another
+
+-- Somebody comes, to a place that is free; or nobody does, as where none is free.
+abbrev pub LetsIn : Callers → Callers → Type 0
+LetsIn old new = (new ≡ old) ⊎ ((place : ℕ) × (coming : Option (List ℕ)) × (gone : Option (List ℕ)) × IsFree place old × (new ≡ with_caller place (begun coming gone) old))
+
+-- one thing that happens: somebody comes, or has a turn, or leaves
+abbrev pub Does : {D : Type 0} → (D → Tick → Message → Answer → D → Type 0) → Between D → Between D → Callers → Callers → Next → Type 0
+Does Serves from to old new nexts.Comes = (to ≡ from) × LetsIn old new
+Does Serves from to old new (nexts.Turn place) = TurnsAt Serves from to place old new
+Does Serves from to old new (nexts.Leaves place) = (to ≡ from) × (new ≡ with_place place None old)
+
+-- all of it, one after another
+abbrev pub DoesAll : {D : Type 0} → (D → Tick → Message → Answer → D → Type 0) → Between D → Between D → Callers → Callers → List Next → Type 0
+DoesAll Serves from to old new [] = (to ≡ from) × (new ≡ old)
+DoesAll {D} Serves from to old new (next ∷ others) =
+    (mid : Between D) × (amid : Callers) × Does Serves from mid old amid next × DoesAll Serves mid to amid new others
+
+-- ---- all callers since a hall opened
+
+-- an act, and the number of the caller whose message it answered
+pub record Heard : Type 0 where
+  pub caller : ℕ
+  pub act : Act
+
+-- what was done, whoever it was for
+abbrev pub act_of : Heard → Act
+act_of h = h.act
+
+-- what was done for all callers, in order
+abbrev pub acts_of : List Heard → List Act
+acts_of heard = map act_of heard
+
+-- the acts for the caller with this number, in order
+abbrev pub of : ℕ → List Heard → List Act
+of n [] = []
+of n (h ∷ hs) = if h.caller == n then h.act ∷ of n hs else of n hs
+
+-- each act is for one of those who came
+abbrev pub AreOf : ℕ → List Heard → Type 0
+AreOf came [] = ⊤
+AreOf came (h ∷ hs) = (h.caller < came) × AreOf came hs
+
+-- nobody's conversation
+abbrev pub nobody : Seat
+nobody = record { stage = stages.Lost; left = []; unsent = []; coming = None; gone = None }
+
+-- What happened in a hall: each caller who came, by its number, as its conversation began and as it is, or was when the caller went; and one
+-- list of acts for all of them.
+pub record Story : Type 0 where
+  pub firsts : List Seat
+  pub lasts : List Seat
+  pub heard : List Heard
+
+-- callers as they began, the same as they are now, and what was done for all of them
+abbrev pub story : List Seat → List Seat → List Heard → Story
+story firsts lasts heard = record { firsts = firsts; lasts = lasts; heard = heard }
+
+-- So many callers came: the acts lead from desk to desk, one after another, at the ticks that were given, and each is for one of them. Each
+-- caller's conversation is the acts that are for it: they are those of its own bytes, in order, and what it was sent is the front of their texts.
+pub record Hall {D : Type 0} (Serves : D → Tick → Message → Answer → D → Type 0) (came : ℕ) (from to : Between D) (all : Story) : Type 0 where
+  pub acted : Acts Serves from.desk (acts_of all.heard) to.desk
+  pub told : Adds from.told (ticks (acts_of all.heard)) to.told
+  pub are : AreOf came all.heard
+  pub firsts : length all.firsts ≡ came
+  pub lasts : length all.lasts ≡ came
+  pub talks : (n : ℕ) → n < came → Talks (slice_index_or all.firsts n nobody) (of n all.heard) (slice_index_or all.lasts n nobody)
+
+-- Whoever is at a place is one of those who came, and its conversation is as far as that place has it. Nobody has two places.
+pub record AreSeated (now : Callers) (lasts : List Seat) : Type 0 where
+  pub here : (place : ℕ) (c : Caller) → at_place place now ≡ Some c → (c.number < now.came) × (slice_index_or lasts c.number nobody ≡ c.seat)
+  pub apart : (i j : ℕ) (c d : Caller) → at_place i now ≡ Some c → at_place j now ≡ Some d → c.number ≡ d.number → i ≡ j
+
+-- the same of a hall and who is in it now
+pub record Serving {D : Type 0} (Serves : D → Tick → Message → Answer → D → Type 0) (from to : Between D) (now : Callers) (all : Story) : Type 0 where
+  pub hall : Hall Serves now.came from to all
+  pub seated : AreSeated now all.lasts
+
+-- a caller is at no place
+abbrev pub IsGone : ℕ → Callers → Type 0
+IsGone n now = (place : ℕ) (c : Caller) → at_place place now ≡ Some c → c.number ≡ n → ⊥
+
+-- Whatever happened in a hall till then, this is what happened till now. Those who came till then began as they did, and their acts come first. Whoever
+-- was gone then is gone for good: nothing more is for such a caller, and its conversation is as it was.
+pub record GoesOn {D : Type 0} (Serves : D → Tick → Message → Answer → D → Type 0) (first from to : Between D) (old new : Callers) (till : Story) : Type 0 where
+  pub firsts : List Seat
+  pub lasts : List Seat
+  pub heard : List Heard
+  pub serving : Serving Serves first to new (story (till.firsts ++ firsts) lasts (till.heard ++ heard))
+  pub came : old.came ≤ new.came
+  pub gone : (n : ℕ) → n < old.came → IsGone n old
+      → IsGone n new × (slice_index_or lasts n nobody ≡ slice_index_or till.lasts n nobody) × (of n heard ≡ [])
+
+-- the same, whatever happened till then
+abbrev pub LeadsOn : {D : Type 0} → (D → Tick → Message → Answer → D → Type 0) → Between D → Between D → Callers → Callers → Type 0
+LeadsOn {D} Serves from to old new = (first : Between D) (till : Story) → Serving Serves first from old till → GoesOn Serves first from to old new till

@@ -1,0 +1,100 @@
+-- One conversation, turn by turn.
+use Rattle.std.specs.Prelude.{◌≡◌, ℕ, ◌<◌, ◌≤◌, List, [], ◌∷◌, ◌++◌, length, Option, Some}
+use Rattle.std.specs.Io.KnownBytes.{IsAtEnd}
+use Rattle.base_values.specs.declared.answer.Answer.{Answer}
+use Rattle.base_devices.specs.declared.device.Tick.{Tick}
+use Rattle.base_devices.specs.Told.{Adds, Gives}
+use Rattle.web_http.specs.Messages.{Message, HasNone}
+use Rattle.web_connection.specs.declared.failure.Failure.{Failure}
+use Rattle.web_connection.specs.Run.{AreAll, Broken, Cursor, Finished, Progress, cursor}
+use Rattle.web_turns.specs.declared.stage.Stage.{Stage}
+use Rattle.web_turns.specs.declared.stage.Stage.TheVariants as stages
+use Rattle.web_turns.specs.declared.stage.Needs.{Needs}
+use Rattle.web_turns.specs.declared.stage.Needs.TheVariants as needs
+use Rattle.web_turns.specs.Acts.{Act, Acts, Between, Records, ticks}
+
+-- how far a conversation is: the bytes that came and weren't taken yet, and what isn't sent yet; what is still to come, and what went out, where
+-- that is known
+pub record Seat : Type 0 where
+  pub stage : Stage
+  pub left : List ℕ
+  pub unsent : List ℕ
+  pub coming : Option (List ℕ)
+  pub gone : Option (List ℕ)
+
+-- a conversation that begins: it waits for its first bytes
+abbrev pub begun : Option (List ℕ) → Option (List ℕ) → Seat
+begun coming gone = record { stage = stages.Waits; left = []; unsent = []; coming = coming; gone = gone }
+
+-- what it needs for its next turn: room, where an answer isn't sent whole or another message may be there; bytes, where it waits for them;
+-- nothing, where it is over
+abbrev pub needs_of : List ℕ → Stage → Needs
+needs_of (b ∷ unsent) stage = needs.Room
+needs_of [] stages.Waits = needs.Bytes
+needs_of [] stages.Goes = needs.Room
+needs_of [] stages.Ends = needs.Nothing
+needs_of [] stages.Lost = needs.Nothing
+
+-- a part of the answer may be sent; where it waits for bytes no message is whole
+pub record IsTalk (at : ℕ) (answer : List ℕ) (stage : Stage) (left : List ℕ) : Type 0 where
+  pub within : at ≤ length answer
+  pub waits : stage ≡ stages.Waits → HasNone left
+
+-- How far a run came: its first messages were answered, and where it waits none is left; or all of them were; or it broke off.
+abbrev pub Went : {D : Type 0} → (D → Tick → Message → Answer → D → Type 0) → Option (List ℕ) → Stage → Cursor D → Cursor D → Type 0
+Went Serves after stages.Waits p q = Progress Serves p q × HasNone q.left
+Went Serves after stages.Goes p q = Progress Serves p q
+Went Serves after stages.Ends p q = Finished Serves (AreAll p.left after) p q
+Went Serves after stages.Lost p q = (e : Failure) × Broken Serves e p q
+
+-- the cursor of a conversation that has these acts behind it, whose texts are this text
+abbrev pub recorded : List ℕ → List Act → List ℕ → Cursor (List Act)
+recorded left own text = cursor left (Some (ticks own)) own (Some text)
+
+-- A conversation from its first byte: its own acts are those of its own bytes, in order, and what went out is the front of their texts.
+pub record Talks (first : Seat) (own : List Act) (now : Seat) : Type 0 where
+  pub bytes : List ℕ
+  pub given : Gives first.coming bytes now.coming
+  pub text : List ℕ
+  pub went : Went Records now.coming now.stage (recorded bytes [] []) (recorded now.left own text)
+  pub sent : List ℕ
+  pub is : text ≡ sent ++ now.unsent
+  pub out : Adds first.gone sent now.gone
+
+-- whatever conversation it was in goes on, without an act
+abbrev pub Moves : Seat → Seat → Type 0
+Moves old new = (first : Seat) (own : List Act) → Talks first own old → Talks first own new
+
+-- One turn: some acts, and whatever conversation it was in goes on with them.
+pub record Turn {D : Type 0} (Serves : D → Tick → Message → Answer → D → Type 0) (from to : Between D) (old new : Seat) : Type 0 where
+  pub acts : List Act
+  pub acted : Acts Serves from.desk acts to.desk
+  pub told : Adds from.told (ticks acts) to.told
+  pub talks : (first : Seat) (own : List Act) → Talks first own old → Talks first (own ++ acts) new
+
+-- Where another message may be there, and nothing is unsent, a turn takes one; or the conversation doesn't go on, but waits, ends or breaks off.
+abbrev pub Takes : Seat → Seat → Type 0
+Takes old new = old.stage ≡ stages.Goes → old.unsent ≡ [] → new.stage ≡ stages.Goes → length new.left < length old.left
+
+-- a part of what isn't sent was sent, perhaps none of it
+pub record Sends (old new : Seat) : Type 0 where
+  pub part : List ℕ
+  pub stage : new.stage ≡ old.stage
+  pub left : new.left ≡ old.left
+  pub coming : new.coming ≡ old.coming
+  pub unsent : old.unsent ≡ part ++ new.unsent
+  pub gone : Adds old.gone part new.gone
+
+-- what a read leads to: more bytes; none yet; the end of what comes; or a piece that is lost
+abbrev pub Came : Stage → Seat → Seat → Type 0
+Came stages.Waits old new = Gives old.coming [] new.coming × (new.left ≡ old.left)
+Came stages.Goes old new = (piece : List ℕ) × Gives old.coming piece new.coming × (new.left ≡ old.left ++ piece)
+Came stages.Ends old new = Gives old.coming [] new.coming × (new.left ≡ old.left) × IsAtEnd new.coming
+Came stages.Lost old new = (piece : List ℕ) × Gives old.coming piece new.coming × (length piece ≤ 65536)
+
+-- a conversation in whose bytes no message is whole reads some more, and sends nothing meanwhile
+pub record Hears (old new : Seat) : Type 0 where
+  pub came : Came new.stage old new
+  pub none : HasNone old.left
+  pub unsent : new.unsent ≡ old.unsent
+  pub gone : new.gone ≡ old.gone

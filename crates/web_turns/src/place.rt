@@ -1,0 +1,134 @@
+//! A place for a caller.
+
+ghost use Rattle.std.specs.Prelude.{◌≡◌, ◌<◌, ◌≤◌, [], None, Some, length, is_none, option_map, IfOk, OnOk, OnErr};
+ghost use Rattle.web_connection.specs.Run.{AtTick};
+ghost use Rattle.web_turns.specs.Acts.{between};
+ghost use Rattle.web_turns.specs.Talks.{begun};
+ghost use Rattle.web_turns.specs.Halls.{IsSpare, TakesTurn, caller, leaves_with, place_needs};
+
+use crate::stage::Needs;
+use crate::talk::Talk;
+use base_devices::{Device, Refused, Ticks};
+use std::alloc::{AllocError, Global};
+use std::marker::Model;
+use std::sync::ledger::Ledger;
+use web_connection::Desk;
+use web_http::frames::Frames;
+use web_sockets::Ends;
+
+/// A place for a caller: it is free, or has the conversation of one, and its number. The room of a conversation stays here for the next one.
+#[derive(Drop)]
+pub struct Place<E: Ends> {
+    number: u64,
+    talk: Option<Talk<E>>,
+    spare: Option<Frames>,
+}
+
+impl<E: Ends> Model for Place<E> {
+    ghost use Rattle.std.specs.Prelude.{Option};
+    ghost use Rattle.web_turns.specs.Halls.{Caller, placed, IsSpare};
+
+    ghost Value = { Option Caller };
+
+    ghost view = { λ p. placed p.number p.talk };
+
+    ghost invariant = { λ p. IsSpare p.spare };
+}
+
+// The room that is there, or a new one.
+fn room_of(alloc: Global, spare: Option<Frames>) -> Result<Frames, AllocError>
+    requires { IsSpare spare }
+    ensures { IfOk result (λ frames. frames.left ≡ []) }
+{
+    match spare {
+        Some(frames) => Ok(frames),
+        None => Frames::new(alloc),
+    }
+}
+
+impl<E: Ends> Place<E> {
+    /// A place that is free.
+    pub fn new() -> Self
+        ensures { result ≡ None }
+    {
+        Place {
+            number: 0,
+            talk: None,
+            spare: None,
+        }
+    }
+
+    /// Whether it is free.
+    pub fn is_free(&self) -> bool
+        ensures { result ≡ is_none self.now }
+    {
+        self.talk.is_none()
+    }
+
+    /// The number of whoever is here.
+    pub fn number(&self) -> Option<u64>
+        ensures { result ≡ option_map (λ c. c.number) self.now }
+    {
+        match &self.talk {
+            Some(_) => Some(self.number),
+            None => None,
+        }
+    }
+
+    /// What whoever is here needs for the next turn.
+    pub fn needs(&self) -> Needs
+        ensures { result ≡ place_needs self.now }
+    {
+        match &self.talk {
+            Some(talk) => talk.needs(),
+            None => Needs::Nothing,
+        }
+    }
+
+    /// A caller takes it.
+    pub fn take(&mut self, alloc: Global, number: u64, ends: E) -> Result<(), AllocError>
+        requires { self.old ≡ None }
+        ensures taken { OnOk result (self.new ≡ Some (caller number (begun (E.left ends) (E.taken ends)))) }
+        ensures free { OnErr result (self.new ≡ None) }
+    {
+        let frames = room_of(alloc, self.spare.take())?;
+        self.number = number;
+        self.talk = Some(Talk::new(alloc, ends, frames));
+        Ok(())
+    }
+
+    /// One turn of whoever is here.
+    pub fn turn<L: Ledger, M: Ledger, T: Ticks, D: Desk>(
+        &mut self,
+        alloc: Global,
+        piece: &mut [u8],
+        page: &mut Device<Vec<u8>, L, M>,
+        ticks: &mut T,
+        desk: &mut D,
+    ) -> Result<(), Refused>
+        requires some { 0 < length piece.old }
+        requires most { length piece.old ≤ 65536 }
+        ensures turn { TakesTurn (AtTick T.reads D.serves) (between (T.told ticks.old) desk.old) (between (T.told ticks.new) desk.new) self.old self.new }
+        ensures piece { length piece.new ≡ length piece.old }
+    {
+        match &mut self.talk {
+            Some(talk) => talk.turn(alloc, piece, page, ticks, desk),
+            None => Ok(()),
+        }
+    }
+
+    /// Whoever is here leaves.
+    pub fn leave(&mut self) -> Option<E>
+        ensures free { self.new ≡ None }
+        ensures ends { leaves_with E.left E.taken self.old result }
+    {
+        match self.talk.take() {
+            Some(talk) => {
+                let (ends, frames) = talk.end();
+                self.spare = Some(frames);
+                Some(ends)
+            }
+            None => None,
+        }
+    }
+}

@@ -1,0 +1,276 @@
+//! A conversation, turn by turn.
+
+ghost use Rattle.std.specs.Prelude.{◌≡◌, ◌<◌, ◌≤◌, [], Some, length};
+ghost use Rattle.web_connection.specs.Run.{AtTick, cursor};
+ghost use Rattle.web_turns.specs.declared.stage.Stage.TheVariants as stages;
+ghost use Rattle.web_turns.specs.Acts.{between};
+ghost use Rattle.web_turns.specs.Talks.{Hears, Moves, Sends, Takes, Turn, Went, begun, needs_of};
+
+use crate::stage::{Needs, Stage};
+use base_devices::{Device, Refused, Ticks};
+use std::alloc::Global;
+use std::marker::Model;
+use std::mem;
+use std::sync::ledger::Ledger;
+use web_connection::Desk;
+use web_connection::failure::Step;
+use web_connection::step::step;
+use web_http::frames::Frames;
+use web_sockets::{Awaited, Came, Ends};
+
+/// The most bytes of room that a conversation keeps between two answers.
+const KEPT: usize = 65536;
+
+/// A conversation over the two directions of a connection: the bytes that came and weren't taken yet, and the answer of which a part may not
+/// be sent yet.
+#[derive(Drop)]
+pub struct Talk<E: Ends> {
+    ends: E,
+    frames: Frames,
+    answer: Vec<u8>,
+    at: usize,
+    stage: Stage,
+}
+
+impl<E: Ends> Model for Talk<E> {
+    ghost use Rattle.std.specs.Prelude.{drop};
+    ghost use Rattle.web_turns.specs.Talks.{Seat, IsTalk};
+
+    ghost Value = { Seat };
+
+    ghost view = { λ t. record {
+      stage = t.stage;
+      left = t.frames.left;
+      unsent = drop t.at t.answer.items;
+      coming = E.left t.ends;
+      gone = E.taken t.ends;
+    } };
+
+    ghost invariant = { λ t. IsTalk t.at t.answer.items t.stage t.frames.left };
+}
+
+impl<E: Ends> Talk<E> {
+    /// A conversation that begins, in room where nothing is left of another one.
+    pub fn new(alloc: Global, ends: E, frames: Frames) -> Self
+        requires frames { frames.left ≡ [] }
+        ensures begins { result ≡ begun (E.left ends) (E.taken ends) }
+    {
+        Talk {
+            ends,
+            frames,
+            answer: Vec::new(alloc),
+            at: 0,
+            stage: Stage::Waits,
+        }
+    }
+
+    /// Ends the conversation: gives back the two directions as they are, and its room.
+    pub fn end(self) -> (E, Frames)
+        ensures coming { E.left result.0 ≡ self.coming }
+        ensures gone { E.taken result.0 ≡ self.gone }
+        ensures frames { result.1.left ≡ [] }
+    {
+        let Talk {
+            ends,
+            mut frames,
+            ..
+        } = self;
+        frames.clear();
+        (ends, frames)
+    }
+
+    /// What it needs for its next turn.
+    pub fn needs(&self) -> Needs
+        ensures { result ≡ needs_of self.now.unsent self.now.stage }
+    {
+        if self.at < self.answer.len() {
+            return Needs::Room;
+        }
+        match self.stage {
+            Stage::Waits => Needs::Bytes,
+            Stage::Goes => Needs::Room,
+            Stage::Ends | Stage::Lost => Needs::Nothing,
+        }
+    }
+
+    // Sends what is left of the answer, as far as it is taken. Where nothing is left it writes nothing.
+    fn send(&mut self) -> Result<(), Refused>
+        ensures { Sends self.old self.new }
+    {
+        if self.at == self.answer.len() {
+            return Ok(());
+        }
+        match self.ends.write(&self.answer[self.at..]) {
+            Ok(n) => {
+                self.at += n;
+                Ok(())
+            }
+            Err(refused) => Err(refused),
+        }
+    }
+
+    // Reads once.
+    fn hear(&mut self, piece: &mut [u8])
+        requires some { 0 < length piece.old }
+        requires most { length piece.old ≤ 65536 }
+        requires waits { self.old.stage ≡ stages.Waits }
+        ensures { Hears self.old self.new }
+    {
+        match self.ends.read(piece) {
+            Ok(Came::Bytes(n)) => match self.frames.feed(&piece[..n]) {
+                Ok(()) => self.stage = Stage::Goes,
+                Err(_) => self.stage = Stage::Lost,
+            },
+            Ok(Came::End) => self.stage = Stage::Ends,
+            Ok(Came::Later) => {}
+            Err(_) => self.stage = Stage::Lost,
+        }
+    }
+
+    // Answers the first message that is whole, on a page.
+    fn take_step<L: Ledger, M: Ledger, T: Ticks, D: Desk>(
+        &mut self,
+        alloc: Global,
+        page: &mut Device<Vec<u8>, L, M>,
+        ticks: &mut T,
+        desk: &mut D,
+    )
+        requires goes { self.old.stage ≡ stages.Goes }
+        ensures went { Went (AtTick T.reads D.serves) self.new.coming self.new.stage
+            (cursor self.old.left (T.told ticks.old) desk.old (Some page.old.inner.items))
+            (cursor self.new.left (T.told ticks.new) desk.new (Some page.new.inner.items)) }
+        ensures coming { self.new.coming ≡ self.old.coming }
+        ensures gone { self.new.gone ≡ self.old.gone }
+        ensures takes { self.new.stage ≡ stages.Goes → length self.new.left < length self.old.left }
+    {
+        match step(alloc, &mut self.frames, ticks, desk, page) {
+            Ok(Step::Waits) => self.stage = Stage::Waits,
+            Ok(Step::Goes) => {}
+            Ok(Step::Ends) => self.stage = Stage::Ends,
+            Err(_) => self.stage = Stage::Lost,
+        }
+    }
+
+    // Answers the first message that is whole.
+    fn reply<L: Ledger, M: Ledger, T: Ticks, D: Desk>(
+        &mut self,
+        alloc: Global,
+        page: &mut Device<Vec<u8>, L, M>,
+        ticks: &mut T,
+        desk: &mut D,
+    )
+        requires goes { self.old.stage ≡ stages.Goes }
+        ensures went { Went (AtTick T.reads D.serves) self.new.coming self.new.stage
+            (cursor self.old.left (T.told ticks.old) desk.old (Some []))
+            (cursor self.new.left (T.told ticks.new) desk.new (Some self.new.unsent)) }
+        ensures coming { self.new.coming ≡ self.old.coming }
+        ensures gone { self.new.gone ≡ self.old.gone }
+        ensures takes { self.new.stage ≡ stages.Goes → length self.new.left < length self.old.left }
+    {
+        page.inner.clear();
+        self.take_step(alloc, page, ticks, desk);
+        mem::swap(&mut self.answer, &mut page.inner);
+        self.at = 0;
+    }
+
+    // Reads once where it waits for bytes.
+    fn hear_on(&mut self, piece: &mut [u8])
+        requires some { 0 < length piece.old }
+        requires most { length piece.old ≤ 65536 }
+        ensures moves { Moves self.old self.new }
+        ensures unsent { self.new.unsent ≡ self.old.unsent }
+        ensures same { self.old.stage ≡ stages.Goes → self.new ≡ self.old }
+    {
+        match self.stage {
+            Stage::Waits => self.hear(piece),
+            _ => {}
+        }
+    }
+
+    // Answers the first message that is whole where one may be there.
+    fn reply_on<L: Ledger, M: Ledger, T: Ticks, D: Desk>(
+        &mut self,
+        alloc: Global,
+        page: &mut Device<Vec<u8>, L, M>,
+        ticks: &mut T,
+        desk: &mut D,
+    )
+        requires sent { self.old.unsent ≡ [] }
+        ensures turn { Turn (AtTick T.reads D.serves) (between (T.told ticks.old) desk.old) (between (T.told ticks.new) desk.new) self.old self.new }
+        ensures takes { Takes self.old self.new }
+    {
+        match self.stage {
+            Stage::Goes => self.reply(alloc, page, ticks, desk),
+            _ => {}
+        }
+    }
+
+    // Sends what is left of an answer; where nothing is left, it reads once, answers one message, and sends what is taken of its answer.
+    fn go_on<L: Ledger, M: Ledger, T: Ticks, D: Desk>(
+        &mut self,
+        alloc: Global,
+        piece: &mut [u8],
+        page: &mut Device<Vec<u8>, L, M>,
+        ticks: &mut T,
+        desk: &mut D,
+    ) -> Result<(), Refused>
+        requires some { 0 < length piece.old }
+        requires most { length piece.old ≤ 65536 }
+        ensures turn { Turn (AtTick T.reads D.serves) (between (T.told ticks.old) desk.old) (between (T.told ticks.new) desk.new) self.old self.new }
+        ensures takes { Takes self.old self.new }
+    {
+        if self.at < self.answer.len() {
+            return self.send();
+        }
+        self.hear_on(piece);
+        self.reply_on(alloc, page, ticks, desk);
+        self.send()
+    }
+
+    // Gives back the room of a large answer that was sent whole.
+    fn give_back(&mut self, alloc: Global)
+        ensures { self.new ≡ self.old }
+    {
+        if self.at == self.answer.len() && self.answer.capacity() > KEPT {
+            self.answer = Vec::new(alloc);
+            self.at = 0;
+        }
+    }
+
+    // Waits for what it needs.
+    fn wait(&mut self) -> Result<(), Refused>
+        ensures { self.new ≡ self.old }
+    {
+        match self.needs() {
+            Needs::Bytes => self.ends.wait_for(Awaited::Bytes),
+            Needs::Room => self.ends.wait_for(Awaited::Room),
+            Needs::Nothing => Ok(()),
+        }
+    }
+
+    /// One turn, with a piece to read into and a page to write an answer on: what is left of an answer is sent; where nothing is left, it reads
+    /// once, answers one message, and sends what is taken of its answer. Then it waits for what it needs. Where that fails, or the sending, it
+    /// won't be brought more.
+    pub fn turn<L: Ledger, M: Ledger, T: Ticks, D: Desk>(
+        &mut self,
+        alloc: Global,
+        piece: &mut [u8],
+        page: &mut Device<Vec<u8>, L, M>,
+        ticks: &mut T,
+        desk: &mut D,
+    ) -> Result<(), Refused>
+        requires some { 0 < length piece.old }
+        requires most { length piece.old ≤ 65536 }
+        ensures turn { Turn (AtTick T.reads D.serves) (between (T.told ticks.old) desk.old) (between (T.told ticks.new) desk.new) self.old self.new }
+        ensures takes { Takes self.old self.new }
+        ensures piece { length piece.new ≡ length piece.old }
+    {
+        match self.go_on(alloc, piece, page, ticks, desk) {
+            Ok(()) => {
+                self.give_back(alloc);
+                self.wait()
+            }
+            Err(refused) => Err(refused),
+        }
+    }
+}
