@@ -8,7 +8,7 @@ import sys
 
 sys.dont_write_bytecode = True
 TOP = os.path.dirname(os.path.dirname(os.path.dirname(os.path.dirname(os.path.abspath(__file__)))))
-sys.path[:0] = [f"{TOP}/bin", f"{TOP}/crates/worked/cases"]
+sys.path[:0] = [f"{TOP}/bin/lib", f"{TOP}/crates/worked/cases"]
 import unproved
 from forms import *
 import first_path, catalogue, vouchers, orders, bulk, budgets, limits, edges, waiting, doors, keys, together  # noqa: E401, F401 (they list their cases)
