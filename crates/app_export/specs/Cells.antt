@@ -8,6 +8,7 @@ use Rattle.file_rows.specs.Cells.{number, status}
 use Rattle.file_rows.specs.Fit.{IsStored}
 use Rattle.model_export.specs.declared.row.ExportRow.{ExportRow}
 
+-- the values of a line, one for each column of the SELECT
 abbrev pub cells : ExportRow → Row
 cells e = number e.order ∷ number e.positionid ∷ status e.status ∷ number e.item ∷ or_null number e.variation ∷ number e.price ∷ or_null Text e.voucher ∷ Text e.secret ∷ []
 

@@ -7,9 +7,11 @@ use Rattle.base_sorted.specs.Rising.{with_ids}
 abbrev pub entry : ℕ → ℕ → ℕ
 entry key id = key * 18446744073709551616 + id
 
+-- the key of an entry
 abbrev pub key_of : ℕ → ℕ
 key_of e = e / 18446744073709551616
 
+-- the id of an entry
 abbrev pub id_of : ℕ → ℕ
 id_of e = e % 18446744073709551616
 

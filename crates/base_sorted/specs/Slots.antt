@@ -14,6 +14,7 @@ abbrev pub row_in : {T : Type 0} → Slot T → Option T
 row_in (Full row) = Some row
 row_in (Gone id) = None
 
+-- the place has a row
 abbrev pub is_full : {T : Type 0} → Slot T → Bool
 is_full (Full row) = true
 is_full (Gone id) = false

@@ -1,6 +1,7 @@
 -- The limits of counts.
 use Rattle.std.specs.Prelude.{ℕ, ◌+◌, ◌≤◌, ℤ, pos, negsuc}
 
+-- how often a voucher may be used at most
 abbrev pub most_uses : ℕ
 most_uses = 1000000
 
@@ -8,6 +9,7 @@ most_uses = 1000000
 abbrev pub IsUses : ℕ → Type 0
 IsUses n = (1 ≤ n) × (n ≤ most_uses)
 
+-- how many places a quota may have at most
 abbrev pub most_places : ℕ
 most_places = 1000000
 
@@ -15,6 +17,7 @@ most_places = 1000000
 abbrev pub IsSize : ℕ → Type 0
 IsSize n = n ≤ most_places
 
+-- the greatest priority; the least is as far below 0
 abbrev pub most_priority : ℕ
 most_priority = 1000000
 

@@ -4,6 +4,7 @@ use Rattle.std.specs.List.{list_all}
 use Rattle.std.specs.Char.{is_ascii_digit}
 use Rattle.std.specs.Str.Parse.{digits_value}
 
+-- all bytes are ASCII digits; the empty text passes too
 abbrev pub is_digits : List ℕ → Bool
 is_digits text = list_all is_ascii_digit text
 

@@ -5,5 +5,6 @@ use Rattle.std.specs.Prelude.{ℕ, ◌≤◌}
 abbrev pub last_moment : ℕ
 last_moment = 253370764799
 
+-- a moment is a second from 1970 on, up to the last one
 abbrev pub IsMoment : ℕ → Type 0
 IsMoment at = at ≤ last_moment

@@ -17,13 +17,16 @@ IsMoney cents = cents ≤ last_cents
 abbrev pub decimals_by : ℕ → ℕ → Option ℕ
 decimals_by places n = if places == 1 then Some (n * 10) else (if places == 2 then Some n else None)
 
+-- the cents that a number of so many digits behind the point makes, if there is one
 abbrev pub decimals_at : ℕ → Option ℕ → Option ℕ
 decimals_at places None = None
 decimals_at places (Some n) = decimals_by places n
 
+-- the cents that the text behind the point writes, if it is one digit or two
 abbrev pub decimals_of : List ℕ → Option ℕ
 decimals_of text = decimals_at (length text) (number_of text)
 
+-- the amount of so many whole units and of these cents; none where the units are no number
 abbrev pub units_by : ℕ → Option ℕ → Result ℕ ValueRefusal
 units_by decimals None = Err NotMoney
 units_by decimals (Some n) = Ok (n * 100 + decimals)
@@ -35,6 +38,7 @@ money_by units (Some decimals) =
     if not (is_digits units) then Err NotMoney
     else (if nat_lt 8 (length units) then Err TooLarge else units_by decimals (number_of units))
 
+-- the amount of a text, whose first point is at this place; without a point it has no cents
 abbrev pub money_at : List ℕ → Option ℕ → Result ℕ ValueRefusal
 money_at text None = money_by text (Some 0)
 money_at text (Some at) = money_by (take at text) (decimals_of (drop (at + 1) text))

@@ -3,6 +3,7 @@ use Rattle.std.specs.Prelude.{ℕ}
 use Rattle.base_values.specs.declared.refusal.ValueRefusal.{ValueRefusal}
 use Rattle.base_values.specs.declared.refusal.ValueRefusal.TheVariants.{NotMoney, TooLarge, NotMoment, OutOfRange, NotCode, Memory}
 
+-- 1 to 5 say what is wrong with a value, and 6 is want of memory
 abbrev pub number_of_refusal : ValueRefusal → ℕ
 number_of_refusal NotMoney = 1
 number_of_refusal TooLarge = 2

@@ -11,5 +11,6 @@ is_slug_byte b =
 unfoldable pub is_slug : List ℕ → Bool
 is_slug text = nat_le 1 (length text) && (nat_le (length text) 50 && list_all is_slug_byte text)
 
+-- a slug: 1 to 50 letters, digits, `-`, `.` and `_`
 abbrev pub IsSlug : List ℕ → Type 0
 IsSlug text = is_slug text ≡ true

@@ -31,6 +31,7 @@ release_if lists quota voucher = sum_at (λ v. if may_block quota v then v.max_u
 unfoldable pub free_if : Lists → ℕ → Quota → Option Voucher → ℕ
 free_if lists at quota voucher = sum_at (λ v. if may_block quota v then held_in at quota v.id lists else 0) voucher
 
+-- how many cart positions name the voucher, if there is one
 unfoldable pub naming_if : Lists → Option Voucher → ℕ
 naming_if lists voucher = sum_at (λ v. named_in v.id lists) voucher
 

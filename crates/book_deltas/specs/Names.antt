@@ -2,6 +2,7 @@
 use Rattle.std.specs.Prelude.{ℕ, Bool, false, List, Option, Some, None}
 use Rattle.base_sorted.specs.Tables.{row_at}
 
+-- there is one, and it passes the test
 abbrev pub passes_if : {V : Type 0} → (V → Bool) → Option V → Bool
 passes_if test None = false
 passes_if test (Some v) = test v

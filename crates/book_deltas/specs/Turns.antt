@@ -17,6 +17,7 @@ turned false n = n - 1
 abbrev pub turn : Bool → Option ℕ → (ℕ → ℕ) → ℕ → ℕ
 turn up name spent x = if names x name then turned up (spent x) else spent x
 
+-- one more or one less for the voucher of each of these names
 abbrev pub turn_each : Bool → List (Option ℕ) → (ℕ → ℕ) → ℕ → ℕ
 turn_each up [] spent = spent
 turn_each up (name ∷ names) spent = turn_each up names (turn up name spent)

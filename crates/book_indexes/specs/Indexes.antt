@@ -21,11 +21,12 @@ pub record AreIndexed {T : Type 0} (id : T → ℕ) (keys : T → Keys) (rows : 
   pub by_text : Mirrors id (λ r. (keys r).text) rows text
   pub by_group : Mirrors id (λ r. (keys r).group) rows group
 
--- the entries with one more, or less, where there is a key
+-- the entries with that of the id and the key, where there is a key
 abbrev pub with_entry : ℕ → Option ℕ → List ℕ → List ℕ
 with_entry id None entries = entries
 with_entry id (Some key) entries = with_row (λ n. n) (entry key id) entries
 
+-- the entries without that of the id and the key, where there is a key
 abbrev pub without_entry : ℕ → Option ℕ → List ℕ → List ℕ
 without_entry id None entries = entries
 without_entry id (Some key) entries = without_row (λ n. n) (entry key id) entries

@@ -10,6 +10,7 @@ use Rattle.model_rows.specs.Conditions.{is_pending}
 use Rattle.book_indexes.specs.declared.keys.Keys.{Keys}
 use Rattle.book_indexes.specs.Digests.{digest, pair}
 
+-- none of the four keys
 abbrev pub no_keys : Keys
 no_keys = record { until = None; named = None; text = None; group = None }
 
@@ -30,6 +31,7 @@ cart_keys c = record { until = Some c.expires; named = c.voucher; text = Some (d
 abbrev pub end_if : Order → Option ℕ
 end_if o = if is_pending o.status then Some o.expires else None
 
+-- an order has its end while it is pending, and no other key
 abbrev pub order_keys : Order → Keys
 order_keys o = record { until = end_if o; named = None; text = None; group = None }
 
@@ -42,6 +44,7 @@ abbrev pub waiting_keys_by : List ℕ → Option ℕ → Keys
 waiting_keys_by email None = record { until = None; named = None; text = Some (digest email); group = Some 0 }
 waiting_keys_by email (Some voucher) = record { until = None; named = Some voucher; text = None; group = None }
 
+-- the keys of a waiting entry, by its email and its voucher
 abbrev pub waiting_keys : Waiting → Keys
 waiting_keys w = waiting_keys_by w.email w.voucher
 

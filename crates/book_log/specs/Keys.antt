@@ -16,6 +16,7 @@ unfoldable pub digest_from : ℕ → List ℕ → ℕ
 digest_from h [] = h
 digest_from h (b ∷ bs) = digest_from ((h * 257 + b) % 4093) bs
 
+-- the digest of a whole text
 abbrev pub digest : List ℕ → ℕ
 digest text = digest_from 0 text
 
@@ -24,5 +25,6 @@ abbrev pub code_key : Change → ℕ
 code_key (PutVoucher row) = digest row.code
 code_key _ = 4093
 
+-- the key of each change, in order
 abbrev pub code_keys : List Change → List ℕ
 code_keys changes = map code_key changes

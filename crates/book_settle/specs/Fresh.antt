@@ -16,15 +16,18 @@ abbrev pub after_each : {R : Type 0} → (R → Quota → Usage → Usage) → L
 after_each come [] quota usage = usage
 after_each come (row ∷ rows) quota usage = after_each come rows quota (come row quota usage)
 
+-- a usage, once this order position came
 abbrev pub position_comes : Lists → OrderPos → Quota → Usage → Usage
 position_comes lists row = position_shift lists (Some row) None
 
+-- a usage at a moment, once this cart position came
 abbrev pub cart_comes : Lists → ℕ → CartPos → Quota → Usage → Usage
 cart_comes lists at row = cart_shift lists at (Some row) None
 
+-- a usage, once this waiting entry came
 abbrev pub entry_comes : Waiting → Quota → Usage → Usage
 entry_comes row = waiting_shift (Some row) None
 
--- it is redeemed as often as it is
+-- a usage at a moment, once this voucher came, which is redeemed as often as the lists have it
 abbrev pub voucher_comes : Lists → ℕ → Voucher → Quota → Usage → Usage
 voucher_comes lists at row = block_shift at (redeemed row.id lists) (Some row) None

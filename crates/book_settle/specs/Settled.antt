@@ -12,9 +12,11 @@ use Rattle.model_rows.specs.Lists.{Lists, State, voucher_at}
 use Rattle.model_rows.specs.Usage.{usage_of, redeemed, spent}
 use Rattle.book_deltas.specs.Spends.{ArePriced}
 
+-- the usage of a quota of which no place is used
 abbrev pub nothing : Usage
 nothing = record { paid = 0; pending = 0; blocked = 0; carts = 0; waiting = 0; exited = 0 }
 
+-- what uses the quota, and nothing where there is none
 abbrev pub used_if : State → Option Quota → Usage
 used_if state None = nothing
 used_if state (Some quota) = usage_of state.lists state.moment quota
@@ -23,6 +25,7 @@ used_if state (Some quota) = usage_of state.lists state.moment quota
 abbrev pub used_at : State → ℕ → Usage
 used_at state id = used_if state (quota_at id state.lists.catalogue)
 
+-- how often the voucher is redeemed, and 0 where there is none
 abbrev pub redeemed_if : State → Option Voucher → ℕ
 redeemed_if state None = 0
 redeemed_if state (Some voucher) = redeemed voucher.id state.lists
@@ -31,6 +34,7 @@ redeemed_if state (Some voucher) = redeemed voucher.id state.lists
 abbrev pub redeemed_at : State → ℕ → ℕ
 redeemed_at state id = redeemed_if state (voucher_at id state.lists)
 
+-- what is spent of the voucher, and 0 where there is none
 abbrev pub spent_if : State → Option Voucher → ℕ
 spent_if state None = 0
 spent_if state (Some voucher) = spent voucher.id state.lists

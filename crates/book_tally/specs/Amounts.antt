@@ -3,6 +3,7 @@ use Rattle.std.specs.Prelude.{ℕ, ◌+◌}
 use Rattle.model_rows.specs.declared.rows.Usage.{Usage}
 use Rattle.book_tally.specs.declared.amount.Uses.{Uses}
 
+-- a usage of no places
 abbrev pub nothing : Usage
 nothing = record { paid = 0; pending = 0; blocked = 0; carts = 0; waiting = 0; exited = 0 }
 
@@ -14,6 +15,7 @@ plus a b = record { paid = a.paid + b.paid; pending = a.pending + b.pending; blo
 abbrev pub adds : Usage → ℕ
 adds usage = usage.paid + usage.pending + usage.blocked + usage.carts + usage.waiting
 
+-- a voucher that isn't used, isn't held, and of which nothing is spent
 abbrev pub no_uses : Uses
 no_uses = record { used = 0; held = 0; spent = 0 }
 

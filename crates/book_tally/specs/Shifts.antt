@@ -11,9 +11,11 @@ use Rattle.book_tally.specs.declared.shifts.QuotaShift.{QuotaShift}
 use Rattle.book_tally.specs.declared.shifts.VoucherShift.{VoucherShift}
 use Rattle.book_tally.specs.declared.shifts.Shifts.{Shifts}
 
+-- what changes shift of the quota of this id, if they shift any of it
 abbrev pub quota_shift_at : ℕ → List QuotaShift → Option QuotaShift
 quota_shift_at id shifts = row_at (λ s. s.quota) id shifts
 
+-- what changes shift of the voucher of this id, if they shift any of it
 abbrev pub voucher_shift_at : ℕ → List VoucherShift → Option VoucherShift
 voucher_shift_at id shifts = row_at (λ s. s.voucher) id shifts
 

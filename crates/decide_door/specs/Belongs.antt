@@ -16,6 +16,7 @@ is_for list item = list.all_products || has item list.limit_products
 abbrev pub includes : CheckinList → Status → Bool
 includes list status = is_paid status || (is_pending status && list.include_pending)
 
+-- the order is there, and counts for the list
 abbrev pub includes_if : CheckinList → Option Order → Bool
 includes_if list None = false
 includes_if list (Some order) = includes list order.status

@@ -42,6 +42,7 @@ scanned list ticket scan state = do
   admission ← verdict_of list ticket scan state
   let_through list scan state admission
 
+-- one who is let through anew gets a check-in; one who was let through before gets none, nor one who is refused
 abbrev pub puts_by : ℕ → Scan → State → Result Admission DoorRefusal → List Change
 puts_by list scan state (Err refusal) = []
 puts_by list scan state (Ok (Again position)) = []

@@ -9,6 +9,7 @@ use Rattle.model_commands.specs.declared.doors.Scan.{Scan}
 use Rattle.decide_door.specs.Belongs.{is_for}
 use Rattle.decide_door.specs.Verdict.{is_in_force_if, is_unpaid_if}
 
+-- the position's order is paid, or pending where that is enough, and the list is for the position's item
 pub record IsValid (list : CheckinList) (position : OrderPos) (scan : Scan) (lists : Lists) : Type 0 where
   -- its order is pending or paid
   pub in_force : is_in_force_if (order_at position.order lists) ≡ true

@@ -36,6 +36,7 @@ is_in_force_if (Some order) = is_in_force order.status
 abbrev pub is_unpaid : CheckinList → Scan → Status → Bool
 is_unpaid list scan status = is_pending status && not (scan.force || (scan.ignore_unpaid && list.include_pending))
 
+-- the order is there, and is pending where that isn't enough
 abbrev pub is_unpaid_if : CheckinList → Scan → Option Order → Bool
 is_unpaid_if list scan None = false
 is_unpaid_if list scan (Some order) = is_unpaid list scan order.status

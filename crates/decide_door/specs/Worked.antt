@@ -12,9 +12,11 @@ use Rattle.model_commands.specs.declared.doors.Scan.{Scan}
 abbrev pub door : Bool → Bool → CheckinList
 door pending again = record { id = 1; name = []; all_products = true; limit_products = []; include_pending = pending; allow_multiple_entries = false; allow_entry_after_exit = again }
 
+-- a list for all items, which includes no pending orders and allows no entry after an exit
 abbrev pub plain : CheckinList
 plain = door false false
 
+-- the one ticket: position 1 of order 1, of item 1 at 23.00, with the secret `a`
 abbrev pub seat : OrderPos
 seat = record { id = 1; order = 1; positionid = 1; product = record { item = 1; variation = None }; price = 2300; voucher = None; secret = 97 ∷ []; discount = 0 }
 
@@ -30,8 +32,10 @@ house status list checkins next = record {
 abbrev pub nonce : ℕ → Option (List ℕ)
 nonce n = Some ((48 + n) ∷ [])
 
+-- a scan of this kind, with this nonce and at this moment, which isn't forced and doesn't ignore that an order is unpaid
 abbrev pub scan : CheckinKind → Option (List ℕ) → Option ℕ → Scan
 scan kind nonce at = record { kind = kind; nonce = nonce; datetime = at; force = false; ignore_unpaid = false }
 
+-- a check-in of the ticket: its id, its list, its kind, its nonce and its moment
 abbrev pub passed : ℕ → ℕ → CheckinKind → Option (List ℕ) → ℕ → Checkin
 passed id list kind nonce at = record { id = id; list = list; position = 1; kind = kind; datetime = at; nonce = nonce }

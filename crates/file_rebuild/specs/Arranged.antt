@@ -43,6 +43,7 @@ variation_link row = record { owner = row.quota; member = row.variation }
 abbrev pub release_link : ReleaseRow → Link
 release_link row = record { owner = row.quota; member = row.quota }
 
+-- the row by which a check-in list has an item
 abbrev pub list_link : ListItem → Link
 list_link row = record { owner = row.list; member = row.item }
 
@@ -81,6 +82,7 @@ rows_in tables = record {
 
 -- ---- the office that they tell
 
+-- there is at least one
 abbrev pub is_any : List ℕ → Bool
 is_any [] = false
 is_any (n ∷ ns) = true
@@ -148,6 +150,7 @@ pub record AreCountsPaired (vouchers : List VoucherRow) (rows : OtherRows) : Typ
   pub exits : map (λ r. r.quota) rows.counts.items ≡ map (λ r. r.quota) rows.exits.items
   pub spents : map (λ r. r.voucher.id) vouchers ≡ map (λ r. r.voucher_id) rows.spents.items
 
+-- the same of all tables that were read
 abbrev pub ArePaired : TableRows → Type 0
 ArePaired tables = AreCountsPaired tables.sales.vouchers.items tables.others
 

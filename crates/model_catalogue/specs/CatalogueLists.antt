@@ -13,6 +13,7 @@ use Rattle.model_catalogue.specs.declared.refusal.CatalogueRefusal.{CatalogueRef
 use Rattle.model_catalogue.specs.declared.refusal.CatalogueRefusal.TheVariants.{NoItem, NoVariation, NeedsVariation}
 use Rattle.model_catalogue.specs.Member.{is_in}
 
+-- the items, the variations and the quotas, each in order of id
 pub record CatalogueLists : Type 0 where
   pub items : List Item
   pub variations : List Variation
@@ -23,12 +24,15 @@ pub record CatalogueTables : Type 0 where
   pub lists : CatalogueLists
   pub room : ℕ
 
+-- the item of this id, if there is one
 abbrev pub item_at : ℕ → CatalogueLists → Option Item
 item_at id lists = row_at (λ r. r.id) id lists.items
 
+-- the variation of this id, if there is one
 abbrev pub variation_at : ℕ → CatalogueLists → Option Variation
 variation_at id lists = row_at (λ r. r.id) id lists.variations
 
+-- the quota of this id, if there is one
 abbrev pub quota_at : ℕ → CatalogueLists → Option Quota
 quota_at id lists = row_at (λ r. r.id) id lists.quotas
 
@@ -65,22 +69,27 @@ abbrev pub priced : ℕ → Option Variation → Option ℕ
 priced price None = None
 priced price (Some variation) = Some (unwrap_or variation.default_price price)
 
+-- the price of the item, or of the variation that is named; none where the item or the variation isn't there
 abbrev pub base_price_by : Option ℕ → Option Item → CatalogueLists → Option ℕ
 base_price_by variation None lists = None
 base_price_by None (Some item) lists = Some item.default_price
 base_price_by (Some id) (Some item) lists = priced item.default_price (variation_at id lists)
 
+-- what a product costs without a voucher; none where its item or its variation isn't there
 abbrev pub base_price : Product → CatalogueLists → Option ℕ
 base_price product lists = base_price_by product.variation (item_at product.item lists) lists
 
+-- the item is there, and active
 abbrev pub item_is_active : Option Item → Bool
 item_is_active None = false
 item_is_active (Some item) = item.active
 
+-- the variation is there, and active
 abbrev pub variation_is_active : Option Variation → Bool
 variation_is_active None = false
 variation_is_active (Some variation) = variation.active
 
+-- no variation is named, or the one that is named is there and active
 abbrev pub variation_if_any_is_active : Option ℕ → CatalogueLists → Bool
 variation_if_any_is_active None lists = true
 variation_if_any_is_active (Some id) lists = variation_is_active (variation_at id lists)

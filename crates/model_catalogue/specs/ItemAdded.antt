@@ -26,6 +26,7 @@ abbrev pub variation_rows : List NewVariation → ℕ → ℕ → List Variation
 variation_rows [] item id = []
 variation_rows (variation ∷ variations) item id = variation_row variation item id ∷ variation_rows variations item (id + 1)
 
+-- the rows of a new item of this id and of its variations, whose ids count on from the first one
 abbrev pub item_rows : NewItem → ℕ → ℕ → ItemRows
 item_rows new id first = record { item = item_row new id; variations = variation_rows new.variations id first }
 

@@ -1,9 +1,11 @@
 -- How many rows a table may have, and which ids they may have.
 use Rattle.std.specs.Prelude.{ℕ, ◌+◌, Bool, ◌&&◌, List, length, nat_lt, nat_le}
 
+-- the most rows of a table
 abbrev pub most_rows : ℕ
 most_rows = 1000000
 
+-- the greatest id: 2^53 - 1
 abbrev pub last_id : ℕ
 last_id = 9007199254740991
 

@@ -9,6 +9,7 @@ abbrev pub lists : Quota → Product → Option ℕ → Bool
 lists quota product None = has product.item quota.items
 lists quota product (Some variation) = has variation quota.variations
 
+-- the product is in the quota: by its variation, or, without one, by its item
 abbrev pub is_in : Quota → Product → Bool
 is_in quota product = lists quota product product.variation
 

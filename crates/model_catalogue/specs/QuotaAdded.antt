@@ -45,9 +45,11 @@ variations_fit quota lists = list_all (λ id. is_of_one quota.items (variation_a
 unfoldable pub items_fit : Quota → CatalogueLists → Bool
 items_fit quota lists = list_all (λ id. is_offered (items_of quota.variations lists) (item_at id lists)) quota.items
 
+-- each of its items is in the catalogue
 unfoldable pub items_stand : Quota → CatalogueLists → Bool
 items_stand quota lists = list_all (λ id. is_some (item_at id lists)) quota.items
 
+-- each of its variations is in the catalogue
 unfoldable pub variations_stand : Quota → CatalogueLists → Bool
 variations_stand quota lists = list_all (λ id. is_some (variation_at id lists)) quota.variations
 

@@ -3,6 +3,7 @@ use Rattle.std.specs.Prelude.{ℕ}
 use Rattle.model_catalogue.specs.declared.refusal.CatalogueRefusal.{CatalogueRefusal}
 use Rattle.model_catalogue.specs.declared.refusal.CatalogueRefusal.TheVariants.{Memory, NoItem, NoVariation, NeedsVariation, NoQuota, BadMember, Inactive, Full, Plain, NotSold}
 
+-- 10 to 18 are the catalogue's own, and 6 is want of memory
 abbrev pub number_of_refusal : CatalogueRefusal → ℕ
 number_of_refusal Memory = 6
 number_of_refusal NoItem = 10

@@ -15,6 +15,7 @@ page_count count = max 1 ((count + 49) / 50)
 abbrev pub is_page : ℕ → ℕ → Bool
 is_page number count = nat_le 1 number && nat_le number (page_count count)
 
+-- the rows on the page of this number: 50 of them, or what is left of them on the last page
 abbrev pub page_rows : {T : Type 0} → ℕ → List T → List T
 page_rows number rows = take 50 (drop ((number - 1) * 50) rows)
 

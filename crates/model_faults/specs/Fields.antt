@@ -47,6 +47,7 @@ field_name fields.Datetime = codes "datetime"
 field_name fields.Force = codes "force"
 field_name fields.IgnoreUnpaid = codes "ignore_unpaid"
 
+-- the sentence that says what is wrong with the field
 abbrev pub problem_text : Problem → List ℕ
 problem_text problems.Required = codes "This field is required."
 problem_text problems.Null = codes "This field may not be null."

@@ -51,5 +51,6 @@ pub record IsDoor (items : List Item) (positions : List OrderPos) (lists : List 
   -- no list has a nonce twice for a position
   pub nonces : AreOnce checkins
 
+-- what holds of the door's tables in these lists
 abbrev pub IsDoorOf : Lists → Type 0
 IsDoorOf lists = IsDoor lists.catalogue.items lists.positions lists.checkin_lists lists.checkins

@@ -6,6 +6,7 @@ use Rattle.model_catalogue.specs.declared.rows.Quota.{Quota}
 use Rattle.model_catalogue.specs.CatalogueLists.{CatalogueLists}
 use Rattle.model_catalogue.specs.QuotaAdded.{items_stand, variations_stand, variations_fit, items_fit}
 
+-- a quota's members are rows in order of id, and its items and variations fit together
 pub record HasMembers (catalogue : CatalogueLists) (quota : Quota) : Type 0 where
   -- its items rise, and so do its variations
   pub items_rise : AreInOrder (λ n. n) quota.items
@@ -18,5 +19,6 @@ pub record HasMembers (catalogue : CatalogueLists) (quota : Quota) : Type 0 wher
   -- each listed item that is sold by variations has one of them listed
   pub offered : items_fit quota catalogue ≡ true
 
+-- this holds of each quota
 abbrev pub AllHaveMembers : CatalogueLists → Type 0
 AllHaveMembers catalogue = AllByRecursion (HasMembers catalogue) catalogue.quotas

@@ -13,6 +13,7 @@ secret_ending order position = codes "z" ++ (decimal order ++ (codes "z" ++ deci
 abbrev pub has_own_secret : OrderPos → Bool
 has_own_secret p = ends_with nat_eq p.secret (secret_ending p.order p.positionid)
 
+-- the secret of each position ends in its order and number
 abbrev pub AllHaveOwnSecrets : List OrderPos → Type 0
 AllHaveOwnSecrets positions = AllByRecursion (λ p. has_own_secret p ≡ true) positions
 

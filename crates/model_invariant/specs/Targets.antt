@@ -17,6 +17,7 @@ abbrev pub is_of_item : Option ℕ → Variation → Bool
 is_of_item None variation = true
 is_of_item (Some item) variation = variation.item == item
 
+-- the variation is there, and is of the item that is named beside it, if one is
 abbrev pub variation_by : Option ℕ → Option Variation → Bool
 variation_by item None = false
 variation_by item (Some variation) = is_of_item item variation
@@ -35,6 +36,7 @@ quota_stands catalogue (Some id) = is_some (quota_at id catalogue)
 abbrev pub has_one_target : Voucher → Bool
 has_one_target row = not (is_some row.item && is_some row.quota) && (is_some row.item || not (is_some row.variation))
 
+-- what a voucher names is there: an item, or a variation with its item, or a quota, or nothing
 pub record HasTarget (catalogue : CatalogueLists) (voucher : Voucher) : Type 0 where
   -- the item, the variation (which is of the item named beside it) and the quota that it names stand
   pub item : item_stands catalogue voucher.item ≡ true
@@ -43,5 +45,6 @@ pub record HasTarget (catalogue : CatalogueLists) (voucher : Voucher) : Type 0 w
   -- it names no quota beside an item, and no variation without an item
   pub one : has_one_target voucher ≡ true
 
+-- this holds of each voucher
 abbrev pub AllHaveTargets : Lists → Type 0
 AllHaveTargets lists = AllByRecursion (HasTarget lists.catalogue) lists.vouchers

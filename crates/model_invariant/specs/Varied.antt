@@ -10,6 +10,7 @@ use Rattle.model_rows.specs.declared.rows.Voucher.{Voucher}
 use Rattle.model_rows.specs.Lists.{Lists}
 use Rattle.model_invariant.specs.Targets.{variation_stands}
 
+-- the item is there, and whether it is sold by variation passes the test
 abbrev pub sold_as : (Bool → Bool) → Option Item → Bool
 sold_as test None = false
 sold_as test (Some item) = test item.varied
@@ -27,6 +28,7 @@ is_plain items (Some id) = is_sold_as (λ varied. not varied) id items
 abbrev pub is_of_varied : List Item → Variation → Bool
 is_of_varied items variation = is_sold_as (λ varied. varied) variation.item items
 
+-- each variation's item is there, and is sold by variation
 abbrev pub AllVaried : Lists → Type 0
 AllVaried lists = AllByRecursion (λ v. is_of_varied lists.catalogue.items v ≡ true) lists.catalogue.variations
 
@@ -54,5 +56,6 @@ pub record AllProducts (lists : Lists) : Type 0 where
 abbrev pub is_whole : List Item → Voucher → Bool
 is_whole items voucher = not voucher.block_quota || (is_some voucher.quota || (is_some voucher.variation || is_plain items voucher.item))
 
+-- each voucher that blocks names a quota, or a variation, or an item that isn't sold by variation
 abbrev pub AllWhole : Lists → Type 0
 AllWhole lists = AllByRecursion (λ v. is_whole lists.catalogue.items v ≡ true) lists.vouchers

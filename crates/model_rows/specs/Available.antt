@@ -17,6 +17,7 @@ abbrev pub available_number : Option ℕ → ℕ → Option ℕ
 available_number None used = None
 available_number (Some size) used = Some (size - used)
 
+-- the availability of a quota: its size, its usage, whether a place is left, and how many are
 abbrev pub availability_by : Option ℕ → Usage → Availability
 availability_by size usage = record {
   size = size;

@@ -17,6 +17,7 @@ abbrev pub is_within_by : Lists → Option Voucher → Bool
 is_within_by lists None = true
 is_within_by lists (Some voucher) = covers voucher.budget (spent voucher.id lists)
 
+-- no more is spent of the voucher of this id than its budget; it holds too where none is named or there
 abbrev pub is_within : Lists → Option ℕ → Bool
 is_within lists None = true
 is_within lists (Some id) = is_within_by lists (voucher_at id lists)
@@ -25,6 +26,7 @@ is_within lists (Some id) = is_within_by lists (voucher_at id lists)
 abbrev pub are_within : Lists → List OrderPos → Bool
 are_within lists positions = list_all (λ p. is_within lists p.voucher) positions
 
+-- no more is spent of the voucher than its budget, if it has one
 abbrev pub HasBudget : Lists → Voucher → Type 0
 HasBudget lists voucher = IfSome voucher.budget (λ budget. spent voucher.id lists ≤ budget)
 

@@ -10,9 +10,11 @@ abbrev pub ends_between : ℕ → ℕ → Option ℕ → Bool
 ends_between from to None = false
 ends_between from to (Some end) = nat_le from end && nat_lt end to
 
+-- a cart position that came due: it expires at `from` or later, and before `to`
 abbrev pub is_due_cart : ℕ → ℕ → CartPos → Bool
 is_due_cart from to cart = ends_between from to (Some cart.expires)
 
+-- a voucher that came due: its end is at `from` or later, and before `to`
 abbrev pub is_due_voucher : ℕ → ℕ → Voucher → Bool
 is_due_voucher from to voucher = ends_between from to voucher.valid_until
 
@@ -20,10 +22,12 @@ is_due_voucher from to voucher = ends_between from to voucher.valid_until
 abbrev pub came_due : ℕ → ℕ → Lists → ℕ
 came_due from to lists = count_by (is_due_cart from to) lists.carts + count_by (is_due_voucher from to) lists.vouchers
 
+-- the voucher is there, and came due
 abbrev pub is_due_if : ℕ → ℕ → Option Voucher → Bool
 is_due_if from to None = false
 is_due_if from to (Some voucher) = is_due_voucher from to voucher
 
+-- the voucher of this id, if one is named and there, came due
 abbrev pub names_due_by : ℕ → ℕ → Lists → Option ℕ → Bool
 names_due_by from to lists None = false
 names_due_by from to lists (Some id) = is_due_if from to (voucher_at id lists)

@@ -7,12 +7,14 @@ use Rattle.model_rows.specs.declared.rows.CartPos.{CartPos}
 use Rattle.model_rows.specs.declared.rows.Status.{Status}
 use Rattle.model_rows.specs.declared.rows.Status.TheVariants.{Pending, Paid, Expired, Cancelled}
 
+-- the status is paid
 abbrev pub is_paid : Status → Bool
 is_paid Pending = false
 is_paid Paid = true
 is_paid Expired = false
 is_paid Cancelled = false
 
+-- the status is pending
 abbrev pub is_pending : Status → Bool
 is_pending Pending = true
 is_pending Paid = false
@@ -31,21 +33,25 @@ abbrev pub has_not_ended : ℕ → Option ℕ → Bool
 has_not_ended at None = true
 has_not_ended at (Some end) = nat_le at end
 
+-- a voucher is live up to the second of its end, in that one too; without an end it is always live
 abbrev pub is_live_voucher : ℕ → Voucher → Bool
 is_live_voucher at voucher = has_not_ended at voucher.valid_until
 
+-- a cart position is live up to the second in which it expires, in that one too
 abbrev pub is_live_cart : ℕ → CartPos → Bool
 is_live_cart at cart = nat_le at cart.expires
 
--- a voucher hits the quota that it names, or else each one that has its product
+-- what a voucher names, an item and maybe a variation, is in the quota; without an item nothing is
 abbrev pub hits_by_product : Quota → Option ℕ → Option ℕ → Bool
 hits_by_product quota None variation = false
 hits_by_product quota (Some item) variation = is_in quota (record { item = item; variation = variation })
 
+-- a voucher hits the quota that it names, or else each one that has its product
 abbrev pub hits_by : Quota → Option ℕ → Voucher → Bool
 hits_by quota (Some id) voucher = id == quota.id
 hits_by quota None voucher = hits_by_product quota voucher.item voucher.variation
 
+-- the voucher hits the quota
 abbrev pub hits : Quota → Voucher → Bool
 hits quota voucher = hits_by quota voucher.quota voucher
 

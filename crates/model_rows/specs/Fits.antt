@@ -19,10 +19,12 @@ abbrev pub fits_item : Option ℕ → Option ℕ → Product → Bool
 fits_item None variation product = true
 fits_item (Some item) variation product = item == product.item && has_variation variation product
 
+-- the quota is there, and has the product
 abbrev pub fits_quota : Option Quota → Product → Bool
 fits_quota None product = false
 fits_quota (Some quota) product = is_in quota product
 
+-- the product is one of the voucher's quota, where it names one, and else it is one of its item and variation
 abbrev pub fits_by : CatalogueLists → Voucher → Product → Option ℕ → Bool
 fits_by catalogue voucher product (Some quota) = fits_quota (quota_at quota catalogue) product
 fits_by catalogue voucher product None = fits_item voucher.item voucher.variation product
@@ -31,6 +33,7 @@ fits_by catalogue voucher product None = fits_item voucher.item voucher.variatio
 abbrev pub fits : CatalogueLists → Voucher → Product → Bool
 fits catalogue voucher product = fits_by catalogue voucher product voucher.quota
 
+-- the voucher is there, and is for the product
 abbrev pub fits_if : CatalogueLists → Product → Option Voucher → Bool
 fits_if catalogue product None = false
 fits_if catalogue product (Some voucher) = fits catalogue voucher product
@@ -50,9 +53,11 @@ abbrev pub is_exact_if : Product → Option Voucher → Bool
 is_exact_if product None = true
 is_exact_if product (Some voucher) = not voucher.block_quota || (is_some voucher.quota || (is_some voucher.variation || is_none product.variation))
 
+-- the same of the voucher of this id; it holds too where none is named or there
 abbrev pub is_exact : Lists → Product → Option ℕ → Bool
 is_exact lists product None = true
 is_exact lists product (Some id) = is_exact_if product (voucher_at id lists)
 
+-- of each order position: its voucher, if it blocks, names a quota or a variation, or the product has no variation
 abbrev pub AllExact : Lists → Type 0
 AllExact lists = AllByRecursion (λ p. is_exact lists p.product p.voucher ≡ true) lists.positions

@@ -8,6 +8,7 @@ use Rattle.model_rows.specs.Lists.{State}
 abbrev pub takes_cart : State → Bool
 takes_cart state = takes_row state.next.cart state.lists.carts
 
+-- the table of vouchers takes one more, and there is an id for it
 abbrev pub takes_voucher : State → Bool
 takes_voucher state = takes_row state.next.voucher state.lists.vouchers
 
@@ -19,11 +20,14 @@ takes_order state = nat_lt (length state.lists.orders) last_order && nat_le stat
 abbrev pub takes_positions : ℕ → State → Bool
 takes_positions count state = takes_rows count state.next.position state.lists.positions
 
+-- the waiting list takes one more entry, and there is an id for it
 abbrev pub takes_waiting : State → Bool
 takes_waiting state = takes_row state.next.waiting state.lists.waiting
 
+-- the table of check-in lists takes one more, and there is an id for it
 abbrev pub takes_checkin_list : State → Bool
 takes_checkin_list state = takes_row state.next.list state.lists.checkin_lists
 
+-- the table of check-ins takes one more, and there is an id for it
 abbrev pub takes_checkin : State → Bool
 takes_checkin state = takes_row state.next.checkin state.lists.checkins

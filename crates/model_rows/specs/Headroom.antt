@@ -21,6 +21,7 @@ held_in at quota id lists = count_by (λ c. holds at id c && is_in quota c.produ
 abbrev pub HasHeadroom : ℕ → Lists → Voucher → Type 0
 HasHeadroom at lists voucher = redeemed voucher.id lists + held at voucher.id lists ≤ voucher.max_usages
 
+-- no voucher has more uses in orders and in live carts than it may have
 abbrev pub AllHaveHeadroom : ℕ → Lists → Type 0
 AllHaveHeadroom at lists = AllByRecursion (HasHeadroom at lists) lists.vouchers
 
@@ -29,6 +30,7 @@ abbrev pub has_use_by : ℕ → Lists → Option Voucher → Bool
 has_use_by at lists None = true
 has_use_by at lists (Some voucher) = nat_lt (redeemed voucher.id lists + held at voucher.id lists) voucher.max_usages
 
+-- one more cart position may name the voucher of this id; it holds too where none is named or there
 abbrev pub has_use : ℕ → Lists → Option ℕ → Bool
 has_use at lists None = true
 has_use at lists (Some id) = has_use_by at lists (voucher_at id lists)
@@ -38,10 +40,11 @@ abbrev pub has_room_by : ℕ → Lists → Option Voucher → Bool
 has_room_by at lists None = true
 has_room_by at lists (Some voucher) = nat_le (redeemed voucher.id lists + held at voucher.id lists) voucher.max_usages
 
+-- the voucher of this id isn't named more often than it may be used; it holds too where none is named or there
 abbrev pub has_room : ℕ → Lists → Option ℕ → Bool
 has_room at lists None = true
 has_room at lists (Some id) = has_room_by at lists (voucher_at id lists)
 
--- none of the vouchers that these order positions name is
+-- none of the vouchers that these order positions name is named more often than it may be used
 abbrev pub have_room : ℕ → Lists → List OrderPos → Bool
 have_room at lists positions = list_all (λ p. has_room at lists p.voucher) positions

@@ -11,6 +11,7 @@ use Rattle.model_rows.specs.declared.rows.CheckinList.{CheckinList}
 use Rattle.model_rows.specs.declared.rows.Checkin.{Checkin}
 use Rattle.model_rows.specs.declared.rows.NextIds.{NextIds}
 
+-- what is for sale, and the rows of sales and of the door: each table as a list in order of id
 pub record Lists : Type 0 where
   pub catalogue : CatalogueLists
   pub vouchers : List Voucher
@@ -27,15 +28,19 @@ pub record State : Type 0 where
   pub next : NextIds
   pub moment : ℕ
 
+-- the voucher of this id, if there is one
 abbrev pub voucher_at : ℕ → Lists → Option Voucher
 voucher_at id lists = row_at (λ r. r.id) id lists.vouchers
 
+-- the cart position of this id, if there is one
 abbrev pub cart_at : ℕ → Lists → Option CartPos
 cart_at id lists = row_at (λ r. r.id) id lists.carts
 
+-- the order of this number, if there is one
 abbrev pub order_at : ℕ → Lists → Option Order
 order_at id lists = row_at (λ r. r.id) id lists.orders
 
+-- the order position of this id, if there is one
 abbrev pub position_at : ℕ → Lists → Option OrderPos
 position_at id lists = row_at (λ r. r.id) id lists.positions
 
@@ -43,12 +48,15 @@ position_at id lists = row_at (λ r. r.id) id lists.positions
 abbrev pub positions_of : ℕ → Lists → List OrderPos
 positions_of order lists = filter (λ p. order == p.order) lists.positions
 
+-- the waiting entry of this id, if there is one
 abbrev pub waiting_at : ℕ → Lists → Option Waiting
 waiting_at id lists = row_at (λ r. r.id) id lists.waiting
 
+-- the check-in list of this id, if there is one
 abbrev pub checkin_list_at : ℕ → Lists → Option CheckinList
 checkin_list_at id lists = row_at (λ r. r.id) id lists.checkin_lists
 
+-- the check-in of this id, if there is one
 abbrev pub checkin_at : ℕ → Lists → Option Checkin
 checkin_at id lists = row_at (λ r. r.id) id lists.checkins
 
@@ -56,6 +64,7 @@ checkin_at id lists = row_at (λ r. r.id) id lists.checkins
 abbrev pub checkins_by : ℕ → ℕ → Lists → List Checkin
 checkins_by list position lists = filter (λ c. c.list == list && c.position == position) lists.checkins
 
+-- no table has a row
 abbrev pub no_rows : Lists
 no_rows = record { catalogue = record { items = []; variations = []; quotas = [] }; vouchers = []; carts = []; orders = []; positions = []; waiting = []; checkin_lists = []; checkins = [] }
 

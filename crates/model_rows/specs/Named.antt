@@ -29,12 +29,15 @@ abbrev pub AreUnlike : List Voucher → Type 0
 AreUnlike [] = Unit {0}
 AreUnlike (v ∷ vs) = AllByRecursion (λ w. same_text v.code w.code ≡ false) vs × AreUnlike vs
 
+-- an order position names the voucher, whatever status its order has
 abbrev pub is_ordered : ℕ → Lists → Bool
 is_ordered id lists = list_any (λ p. names id p.voucher) lists.positions
 
+-- a cart position names the voucher, live or dead
 abbrev pub is_in_cart : ℕ → Lists → Bool
 is_in_cart id lists = list_any (λ c. names id c.voucher) lists.carts
 
+-- a waiting entry names the voucher: it was sent to it
 abbrev pub is_sent : ℕ → Lists → Bool
 is_sent id lists = list_any (λ w. names id w.voucher) lists.waiting
 

@@ -10,6 +10,7 @@ use Rattle.model_rows.specs.Lists.{Lists, voucher_at, cart_at, position_at}
 use Rattle.model_rows.specs.Usage.{usage_of, cart_counts, takes_place}
 use Rattle.model_rows.specs.Total.{total}
 
+-- the voucher is there, and ignores quotas
 abbrev pub ignores_by : Option Voucher → Bool
 ignores_by None = false
 ignores_by (Some voucher) = voucher.allow_ignore_quota
@@ -29,6 +30,7 @@ abbrev pub is_free_position : Lists → Quota → Option OrderPos → Bool
 is_free_position lists quota None = false
 is_free_position lists quota (Some position) = takes_place lists quota position && ignores lists position.voucher
 
+-- an own row that counts in the quota, but isn't weighed, since its voucher ignores quotas
 abbrev pub is_free : Lists → ℕ → Quota → Own → Bool
 is_free lists at quota (Cart id) = is_free_cart lists at quota (cart_at id lists)
 is_free lists at quota (Position id) = is_free_position lists quota (position_at id lists)
@@ -37,6 +39,7 @@ is_free lists at quota (Position id) = is_free_position lists quota (position_at
 unfoldable pub weighed : Lists → ℕ → Quota → List Own → ℕ
 weighed lists at quota own = total (usage_of lists at quota) - count_by (is_free lists at quota) own
 
+-- what is weighed is more than the size, and more than was used before; an unlimited quota is never over
 abbrev pub is_over_size : Option ℕ → ℕ → ℕ → Bool
 is_over_size None before weight = false
 is_over_size (Some size) before weight = nat_lt size weight && nat_lt before weight

@@ -5,10 +5,12 @@ use Rattle.model_rows.specs.declared.rows.CheckinKind.TheVariants.{Entry, Exit}
 use Rattle.model_rows.specs.declared.rows.Checkin.{Checkin}
 use Rattle.model_rows.specs.declared.passages.Passage.{Passage}
 
+-- the kind is an entry
 abbrev pub is_entry : CheckinKind → Bool
 is_entry Entry = true
 is_entry Exit = false
 
+-- the kind is an exit
 abbrev pub is_exit : CheckinKind → Bool
 is_exit Entry = false
 is_exit Exit = true
@@ -31,10 +33,12 @@ abbrev pub last_after : Option Passage → List Checkin → Option Passage
 last_after last [] = last
 last_after last (c ∷ cs) = last_after (Some (later last (passage c))) cs
 
+-- there is a last check-in, and it is an entry
 abbrev pub is_entry_if : Option Passage → Bool
 is_entry_if None = false
 is_entry_if (Some last) = is_entry last.kind
 
+-- there is a last check-in, and it is an exit
 abbrev pub is_exit_if : Option Passage → Bool
 is_exit_if None = false
 is_exit_if (Some last) = is_exit last.kind

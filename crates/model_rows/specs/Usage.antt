@@ -27,6 +27,7 @@ position_counts test lists quota position = stands_as test (order_at position.or
 abbrev pub uses : ℕ → Lists → OrderPos → Bool
 uses id lists position = names id position.voucher && stands_as is_in_force (order_at position.order lists)
 
+-- how often a voucher is redeemed: how many order positions use it
 abbrev pub redeemed : ℕ → Lists → ℕ
 redeemed id lists = count_by (uses id lists) lists.positions
 
@@ -47,6 +48,7 @@ abbrev pub blocks_if : ℕ → Quota → Option Voucher → Bool
 blocks_if at quota None = false
 blocks_if at quota (Some voucher) = blocks at quota voucher
 
+-- the voucher of this id, if one is named and there, blocks places of the quota
 abbrev pub is_covered_by : Lists → ℕ → Quota → Option ℕ → Bool
 is_covered_by lists at quota None = false
 is_covered_by lists at quota (Some id) = blocks_if at quota (voucher_at id lists)
@@ -55,6 +57,7 @@ is_covered_by lists at quota (Some id) = blocks_if at quota (voucher_at id lists
 abbrev pub is_covered : Lists → ℕ → Quota → CartPos → Bool
 is_covered lists at quota cart = is_covered_by lists at quota cart.voucher
 
+-- a live cart position in the quota counts, unless its voucher blocks places of the quota
 abbrev pub cart_counts : Lists → ℕ → Quota → CartPos → Bool
 cart_counts lists at quota cart = is_live_cart at cart && is_in quota cart.product && not (is_covered lists at quota cart)
 

@@ -16,6 +16,7 @@ same_product a b = a.item == b.item && same_id a.variation b.variation
 abbrev pub waits_as : List ℕ → Product → Waiting → Bool
 waits_as email product entry = has_none entry.voucher && (same_product entry.product product && same_text entry.email email)
 
+-- an entry of this email waits for this product, without a voucher
 abbrev pub is_waiting : List ℕ → Product → Lists → Bool
 is_waiting email product lists = list_any (waits_as email product) lists.waiting
 

@@ -16,6 +16,7 @@ most_steps from to lists = 1 + came_due from to lists + naming_due from to lists
 abbrev pub start : ℕ
 start = 1777629600
 
+-- a quota of five places, for item 1
 abbrev pub five_places : Quota
 five_places = record { id = 1; name = []; release_after_exit = false; size = Some 5; items = 1 ∷ []; variations = [] }
 
@@ -27,6 +28,7 @@ ten_minutes = record { id = 1; code = 86 ∷ []; max_usages = 2; valid_until = S
 abbrev pub half_an_hour : CartPos
 half_an_hour = record { id = 1; cart_id = []; product = record { item = 1; variation = None }; price = 2300; made_at = start; expires = start + 1800; voucher = Some 1 }
 
+-- the house of this case: one item, its quota, the voucher and the cart position
 abbrev pub ending : Lists
 ending = record {
   catalogue = record {

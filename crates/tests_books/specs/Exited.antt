@@ -18,6 +18,7 @@ doors = 1777662000
 abbrev pub evening : ℕ
 evening = doors + 10800
 
+-- a quota of five places for item 1, which lets the place of a ticket that has gone out be sold again
 abbrev pub releasing : Quota
 releasing = record { id = 1; name = []; release_after_exit = true; size = Some 5; items = 1 ∷ []; variations = [] }
 
@@ -25,9 +26,11 @@ releasing = record { id = 1; name = []; release_after_exit = true; size = Some 5
 abbrev pub keeping : Quota
 keeping = record releasing { release_after_exit = false }
 
+-- the ticket's order, of this status: made a day before the doors open, and to be paid an hour before
 abbrev pub order_of : Status → Order
 order_of status = record { id = 1; email = None; status = status; made_at = doors - 86400; expires = doors - 3600 }
 
+-- the one ticket: of item 1, at 23.00
 abbrev pub ticket : OrderPos
 ticket = record { id = 1; order = 1; positionid = 1; product = record { item = 1; variation = None }; price = 2300; voucher = None; secret = []; discount = 0 }
 
@@ -35,6 +38,7 @@ ticket = record { id = 1; order = 1; positionid = 1; product = record { item = 1
 abbrev pub seen : ℕ → ℕ → CheckinKind → ℕ → Checkin
 seen id list kind at = record { id = id; list = list; position = 1; kind = kind; datetime = at; nonce = None }
 
+-- the ticket comes in when the doors open
 abbrev pub came_in : Checkin
 came_in = seen 1 1 Entry doors
 
@@ -42,6 +46,7 @@ came_in = seen 1 1 Entry doors
 abbrev pub went_out : Checkin
 went_out = seen 2 2 Exit (doors + 3600)
 
+-- it comes in again by the first list, an hour after it went out
 abbrev pub came_back : Checkin
 came_back = seen 3 1 Entry (doors + 7200)
 
@@ -49,16 +54,19 @@ came_back = seen 3 1 Entry (doors + 7200)
 abbrev pub told_late : Checkin
 told_late = seen 2 2 Exit (doors - 60)
 
--- what the doors have seen of it: that it is in, that it has gone out, that it is back, and that it is in and an exit was told late
+-- what the doors have seen of it: it came in
 abbrev pub inside : List Checkin
 inside = came_in ∷ []
 
+-- it came in, and has gone out
 abbrev pub outside : List Checkin
 outside = came_in ∷ went_out ∷ []
 
+-- it came in, went out, and came in again
 abbrev pub back : List Checkin
 back = came_in ∷ went_out ∷ came_back ∷ []
 
+-- it came in, and an exit before that was reported afterwards
 abbrev pub late : List Checkin
 late = came_in ∷ told_late ∷ []
 

@@ -58,6 +58,7 @@ pub record Cursor (D : Type 0) : Type 0 where
   pub desk : D
   pub taken : Option (List ℕ)
 
+-- the cursor with these bytes left, these ticks, this desk and what was written
 abbrev pub cursor : {D : Type 0} → List ℕ → Option (List Tick) → D → Option (List ℕ) → Cursor D
 cursor left told desk taken = record { left = left; told = told; desk = desk; taken = taken }
 

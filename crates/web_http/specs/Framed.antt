@@ -3,6 +3,7 @@ use Rattle.std.specs.Prelude.{◌≡◌, ℕ, ◌<◌, List, ◌++◌, length, O
 use Rattle.web_http.specs.declared.fault.FrameFault.{FrameFault}
 use Rattle.web_http.specs.Messages.{Message, Takes, Faults, HasNone}
 
+-- the bytes that are not yet taken, and the message that was taken last, unless it is forgotten
 pub record Framed : Type 0 where
   pub left : List ℕ
   pub taken : Option Message

@@ -14,7 +14,7 @@ use Rattle.web_http.specs.Heads.{HasHead, HasBadHead, HasLongHead}
 abbrev pub Header : Type 0
 Header = List ℕ × List ℕ
 
--- a message without where it lies
+-- a message as its texts, without where these are in the buffer
 pub record Message : Type 0 where
   pub method : List ℕ
   pub target : List ℕ
@@ -22,10 +22,11 @@ pub record Message : Type 0 where
   pub fields : List Header
   pub body : List ℕ
 
--- the most fields of a head, and the most bytes of a body
+-- the most fields of a head
 abbrev pub field_limit : ℕ
 field_limit = 64
 
+-- the most bytes of a body: 1 MiB
 abbrev pub body_limit : ℕ
 body_limit = 1048576
 
@@ -121,6 +122,7 @@ abbrev pub Reads : List ℕ → List Message → List ℕ → Type 0
 Reads bytes [] rest = bytes ≡ rest
 Reads bytes (m ∷ ms) rest = (mid : List ℕ) × Takes bytes m mid × (closes m ≡ false) × Reads mid ms rest
 
+-- a whole message, as what a stream holds
 abbrev pub whole : Message → Result Message FrameFault
 whole m = Ok m
 

@@ -39,6 +39,7 @@ listed [] = []
 listed (x ∷ []) = x
 listed (x ∷ y ∷ ys) = x ++ (codes ", " ++ listed (y ∷ ys))
 
+-- the name alone where the test holds, and else none
 abbrev pub name_if : Bool → List ℕ → List (List ℕ)
 name_if has name = if has then name ∷ [] else []
 
@@ -79,6 +80,7 @@ head_text status allow size closes = concat (
 unfoldable pub answer_text : ℕ → Option Methods → List ℕ → Bool → List ℕ
 answer_text status allow body closes = head_text status allow (length body) closes ++ content status body
 
+-- the body of a 503
 abbrev pub unavailable_body : List ℕ
 unavailable_body = codes "{\"detail\":\"Service unavailable.\"}"
 
@@ -87,12 +89,14 @@ abbrev pub text : Answer → Bool → List ℕ
 text (Decided t) closes = answer_text t.status t.allow t.body closes
 text Unavailable closes = answer_text 503 None unavailable_body closes
 
+-- the status of the answer to a fault of framing
 abbrev pub fault_status : FrameFault → ℕ
 fault_status BadHead = 400
 fault_status BodyTooLarge = 413
 fault_status HeadTooLarge = 431
 fault_status UnknownCoding = 501
 
+-- the body of the answer to a fault of framing
 abbrev pub fault_body : FrameFault → List ℕ
 fault_body BadHead = codes "{\"detail\":\"Bad request head.\"}"
 fault_body BodyTooLarge = codes "{\"detail\":\"Body too large.\"}"

@@ -5,6 +5,7 @@ use Rattle.web_http.specs.Heads.{field_room, Unsettled}
 use Rattle.web_http.specs.Found.{message_found, IsFoundWithin, Quiet}
 use Rattle.web_http.specs.Framed.{Framed}
 
+-- the bytes of the buffer that are not yet taken, and the message that was found in it last, unless it is forgotten
 abbrev pub framed : Inside → Framed
 framed f = record {
   left = drop f.start f.buffer.items;
@@ -17,6 +18,7 @@ pub record Known (bytes : List ℕ) (tried wanted : ℕ) : Type 0 where
   pub lines : Unsettled bytes tried
   pub quiet : Quiet bytes wanted
 
+-- the places are within the buffer, there is room for the fields of a head, and what is known of the bytes is true
 pub record IsFraming (f : Inside) : Type 0 where
   pub start : f.start ≤ length f.buffer.items
   pub base : f.base ≤ length f.buffer.items

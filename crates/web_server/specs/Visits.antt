@@ -18,6 +18,7 @@ Rearranges old new (nexts.Comes ∷ others) = (amid : Callers) × LetsIn old ami
 Rearranges old new (nexts.Leaves place ∷ others) = Rearranges (with_place place None old) new others
 Rearranges old new (nexts.Turn place ∷ others) = ⊥
 
+-- callers came and left, in some order, and nobody had a turn
 pub record Rearranged (old new : Callers) : Type 0 where
   pub order : List Next
   pub all : Rearranges old new order
