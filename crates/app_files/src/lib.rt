@@ -1,7 +1,7 @@
 //! What does each command do with a shop's file?
 //!
-//! A command makes a shop in a file, adds a token, serves it, does its periodic work, adds the vouchers of a CSV file,
-//! exports its order positions, or asks for a report on it.
+//! A command makes a shop in a file, brings a file to the newest version, adds a token, serves the shop, does its periodic
+//! work, adds the vouchers of a CSV file, exports its order positions, or asks for a report on it.
 #![tactic(auto)]
 
 mod acting;
@@ -29,6 +29,7 @@ pub use filed::Filed;
 pub use house::House;
 pub use importing::import_shop;
 pub use making::make_new_shop;
+pub use migrating::migrate_shop;
 pub use reporting::report_shop;
 pub use serving::serve_shop;
 pub use shelf::Shelf;

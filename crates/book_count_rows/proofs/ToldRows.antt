@@ -8,30 +8,46 @@ use Rattle.model_rows.specs.declared.rows.Usage.{Usage}
 use Rattle.model_rows.specs.declared.rows.Voucher.{Voucher}
 use Rattle.model_rows.specs.declared.count_rows.QuotaCount.{QuotaCount}
 use Rattle.model_rows.specs.declared.count_rows.VoucherCount.{VoucherCount}
-use Rattle.model_rows.specs.CountRows.{same_usage, quota_count, voucher_count, same_quota_count, same_voucher_count}
+use Rattle.model_rows.specs.CountRows.{same_usage, quota_count, quota_counts, voucher_count, same_voucher_count}
 use Rattle.model_rows.specs.Lists.{State, voucher_at}
 use Rattle.model_rows.specs.Usage.{usage_of, redeemed, spent}
 use Rattle.model_rows.proofs.EachRow.{key-row_at}
-use Rattle.book_count_rows.specs.Told.{has_count, has_voucher}
+use Rattle.book_count_rows.specs.Told.{has_count, has_exits, has_voucher}
 use Rattle.book_count_rows.proofs.Picked.{passes_if, one_passes, any_mapped}
 
--- the office has a count of a quota, where the quota of that id stands and has it
-module _ (state : State) (count : QuotaCount) (cat : CatalogueLists) (same : cat ≡ state.lists.catalogue) (order : AreInOrder (λ q. q.id) cat.quotas) where
-  counted_is : (o : Option Quota) → quota_at count.quota cat ≡ o → has_count state count ≡ passes_if (λ q. same_usage count.usage (usage_of state.lists state.moment q)) o
+-- an office has a count of this quota that passes, where it has the quota, and what uses that passes
+module _ (test : Usage → Usage → Bool) (state : State) (count : QuotaCount) (cat : CatalogueLists) (same : cat ≡ state.lists.catalogue) (order : AreInOrder (λ q. q.id) cat.quotas) where
+  counted_is : (o : Option Quota) → quota_at count.quota cat ≡ o → list_any (λ c. eqb count.quota c.quota && test count.usage c.usage) (quota_counts state) ≡ passes_if (λ q. test count.usage (usage_of state.lists state.moment q)) o
   counted_is o found =
-      any_mapped (same_quota_count count) (quota_count state) state.lists.catalogue.quotas
+      any_mapped (λ c. eqb count.quota c.quota && test count.usage c.usage) (quota_count state) state.lists.catalogue.quotas
       ∙ ap (λ (l : CatalogueLists). list_any_in l) (sym same)
-      ∙ one_passes (λ (q : Quota). q.id) (λ q. same_usage count.usage (usage_of state.lists state.moment q)) count.quota 0 cat.quotas order
-      ∙ ap (passes_if (λ q. same_usage count.usage (usage_of state.lists state.moment q))) found
+      ∙ one_passes (λ (q : Quota). q.id) (λ q. test count.usage (usage_of state.lists state.moment q)) count.quota 0 cat.quotas order
+      ∙ ap (passes_if (λ q. test count.usage (usage_of state.lists state.moment q))) found
     where
       list_any_in : CatalogueLists → Bool
-      list_any_in l = list_any (λ (q : Quota). same_quota_count count (quota_count state q)) l.quotas
+      list_any_in l = list_any (λ (q : Quota). eqb count.quota q.id && test count.usage (usage_of state.lists state.moment q)) l.quotas
 
+  passes_none : quota_at count.quota cat ≡ None → false ≡ list_any (λ c. eqb count.quota c.quota && test count.usage c.usage) (quota_counts state)
+  passes_none found = sym (counted_is None found)
+
+  passes_some : (q : Quota) (at : ℕ) (usage : Usage) (b : Bool) → quota_at count.quota cat ≡ Some q → at ≡ state.moment → usage ≡ usage_of state.lists at q → b ≡ test count.usage usage → b ≡ list_any (λ c. eqb count.quota c.quota && test count.usage c.usage) (quota_counts state)
+  passes_some q at usage b found now used is = is ∙ ap (test count.usage) (used ∙ ap (λ n. usage_of state.lists n q) now) ∙ sym (counted_is (Some q) found)
+
+abbrev as_many_out : Usage → Usage → Bool
+as_many_out a b = eqb a.exited b.exited
+
+module _ (state : State) (count : QuotaCount) (cat : CatalogueLists) (same : cat ≡ state.lists.catalogue) (order : AreInOrder (λ q. q.id) cat.quotas) where
   pub had_none : quota_at count.quota cat ≡ None → false ≡ has_count state count
-  had_none found = sym (counted_is None found)
+  had_none = passes_none same_usage state count cat same order
 
   pub had_some : (q : Quota) (at : ℕ) (usage : Usage) (b : Bool) → quota_at count.quota cat ≡ Some q → at ≡ state.moment → usage ≡ usage_of state.lists at q → b ≡ same_usage count.usage usage → b ≡ has_count state count
-  had_some q at usage b found now used is = is ∙ ap (same_usage count.usage) (used ∙ ap (λ n. usage_of state.lists n q) now) ∙ sym (counted_is (Some q) found)
+  had_some = passes_some same_usage state count cat same order
+
+  pub no_exits : quota_at count.quota cat ≡ None → false ≡ has_exits state count
+  no_exits = passes_none as_many_out state count cat same order
+
+  pub some_exits : (q : Quota) (at : ℕ) (usage : Usage) (b : Bool) → quota_at count.quota cat ≡ Some q → at ≡ state.moment → usage ≡ usage_of state.lists at q → b ≡ as_many_out count.usage usage → b ≡ has_exits state count
+  some_exits = passes_some as_many_out state count cat same order
 
 -- and a count of a voucher, where the voucher of that id stands, is redeemed so often, and so much is spent of it
 module _ (state : State) (count : VoucherCount) (order : AreInOrder (λ v. v.id) state.lists.vouchers) where

@@ -17,7 +17,7 @@ use Rattle.model_rows.specs.declared.rows.NextIds.{NextIds}
 use Rattle.model_rows.specs.declared.count_rows.QuotaCount.{QuotaCount}
 use Rattle.model_rows.specs.declared.count_rows.VoucherCount.{VoucherCount}
 use Rattle.model_rows.specs.Change.{after_change, after_all}
-use Rattle.model_rows.specs.CountRows.{CountRows, same_usage, quota_count, voucher_count, counts_after}
+use Rattle.model_rows.specs.CountRows.{CountRows, same_usage, quota_count, voucher_count, exits_after, counts_after}
 use Rattle.model_rows.specs.Kept.{IsKept}
 use Rattle.model_rows.specs.Lists.{Lists, State, voucher_at}
 use Rattle.model_rows.specs.Usage.{usage_of, redeemed, spent}
@@ -267,13 +267,14 @@ module _ (state : State) (changes : List Change) (next : NextIds) (at : ℕ) (pa
       (all_weaker (λ s. voucher_shift_at s.voucher vouchers ≡ Some s) (λ s. gone_told_by state s ≡ told_if (gone_told both) (voucher_at s.voucher before)) (λ s given. one_gone s given (voucher_at s.voucher before) refl) vouchers found_each)
       ∙ chosen (λ (v : Voucher). v.id) (λ v. v.id) (λ id. is_none (voucher_at id after)) before.vouchers named named_rise order.vouchers ungone
 
--- the three lists together
-pub counts_are : (before after : State) (rows : CountRows) (quotas : List QuotaCount) (vouchers : List VoucherCount) (gone : List ℕ) → rows.quotas ≡ quotas → rows.vouchers ≡ vouchers → rows.gone ≡ gone → quotas ≡ (counts_after before after).quotas → vouchers ≡ (counts_after before after).vouchers → gone ≡ (counts_after before after).gone → rows ≡ counts_after before after
-counts_are before after rows quotas vouchers gone rq rv rg q v n =
+-- the four lists together
+pub counts_are : (before after : State) (rows : CountRows) (quotas asked exits : List QuotaCount) (vouchers : List VoucherCount) (gone : List ℕ) → rows.quotas ≡ quotas → rows.exits ≡ exits → rows.vouchers ≡ vouchers → rows.gone ≡ gone → quotas ≡ (counts_after before after).quotas → asked ≡ quotas → exits ≡ exits_after before asked → vouchers ≡ (counts_after before after).vouchers → gone ≡ (counts_after before after).gone → rows ≡ counts_after before after
+counts_are before after rows quotas asked exits vouchers gone rq re rv rg q a e v n =
     let one : rows.quotas ≡ (counts_after before after).quotas = rq ∙ q in
-    let two : rows.vouchers ≡ (counts_after before after).vouchers = rv ∙ v in
-    let three : rows.gone ≡ (counts_after before after).gone = rg ∙ n in
-    λ i. record { quotas = one i; vouchers = two i; gone = three i }
+    let two : rows.exits ≡ (counts_after before after).exits = re ∙ e ∙ ap (exits_after before) (a ∙ q) in
+    let three : rows.vouchers ≡ (counts_after before after).vouchers = rv ∙ v in
+    let four : rows.gone ≡ (counts_after before after).gone = rg ∙ n in
+    λ i. record { quotas = one i; exits = two i; vouchers = three i; gone = four i }
 
 -- what is told of a quota, where its usage by the rows before changes and what shifts it are known, and what the book has
 module _ (state : State) (order : AreOrdered state.lists) (at : ℕ) (quotas : List QuotaShift) (q : Quota) where

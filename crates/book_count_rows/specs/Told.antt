@@ -7,7 +7,7 @@ use Rattle.model_rows.specs.declared.rows.Voucher.{Voucher}
 use Rattle.model_rows.specs.declared.count_rows.QuotaCount.{QuotaCount}
 use Rattle.model_rows.specs.declared.count_rows.VoucherCount.{VoucherCount}
 use Rattle.model_rows.specs.Lists.{Lists, State, voucher_at}
-use Rattle.model_rows.specs.CountRows.{quota_count, quota_counts, same_quota_count, voucher_count, voucher_counts, same_voucher_count}
+use Rattle.model_rows.specs.CountRows.{quota_count, quota_counts, same_quota_count, same_exits, voucher_count, voucher_counts, same_voucher_count}
 
 -- ids rise in the tables of quotas, vouchers and cart positions
 pub record AreOrdered (lists : Lists) : Type 0 where
@@ -23,6 +23,10 @@ pub record Passage : Type 0 where
 -- the office has this very count of a quota
 abbrev pub has_count : State → QuotaCount → Bool
 has_count state count = list_any (same_quota_count count) (quota_counts state)
+
+-- the office has a quota of this id, of which as many tickets are out
+abbrev pub has_exits : State → QuotaCount → Bool
+has_exits state count = list_any (same_exits count) (quota_counts state)
 
 -- the office has this very count of a voucher
 abbrev pub has_voucher : State → VoucherCount → Bool

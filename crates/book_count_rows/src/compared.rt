@@ -5,6 +5,7 @@ ghost use Rattle.model_rows.specs.Lists.{voucher_at};
 ghost use Rattle.model_rows.specs.CountRows.{counts_after};
 ghost use Rattle.book_count_rows.specs.Told.{quota_told, voucher_told, gone_told};
 
+use crate::exits::exits_that_differ;
 use crate::recounts::recount;
 use crate::told::{add_unless, fitting, has_count, has_voucher};
 use book_usage::Book;
@@ -13,7 +14,8 @@ use model_rows::{CountRows, QuotaCount, Voucher, VoucherCount};
 use std::alloc::{AllocError, Global};
 
 /// The counts that are to be written where one book comes after another, whatever lies between them: those of the quotas and
-/// vouchers that are new or whose counts differ, and the ids of the vouchers that are gone.
+/// vouchers that are new or whose counts differ, which of these differ in how many tickets are out, and the ids of the
+/// vouchers that are gone.
 /// It is refused where there is no memory, and where a count doesn't fit in 64 bits.
 /// Each quota of the later book is counted over all its rows, and each voucher of both is looked up. So it is for changes
 /// that no draft has counted, which are made in a second book first.
@@ -25,9 +27,10 @@ pub fn counts_between<A: Book, C: Book>(
     ensures { IfOk result (λ rows. rows ≡ counts_after (A.state before.now) (C.state after.now)) }
 {
     let quotas = quotas(alloc, before, after)?;
+    let exits = exits_that_differ(before, alloc, quotas.as_slice())?;
     let vouchers = vouchers(alloc, before, after)?;
     let gone = gone(alloc, before, after)?;
-    Ok(CountRows::new(quotas, vouchers, gone))
+    Ok(CountRows::new(quotas, exits, vouchers, gone))
 }
 
 // The counts of the quotas that differ.

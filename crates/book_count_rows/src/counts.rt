@@ -6,6 +6,7 @@ ghost use Rattle.model_rows.specs.CountRows.{counts_after};
 ghost use Rattle.book_tally.specs.Shifts.{AreShifts};
 
 use crate::due::due_quotas;
+use crate::exits::exits_that_differ;
 use crate::walk::{Walk, put_quotas};
 use base_values::Moment;
 use book_tally::Shifts;
@@ -14,7 +15,8 @@ use model_rows::{Changes, CountRows};
 use std::alloc::{AllocError, Global};
 
 /// The counts that are to be written with changes of a book, at a moment that isn't before the book's, by what they shift:
-/// those of the quotas and vouchers that are new or whose counts differ, and the ids of the vouchers that are gone.
+/// those of the quotas and vouchers that are new or whose counts differ, which of these differ in how many tickets are
+/// out, and the ids of the vouchers that are gone.
 /// It is refused where there is no memory, and where a count doesn't fit in 64 bits.
 /// Only those quotas are asked that the shifts name, that changes put, or that what came due reaches. No row is looked up but
 /// what came due; a quota that is new, or whose products change, or whether it releases places, is counted over all rows.
@@ -42,7 +44,8 @@ pub fn counts_by_shifts<B: Dues>(
     };
     let ids = walk.asked(alloc)?;
     let quotas = walk.quotas(alloc, ids.as_slice())?;
+    let exits = exits_that_differ(book, alloc, quotas.as_slice())?;
     let vouchers = walk.vouchers(alloc)?;
     let gone = walk.gone(alloc)?;
-    Ok(CountRows::new(quotas, vouchers, gone))
+    Ok(CountRows::new(quotas, exits, vouchers, gone))
 }

@@ -4,6 +4,7 @@
 mod compared;
 mod counts;
 mod due;
+mod exits;
 mod recounts;
 mod told;
 mod walk;

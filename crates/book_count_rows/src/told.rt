@@ -4,7 +4,7 @@ ghost use Rattle.std.specs.Prelude.{◌≡◌, ◌≤◌, ◌+◌, ◌-◌, ◌+
 ghost use Rattle.std.specs.Option.{option_copied};
 ghost use Rattle.model_rows.specs.CountRows.{same_usage};
 ghost use Rattle.model_rows.specs.Usage.{redeemed, spent};
-ghost use Rattle.book_count_rows.specs.Told.{has_count, has_voucher, told_unless};
+ghost use Rattle.book_count_rows.specs.Told.{has_count, has_exits, has_voucher, told_unless};
 ghost use Rattle.book_count_rows.specs.Walked.{shifted, same_as};
 
 use book_tally::QuotaShift;
@@ -111,6 +111,18 @@ pub fn has_count<B: Book>(book: &B, count: QuotaCount) -> bool
             let usage = usage_of(book, quota, book.moment());
             same_usage(count.usage, usage)
         }
+    }
+}
+
+/// Whether the book has a quota of this id, of which as many tickets are out.
+pub fn has_exits<B: Book>(book: &B, count: &QuotaCount) -> bool
+    ensures { result ≡ has_exits (B.state book.now) count.now }
+{
+    let catalogue = book.catalogue();
+    catalogue.known();
+    match catalogue.quota(count.quota) {
+        None => false,
+        Some(quota) => count.usage.exited == usage_of(book, quota, book.moment()).exited,
     }
 }
 

@@ -20,17 +20,19 @@ use Rattle.model_answers.specs.ShopView.{listed, with_kept}
 use Rattle.file_rows.specs.declared.rows.ShopRow.{ShopRow}
 use Rattle.file_rows.specs.declared.rows.KeptRow.{KeptRow}
 use Rattle.file_rows.specs.declared.rows.VoucherRow.{VoucherRow}
+use Rattle.file_rows.specs.declared.rows.CountRow.{CountRow}
+use Rattle.file_rows.specs.declared.rows.ExitRow.{ExitRow}
 use Rattle.file_rows.specs.declared.rows.SpentRow.{SpentRow}
 use Rattle.file_rows.specs.Changes.{head_of_voucher, head_of_count, head_of_exit, head_of_spent}
 use Rattle.file_rows.specs.Tables.{Tables}
 use Rattle.file_meaning.specs.Counts.{with_all, CountsKept}
 use Rattle.file_meaning.specs.Free.{IsFree}
 use Rattle.file_meaning.specs.Lawful.{puts_come_first}
-use Rattle.file_meaning.specs.Made.{set_redeemed, made, next_after, put_shop, put_count, put_uses, each, counted, with_listed, without_past, done}
+use Rattle.file_meaning.specs.Made.{set_redeemed, made, next_after, put_shop, put_count, put_exit, put_uses, each, counted, with_listed, without_past, done}
 use Rattle.file_meaning.specs.Rows.{Redeemed, head_of_redeemed, rows_of, redeemed_in}
 use Rattle.file_meaning.specs.Stands.{AreRowsOf, AreOrdered, IsRising, Stand}
 use Rattle.file_meaning.proofs.Changed.{part_put, row_put}
-use Rattle.file_meaning.proofs.Counting.{all_start, counting_starts, counts_found, quotas_counted, vouchers_counted, of_redeemed, of_spent, of_voucher}
+use Rattle.file_meaning.proofs.Counting.{all_start, counting_starts, counts_found, quotas_counted, exits_counted, exits_in_order, vouchers_counted, of_exit, of_redeemed, of_spent, of_voucher}
 use Rattle.file_meaning.proofs.EachRow.{set_vouchers}
 use Rattle.file_meaning.specs.Turned.{AreTurned}
 use Rattle.file_meaning.proofs.Follow.{Counted, Stays, follows, stays, still_free, counts_follow}
@@ -132,25 +134,38 @@ set_is (c ∷ cs) t = set_is cs (put_uses c t)
 
 -- ---- counts of quotas
 
-counts_is : (cs : List QuotaCount) (t : Tables) → each put_count cs t ≡ record t { counts = (each put_count cs t).counts; exits = (each put_count cs t).exits }
+counts_is : (cs : List QuotaCount) (t : Tables) → each put_count cs t ≡ record t { counts = (each put_count cs t).counts }
 counts_is [] t = refl
 counts_is (c ∷ cs) t = counts_is cs (put_count c t)
+
+exits_is : (cs : List QuotaCount) (t : Tables) → each put_exit cs t ≡ record t { exits = (each put_exit cs t).exits }
+exits_is [] t = refl
+exits_is (c ∷ cs) t = exits_is cs (put_exit c t)
 
 all_put : (cs : List QuotaCount) (t : Tables) (xs : List QuotaCount) → AreInOrder (λ c. c.quota) xs → IsPermutation t.counts (map head_of_count xs) → IsPermutation (each put_count cs t).counts (map head_of_count (with_all (λ c. c.quota) cs xs))
 all_put [] t xs h same = same
 all_put (c ∷ cs) t xs h same = all_put cs (put_count c t) (with_row (λ c. c.quota) c xs) (put_stays (λ c. c.quota) c xs h) (part_put (λ c. c.quota) head_of_count (λ r. r.quota) (λ c. refl) c t.counts xs h same)
 
-all_put_exits : (cs : List QuotaCount) (t : Tables) (xs : List QuotaCount) → AreInOrder (λ c. c.quota) xs → IsPermutation t.exits (map head_of_exit xs) → IsPermutation (each put_count cs t).exits (map head_of_exit (with_all (λ c. c.quota) cs xs))
+all_put_exits : (cs : List QuotaCount) (t : Tables) (xs : List ExitRow) → AreInOrder of_exit xs → IsPermutation t.exits xs → IsPermutation (each put_exit cs t).exits (with_all of_exit (map head_of_exit cs) xs)
 all_put_exits [] t xs h same = same
-all_put_exits (c ∷ cs) t xs h same = all_put_exits cs (put_count c t) (with_row (λ c. c.quota) c xs) (put_stays (λ c. c.quota) c xs h) (part_put (λ c. c.quota) head_of_exit (λ r. r.quota) (λ c. refl) c t.exits xs h same)
+all_put_exits (c ∷ cs) t xs h same =
+    all_put_exits cs (put_exit c t) (with_row of_exit (head_of_exit c) xs) (put_stays of_exit (head_of_exit c) xs h) (row_put of_exit (head_of_exit c) t.exits xs h same)
+
+-- beside those of vouchers, only the counts of quotas and their exits differ
+quotas_set : (counts : CountRows) (t : Tables) → counted counts t ≡ record (each put_uses counts.vouchers t) { counts = (counted counts t).counts; exits = (counted counts t).exits }
+quotas_set counts t =
+    let set = each put_uses counts.vouchers t in
+    let used = each put_count counts.quotas set in
+    exits_is counts.exits used
+    ∙ ap (λ (u : Tables). record u { exits = (counted counts t).exits }) (counts_is counts.quotas set)
+    ∙ ap (λ (u : Tables). record set { counts = u.counts; exits = (counted counts t).exits }) (sym (exits_is counts.exits used))
 
 -- the tables with the counts: only the vouchers' counters and what is spent of them, and the counts of quotas and their exits differ
 pub counted_is : (counts : CountRows) (t : Tables) → counted counts t ≡ record t { vouchers = (counted counts t).vouchers; counts = (counted counts t).counts; exits = (counted counts t).exits; spents = (counted counts t).spents }
 counted_is counts t =
-    let mid = each put_uses counts.vouchers t in
-    counts_is counts.quotas mid
+    quotas_set counts t
     ∙ ap (λ (u : Tables). record u { counts = (counted counts t).counts; exits = (counted counts t).exits }) (set_is counts.vouchers t)
-    ∙ ap (λ (v : Tables). record t { vouchers = v.vouchers; counts = (counted counts t).counts; exits = (counted counts t).exits; spents = v.spents }) (sym (counts_is counts.quotas mid))
+    ∙ ap (λ (v : Tables). record t { vouchers = v.vouchers; counts = (counted counts t).counts; exits = (counted counts t).exits; spents = v.spents }) (sym (quotas_set counts t))
 
 -- ---- all counts that are listed stand
 
@@ -275,7 +290,7 @@ module _ (old shop : ShopRow) (changes : Changed) (counts : CountRows) (from at 
       all_set counts.vouchers mid it.redeemed kept.in_order (subst (λ (c : CountRows). AllByRecursion (λ d. is_some (row_at of_redeemed d.voucher it.redeemed) ≡ true) c.vouchers) (sym right) stand) it.redeemed_same in
       let here : IsPermutation (redeemed_in (each put_uses counts.vouchers mid)) (map head_of_redeemed (voucher_counts after)) =
       subst (IsPermutation (redeemed_in (each put_uses counts.vouchers mid))) (ap (λ (c : CountRows). with_all of_redeemed (map head_of_redeemed c.vouchers) it.redeemed) right ∙ is) put in
-      subst (λ (l : List VoucherRow). IsPermutation (map count_of l) (map head_of_redeemed (voucher_counts after))) (sym (ap (λ (u : Tables). u.vouchers) (counts_is counts.quotas (each put_uses counts.vouchers mid)))) here
+      subst (λ (l : List VoucherRow). IsPermutation (map count_of l) (map head_of_redeemed (voucher_counts after))) (sym (ap (λ (u : Tables). u.vouchers) (quotas_set counts mid))) here
 
   spents_full : IsPermutation full.spents (map head_of_spent (voucher_counts after))
   spents_full =
@@ -285,7 +300,7 @@ module _ (old shop : ShopRow) (changes : Changed) (counts : CountRows) (from at 
       let put = all_put_spents counts.vouchers mid it.spents kept.in_order it.spents_same in
       let here : IsPermutation (each put_uses counts.vouchers mid).spents (map head_of_spent (voucher_counts after)) =
       subst (IsPermutation (each put_uses counts.vouchers mid).spents) (ap (λ (c : CountRows). with_all of_spent (map head_of_spent c.vouchers) it.spents) right ∙ is) put in
-      subst (λ (l : List SpentRow). IsPermutation l (map head_of_spent (voucher_counts after))) (sym (ap (λ (u : Tables). u.spents) (counts_is counts.quotas (each put_uses counts.vouchers mid)))) here
+      subst (λ (l : List SpentRow). IsPermutation l (map head_of_spent (voucher_counts after))) (sym (ap (λ (u : Tables). u.spents) (quotas_set counts mid))) here
 
   used_full : IsPermutation full.counts (map head_of_count (quota_counts after))
   used_full =
@@ -293,20 +308,23 @@ module _ (old shop : ShopRow) (changes : Changed) (counts : CountRows) (from at 
       let same : set.counts ≡ t.counts = ap (λ (u : Tables). u.counts) (set_is counts.vouchers mid) ∙ as_was.counts in
       let before = order_of_parts (λ q. q.id) (quota_count s) (λ c. c.quota) (λ q. refl) 0 s.lists.catalogue.quotas h.ordered.ids.quotas in
       let put = all_put counts.quotas set (quota_counts s) before (subst (λ l. IsPermutation l (map head_of_count (quota_counts s))) (sym same) h.used) in
-      subst (λ l. IsPermutation full.counts (map head_of_count l)) (ap (λ (c : CountRows). with_all (λ c. c.quota) c.quotas (quota_counts s)) right ∙ quotas_counted changes.list s after refl h.ordered.ids.quotas lists.0.ids.quotas) put
+      let here : IsPermutation (each put_count counts.quotas set).counts (map head_of_count (quota_counts after)) =
+      subst (λ l. IsPermutation (each put_count counts.quotas set).counts (map head_of_count l)) (ap (λ (c : CountRows). with_all (λ c. c.quota) c.quotas (quota_counts s)) right ∙ quotas_counted changes.list s after refl h.ordered.ids.quotas lists.0.ids.quotas) put in
+      subst (λ (l : List CountRow). IsPermutation l (map head_of_count (quota_counts after))) (sym (ap (λ (u : Tables). u.counts) (exits_is counts.exits (each put_count counts.quotas set)))) here
 
   exits_full : IsPermutation full.exits (map head_of_exit (quota_counts after))
   exits_full =
       let set = each put_uses counts.vouchers mid in
-      let same : set.exits ≡ t.exits = ap (λ (u : Tables). u.exits) (set_is counts.vouchers mid) ∙ as_was.exits in
-      let before = order_of_parts (λ q. q.id) (quota_count s) (λ c. c.quota) (λ q. refl) 0 s.lists.catalogue.quotas h.ordered.ids.quotas in
-      let put = all_put_exits counts.quotas set (quota_counts s) before (subst (λ l. IsPermutation l (map head_of_exit (quota_counts s))) (sym same) h.exits) in
-      subst (λ l. IsPermutation full.exits (map head_of_exit l)) (ap (λ (c : CountRows). with_all (λ c. c.quota) c.quotas (quota_counts s)) right ∙ quotas_counted changes.list s after refl h.ordered.ids.quotas lists.0.ids.quotas) put
+      let used = each put_count counts.quotas set in
+      let same : used.exits ≡ t.exits = ap (λ (u : Tables). u.exits) (counts_is counts.quotas set) ∙ ap (λ (u : Tables). u.exits) (set_is counts.vouchers mid) ∙ as_was.exits in
+      let before = map head_of_exit (quota_counts s) in
+      let put = all_put_exits counts.exits used before (exits_in_order s h.ordered.ids.quotas) (subst (λ l. IsPermutation l before) (sym same) h.exits) in
+      subst (IsPermutation full.exits) (ap (λ (c : CountRows). with_all of_exit (map head_of_exit c.exits) before) right ∙ exits_counted changes.list s after refl h.ordered.ids.quotas lists.0.ids.quotas) put
 
   rows_full : AreRowsOf after.lists (rows_of full)
   rows_full =
       let same : map (λ (r : VoucherRow). r.voucher) full.vouchers ≡ map (λ (r : VoucherRow). r.voucher) mid.vouchers =
-      ap (λ (u : Tables). map (λ (r : VoucherRow). r.voucher) u.vouchers) (counts_is counts.quotas (each put_uses counts.vouchers mid)) ∙ set_vouchers_same counts.vouchers mid in
+      ap (λ (u : Tables). map (λ (r : VoucherRow). r.voucher) u.vouchers) (quotas_set counts mid) ∙ set_vouchers_same counts.vouchers mid in
       subst (λ (u : Tables). AreRowsOf after.lists (rows_of u)) (sym full_is) (set_vouchers lists.1 (subst (λ l. IsPermutation l (map head_of_voucher after.lists.vouchers)) (sym same) lists.1.vouchers))
 
   kept_end : IsPermutation (map (λ r. r.kept) end.kept) (with_kept at ks (listed o))

@@ -1,10 +1,9 @@
 -- The counters of a file after changes, once the counts that differ were written.
-use Rattle.std.proofs.Common.{◌≡◌, ℕ, ◌+◌, ◌==◌, eqb, Bool, true, false, cond, not, ◌||◌, ◌&&◌, List, [], ◌∷◌, map, filter, find, Option, Some, None, is_some, is_none, refl, sym, ap, subst, ◌∙◌, arith, ◌⊎◌, inl, inr}
+use Rattle.std.proofs.Common.{◌≡◌, ℕ, ◌+◌, ◌==◌, Bool, true, false, cond, not, ◌||◌, ◌&&◌, List, [], ◌∷◌, map, filter, Option, Some, None, is_some, refl, sym, ap, subst, ◌∙◌, arith, ◌⊎◌, inl, inr}
 use Rattle.std.specs.List.{list_any}
 use Rattle.std.proofs.lemmas.Bool.{and_parts, eqb-true}
 use Rattle.base_sorted.specs.Tables.{row_at, with_row, without_row, InOrderFrom, AreInOrder}
 use Rattle.base_sorted.proofs.Edits.{row_at-with_row, row_at-without_row}
-use Rattle.model_catalogue.specs.declared.rows.Quota.{Quota}
 use Rattle.model_rows.specs.declared.rows.Usage.{Usage}
 use Rattle.model_rows.specs.declared.rows.Voucher.{Voucher}
 use Rattle.model_rows.specs.declared.count_rows.QuotaCount.{QuotaCount}
@@ -12,15 +11,17 @@ use Rattle.model_rows.specs.declared.count_rows.VoucherCount.{VoucherCount}
 use Rattle.model_rows.specs.declared.changes.Change.{Change}
 use Rattle.model_rows.specs.declared.changes.Change.TheVariants.{PutItem, PutVariation, PutQuota, PutVoucher, PutCart, PutOrder, PutPosition, PutWaiting, DropVoucher, DropCart, DropWaiting, PutCheckinList, PutCheckin}
 use Rattle.model_rows.specs.Change.{after_change, after_all}
-use Rattle.model_rows.specs.CountRows.{quota_counts, voucher_counts, quota_count, voucher_count, same_usage, same_quota_count, same_voucher_count, counts_after}
-use Rattle.model_rows.specs.Lists.{Lists, State, voucher_at}
+use Rattle.model_rows.specs.CountRows.{quota_counts, voucher_counts, quota_count, voucher_count, same_usage, same_quota_count, same_exits, same_voucher_count, counts_after}
+use Rattle.model_rows.specs.Lists.{Lists, State}
+use Rattle.file_rows.specs.declared.rows.ExitRow.{ExitRow}
 use Rattle.file_rows.specs.declared.rows.SpentRow.{SpentRow}
+use Rattle.file_rows.specs.Changes.{head_of_exit}
 use Rattle.file_meaning.specs.Counts.{with_all, AllStand, CountsKept}
 use Rattle.file_meaning.specs.Rows.{Redeemed, head_of_redeemed}
 use Rattle.file_meaning.specs.RowsAfter.{redeemed_of, redeemed_by}
 use Rattle.file_meaning.proofs.Order.{put_stays, drop_stays, at_above}
 use Rattle.sqlite.proofs.Callers.{one_permutation}
-use Rattle.sqlite_trees.proofs.ListLemmas.{IsPermutation-filter}
+use Rattle.sqlite_trees.proofs.ListLemmas.{filter-filter, IsPermutation-filter}
 use Rattle.std.specs.List.Sorted.{IsPermutation}
 use Rattle.std.proofs.lemmas.List.Sorted.{IsPermutation-sym, length_permutation}
 use Rattle.std.proofs.lemmas.Bool.Decides.{nat_tests}
@@ -114,6 +115,13 @@ module _ (id : ℕ) where
   stays_all [] lists e = e
   stays_all (change ∷ changes) lists e = stays_one change lists (stays_all changes (after_change change lists) e)
 
+-- a quota that isn't counted wasn't
+none_counted : (changes : List Change) (s z : State) → z.lists ≡ after_all changes s.lists → (id : ℕ) → row_at (λ c. c.quota) id (quota_counts z) ≡ None → row_at (λ c. c.quota) id (quota_counts s) ≡ None
+none_counted changes s z is id none =
+    let gone : row_at (λ q. q.id) id z.lists.catalogue.quotas ≡ None = some_of _ _ (sym (found_part (λ q. q.id) (quota_count z) (λ c. c.quota) (λ q. refl) id z.lists.catalogue.quotas)) none in
+    let was = stays_all id changes s.lists (subst (λ l. row_at (λ q. q.id) id l.catalogue.quotas ≡ None) is gone) in
+    some_of _ _ (found_part (λ q. q.id) (quota_count s) (λ c. c.quota) (λ q. refl) id s.lists.catalogue.quotas) was
+
 -- the counts of quotas, once those that differ were put
 pub quotas_counted : (changes : List Change) (s z : State) → z.lists ≡ after_all changes s.lists → AreInOrder (λ q. q.id) s.lists.catalogue.quotas → AreInOrder (λ q. q.id) z.lists.catalogue.quotas
     → with_all (λ c. c.quota) (counts_after s z).quotas (quota_counts s) ≡ quota_counts z
@@ -122,12 +130,88 @@ quotas_counted changes s z is h k =
     let after = order_of_parts (λ q. q.id) (quota_count z) (λ c. c.quota) (λ q. refl) 0 z.lists.catalogue.quotas k in
     ap (λ l. with_all (λ c. c.quota) l (quota_counts s)) (sym (map_same (counts_after s z).quotas))
     ∙ counts_written (λ c. c.quota) same_quota_count same_quota_tells (λ c. c.quota) (λ c. c) (λ c. refl) (quota_counts s) (quota_counts z) (quota_counts s) before after before
-    (λ id none.
-    let gone : row_at (λ q. q.id) id z.lists.catalogue.quotas ≡ None = some_of _ _ (sym (found_part (λ q. q.id) (quota_count z) (λ c. c.quota) (λ q. refl) id z.lists.catalogue.quotas)) none in
-    let was = stays_all id changes s.lists (subst (λ l. row_at (λ q. q.id) id l.catalogue.quotas ≡ None) is gone) in
-    some_of _ _ (found_part (λ q. q.id) (quota_count s) (λ c. c.quota) (λ q. refl) id s.lists.catalogue.quotas) was)
-    (λ id a e none stood. stood)
+    (none_counted changes s z is) (λ id a e none stood. stood)
     ∙ map_same (quota_counts z)
+
+-- ---- of these, how many tickets are out
+
+abbrev pub of_exit : ExitRow → ℕ
+of_exit r = r.quota
+
+abbrev same_exit : ExitRow → ExitRow → Bool
+same_exit a b = a.quota == b.quota && a.exited == b.exited
+
+same_exit_tells : (a b : ExitRow) → same_exit a b ≡ true → a ≡ b
+same_exit_tells a b e =
+    let parts = and_parts (a.quota == b.quota) (a.exited == b.exited) e in
+    let first : a.quota ≡ b.quota = eqb-true a.quota b.quota parts.0 in
+    let second : a.exited ≡ b.exited = eqb-true a.exited b.exited parts.1 in
+    λ i. record { quota = first i; exited = second i }
+
+-- a count that is the same has the same exits
+same_too : (a b : QuotaCount) → same_quota_count a b ≡ true → same_exits a b ≡ true
+same_too a b e = subst (λ c. same_exits a c ≡ true) (same_quota_tells a b e) (itself a)
+  where
+    itself : (a : QuotaCount) → same_exits a a ≡ true
+    itself a = grind (arith, nat_tests)
+
+among_too : (a : QuotaCount) (before : List QuotaCount) → list_any (same_quota_count a) before ≡ true → list_any (same_exits a) before ≡ true
+among_too a [] e = absurd cc
+among_too a (b ∷ before) e =
+    elim (same_quota_count a b) as (λ t. same_quota_count a b ≡ t → (t || list_any (same_quota_count a) before) ≡ true → (same_exits a b || list_any (same_exits a) before) ≡ true) [
+      | true ↦ λ f _. ap (λ t. t || list_any (same_exits a) before) (same_too a b f)
+      | false ↦ λ f more. elim (same_exits a b) as (λ t. (t || list_any (same_exits a) before) ≡ true) [
+        | true ↦ refl
+        | false ↦ among_too a before more
+      ]
+    ] refl e
+
+-- a count whose exits differ differs
+differs_too : (before : List QuotaCount) (c : QuotaCount) → not (list_any (same_exits c) before) ≡ true → not (list_any (same_quota_count c) before) ≡ true
+differs_too before c e =
+    elim (list_any (same_quota_count c) before) as (λ t. list_any (same_quota_count c) before ≡ t → not t ≡ true) [
+      | true ↦ λ f. absurd (let there = among_too c before f in cc)
+      | false ↦ λ f. refl
+    ] refl
+
+-- rows of exits are tested as their counts are
+among_heads : (c : QuotaCount) (before : List QuotaCount) → list_any (same_exit (head_of_exit c)) (map head_of_exit before) ≡ list_any (same_exits c) before
+among_heads c [] = refl
+among_heads c (b ∷ before) = ap (λ t. same_exits c b || t) (among_heads c before)
+
+-- the rows of exits that differ are those of the counts whose exits differ
+exits_of : (before after : List QuotaCount) → map head_of_exit (filter (λ c. not (list_any (same_exits c) before)) after) ≡ filter (λ r. not (list_any (same_exit r) (map head_of_exit before))) (map head_of_exit after)
+exits_of before [] = refl
+exits_of before (c ∷ after) =
+    let more = exits_of before after in
+    let left = filter (λ c. not (list_any (same_exits c) before)) after in
+    let right = filter (λ r. not (list_any (same_exit r) (map head_of_exit before))) (map head_of_exit after) in
+    elim (list_any (same_exits c) before) as (λ t. map head_of_exit (cond (not t) (c ∷ left) left) ≡ cond (not t) (head_of_exit c ∷ right) right) [
+      | true ↦ more
+      | false ↦ ap (λ l. head_of_exit c ∷ l) more
+    ]
+    ∙ ap (λ t. cond (not t) (head_of_exit c ∷ right) right) (sym (among_heads c before))
+
+pub exits_in_order : (s : State) → AreInOrder (λ q. q.id) s.lists.catalogue.quotas → AreInOrder of_exit (map head_of_exit (quota_counts s))
+exits_in_order s h = order_of_parts (λ c. c.quota) head_of_exit of_exit (λ c. refl) 0 (quota_counts s) (order_of_parts (λ q. q.id) (quota_count s) (λ c. c.quota) (λ q. refl) 0 s.lists.catalogue.quotas h)
+
+-- the rows of exits, once those that differ were put
+pub exits_counted : (changes : List Change) (s z : State) → z.lists ≡ after_all changes s.lists → AreInOrder (λ q. q.id) s.lists.catalogue.quotas → AreInOrder (λ q. q.id) z.lists.catalogue.quotas
+    → with_all of_exit (map head_of_exit (counts_after s z).exits) (map head_of_exit (quota_counts s)) ≡ map head_of_exit (quota_counts z)
+exits_counted changes s z is h k =
+    let before = quota_counts s in
+    let after = quota_counts z in
+    let listed : (counts_after s z).exits ≡ filter (λ c. not (list_any (same_exits c) before)) after =
+    filter-filter (λ (c : QuotaCount). not (list_any (same_exits c) before)) (λ c. not (list_any (same_quota_count c) before)) (differs_too before) after in
+    let differ = filter (λ r. not (list_any (same_exit r) (map head_of_exit before))) (map head_of_exit after) in
+    let rows : map head_of_exit (counts_after s z).exits ≡ map (λ r. r) differ = ap (λ l. map head_of_exit l) listed ∙ exits_of before after ∙ sym (map_same differ) in
+    ap (λ l. with_all of_exit l (map head_of_exit before)) rows
+    ∙ counts_written of_exit same_exit same_exit_tells of_exit (λ r. r) (λ r. refl) (map head_of_exit before) (map head_of_exit after) (map head_of_exit before) (exits_in_order s h) (exits_in_order z k) (exits_in_order s h)
+    (λ id none.
+    let gone = some_of _ _ (sym (found_part (λ c. c.quota) head_of_exit of_exit (λ c. refl) id after)) none in
+    some_of _ _ (found_part (λ c. c.quota) head_of_exit of_exit (λ c. refl) id before) (none_counted changes s z is id gone))
+    (λ id a e none stood. stood)
+    ∙ map_same (map head_of_exit after)
 
 -- ---- vouchers
 

@@ -1,9 +1,8 @@
 -- Rows in order, by what is found under each id.
-use Rattle.std.proofs.Common.{◌≡◌, ℕ, ◌+◌, ◌<◌, ◌≤◌, ◌==◌, eqb, Bool, true, false, cond, not, ◌||◌, List, [], ◌∷◌, map, filter, find, Option, Some, None, is_some, refl, sym, ap, subst, ◌∙◌, arith}
-use Rattle.std.specs.List.{list_any, AllByRecursion}
-use Rattle.std.specs.List.Sorted.{IsPermutation}
+use Rattle.std.proofs.Common.{◌≡◌, ℕ, ◌+◌, ◌≤◌, ◌==◌, Bool, true, false, cond, not, ◌||◌, List, [], ◌∷◌, map, filter, Option, Some, None, refl, sym, ap, subst, ◌∙◌, arith}
+use Rattle.std.specs.List.{list_any}
 use Rattle.std.proofs.lemmas.Bool.Decides.{nat_tests}
-use Rattle.base_sorted.specs.Tables.{row_at, with_row, without_row, InOrderFrom, AreInOrder}
+use Rattle.base_sorted.specs.Tables.{row_at, with_row, InOrderFrom, AreInOrder}
 use Rattle.base_sorted.proofs.Edits.{row_at-with_row, row_at_above}
 use Rattle.file_meaning.specs.Counts.{with_all}
 use Rattle.base_sorted.proofs.Places.{filter_in_order}

@@ -4,7 +4,6 @@ pub mod Counts
 pub mod EachRow
 pub mod Changed
 pub mod Told
-pub mod CountsBack
 pub mod Counting
 pub mod Follow
 pub mod Just

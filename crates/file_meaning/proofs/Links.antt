@@ -1,11 +1,10 @@
 -- The links of rows: what a row that is put makes of them, and that they tell the members.
-use Rattle.std.proofs.Common.{◌≡◌, ℕ, ◌+◌, ◌==◌, Bool, true, false, cond, not, List, [], ◌∷◌, ◌++◌, map, filter, flat_map, refl, sym, ap, ap₂, subst, ◌∙◌, arith, append-nil}
+use Rattle.std.proofs.Common.{◌≡◌, ℕ, ◌+◌, ◌==◌, Bool, true, false, cond, not, List, [], ◌∷◌, ◌++◌, map, filter, refl, ap, ap₂, subst, ◌∙◌, arith, append-nil}
 use Rattle.std.specs.List.{AllByRecursion}
 use Rattle.std.specs.List.Sorted.{IsPermutation}
-use Rattle.std.proofs.lemmas.Bool.Decides.{nat_tests}
-use Rattle.std.proofs.lemmas.List.Sorted.{IsPermutation-refl, IsPermutation-sym, IsPermutation-trans, IsPermutation-map, IsPermutation-append_right}
+use Rattle.std.proofs.lemmas.List.Sorted.{IsPermutation-trans, IsPermutation-map, IsPermutation-append_right}
 use Rattle.sqlite_trees.proofs.ListLemmas.{IsPermutation-filter, IsPermutation-flat_map}
-use Rattle.base_sorted.specs.Tables.{with_row, without_row, InOrderFrom, AreInOrder}
+use Rattle.base_sorted.specs.Tables.{with_row, without_row, AreInOrder}
 use Rattle.file_meaning.specs.Links.{Link, links, all_links, links_but}
 use Rattle.base_sorted.proofs.Places.{order_weaker}
 use Rattle.file_meaning.proofs.Order.{put_in, only_first, first_gone, same_order}

@@ -31,7 +31,7 @@ use Rattle.file_rows.specs.Changes.{head_of_quota, head_of_voucher, head_of_posi
 use Rattle.file_rows.specs.Fit.{IsDigest, IsFitToken, IsFitKept}
 use Rattle.file_rows.specs.Tables.{Tables, no_rows}
 use Rattle.file_meaning.specs.Free.{IsFree}
-use Rattle.file_meaning.specs.Made.{made_by, next_by, made, next_after, put_shop, put_uses, put_count, each, counted, with_listed, without_past, done}
+use Rattle.file_meaning.specs.Made.{made_by, next_by, made, next_after, put_shop, put_uses, put_count, put_exit, each, counted, with_listed, without_past, done}
 use Rattle.file_meaning.specs.Rows.{redeemed_in}
 use Rattle.file_meaning.specs.RowsAfter.{redeemed_of}
 use Rattle.file_meaning.proofs.Carried.{tokens_stay}
@@ -92,8 +92,14 @@ used_typed : (cs : List QuotaCount) (t : Tables) → AreTyped t → AreTyped (ea
 used_typed [] t h = h
 used_typed (c ∷ cs) t h = used_typed cs (put_count c t) h
 
+exits_typed : (cs : List QuotaCount) (t : Tables) → AreTyped t → AreTyped (each put_exit cs t)
+exits_typed [] t h = h
+exits_typed (c ∷ cs) t h = exits_typed cs (put_exit c t) h
+
 counted_typed : (counts : CountRows) (t : Tables) → AreTyped t → AreTyped (counted counts t)
-counted_typed counts t h = used_typed counts.quotas (each put_uses counts.vouchers t) (uses_typed counts.vouchers t h)
+counted_typed counts t h =
+    let set = each put_uses counts.vouchers t in
+    exits_typed counts.exits (each put_count counts.quotas set) (used_typed counts.quotas set (uses_typed counts.vouchers t h))
 
 listed_typed : (rowid : ℕ) (ks : List Kept) (t : Tables) → AllByRecursion IsTypedKept ks → AreTyped t → AreTyped (with_listed rowid ks t)
 listed_typed rowid [] t is h = h

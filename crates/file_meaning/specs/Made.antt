@@ -135,11 +135,15 @@ next_after (change ∷ changes) from = next_after changes (next_by change from)
 abbrev pub put_shop : ShopRow → Tables → Tables
 put_shop w t = with_shop w (without_shop 1 t)
 
--- the rows of a count: what uses the quota, and how many of its tickets are out
+-- the row of what uses the quota of this count takes the place of the one that it had
 abbrev pub put_count : QuotaCount → Tables → Tables
-put_count c t = with_exit (head_of_exit c) (without_exit c.quota (with_count c (without_count c.quota t)))
+put_count c t = with_count c (without_count c.quota t)
 
--- those of a voucher's: how often it is redeemed, in its row, and how much of it is spent
+-- and so does the row of how many of its tickets are out
+abbrev pub put_exit : QuotaCount → Tables → Tables
+put_exit c t = with_exit (head_of_exit c) (without_exit c.quota t)
+
+-- the rows of a voucher's count: how often it is redeemed, in the voucher's row, and how much of it is spent
 abbrev pub put_uses : VoucherCount → Tables → Tables
 put_uses c t = with_spent (head_of_spent c) (without_spent c.voucher (set_redeemed c t))
 
@@ -148,9 +152,10 @@ abbrev pub each : {X : Type 0} → (X → Tables → Tables) → List X → Tabl
 each step [] t = t
 each step (x ∷ xs) t = each step xs (step x t)
 
--- the counters of these quotas and vouchers are set, and all others stay
+-- The counters of these vouchers are set, then those of these quotas, and then how many tickets are out, for the quotas alone where that differs.
+-- All others stay.
 abbrev pub counted : CountRows → Tables → Tables
-counted counts t = each put_count counts.quotas (each put_uses counts.vouchers t)
+counted counts t = each put_exit counts.exits (each put_count counts.quotas (each put_uses counts.vouchers t))
 
 -- the answer that a commit keeps, if it keeps one, in a row of this number
 abbrev pub with_listed : ℕ → List Kept → Tables → Tables

@@ -12,7 +12,6 @@ use Rattle.model_rows.specs.declared.rows.Checkin.{Checkin}
 use Rattle.model_rows.specs.declared.count_rows.QuotaCount.{QuotaCount}
 use Rattle.model_rows.specs.declared.count_rows.VoucherCount.{VoucherCount}
 use Rattle.file_rows.specs.declared.rows.CountRow.{CountRow}
-use Rattle.file_rows.specs.declared.rows.ExitRow.{ExitRow}
 use Rattle.file_rows.specs.declared.rows.QuotaRow.{QuotaRow}
 use Rattle.file_rows.specs.declared.rows.ListRow.{ListRow}
 use Rattle.file_rows.specs.declared.rows.PositionRow.{PositionRow}
@@ -124,12 +123,6 @@ position_of discount w = record { id = w.id; order = w.order; positionid = w.pos
 -- a quota's usage, of which so many tickets are out
 abbrev pub usage_in : CountRow → ℕ → QuotaCount
 usage_in w exited = record { quota = w.quota; usage = record { paid = w.paid; pending = w.pending; blocked = w.blocked; carts = w.carts; waiting = w.waiting; exited = exited } }
-
--- the usages, each with the exits in the same place; where there are no more exits no ticket is out
-abbrev pub usages_in : List CountRow → List ExitRow → List QuotaCount
-usages_in [] exits = []
-usages_in (w ∷ counts) [] = usage_in w 0 ∷ usages_in counts []
-usages_in (w ∷ counts) (e ∷ exits) = usage_in w e.exited ∷ usages_in counts exits
 
 -- a voucher's counts, where so much of it is spent
 abbrev pub uses_in : Redeemed → ℕ → VoucherCount

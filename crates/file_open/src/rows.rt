@@ -80,9 +80,10 @@ fn unarranged(error: ArrangeError) -> OpenError
     }
 }
 
-/// The rows as those of a box office, where they keep the first rules and each link tells a member.
-/// Refusals: 6; 62 by rules 1 to 4, of these by ids where a token's number isn't below the next one, and by names where a link tells
-/// no member; 63.
+/// The rows as those of a box office, where they keep the first rules, each link names a member, and each budget, discount and
+/// release is of a row.
+/// Refusals: 6; 62 by rules 1 to 4, of these by ids where a token's number isn't below the next one, and by names where a link names
+/// no member, or one of the others is of no row; 63.
 pub(crate) fn first_kept(
     alloc: Global,
     shop: &ShopRow,

@@ -93,8 +93,6 @@ fn exits_paired(alloc: Global, counts: &[CountRow], exits: &[ExitRow]) -> Result
     Ok(are_same(counted.as_slice(), out.as_slice()))
 }
 
-// ---- vouchers
-
 // How often each voucher is redeemed, in the order of the rows; of what is spent nothing is told yet.
 fn uses_in(alloc: Global, vouchers: &[VoucherRow]) -> Result<Vec<VoucherCount>, AllocError>
     ensures { IfOk result (λ all. all.items ≡ map (λ r. count_in r 0) vouchers.now) }
@@ -173,8 +171,6 @@ fn spents_paired(
     let spent = vouchers_spent(alloc, spents)?;
     Ok(are_same(ids.as_slice(), spent.as_slice()))
 }
-
-// ---- all of them
 
 /// The counters that stand beside the rows. They are paired where each count has its exits and each voucher what is spent of it, and there
 /// are no others.

@@ -8,3 +8,4 @@ pub mod Blank
 pub mod Versions
 pub mod Grown
 pub mod Whole
+pub mod Inside

@@ -7,12 +7,13 @@ use Rattle.sqlite_schema.specs.declared.schema.Reference.{Reference}
 use Rattle.sqlite_schema.specs.declared.schema.Table.{Table}
 use Rattle.sqlite_schema.specs.declared.schema.Schema.{Schema}
 
--- a reference that does nothing but refuse
+-- an action that does nothing but refuse
 abbrev pub restricts : Action → Bool
 restricts Restrict = true
 restricts NoAction = true
 restricts _ = false
 
+-- a reference that does nothing but refuse, where its parent is deleted and where it is updated
 abbrev pub only_refuses : Reference → Bool
 only_refuses ref = restricts ref.on_delete && restricts ref.on_update
 

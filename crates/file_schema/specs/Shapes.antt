@@ -28,6 +28,7 @@ command_in (Err e) = None
 abbrev pub AsksFor : Command → List ℕ → Type 0
 AsksFor command sql = (command_in (understood schema sql) ≡ Some command) × IsPlain (understood schema sql)
 
+-- so many places, from this one on
 abbrev pub places : ℕ → ℕ → List ℕ
 places from count = range_with_len from count
 
@@ -45,13 +46,15 @@ over tree filter project order = record {
   offset = lit (Int (pos 0));
 }
 
+-- the program that is this query alone
 abbrev pub plainly : Query → Program
 plainly q = record { lets = []; body = q }
 
+-- the two are equal; texts are equal where their bytes are
 abbrev pub equals : Term → Term → Term
 equals a b = op2 (Compare Eq Binary) a b
 
--- INSERT of all columns, of a table with an INTEGER PRIMARY KEY first, and with none
+-- INSERT of all columns, of a table with an INTEGER PRIMARY KEY first
 abbrev pub insert_keyed : ℕ → ℕ → Command
 insert_keyed at more = Insert at (Values (col 0 0 ∷ lit Null ∷ map (col 0) (places 1 more)) (more + 2))
 
@@ -59,16 +62,19 @@ insert_keyed at more = Insert at (Values (col 0 0 ∷ lit Null ∷ map (col 0) (
 abbrev pub delete_keyed : ℕ → ℕ → Command
 delete_keyed at tree = Delete at (plainly (over tree (equals (col 1 0) (col 0 0) ∷ []) (col 1 0 ∷ []) []))
 
+-- UPDATE of all other columns of the row with this rowid, of a table with an INTEGER PRIMARY KEY first
 abbrev pub update_keyed : ℕ → ℕ → ℕ → Command
 update_keyed at tree more = Update at (plainly (over tree (equals (col 1 0) (col 0 0) ∷ []) (col 1 0 ∷ col 1 0 ∷ lit Null ∷ map (col 0) (places 1 more)) []))
 
+-- ORDER BY the rowid, from the least up
 abbrev pub id_order : List (Term × Key)
 id_order = (col 1 0, ascending Binary) ∷ []
 
--- the same for a table with no INTEGER PRIMARY KEY, whose rowid is given
+-- INSERT of all columns, of a table with no INTEGER PRIMARY KEY, whose rowid is given
 abbrev pub insert_rowid : ℕ → ℕ → Command
 insert_rowid at more = Insert at (Values (col 0 0 ∷ map (col 0) (places 1 more)) (more + 1))
 
+-- UPDATE of all columns of the row with this rowid, of a table with no INTEGER PRIMARY KEY
 abbrev pub update_rowid : ℕ → ℕ → ℕ → Command
 update_rowid at tree more = Update at (plainly (over tree (equals (col 1 0) (col 0 0) ∷ []) (col 1 0 ∷ col 1 0 ∷ map (col 0) (places 1 more)) []))
 

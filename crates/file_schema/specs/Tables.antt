@@ -17,6 +17,7 @@ use Rattle.sqlite_schema.specs.declared.schema.Kind.TheVariants.{Integer, Text, 
 
 -- ---- columns of STRICT tables
 
+-- a column of this kind and name, NOT NULL where it is needed
 abbrev column : Kind → Bool → List ℕ → Column
 column kind needed name = record { name = name; kind = kind; is_strict = true; not_null = needed; default = Null; collation = Binary }
 
@@ -24,23 +25,29 @@ column kind needed name = record { name = name; kind = kind; is_strict = true; n
 abbrev id : List ℕ → Column
 id = column Integer false
 
+-- INTEGER NOT NULL
 abbrev number : List ℕ → Column
 number = column Integer true
 
+-- INTEGER
 abbrev number_or_null : List ℕ → Column
 number_or_null = column Integer false
 
+-- TEXT NOT NULL
 abbrev text : List ℕ → Column
 text = column Text true
 
+-- TEXT
 abbrev text_or_null : List ℕ → Column
 text_or_null = column Text false
 
+-- BLOB NOT NULL
 abbrev blob : List ℕ → Column
 blob = column Blob true
 
 -- ---- rules of a table; a column is named by its place from 1, the INTEGER PRIMARY KEY is 0
 
+-- the column at this place is this number
 abbrev is_number : ℕ → ℕ → Term
 is_number at n = op2 (Compare Eq Binary) (col 1 at) (lit (Int (pos n)))
 
@@ -92,6 +99,7 @@ paired name tree columns primary references = record {
 abbrev pub shop_text : List ℕ
 shop_text = codes "CREATE TABLE shop (id INTEGER PRIMARY KEY CHECK (id = 1), version INTEGER NOT NULL, organizer TEXT NOT NULL, event TEXT NOT NULL, moment INTEGER NOT NULL, next_item INTEGER NOT NULL, next_variation INTEGER NOT NULL, next_quota INTEGER NOT NULL, next_voucher INTEGER NOT NULL, next_cart INTEGER NOT NULL, next_order INTEGER NOT NULL, next_position INTEGER NOT NULL, next_waiting INTEGER NOT NULL, next_list INTEGER NOT NULL, next_checkin INTEGER NOT NULL, next_token INTEGER NOT NULL) STRICT"
 
+-- what `shop_text` defines: a row has the id 1, and there is no other
 abbrev pub shop_table : Table
 shop_table =
     keyed (codes "shop") 0
@@ -103,6 +111,7 @@ shop_table =
 abbrev pub items_text : List ℕ
 items_text = codes "CREATE TABLE items (id INTEGER PRIMARY KEY, name TEXT NOT NULL, default_price INTEGER NOT NULL, active INTEGER NOT NULL CHECK (active IN (0, 1)), varied INTEGER NOT NULL CHECK (varied IN (0, 1))) STRICT"
 
+-- what `items_text` defines: an item is active or not, and varied or not
 abbrev pub items_table : Table
 items_table =
     keyed (codes "items") 1
@@ -114,6 +123,7 @@ items_table =
 abbrev pub variations_text : List ℕ
 variations_text = codes "CREATE TABLE variations (id INTEGER PRIMARY KEY, item_id INTEGER NOT NULL REFERENCES items ON DELETE RESTRICT, name TEXT NOT NULL, default_price INTEGER, active INTEGER NOT NULL CHECK (active IN (0, 1))) STRICT"
 
+-- what `variations_text` defines: a variation names its item
 abbrev pub variations_table : Table
 variations_table =
     keyed (codes "variations") 2
@@ -125,6 +135,7 @@ variations_table =
 abbrev pub quotas_text : List ℕ
 quotas_text = codes "CREATE TABLE quotas (id INTEGER PRIMARY KEY, name TEXT NOT NULL, size INTEGER) STRICT"
 
+-- what `quotas_text` defines: a quota without size is unlimited
 abbrev pub quotas_table : Table
 quotas_table =
     keyed (codes "quotas") 3
@@ -136,6 +147,7 @@ quotas_table =
 abbrev pub quota_items_text : List ℕ
 quota_items_text = codes "CREATE TABLE quota_items (quota_id INTEGER NOT NULL REFERENCES quotas ON DELETE RESTRICT, item_id INTEGER NOT NULL REFERENCES items ON DELETE RESTRICT, PRIMARY KEY (quota_id, item_id)) STRICT"
 
+-- what `quota_items_text` defines: a quota has an item at most once
 abbrev pub quota_items_table : Table
 quota_items_table =
     paired (codes "quota_items") 4
@@ -147,6 +159,7 @@ quota_items_table =
 abbrev pub quota_variations_text : List ℕ
 quota_variations_text = codes "CREATE TABLE quota_variations (quota_id INTEGER NOT NULL REFERENCES quotas ON DELETE RESTRICT, variation_id INTEGER NOT NULL REFERENCES variations ON DELETE RESTRICT, PRIMARY KEY (quota_id, variation_id)) STRICT"
 
+-- what `quota_variations_text` defines: a quota has a variation at most once
 abbrev pub quota_variations_table : Table
 quota_variations_table =
     paired (codes "quota_variations") 6
@@ -158,6 +171,7 @@ quota_variations_table =
 abbrev pub vouchers_text : List ℕ
 vouchers_text = codes "CREATE TABLE vouchers (id INTEGER PRIMARY KEY, code TEXT NOT NULL UNIQUE, max_usages INTEGER NOT NULL, valid_until INTEGER, block_quota INTEGER NOT NULL CHECK (block_quota IN (0, 1)), allow_ignore_quota INTEGER NOT NULL CHECK (allow_ignore_quota IN (0, 1)), price_mode TEXT NOT NULL, amount INTEGER, item_id INTEGER REFERENCES items ON DELETE RESTRICT, variation_id INTEGER REFERENCES variations ON DELETE RESTRICT, quota_id INTEGER REFERENCES quotas ON DELETE RESTRICT, tag TEXT NOT NULL, comment TEXT NOT NULL, redeemed INTEGER NOT NULL) STRICT"
 
+-- what `vouchers_text` defines: no two vouchers have one code, and each may name an item, a variation and a quota
 abbrev pub vouchers_table : Table
 vouchers_table =
     keyed (codes "vouchers") 8
@@ -169,6 +183,7 @@ vouchers_table =
 abbrev pub cart_positions_text : List ℕ
 cart_positions_text = codes "CREATE TABLE cart_positions (id INTEGER PRIMARY KEY, cart_id TEXT NOT NULL, item_id INTEGER NOT NULL REFERENCES items ON DELETE RESTRICT, variation_id INTEGER REFERENCES variations ON DELETE RESTRICT, price INTEGER NOT NULL, made_at INTEGER NOT NULL, expires INTEGER NOT NULL, voucher_id INTEGER REFERENCES vouchers ON DELETE RESTRICT) STRICT"
 
+-- what `cart_positions_text` defines: a cart position names its item, and maybe a variation and a voucher
 abbrev pub cart_positions_table : Table
 cart_positions_table =
     keyed (codes "cart_positions") 10
@@ -180,6 +195,7 @@ cart_positions_table =
 abbrev pub orders_text : List ℕ
 orders_text = codes "CREATE TABLE orders (id INTEGER PRIMARY KEY, email TEXT, status TEXT NOT NULL, made_at INTEGER NOT NULL, expires INTEGER NOT NULL) STRICT"
 
+-- what `orders_text` defines: an order names no other row
 abbrev pub orders_table : Table
 orders_table =
     keyed (codes "orders") 11
@@ -191,6 +207,7 @@ orders_table =
 abbrev pub order_positions_text : List ℕ
 order_positions_text = codes "CREATE TABLE order_positions (id INTEGER PRIMARY KEY, order_id INTEGER NOT NULL REFERENCES orders ON DELETE RESTRICT, positionid INTEGER NOT NULL, item_id INTEGER NOT NULL REFERENCES items ON DELETE RESTRICT, variation_id INTEGER REFERENCES variations ON DELETE RESTRICT, price INTEGER NOT NULL, voucher_id INTEGER REFERENCES vouchers ON DELETE RESTRICT, secret TEXT NOT NULL UNIQUE, UNIQUE (order_id, positionid)) STRICT"
 
+-- what `order_positions_text` defines: no two tickets have one secret, nor one order and one number in it
 abbrev pub order_positions_table : Table
 order_positions_table =
     keyed (codes "order_positions") 12
@@ -202,6 +219,7 @@ order_positions_table =
 abbrev pub waiting_text : List ℕ
 waiting_text = codes "CREATE TABLE waiting (id INTEGER PRIMARY KEY, email TEXT NOT NULL, item_id INTEGER NOT NULL REFERENCES items ON DELETE RESTRICT, variation_id INTEGER REFERENCES variations ON DELETE RESTRICT, priority INTEGER NOT NULL, created INTEGER NOT NULL, voucher_id INTEGER REFERENCES vouchers ON DELETE RESTRICT) STRICT"
 
+-- what `waiting_text` defines: a waiting entry names its item, and maybe a variation and the voucher that was sent to it
 abbrev pub waiting_table : Table
 waiting_table =
     keyed (codes "waiting") 15
@@ -213,6 +231,7 @@ waiting_table =
 abbrev pub checkin_lists_text : List ℕ
 checkin_lists_text = codes "CREATE TABLE checkin_lists (id INTEGER PRIMARY KEY, name TEXT NOT NULL, all_products INTEGER NOT NULL CHECK (all_products IN (0, 1)), include_pending INTEGER NOT NULL CHECK (include_pending IN (0, 1)), multiple INTEGER NOT NULL CHECK (multiple IN (0, 1)), after_exit INTEGER NOT NULL CHECK (after_exit IN (0, 1))) STRICT"
 
+-- what `checkin_lists_text` defines: each of the four settings of a list is on or off
 abbrev pub checkin_lists_table : Table
 checkin_lists_table =
     keyed (codes "checkin_lists") 16
@@ -224,6 +243,7 @@ checkin_lists_table =
 abbrev pub list_items_text : List ℕ
 list_items_text = codes "CREATE TABLE list_items (list_id INTEGER NOT NULL REFERENCES checkin_lists ON DELETE RESTRICT, item_id INTEGER NOT NULL REFERENCES items ON DELETE RESTRICT, PRIMARY KEY (list_id, item_id)) STRICT"
 
+-- what `list_items_text` defines: a list has an item at most once
 abbrev pub list_items_table : Table
 list_items_table =
     paired (codes "list_items") 17
@@ -235,6 +255,7 @@ list_items_table =
 abbrev pub checkins_text : List ℕ
 checkins_text = codes "CREATE TABLE checkins (id INTEGER PRIMARY KEY, list_id INTEGER NOT NULL REFERENCES checkin_lists ON DELETE RESTRICT, position_id INTEGER NOT NULL REFERENCES order_positions ON DELETE RESTRICT, kind TEXT NOT NULL, at INTEGER NOT NULL, nonce TEXT, UNIQUE (list_id, position_id, nonce)) STRICT"
 
+-- what `checkins_text` defines: a list has a nonce at most once for a ticket
 abbrev pub checkins_table : Table
 checkins_table =
     keyed (codes "checkins") 19
@@ -246,6 +267,7 @@ checkins_table =
 abbrev pub quota_count_text : List ℕ
 quota_count_text = codes "CREATE TABLE quota_count (quota_id INTEGER PRIMARY KEY REFERENCES quotas ON DELETE RESTRICT, paid INTEGER NOT NULL, pending INTEGER NOT NULL, blocked INTEGER NOT NULL, carts INTEGER NOT NULL, waiting INTEGER NOT NULL) STRICT"
 
+-- what `quota_count_text` defines: one row for a quota, with its id
 abbrev pub quota_count_table : Table
 quota_count_table =
     keyed (codes "quota_count") 21
@@ -257,6 +279,7 @@ quota_count_table =
 abbrev pub tokens_text : List ℕ
 tokens_text = codes "CREATE TABLE tokens (id INTEGER PRIMARY KEY, digest BLOB NOT NULL UNIQUE) STRICT"
 
+-- what `tokens_text` defines: no two tokens have one digest
 abbrev pub tokens_table : Table
 tokens_table =
     keyed (codes "tokens") 22
@@ -268,6 +291,7 @@ tokens_table =
 abbrev pub kept_text : List ℕ
 kept_text = codes "CREATE TABLE kept (token_id INTEGER NOT NULL REFERENCES tokens ON DELETE RESTRICT, request_key BLOB NOT NULL, first_moment INTEGER NOT NULL, status INTEGER NOT NULL, allow TEXT NOT NULL, body BLOB NOT NULL, PRIMARY KEY (token_id, request_key)) STRICT"
 
+-- what `kept_text` defines: a token has a key at most once
 abbrev pub kept_table : Table
 kept_table =
     paired (codes "kept") 24
@@ -279,6 +303,7 @@ kept_table =
 abbrev pub quota_release_text : List ℕ
 quota_release_text = codes "CREATE TABLE quota_release (quota_id INTEGER PRIMARY KEY REFERENCES quotas ON DELETE RESTRICT) STRICT"
 
+-- what `quota_release_text` defines: a row is no more than the id of its quota
 abbrev pub quota_release_table : Table
 quota_release_table =
     keyed (codes "quota_release") 27
@@ -290,6 +315,7 @@ quota_release_table =
 abbrev pub quota_exited_text : List ℕ
 quota_exited_text = codes "CREATE TABLE quota_exited (quota_id INTEGER PRIMARY KEY REFERENCES quotas ON DELETE RESTRICT, exited INTEGER NOT NULL) STRICT"
 
+-- what `quota_exited_text` defines: one row for a quota, with its id
 abbrev pub quota_exited_table : Table
 quota_exited_table =
     keyed (codes "quota_exited") 28
@@ -301,6 +327,7 @@ quota_exited_table =
 abbrev pub voucher_budget_text : List ℕ
 voucher_budget_text = codes "CREATE TABLE voucher_budget (voucher_id INTEGER PRIMARY KEY REFERENCES vouchers ON DELETE RESTRICT, budget INTEGER NOT NULL) STRICT"
 
+-- what `voucher_budget_text` defines: one row for a voucher, with its id
 abbrev pub voucher_budget_table : Table
 voucher_budget_table =
     keyed (codes "voucher_budget") 29
@@ -312,6 +339,7 @@ voucher_budget_table =
 abbrev pub voucher_spent_text : List ℕ
 voucher_spent_text = codes "CREATE TABLE voucher_spent (voucher_id INTEGER PRIMARY KEY REFERENCES vouchers ON DELETE RESTRICT, spent INTEGER NOT NULL) STRICT"
 
+-- what `voucher_spent_text` defines: one row for a voucher, with its id
 abbrev pub voucher_spent_table : Table
 voucher_spent_table =
     keyed (codes "voucher_spent") 30
@@ -323,6 +351,7 @@ voucher_spent_table =
 abbrev pub position_discount_text : List ℕ
 position_discount_text = codes "CREATE TABLE position_discount (position_id INTEGER PRIMARY KEY REFERENCES order_positions ON DELETE RESTRICT, discount INTEGER NOT NULL) STRICT"
 
+-- what `position_discount_text` defines: one row for a ticket, with its id
 abbrev pub position_discount_table : Table
 position_discount_table =
     keyed (codes "position_discount") 31
@@ -366,9 +395,11 @@ index name tree table columns = record { name = name; tree = tree; table = table
 abbrev pub kept_by_moment_text : List ℕ
 kept_by_moment_text = codes "CREATE INDEX kept_by_moment ON kept (first_moment)"
 
+-- what `kept_by_moment_text` defines: the table `kept` by its third column, where one moment may be of many rows
 abbrev pub kept_by_moment : Index
 kept_by_moment = record { name = codes "kept_by_moment"; tree = 26; table = 24; columns = 3 ∷ []; order = plain; is_unique = false }
 
+-- the indexes in the order of their trees: one for each thing that is UNIQUE, and that of kept answers
 abbrev pub all_indexes : List Index
 all_indexes =
     index (codes "sqlite_autoindex_quota_items_1") 5 4 (1 ∷ 2 ∷ [])
@@ -390,5 +421,6 @@ schema_of tables indexes = record { tables = take tables all_tables; indexes = t
 abbrev pub this_version : ℕ
 this_version = 3
 
+-- all tables and all indexes, and no views
 abbrev pub schema : Schema
 schema = record { tables = all_tables; indexes = all_indexes; views = [] }

@@ -31,6 +31,7 @@ steps =
     ∷ (voucher_spent_text, schema_of 21 10)
     ∷ (position_discount_text, schema_of 22 10) ∷ []
 
+-- the texts of these statements, in order
 abbrev pub statement_texts : List (List ℕ)
 statement_texts = map (λ it. it.0) steps
 
@@ -51,5 +52,6 @@ statements_of (suc zero) = 18
 statements_of (suc (suc zero)) = 20
 statements_of (suc (suc (suc version))) = 23
 
+-- the tables and indexes of a version
 abbrev pub schema_of_version : ℕ → Schema
 schema_of_version version = schema_after (statements_of version)

@@ -2,7 +2,8 @@
 
 ghost use Rattle.std.specs.Prelude.{◌≡◌, map, OnOk};
 ghost use Rattle.sqlite.specs.Held.{state};
-ghost use Rattle.sqlite.specs.State.{HasCleanDisk, Survives, KeepsCommit};
+ghost use Rattle.sqlite.specs.State.{HasCleanDisk};
+ghost use Rattle.file_schema.specs.Inside.{StaysInside};
 ghost use Rattle.file_schema.specs.Tables.{schema};
 ghost use Rattle.file_schema.specs.Grown.{Grows, IsInsideOver};
 ghost use Rattle.file_schema.specs.Versions.{schema_after, schema_of_version, statement_texts, statements_of};
@@ -82,10 +83,8 @@ fn run_from<S: Alter>(
     from: usize,
 ) -> Result<(), RowError>
     requires { map (λ s. s.now) statements.now ≡ statement_texts }
-    ensures same { tx.new.conn.ghost_name ≡ tx.old.conn.ghost_name }
+    ensures inside { StaysInside S.Store tx.old.conn tx.new.conn }
     ensures grown { HasCleanDisk (state S.Store tx.new.conn.now) → IsInsideOver (schema_after from) (state S.Store tx.old.conn.now) → OnOk result (Grows (schema_after from) schema (state S.Store tx.old.conn.now) (state S.Store tx.new.conn.now)) }
-    ensures kept { HasCleanDisk (state S.Store tx.new.conn.now) → KeepsCommit (state S.Store tx.old.conn.now) (state S.Store tx.new.conn.now) }
-    ensures crash { Survives (state S.Store tx.old.conn.now) (state S.Store tx.new.conn.now) (λ _. ⊥) }
 {
     'statements: for at in from..statements.len() {
         run(tx, statements[at], &[])?;
@@ -96,10 +95,8 @@ fn run_from<S: Alter>(
 /// Makes the tables that this version has and an earlier one hasn't, inside a transaction over those of the earlier one; 0 has none. The
 /// tables that stood keep their rows, and the new ones have none. Refusals: 6, 63 where the store refuses a statement.
 pub fn add_tables<S: Alter>(tx: &mut Transaction<'_, S>, from: u64) -> Result<(), RowError>
-    ensures same { tx.new.conn.ghost_name ≡ tx.old.conn.ghost_name }
+    ensures inside { StaysInside S.Store tx.old.conn tx.new.conn }
     ensures grown { HasCleanDisk (state S.Store tx.new.conn.now) → IsInsideOver (schema_of_version from) (state S.Store tx.old.conn.now) → OnOk result (Grows (schema_of_version from) schema (state S.Store tx.old.conn.now) (state S.Store tx.new.conn.now)) }
-    ensures kept { HasCleanDisk (state S.Store tx.new.conn.now) → KeepsCommit (state S.Store tx.old.conn.now) (state S.Store tx.new.conn.now) }
-    ensures crash { Survives (state S.Store tx.old.conn.now) (state S.Store tx.new.conn.now) (λ _. ⊥) }
 {
     let statements: [&str; 23] = STATEMENTS;
     run_from(tx, statements.as_slice(), statements_of(from))

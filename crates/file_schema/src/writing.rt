@@ -1,10 +1,11 @@
 //! What is written.
 
-ghost use Rattle.std.specs.Prelude.{◌≡◌, true, false, IsTrue, IfOk, OnOk, OnErr};
+ghost use Rattle.std.specs.Prelude.{◌≡◌, true, IsTrue, IfOk, OnOk, OnErr};
 ghost use Rattle.sqlite_schema.specs.declared.schema.Schema.{Schema};
 ghost use Rattle.sqlite.specs.Effect.{Database, IsDatabase};
 ghost use Rattle.sqlite.specs.Held.{state};
-ghost use Rattle.sqlite.specs.State.{HasCleanDisk, Survives, IsLive, KeepsCommit, IsUnchanged};
+ghost use Rattle.sqlite.specs.State.{HasCleanDisk, Survives, IsLive, IsUnchanged};
+ghost use Rattle.file_schema.specs.Inside.{StaysInside};
 ghost use Rattle.file_schema.specs.Whole.{IsOver, IsStill, IsWritten, MayBeWritten};
 
 use crate::RowError;
@@ -20,11 +21,9 @@ pub trait Writing<T> {
 
     /// Writes it, inside a transaction. The trees list the schema, as they did.
     fn write<S: Alter>(&self, tx: &mut Transaction<'_, S>) -> Result<T, RowError>
-        ensures same { tx.new.conn.ghost_name ≡ tx.old.conn.ghost_name }
+        ensures inside { StaysInside S.Store tx.old.conn tx.new.conn }
         ensures written { HasCleanDisk (state S.Store tx.new.conn.now) → (state S.Store tx.old.conn.now).in_transaction ≡ true → (state S.Store tx.old.conn.now).now.schema ≡ over self.now → IsDatabase (state S.Store tx.old.conn.now).now
-            → IfOk result (λ answer. ((state S.Store tx.new.conn.now).in_transaction ≡ true) × turns self.now answer (state S.Store tx.old.conn.now).now (state S.Store tx.new.conn.now).now × IsDatabase (state S.Store tx.new.conn.now).now) }
-        ensures kept { HasCleanDisk (state S.Store tx.new.conn.now) → KeepsCommit (state S.Store tx.old.conn.now) (state S.Store tx.new.conn.now) }
-        ensures crash { Survives (state S.Store tx.old.conn.now) (state S.Store tx.new.conn.now) (λ _. ⊥) };
+            → IfOk result (λ answer. ((state S.Store tx.new.conn.now).in_transaction ≡ true) × turns self.now answer (state S.Store tx.old.conn.now).now (state S.Store tx.new.conn.now).now × IsDatabase (state S.Store tx.new.conn.now).now) };
 }
 
 /// What a connection promises: while it is open its trees list the schema that it sees. It does nothing.
@@ -36,10 +35,8 @@ pub fn schema_known<S: Alter>(connection: &Connection<S>)
 
 // Whether the connection is open, which its other calls don't tell.
 pub(crate) fn test_open<S: Alter>(tx: &mut Transaction<'_, S>) -> Result<(), RowError>
-    ensures same { tx.new.conn.ghost_name ≡ tx.old.conn.ghost_name }
+    ensures inside { StaysInside S.Store tx.old.conn tx.new.conn }
     ensures open { HasCleanDisk (state S.Store tx.new.conn.now) → OnOk result (IsUnchanged (state S.Store tx.old.conn.now) (state S.Store tx.new.conn.now)) }
-    ensures kept { HasCleanDisk (state S.Store tx.new.conn.now) → KeepsCommit (state S.Store tx.old.conn.now) (state S.Store tx.new.conn.now) }
-    ensures crash { Survives (state S.Store tx.old.conn.now) (state S.Store tx.new.conn.now) (λ _. ⊥) }
 {
     match tx.prepare("SELECT 1") {
         Ok(_) => Ok(()),
@@ -52,12 +49,10 @@ fn write_open<S: Alter, T: Drop, W: Writing<T>>(
     tx: &mut Transaction<'_, S>,
     what: &W,
 ) -> Result<T, RowError>
-    ensures same { tx.new.conn.ghost_name ≡ tx.old.conn.ghost_name }
+    ensures inside { StaysInside S.Store tx.old.conn tx.new.conn }
     ensures written { HasCleanDisk (state S.Store tx.new.conn.now) → (state S.Store tx.old.conn.now).in_transaction ≡ true → (state S.Store tx.old.conn.now).now.schema ≡ W.over what.now → IsDatabase (state S.Store tx.old.conn.now).now
         → IfOk result (λ answer. ((state S.Store tx.new.conn.now).in_transaction ≡ true) × W.turns what.now answer (state S.Store tx.old.conn.now).now (state S.Store tx.new.conn.now).now × IsDatabase (state S.Store tx.new.conn.now).now) }
     ensures open { HasCleanDisk (state S.Store tx.new.conn.now) → OnOk result (IsTrue (state S.Store tx.old.conn.now).is_open) }
-    ensures kept { HasCleanDisk (state S.Store tx.new.conn.now) → KeepsCommit (state S.Store tx.old.conn.now) (state S.Store tx.new.conn.now) }
-    ensures crash { Survives (state S.Store tx.old.conn.now) (state S.Store tx.new.conn.now) (λ _. ⊥) }
 {
     test_open(tx)?;
     what.write(tx)

@@ -1,18 +1,17 @@
 -- The counts of a commit, one after another.
 use Rattle.std.proofs.Common.{◌≡◌, ℕ, List, [], ◌∷◌, refl, subst, ap, ◌∙◌}
 use Rattle.sqlite.specs.State.{State}
-use Rattle.model_rows.specs.declared.count_rows.QuotaCount.{QuotaCount}
 use Rattle.model_rows.specs.declared.count_rows.VoucherCount.{VoucherCount}
 use Rattle.model_rows.specs.CountRows.{CountRows}
 use Rattle.file_rows.specs.Tables.{Tables}
-use Rattle.file_rows.specs.Changes.{Changes, ChangesFit, with_count, without_count, head_of_exit, with_exit, without_exit, head_of_spent, with_spent, without_spent}
+use Rattle.file_rows.specs.Changes.{Changes, ChangesFit, head_of_spent, with_spent, without_spent}
 use Rattle.file_meaning.specs.Free.{IsFree}
 use Rattle.file_writes.specs.Vouchers as rows
-use Rattle.file_meaning.specs.Made.{put_count, put_uses, set_redeemed, each, counted}
+use Rattle.file_meaning.specs.Made.{put_count, put_exit, put_uses, set_redeemed, each, counted}
 use Rattle.file_tables.specs.Free.{uses_stay_free}
 use Rattle.file_tables.specs.Steps.{made_each, next_each}
 use Rattle.file_tables.proofs.RowLemmas.{redeemed_set}
-use Rattle.file_tables.proofs.Steps.{fits_all, then_fits}
+use Rattle.file_tables.proofs.Steps.{fits_all, fits_as, then_fits}
 
 module _ {T : Type 0} (step : T → Tables → Tables) where
   abbrev pub each_of : List T → ℕ → Tables → Tables
@@ -31,25 +30,18 @@ free_uses : (xs : List VoucherCount) (from : ℕ) (t : Tables) → IsFree from t
 free_uses [] from t h = h
 free_uses (x ∷ xs) from t h = free_uses xs from (put_uses x t) (uses_stay_free x from t h)
 
--- the vouchers' counts, and then those of quotas
-pub all_counted : (counts : CountRows) (from free : ℕ) (old mid new : State) → free ≡ next_each (λ (x : VoucherCount) n. n) counts.vouchers from → ChangesFit (IsFree from) (each_of put_uses counts.vouchers from) old mid
-    → ChangesFit (IsFree free) (each_of put_count counts.quotas free) mid new → ChangesFit (IsFree from) (counted counts) old new
-all_counted counts from free old mid new is a b =
+-- the vouchers' counts, then those of quotas, and then how many tickets are out
+pub all_counted : (counts : CountRows) (from free : ℕ) (old set used new : State) → free ≡ next_each (λ (x : VoucherCount) n. n) counts.vouchers from → ChangesFit (IsFree from) (each_of put_uses counts.vouchers from) old set
+    → ChangesFit (IsFree free) (each_of put_count counts.quotas free) set used → Changes (each put_exit counts.exits) used new → ChangesFit (IsFree from) (counted counts) old new
+all_counted counts from free old set used new is a b c =
     let same : free ≡ from = is ∙ next_same counts.vouchers from in
-    let b2 : ChangesFit (IsFree from) (each_of put_count counts.quotas from) mid new = subst (λ n. ChangesFit (IsFree n) (each_of put_count counts.quotas n) mid new) same b in
-    let both = then_fits (IsFree from) (IsFree from) (each_of put_uses counts.vouchers from) (each_of put_count counts.quotas from) old mid new (free_uses counts.vouchers from) a b2 in
-    Rattle.file_tables.proofs.Steps.fits_as (IsFree from) (λ t. each_of put_count counts.quotas from (each_of put_uses counts.vouchers from t)) (counted counts) old new
-    (λ t. same_each put_count counts.quotas from (each_of put_uses counts.vouchers from t) ∙ ap (each put_count counts.quotas) (same_each put_uses counts.vouchers from t)) both
-
--- both rows of a count
-pub count_put : (Fits : Tables → Type 0) (c : QuotaCount) (old mid new : State) → Changes (λ t. with_count c (without_count c.quota t)) old mid → Changes (λ t. with_exit (head_of_exit c) (without_exit c.quota t)) mid new → ChangesFit Fits (put_count c) old new
-count_put Fits c old mid new a b = record {
-  known = b.known;
-  inside = b.inside;
-  committed = b.committed ∙ a.committed;
-  listed = λ d. b.listed (a.listed d);
-  holds = λ t fits held. b.holds (with_count c (without_count c.quota t)) (a.holds t held);
-}
+    let b2 : ChangesFit (IsFree from) (each_of put_count counts.quotas from) set used = subst (λ n. ChangesFit (IsFree n) (each_of put_count counts.quotas n) set used) same b in
+    let both = then_fits (IsFree from) (IsFree from) (each_of put_uses counts.vouchers from) (each_of put_count counts.quotas from) old set used (free_uses counts.vouchers from) a b2 in
+    let first : Tables → Tables = λ t. each_of put_count counts.quotas from (each_of put_uses counts.vouchers from t) in
+    let last = each put_exit counts.exits in
+    fits_as (IsFree from) (λ t. last (first t)) (counted counts) old new
+    (λ t. ap last (same_each put_count counts.quotas from (each_of put_uses counts.vouchers from t) ∙ ap (each put_count counts.quotas) (same_each put_uses counts.vouchers from t)))
+    (then_fits (IsFree from) (λ _. Unit {0}) first last old used new (λ t fits. tt) both (fits_all (λ _. Unit {0}) last used new c))
 
 -- how often a voucher is redeemed, and what is spent of it
 pub uses_put : (Fits : Tables → Type 0) (c : VoucherCount) (old mid new : State) → Changes (rows.set_redeemed c) old mid → Changes (λ t. with_spent (head_of_spent c) (without_spent c.voucher t)) mid new → ChangesFit Fits (put_uses c) old new

@@ -115,14 +115,8 @@ added w t = record t { discounts = map (λ n. record { position_id = w.id; disco
 abbrev discount_so : OrderPos → Bool → Tables → Tables
 discount_so w b t = record t { discounts = map (λ n. record { position_id = w.id; discount = n }) (cond b [] (w.discount ∷ [])) ++ t.discounts }
 
-pub discount_none : (w : OrderPos) (old new : State) → (w.discount == 0) ≡ true → Changes (λ t. t) old new → Changes (added w) old new
-discount_none w old new is h = changes_as (discount_so w true) (added w) old new (λ t. ap (λ b. discount_so w b t) (sym is)) h
-
 pub discount_added : (w : OrderPos) (old new : State) → (w.discount == 0) ≡ false → Changes (with_discount (record { position_id = w.id; discount = w.discount })) old new → Changes (added w) old new
 discount_added w old new is h = changes_as (discount_so w false) (added w) old new (λ t. ap (λ b. discount_so w b t) (sym is)) h
-
-pub discount_kept : (id : ℕ) (stood : Bool) (old new : State) → stood ≡ false → Changes (λ t. t) old new → Changes (dropped_if stood id) old new
-discount_kept id stood old new is h = changes_as (dropped_if false id) (dropped_if stood id) old new (λ t. ap (λ b. dropped_if b id t) (sym is)) h
 
 pub discount_dropped : (id : ℕ) (stood : Bool) (old new : State) → stood ≡ true → Changes (without_discount id) old new → Changes (dropped_if stood id) old new
 discount_dropped id stood old new is h = changes_as (dropped_if true id) (dropped_if stood id) old new (λ t. ap (λ b. dropped_if b id t) (sym is)) h

@@ -1,8 +1,9 @@
 //! A file is brought to this version.
 
-ghost use Rattle.std.specs.Prelude.{◌≡◌, OnOk, OnErr};
+ghost use Rattle.std.specs.Prelude.{OnOk, OnErr};
 ghost use Rattle.sqlite.specs.Held.{state};
-ghost use Rattle.sqlite.specs.State.{HasCleanDisk, Survives, KeepsCommit};
+ghost use Rattle.sqlite.specs.State.{HasCleanDisk, Survives};
+ghost use Rattle.file_schema.specs.Inside.{StaysInside};
 ghost use Rattle.file_rows.specs.Changes.{IsInside, Changes};
 ghost use Rattle.file_schema.specs.Versions.{schema_of_version};
 ghost use Rattle.file_schema.specs.Whole.{IsOver, IsStill, IsWritten, MayBeWritten};
@@ -16,10 +17,8 @@ use sqlite::{Alter, Connection, Transaction};
 
 // Adds rows, whose keys have to be new.
 fn add_rows<S: Alter, T: Stored>(tx: &mut Transaction<'_, S>, rows: &[T]) -> Result<(), RowError>
-    ensures same { tx.new.conn.ghost_name ≡ tx.old.conn.ghost_name }
+    ensures inside { StaysInside S.Store tx.old.conn tx.new.conn }
     ensures written { HasCleanDisk (state S.Store tx.new.conn.now) → IsInside (state S.Store tx.old.conn.now) → OnOk result (Changes (each T.Stored.with_row rows.now) (state S.Store tx.old.conn.now) (state S.Store tx.new.conn.now)) }
-    ensures kept { HasCleanDisk (state S.Store tx.new.conn.now) → KeepsCommit (state S.Store tx.old.conn.now) (state S.Store tx.new.conn.now) }
-    ensures crash { Survives (state S.Store tx.old.conn.now) (state S.Store tx.new.conn.now) (λ _. ⊥) }
 {
     'rows: for row in rows {
         row.insert(tx)?;

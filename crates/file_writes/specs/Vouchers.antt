@@ -19,6 +19,7 @@ voucher_values w = number w.id ∷ Text w.code ∷ number w.max_usages ∷ or_nu
 abbrev pub redeemed_of : ℕ → List VoucherRow → ℕ
 redeemed_of id rows = sum_at (λ r. r.redeemed) (row_at (λ r. r.voucher.id) id rows)
 
+-- the rows but that of the voucher of this id
 abbrev pub without_id : ℕ → List VoucherRow → List VoucherRow
 without_id id rows = filter (λ r. not (r.voucher.id == id)) rows
 
@@ -34,5 +35,6 @@ put_voucher w t = record t { vouchers = record { voucher = head_of_voucher w; re
 abbrev pub set_redeemed : VoucherCount → Tables → Tables
 set_redeemed c t = record t { vouchers = map (λ (r : VoucherRow). record r { redeemed = c.redeemed }) (filter (λ r. r.voucher.id == c.voucher) t.vouchers) ++ without_id c.voucher t.vouchers }
 
+-- the tables without the voucher of this id
 abbrev pub without_voucher : ℕ → Tables → Tables
 without_voucher id t = record t { vouchers = without_id id t.vouchers }

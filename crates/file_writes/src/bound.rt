@@ -3,7 +3,8 @@
 ghost use Rattle.std.specs.Prelude.{◌≡◌, ◌≤◌, length, true, Ok, IfOk};
 ghost use Rattle.sqlite_value.specs.Order.{Row};
 ghost use Rattle.sqlite.specs.Held.{state};
-ghost use Rattle.sqlite.specs.State.{HasCleanDisk, Survives, KeepsCommit, Executes};
+ghost use Rattle.sqlite.specs.State.{HasCleanDisk, Executes};
+ghost use Rattle.file_schema.specs.Inside.{StaysInside};
 ghost use Rattle.file_writes.specs.Bound.{AreBound};
 
 use file_schema::{RowError, run};
@@ -17,11 +18,9 @@ pub(crate) fn run_bound<S: Alter>(
     columns: &[Result<ValueRef<'_>, RowError>],
 ) -> Result<usize, RowError>
     requires { length columns.now ≤ 16 }
-    ensures same { tx.new.conn.ghost_name ≡ tx.old.conn.ghost_name }
+    ensures inside { StaysInside S.Store tx.old.conn tx.new.conn }
     ensures ran { HasCleanDisk (state S.Store tx.new.conn.now) → (state S.Store tx.old.conn.now).in_transaction ≡ true
         → IfOk result (λ count. (values : Row) → AreBound columns.now values → Executes sql.now values (state S.Store tx.old.conn.now) (state S.Store tx.new.conn.now) (Ok count)) }
-    ensures kept { HasCleanDisk (state S.Store tx.new.conn.now) → KeepsCommit (state S.Store tx.old.conn.now) (state S.Store tx.new.conn.now) }
-    ensures crash { Survives (state S.Store tx.old.conn.now) (state S.Store tx.new.conn.now) (λ _. ⊥) }
 {
     let mut params = [ValueRef::Null; 16];
     let count = columns.len();

@@ -1,8 +1,9 @@
 //! The table `kept`.
 
-ghost use Rattle.std.specs.Prelude.{◌≡◌, OnOk};
+ghost use Rattle.std.specs.Prelude.{OnOk};
 ghost use Rattle.sqlite.specs.Held.{state};
-ghost use Rattle.sqlite.specs.State.{HasCleanDisk, Survives, KeepsCommit};
+ghost use Rattle.sqlite.specs.State.{HasCleanDisk};
+ghost use Rattle.file_schema.specs.Inside.{StaysInside};
 ghost use Rattle.file_rows.specs.Changes.{IsInside, Changes, ChangesFit, with_kept};
 ghost use Rattle.file_writes.specs.Removed.{AreApart, without_past};
 
@@ -15,10 +16,8 @@ use sqlite::{Alter, Transaction};
 
 /// Keeps an answer, in a row whose number has to be new.
 pub fn keep<S: Alter>(tx: &mut Transaction<'_, S>, number: u64, kept: &Kept) -> Result<(), RowError>
-    ensures same { tx.new.conn.ghost_name ≡ tx.old.conn.ghost_name }
+    ensures inside { StaysInside S.Store tx.old.conn tx.new.conn }
     ensures written { HasCleanDisk (state S.Store tx.new.conn.now) → IsInside (state S.Store tx.old.conn.now) → OnOk result (Changes (with_kept (record { rowid = number; kept = kept.now })) (state S.Store tx.old.conn.now) (state S.Store tx.new.conn.now)) }
-    ensures kept { HasCleanDisk (state S.Store tx.new.conn.now) → KeepsCommit (state S.Store tx.old.conn.now) (state S.Store tx.new.conn.now) }
-    ensures crash { Survives (state S.Store tx.old.conn.now) (state S.Store tx.new.conn.now) (λ _. ⊥) }
 {
     let rowid = number.bind()?;
     let token_id = kept.token.bind()?;
@@ -45,10 +44,8 @@ pub fn keep<S: Alter>(tx: &mut Transaction<'_, S>, number: u64, kept: &Kept) -> 
 
 /// Removes the answers that are past at a moment, 86,400 seconds or more after their own.
 pub fn forget<S: Alter>(tx: &mut Transaction<'_, S>, at: Moment) -> Result<(), RowError>
-    ensures same { tx.new.conn.ghost_name ≡ tx.old.conn.ghost_name }
+    ensures inside { StaysInside S.Store tx.old.conn tx.new.conn }
     ensures written { HasCleanDisk (state S.Store tx.new.conn.now) → IsInside (state S.Store tx.old.conn.now) → OnOk result (ChangesFit (λ t. AreApart (λ r. r.rowid) t.kept) (without_past at) (state S.Store tx.old.conn.now) (state S.Store tx.new.conn.now)) }
-    ensures kept { HasCleanDisk (state S.Store tx.new.conn.now) → KeepsCommit (state S.Store tx.old.conn.now) (state S.Store tx.new.conn.now) }
-    ensures crash { Survives (state S.Store tx.old.conn.now) (state S.Store tx.new.conn.now) (λ _. ⊥) }
 {
     let now = at.get();
     if now < A_DAY {

@@ -2,7 +2,8 @@
 
 ghost use Rattle.std.specs.Prelude.{◌≡◌, ◌∷◌, OnOk, refl};
 ghost use Rattle.sqlite.specs.Held.{state};
-ghost use Rattle.sqlite.specs.State.{HasCleanDisk, Survives, KeepsCommit};
+ghost use Rattle.sqlite.specs.State.{HasCleanDisk};
+ghost use Rattle.file_schema.specs.Inside.{StaysInside};
 ghost use Rattle.file_rows.specs.Changes.{IsInside, ChangesFit};
 ghost use Rattle.file_rows.specs.Tables.{Tables};
 ghost use Rattle.file_writes.specs.Removed.{AreApart, IsDeleteByOwner, of_others};
@@ -54,11 +55,9 @@ pub fn remove_members<S: Alter, T: RemoveByOwner>(
     tx: &mut Transaction<'_, S>,
     owner: u64,
 ) -> Result<(), RowError>
-    ensures same { tx.new.conn.ghost_name ≡ tx.old.conn.ghost_name }
+    ensures inside { StaysInside S.Store tx.old.conn tx.new.conn }
     ensures written { HasCleanDisk (state S.Store tx.new.conn.now) → IsInside (state S.Store tx.old.conn.now)
         → OnOk result (ChangesFit (λ t. AreApart T.number_of (T.rows t)) (λ t. T.with_rows (of_others T.owner_of owner (T.rows t)) t) (state S.Store tx.old.conn.now) (state S.Store tx.new.conn.now)) }
-    ensures kept { HasCleanDisk (state S.Store tx.new.conn.now) → KeepsCommit (state S.Store tx.old.conn.now) (state S.Store tx.new.conn.now) }
-    ensures crash { Survives (state S.Store tx.old.conn.now) (state S.Store tx.new.conn.now) (λ _. ⊥) }
 {
     run_bound(tx, T::delete_by_owner(), &[owner.bind()])?;
     Ok(())

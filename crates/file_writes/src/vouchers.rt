@@ -2,7 +2,8 @@
 
 ghost use Rattle.std.specs.Prelude.{◌≡◌, true, Ok, OnOk, IfOk};
 ghost use Rattle.sqlite.specs.Held.{state};
-ghost use Rattle.sqlite.specs.State.{HasCleanDisk, Survives, KeepsCommit, Executes};
+ghost use Rattle.sqlite.specs.State.{HasCleanDisk, Executes};
+ghost use Rattle.file_schema.specs.Inside.{StaysInside};
 ghost use Rattle.file_rows.specs.Changes.{IsInside, Changes};
 ghost use Rattle.file_writes.specs.Vouchers.{voucher_values, with_new_voucher, put_voucher, set_redeemed, without_voucher};
 
@@ -19,10 +20,8 @@ fn run_with<S: Alter>(
     sql: &str,
     row: &Voucher,
 ) -> Result<usize, RowError>
-    ensures same { tx.new.conn.ghost_name ≡ tx.old.conn.ghost_name }
+    ensures inside { StaysInside S.Store tx.old.conn tx.new.conn }
     ensures ran { HasCleanDisk (state S.Store tx.new.conn.now) → (state S.Store tx.old.conn.now).in_transaction ≡ true → IfOk result (λ count. Executes sql.now (voucher_values row.now) (state S.Store tx.old.conn.now) (state S.Store tx.new.conn.now) (Ok count)) }
-    ensures kept { HasCleanDisk (state S.Store tx.new.conn.now) → KeepsCommit (state S.Store tx.old.conn.now) (state S.Store tx.new.conn.now) }
-    ensures crash { Survives (state S.Store tx.old.conn.now) (state S.Store tx.new.conn.now) (λ _. ⊥) }
 {
     let columns = [
         row.id.bind(),
@@ -44,10 +43,8 @@ fn run_with<S: Alter>(
 
 // Adds a voucher, redeemed 0 times.
 fn insert_voucher<S: Alter>(tx: &mut Transaction<'_, S>, row: &Voucher) -> Result<(), RowError>
-    ensures same { tx.new.conn.ghost_name ≡ tx.old.conn.ghost_name }
+    ensures inside { StaysInside S.Store tx.old.conn tx.new.conn }
     ensures written { HasCleanDisk (state S.Store tx.new.conn.now) → IsInside (state S.Store tx.old.conn.now) → OnOk result (Changes (with_new_voucher row.now) (state S.Store tx.old.conn.now) (state S.Store tx.new.conn.now)) }
-    ensures kept { HasCleanDisk (state S.Store tx.new.conn.now) → KeepsCommit (state S.Store tx.old.conn.now) (state S.Store tx.new.conn.now) }
-    ensures crash { Survives (state S.Store tx.old.conn.now) (state S.Store tx.new.conn.now) (λ _. ⊥) }
 {
     run_with(
         tx,
@@ -59,10 +56,8 @@ fn insert_voucher<S: Alter>(tx: &mut Transaction<'_, S>, row: &Voucher) -> Resul
 
 /// Puts the voucher in the place of its id, and leaves its count as it is. A new one is redeemed 0 times.
 pub fn put_voucher<S: Alter>(tx: &mut Transaction<'_, S>, row: &Voucher) -> Result<(), RowError>
-    ensures same { tx.new.conn.ghost_name ≡ tx.old.conn.ghost_name }
+    ensures inside { StaysInside S.Store tx.old.conn tx.new.conn }
     ensures written { HasCleanDisk (state S.Store tx.new.conn.now) → IsInside (state S.Store tx.old.conn.now) → OnOk result (Changes (put_voucher row.now) (state S.Store tx.old.conn.now) (state S.Store tx.new.conn.now)) }
-    ensures kept { HasCleanDisk (state S.Store tx.new.conn.now) → KeepsCommit (state S.Store tx.old.conn.now) (state S.Store tx.new.conn.now) }
-    ensures crash { Survives (state S.Store tx.old.conn.now) (state S.Store tx.new.conn.now) (λ _. ⊥) }
 {
     let count = run_with(
         tx,
@@ -81,10 +76,8 @@ pub fn put_redeemed<S: Alter>(
     tx: &mut Transaction<'_, S>,
     count: VoucherCount,
 ) -> Result<(), RowError>
-    ensures same { tx.new.conn.ghost_name ≡ tx.old.conn.ghost_name }
+    ensures inside { StaysInside S.Store tx.old.conn tx.new.conn }
     ensures written { HasCleanDisk (state S.Store tx.new.conn.now) → IsInside (state S.Store tx.old.conn.now) → OnOk result (Changes (set_redeemed count) (state S.Store tx.old.conn.now) (state S.Store tx.new.conn.now)) }
-    ensures kept { HasCleanDisk (state S.Store tx.new.conn.now) → KeepsCommit (state S.Store tx.old.conn.now) (state S.Store tx.new.conn.now) }
-    ensures crash { Survives (state S.Store tx.old.conn.now) (state S.Store tx.new.conn.now) (λ _. ⊥) }
 {
     let id = count.voucher.bind()?;
     let redeemed = count.redeemed.bind()?;
@@ -101,10 +94,8 @@ pub fn put_redeemed<S: Alter>(
 
 /// Removes the voucher of this id, if there is one.
 pub fn remove_voucher<S: Alter>(tx: &mut Transaction<'_, S>, id: u64) -> Result<(), RowError>
-    ensures same { tx.new.conn.ghost_name ≡ tx.old.conn.ghost_name }
+    ensures inside { StaysInside S.Store tx.old.conn tx.new.conn }
     ensures written { HasCleanDisk (state S.Store tx.new.conn.now) → IsInside (state S.Store tx.old.conn.now) → OnOk result (Changes (without_voucher id) (state S.Store tx.old.conn.now) (state S.Store tx.new.conn.now)) }
-    ensures kept { HasCleanDisk (state S.Store tx.new.conn.now) → KeepsCommit (state S.Store tx.old.conn.now) (state S.Store tx.new.conn.now) }
-    ensures crash { Survives (state S.Store tx.old.conn.now) (state S.Store tx.new.conn.now) (λ _. ⊥) }
 {
     let key = id.bind()?;
     run(tx, "DELETE FROM vouchers WHERE id = ?1", &[key])?;

@@ -20,11 +20,12 @@ pub struct VoucherCount {
     pub spent: u64,
 }
 
-/// The counts that are to be written: of the quotas and vouchers that are new or whose counts differ, and the ids of the
-/// vouchers that are gone.
+/// The counts that are to be written: of the quotas and vouchers that are new or whose counts differ, of which of these
+/// quotas other tickets are out, and the ids of the vouchers that are gone.
 #[derive(Drop)]
 pub struct CountRows {
     quotas: Vec<QuotaCount>,
+    exits: Vec<QuotaCount>,
     vouchers: Vec<VoucherCount>,
     gone: Vec<u64>,
 }
@@ -34,18 +35,25 @@ impl Model for CountRows {
 
     ghost Value = { CountRows };
 
-    ghost view = { λ c. record { quotas = c.quotas.items; vouchers = c.vouchers.items; gone = c.gone.items } };
+    ghost view = { λ c. record { quotas = c.quotas.items; exits = c.exits.items; vouchers = c.vouchers.items; gone = c.gone.items } };
 }
 
 impl CountRows {
     /// These counts.
-    pub fn new(quotas: Vec<QuotaCount>, vouchers: Vec<VoucherCount>, gone: Vec<u64>) -> Self
+    pub fn new(
+        quotas: Vec<QuotaCount>,
+        exits: Vec<QuotaCount>,
+        vouchers: Vec<VoucherCount>,
+        gone: Vec<u64>,
+    ) -> Self
         ensures quotas { result.quotas ≡ quotas.items }
+        ensures exits { result.exits ≡ exits.items }
         ensures vouchers { result.vouchers ≡ vouchers.items }
         ensures gone { result.gone ≡ gone.items }
     {
         CountRows {
             quotas,
+            exits,
             vouchers,
             gone,
         }
@@ -56,6 +64,13 @@ impl CountRows {
         ensures { result.now ≡ self.now.quotas }
     {
         self.quotas.as_slice()
+    }
+
+    /// Those of the quotas of which other tickets are out, by id.
+    pub fn exits(&self) -> &[QuotaCount]
+        ensures { result.now ≡ self.now.exits }
+    {
+        self.exits.as_slice()
     }
 
     /// Those of vouchers, by id.

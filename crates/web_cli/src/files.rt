@@ -84,8 +84,9 @@ pub trait HouseFiles {
     fn work(&self, alloc: Global, file: &str) -> Result<Body, RunFault>
         ensures { worked file.now result };
 
-    /// A report on the shop in a file, which it leaves as it is. Faults: 80 where the file can't be opened, 60 to 63 where it isn't a shop's
-    /// that is whole, 50 where the shop has no check-in list of that number, and 6.
+    /// A report on the shop in a file. It leaves the file as it is, but for `Report::Version`, which first brings its tables to this program's
+    /// version. Faults: 80 where the file can't be opened, 60 to 63 where it isn't a shop's that is whole or couldn't be brought there, 50
+    /// where the shop has no check-in list of that number, and 6.
     fn report(&self, alloc: Global, file: &str, report: Report) -> Result<Body, RunFault>
         ensures { reported file.now report result };
 

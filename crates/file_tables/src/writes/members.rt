@@ -2,7 +2,8 @@
 
 ghost use Rattle.std.specs.Prelude.{◌≡◌, ◌+◌, ◌==◌, length, map, filter, bytes_eq, IfOk, OnOk};
 ghost use Rattle.sqlite.specs.Held.{state};
-ghost use Rattle.sqlite.specs.State.{HasCleanDisk, Survives, KeepsCommit};
+ghost use Rattle.sqlite.specs.State.{HasCleanDisk};
+ghost use Rattle.file_schema.specs.Inside.{StaysInside};
 ghost use Rattle.base_sorted.specs.Rising.{rising};
 ghost use Rattle.file_rows.specs.Changes.{IsInside, Changes, ChangesFit};
 ghost use Rattle.file_rows.specs.Tables.{Tables, Holds};
@@ -29,11 +30,9 @@ fn add_member<S: Alter, T: RemoveByOwner>(
     number: u64,
     member: u64,
 ) -> Result<u64, RowError>
-    ensures same { tx.new.conn.ghost_name ≡ tx.old.conn.ghost_name }
+    ensures inside { StaysInside S.Store tx.old.conn tx.new.conn }
     ensures written { HasCleanDisk (state S.Store tx.new.conn.now) → IsInside (state S.Store tx.old.conn.now)
         → IfOk result (λ free. (free ≡ number + 1) × Changes (T.Stored.with_row (T.Member.row_of number owner member)) (state S.Store tx.old.conn.now) (state S.Store tx.new.conn.now)) }
-    ensures kept { HasCleanDisk (state S.Store tx.new.conn.now) → KeepsCommit (state S.Store tx.old.conn.now) (state S.Store tx.new.conn.now) }
-    ensures crash { Survives (state S.Store tx.old.conn.now) (state S.Store tx.new.conn.now) (λ _. ⊥) }
 {
     let Some(following) = number.checked_add(1) else {
         return Err(RowError::Store);
@@ -50,11 +49,9 @@ fn add_members<S: Alter, T: RemoveByOwner>(
     from: u64,
     members: &[u64],
 ) -> Result<u64, RowError>
-    ensures same { tx.new.conn.ghost_name ≡ tx.old.conn.ghost_name }
+    ensures inside { StaysInside S.Store tx.old.conn tx.new.conn }
     ensures written { HasCleanDisk (state S.Store tx.new.conn.now) → IsInside (state S.Store tx.old.conn.now)
         → IfOk result (λ free. (free ≡ from + length members.now) × Changes (made_each (λ id n. T.Stored.with_row (T.Member.row_of n owner id)) (λ _ n. n + 1) members.now from) (state S.Store tx.old.conn.now) (state S.Store tx.new.conn.now)) }
-    ensures kept { HasCleanDisk (state S.Store tx.new.conn.now) → KeepsCommit (state S.Store tx.old.conn.now) (state S.Store tx.new.conn.now) }
-    ensures crash { Survives (state S.Store tx.old.conn.now) (state S.Store tx.new.conn.now) (λ _. ⊥) }
 {
     let mut free = from;
     'members: for member in members {
@@ -92,12 +89,10 @@ fn members_stand<S: Alter, T: FindByOwner>(
     owner: u64,
     members: &[u64],
 ) -> Result<bool, RowError>
-    ensures same { tx.new.conn.ghost_name ≡ tx.old.conn.ghost_name }
+    ensures inside { StaysInside S.Store tx.old.conn tx.new.conn }
     ensures told { HasCleanDisk (state S.Store tx.new.conn.now) → IsInside (state S.Store tx.old.conn.now)
         → IfOk result (λ just. (t : Tables) → Holds (state S.Store tx.old.conn.now).now.trees t → just ≡ are_just members.now (map T.member_of (filter (λ r. T.owner_of r == owner) (T.rows t)))) }
     ensures still { HasCleanDisk (state S.Store tx.new.conn.now) → IsInside (state S.Store tx.old.conn.now) → OnOk result (Changes (λ t. t) (state S.Store tx.old.conn.now) (state S.Store tx.new.conn.now)) }
-    ensures kept { HasCleanDisk (state S.Store tx.new.conn.now) → KeepsCommit (state S.Store tx.old.conn.now) (state S.Store tx.new.conn.now) }
-    ensures crash { Survives (state S.Store tx.old.conn.now) (state S.Store tx.new.conn.now) (λ _. ⊥) }
 {
     let rows = members_of::<S, T>(alloc, tx, owner)?;
     let found = members_named(alloc, rows.as_slice())?;
@@ -122,11 +117,9 @@ fn write_members<S: Alter, T: FindByOwner + RemoveByOwner>(
     from: u64,
     members: &[u64],
 ) -> Result<u64, RowError>
-    ensures same { tx.new.conn.ghost_name ≡ tx.old.conn.ghost_name }
+    ensures inside { StaysInside S.Store tx.old.conn tx.new.conn }
     ensures written { HasCleanDisk (state S.Store tx.new.conn.now) → IsInside (state S.Store tx.old.conn.now)
         → IfOk result (λ free. (free ≡ from + length members.now) × ChangesFit (λ t. AreApart T.number_of (T.rows t)) (λ t. T.with_rows (put_links T.owner_of T.member_of (λ n id. T.row_of n owner id) owner from members.now (T.rows t)) t) (state S.Store tx.old.conn.now) (state S.Store tx.new.conn.now)) }
-    ensures kept { HasCleanDisk (state S.Store tx.new.conn.now) → KeepsCommit (state S.Store tx.old.conn.now) (state S.Store tx.new.conn.now) }
-    ensures crash { Survives (state S.Store tx.old.conn.now) (state S.Store tx.new.conn.now) (λ _. ⊥) }
 {
     let stand = members_stand::<S, T>(alloc, tx, owner, members)?;
     if stand {
@@ -138,10 +131,8 @@ fn write_members<S: Alter, T: FindByOwner + RemoveByOwner>(
 
 // Puts the row by which a quota releases places; removes it where the quota keeps them.
 fn write_release<S: Alter>(tx: &mut Transaction<'_, S>, row: &Quota) -> Result<(), RowError>
-    ensures same { tx.new.conn.ghost_name ≡ tx.old.conn.ghost_name }
+    ensures inside { StaysInside S.Store tx.old.conn tx.new.conn }
     ensures written { HasCleanDisk (state S.Store tx.new.conn.now) → IsInside (state S.Store tx.old.conn.now) → OnOk result (Changes (put_release row.now) (state S.Store tx.old.conn.now) (state S.Store tx.new.conn.now)) }
-    ensures kept { HasCleanDisk (state S.Store tx.new.conn.now) → KeepsCommit (state S.Store tx.old.conn.now) (state S.Store tx.new.conn.now) }
-    ensures crash { Survives (state S.Store tx.old.conn.now) (state S.Store tx.new.conn.now) (λ _. ⊥) }
 {
     if row.release_after_exit {
         file_writes::put(tx, &ReleaseRow { quota: row.id })
@@ -158,11 +149,9 @@ pub(crate) fn write_quota<S: Alter>(
     row: &Quota,
     from: u64,
 ) -> Result<u64, RowError>
-    ensures same { tx.new.conn.ghost_name ≡ tx.old.conn.ghost_name }
+    ensures inside { StaysInside S.Store tx.old.conn tx.new.conn }
     ensures written { HasCleanDisk (state S.Store tx.new.conn.now) → IsInside (state S.Store tx.old.conn.now)
         → IfOk result (λ free. (free ≡ from + length row.now.items + length row.now.variations) × ChangesFit (IsFree from) (put_quota row.now from) (state S.Store tx.old.conn.now) (state S.Store tx.new.conn.now)) }
-    ensures kept { HasCleanDisk (state S.Store tx.new.conn.now) → KeepsCommit (state S.Store tx.old.conn.now) (state S.Store tx.new.conn.now) }
-    ensures crash { Survives (state S.Store tx.old.conn.now) (state S.Store tx.new.conn.now) (λ _. ⊥) }
 {
     file_writes::put(tx, row)?;
     write_release(tx, row)?;
@@ -176,11 +165,9 @@ pub(crate) fn write_list<S: Alter>(
     row: &CheckinList,
     from: u64,
 ) -> Result<u64, RowError>
-    ensures same { tx.new.conn.ghost_name ≡ tx.old.conn.ghost_name }
+    ensures inside { StaysInside S.Store tx.old.conn tx.new.conn }
     ensures written { HasCleanDisk (state S.Store tx.new.conn.now) → IsInside (state S.Store tx.old.conn.now)
         → IfOk result (λ free. (free ≡ from + length row.now.limit_products) × ChangesFit (IsFree from) (put_list row.now from) (state S.Store tx.old.conn.now) (state S.Store tx.new.conn.now)) }
-    ensures kept { HasCleanDisk (state S.Store tx.new.conn.now) → KeepsCommit (state S.Store tx.old.conn.now) (state S.Store tx.new.conn.now) }
-    ensures crash { Survives (state S.Store tx.old.conn.now) (state S.Store tx.new.conn.now) (λ _. ⊥) }
 {
     file_writes::put(tx, row)?;
     remove_members::<S, ListItem>(tx, row.id)?;

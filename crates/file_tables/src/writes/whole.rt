@@ -2,7 +2,8 @@
 
 ghost use Rattle.std.specs.Prelude.{◌≡◌, ◌+◌, IfOk};
 ghost use Rattle.sqlite.specs.Held.{state};
-ghost use Rattle.sqlite.specs.State.{HasCleanDisk, Survives, KeepsCommit};
+ghost use Rattle.sqlite.specs.State.{HasCleanDisk};
+ghost use Rattle.file_schema.specs.Inside.{StaysInside};
 ghost use Rattle.model_answers.specs.ShopView.{listed};
 ghost use Rattle.file_rows.specs.Changes.{IsInside, ChangesFit};
 ghost use Rattle.file_meaning.specs.Free.{IsFree};
@@ -32,11 +33,9 @@ pub fn write_all<S: Alter>(
     kept: Option<&Kept>,
     at: Moment,
 ) -> Result<u64, RowError>
-    ensures same { tx.new.conn.ghost_name ≡ tx.old.conn.ghost_name }
+    ensures inside { StaysInside S.Store tx.old.conn tx.new.conn }
     ensures written { HasCleanDisk (state S.Store tx.new.conn.now) → IsInside (state S.Store tx.old.conn.now)
         → IfOk result (λ free. (free ≡ next_after changes.now from + 1) × ChangesFit (IsFree from) (done shop.now changes.now counts.now from (listed kept.entry) at) (state S.Store tx.old.conn.now) (state S.Store tx.new.conn.now)) }
-    ensures kept { HasCleanDisk (state S.Store tx.new.conn.now) → KeepsCommit (state S.Store tx.old.conn.now) (state S.Store tx.new.conn.now) }
-    ensures crash { Survives (state S.Store tx.old.conn.now) (state S.Store tx.new.conn.now) (λ _. ⊥) }
 {
     file_writes::put(tx, shop)?;
     let number = write_each(alloc, tx, changes, from)?;

@@ -2,7 +2,8 @@
 
 ghost use Rattle.std.specs.Prelude.{◌≡◌, ℕ, IfOk};
 ghost use Rattle.sqlite.specs.Held.{state};
-ghost use Rattle.sqlite.specs.State.{HasCleanDisk, Survives, KeepsCommit};
+ghost use Rattle.sqlite.specs.State.{HasCleanDisk};
+ghost use Rattle.file_schema.specs.Inside.{StaysInside};
 ghost use Rattle.file_rows.specs.Tables.{Tables};
 ghost use Rattle.file_rows.specs.Changes.{IsInside, ChangesFit};
 ghost use Rattle.file_meaning.specs.Free.{IsFree};
@@ -28,10 +29,8 @@ pub trait Writable {
         tx: &mut Transaction<'_, S>,
         from: u64,
     ) -> Result<u64, RowError>
-        ensures same { tx.new.conn.ghost_name ≡ tx.old.conn.ghost_name }
-        ensures written { HasCleanDisk (state S.Store tx.new.conn.now) → IsInside (state S.Store tx.old.conn.now) → IfOk result (λ free. (free ≡ next self.now from) × ChangesFit (IsFree from) (made self.now from) (state S.Store tx.old.conn.now) (state S.Store tx.new.conn.now)) }
-        ensures kept { HasCleanDisk (state S.Store tx.new.conn.now) → KeepsCommit (state S.Store tx.old.conn.now) (state S.Store tx.new.conn.now) }
-        ensures crash { Survives (state S.Store tx.old.conn.now) (state S.Store tx.new.conn.now) (λ _. ⊥) };
+        ensures inside { StaysInside S.Store tx.old.conn tx.new.conn }
+        ensures written { HasCleanDisk (state S.Store tx.new.conn.now) → IsInside (state S.Store tx.old.conn.now) → IfOk result (λ free. (free ≡ next self.now from) × ChangesFit (IsFree from) (made self.now from) (state S.Store tx.old.conn.now) (state S.Store tx.new.conn.now)) };
 
     ghost stays_free: { (x : Self) (from : ℕ) (t : Tables) → IsFree from t → IsFree (next x from) (made x from t) };
 }
@@ -43,11 +42,9 @@ pub(crate) fn write_each<S: Alter, T: Writable>(
     things: &[T],
     from: u64,
 ) -> Result<u64, RowError>
-    ensures same { tx.new.conn.ghost_name ≡ tx.old.conn.ghost_name }
+    ensures inside { StaysInside S.Store tx.old.conn tx.new.conn }
     ensures written { HasCleanDisk (state S.Store tx.new.conn.now) → IsInside (state S.Store tx.old.conn.now)
         → IfOk result (λ free. (free ≡ next_each T.Writable.next things.now from) × ChangesFit (IsFree from) (made_each T.Writable.made T.Writable.next things.now from) (state S.Store tx.old.conn.now) (state S.Store tx.new.conn.now)) }
-    ensures kept { HasCleanDisk (state S.Store tx.new.conn.now) → KeepsCommit (state S.Store tx.old.conn.now) (state S.Store tx.new.conn.now) }
-    ensures crash { Survives (state S.Store tx.old.conn.now) (state S.Store tx.new.conn.now) (λ _. ⊥) }
 {
     let mut free = from;
     'things: for thing in things {

@@ -1,22 +1,18 @@
-use Rattle.std.proofs.Common.{◌≡◌, ◌<◌, ◌∙◌, ℕ, List, [], ◌++◌, Bor, length, get_or, add-one, Ok, inl, refl, sym, ap, subst, arith}
+use Rattle.std.proofs.Common.{◌≡◌, ◌<◌, ◌∙◌, ℕ, List, [], ◌++◌, Bor, length, get_or, add-one, Ok, sym, ap, subst, arith}
 use Rattle.std.proofs.lemmas.List.{length-map, get_or-map}
 use Rattle.sqlite.specs.Held.{state}
-use Rattle.sqlite.specs.State.{State, HasCleanDisk, Survives, Executes}
-use Rattle.sqlite.proofs.StateLemmas.{survives_then}
-use Rattle.file_schema.proofs.Inside.{keeps_same, keeps_then}
+use Rattle.sqlite.specs.State.{HasCleanDisk, Executes}
+use Rattle.file_schema.proofs.Inside.{stays_same, stays_then}
 use Rattle.file_schema.specs.Grown.{Grows}
 use Rattle.file_schema.specs.Versions.{schema_after, statement_texts}
 use Rattle.file_schema.proofs.Grown.{grows, grows_none, grows_then, inside_grown}
 use Rattle.file_schema.proofs.Makes.{each, all_made}
 use Rattle.file_schema.proofs.make.run_from.Goals as goal
 
-here : (s : State) → Survives s s (λ _. ⊥)
-here s = record { clean = omega arith; shield = λ x. x; counts = omega arith; limit = refl; closes = λ clean is_open. inl is_open; crash = λ clean db may. inl may }
-
 pub statements-init : goal.statements-init
 statements-init g c =
     let s = state g.S.Store c.args.tx.now.conn.now in
-    (refl, here s, λ clean. keeps_same s, λ clean at. ([], grows_none (schema_after c.args.from) s at))
+    (stays_same g.S.Store c.args.tx.now.conn, λ clean at. ([], grows_none (schema_after c.args.from) s at))
 
 pub statements-preserved : goal.statements-preserved
 statements-preserved g c =
@@ -27,15 +23,12 @@ statements-preserved g c =
     let first = schema_after c.args.from in
     let all : length c.args.statements.now ≡ 23 = sym (length-map c.args.statements.now (λ (s : Bor (List ℕ)). s.now)) ∙ ap length c.requires in
     let inv = c.statements.invariant in
-    let step = c.run.ensures in
-    let whole : Survives old new (λ _. ⊥) = survives_then old mid new _ _ (λ _. ⊥) (λ _ db none. none) (λ _ db none. none) inv.1 step.crash in (
-      step.same ∙ inv.0,
-      whole,
-      λ clean. let early : HasCleanDisk mid = omega (arith, step.crash.clean) in keeps_then old mid new (inv.2 early) (step.kept clean),
+    let step = c.run.ensures in (
+      stays_then g.S.Store c.args.tx.now.conn c.statements.tx.conn c.run.new.tx.conn inv.0 step.inside,
       λ clean at.
-          let early : HasCleanDisk mid = omega (arith, step.crash.clean) in
-          let few = (inv.3 early at).0 in
-          let reached = (inv.3 early at).1 in
+          let early : HasCleanDisk mid = omega (arith, step.inside.crash.clean) in
+          let few = (inv.1 early at).0 in
+          let reached = (inv.1 early at).1 in
           let inside = inside_grown few first (schema_after i) old mid reached in
           let within : i < length c.args.statements.now = c.statements-test.true in
           let text : (get_or c.args.statements.now i (record { ref_ptr = (0, 0); now = [] })).now ≡ get_or statement_texts i [] =
@@ -51,5 +44,5 @@ returns-clause-grown g c clean at =
     let new = state g.S.Store c.statements.tx.conn.now in
     let first = schema_after c.args.from in
     let all : length c.args.statements.now ≡ 23 = sym (length-map c.args.statements.now (λ (s : Bor (List ℕ)). s.now)) ∙ ap length c.requires in
-    let made = c.statements.invariant.3 clean at in
+    let made = c.statements.invariant.1 clean at in
     subst (λ s. Grows first s old new) (all_made c.statements.at (omega (arith, all, c.statements-test.false))) (grows made.0 first (schema_after c.statements.at) old new made.1)

@@ -29,7 +29,7 @@ returns-in-Ok-clause-crash g c =
     let turns = g.W.Writing.turns c.args.what.now in
     let written = rw c.transaction-tx.ensures.begun at c.in_ok-answer.ensures.written in
     let opened = rw c.transaction-tx.ensures.begun at c.in_ok-answer.ensures.open in
-    let first = rw c.transaction-tx.ensures.begun at c.in_ok-answer.ensures.crash in
+    let first = rw c.transaction-tx.ensures.begun at c.in_ok-answer.ensures.inside.crash in
     let whole = crashes g.S.Store (g.W.Writing.over c.args.what.now) turns c.in_ok-answer.answer old mid end (λ clean. written (omega (arith, c.commit.ensures.survives.clean)) refl) (λ clean. opened (omega (arith, c.commit.ensures.survives.clean))) c.schema_known.ensures first c.commit.ensures.survives in
     subst (λ h. Survives (state g.S.Store old) (state g.S.Store h) (MayBeWritten (g.W.Writing.over c.args.what.now) turns (state g.S.Store old))) same whole
 
@@ -42,7 +42,7 @@ returns-in-Err-clause-crash g c =
     let turns = g.W.Writing.turns c.args.what.now in
     let written = rw c.transaction-tx.ensures.begun at c.in_ok-answer.ensures.written in
     let opened = rw c.transaction-tx.ensures.begun at c.in_ok-answer.ensures.open in
-    let first = rw c.transaction-tx.ensures.begun at c.in_ok-answer.ensures.crash in
+    let first = rw c.transaction-tx.ensures.begun at c.in_ok-answer.ensures.inside.crash in
     let whole = crashes g.S.Store (g.W.Writing.over c.args.what.now) turns c.in_ok-answer.answer old mid end (λ clean. written (omega (arith, c.commit.ensures.survives.clean)) refl) (λ clean. opened (omega (arith, c.commit.ensures.survives.clean))) c.schema_known.ensures first c.commit.ensures.survives in
     subst (λ h. Survives (state g.S.Store old) (state g.S.Store h) (MayBeWritten (g.W.Writing.over c.args.what.now) turns (state g.S.Store old))) same whole
 
@@ -54,7 +54,7 @@ returns-in-Err-clause-none g c clean over =
     let same : end ≡ c.connection-2-1.given.0 = search rules in
     let written = rw c.transaction-tx.ensures.begun at c.in_ok-answer.ensures.written in
     let opened = rw c.transaction-tx.ensures.begun at c.in_ok-answer.ensures.open in
-    let kept = rw c.transaction-tx.ensures.begun at c.in_ok-answer.ensures.kept in
+    let kept = rw c.transaction-tx.ensures.begun at c.in_ok-answer.ensures.inside.kept in
     let late : HasCleanDisk (state g.S.Store end) = rw same clean in
     let early : HasCleanDisk (state g.S.Store mid) = omega (arith, c.commit.ensures.survives.clean) in
     let inside = (written early refl (over (opened early)) (c.schema_known.ensures (opened early)).0).0 in

@@ -1,8 +1,7 @@
-use Rattle.std.proofs.Common.{◌∙◌, drop, arith, ap}
+use Rattle.std.proofs.Common.{drop, arith, ap}
 use Rattle.sqlite.specs.Held.{state}
-use Rattle.sqlite.specs.State.{HasCleanDisk, Survives}
-use Rattle.sqlite.proofs.StateLemmas.{survives_then}
-use Rattle.file_schema.proofs.Inside.{keeps_then}
+use Rattle.sqlite.specs.State.{HasCleanDisk}
+use Rattle.file_schema.proofs.Inside.{stays_then}
 use Rattle.file_tables.proofs.Steps.{inside_reached, drop_at, drop_all, ends}
 use Rattle.file_meaning.specs.Made.{each}
 use Rattle.file_tables.proofs.Upgrades.{one_added, all_added}
@@ -16,14 +15,11 @@ rows-preserved g c =
     let all = c.args.rows.now in
     let i = c.rows.row-index in
     let inv = c.rows.invariant in
-    let step = c.in_ok-insert.ensures in
-    let whole : Survives old new (λ _. ⊥) = survives_then old mid new _ _ (λ _. ⊥) (λ _ db none. none) (λ _ db none. none) inv.1 step.crash in (
-      step.same ∙ inv.0,
-      whole,
-      λ clean. let early : HasCleanDisk mid = omega (arith, step.crash.clean) in keeps_then old mid new (inv.2 early) (step.kept clean),
+    let step = c.in_ok-insert.ensures in (
+      stays_then g.S.Store c.args.tx.now.conn c.rows.tx.conn c.insert.new.tx.conn inv.0 step.inside,
       λ clean at.
-          let early : HasCleanDisk mid = omega (arith, step.crash.clean) in
-          let reached = inv.3 early at in
+          let early : HasCleanDisk mid = omega (arith, step.inside.crash.clean) in
+          let reached = inv.1 early at in
           let written = step.written clean (inside_reached _ _ _ _ old mid reached) in
           one_added g.T.Stored.with_row all i c.row-item.result old mid new (drop_at all i c.row-item.result c.rows-test.true c.row-item.is) reached written,
     )
@@ -34,7 +30,7 @@ returns-clause-written g c clean at =
     let new = state g.S.Store c.rows.tx.conn.now in
     let all = c.args.rows.now in
     let i = c.rows.row-index in
-    let reached = c.rows.invariant.3 clean at in
+    let reached = c.rows.invariant.1 clean at in
     let with_row = g.T.Stored.with_row in
     let none = drop_all all i c.rows-test.false in
     all_added with_row all old new (ends (λ _. Unit {0}) (λ _. Unit {0}) (each with_row (drop i all)) (each with_row all) old new (λ u. ap (λ l. each with_row l u) none) reached)

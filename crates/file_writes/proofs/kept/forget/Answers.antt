@@ -17,4 +17,4 @@ returns-clause-written g c clean at =
     let now = c.get-now.result in
     let ran : Executes forget_text (number (now - 86400) ∷ []) old new (Ok c.in_ok-run.field-0) = rw c.in_ok-since.ensures.value at (c.in_ok-run.ensures.ran clean at.inside) in
     subst (λ n. ChangesFit (λ t. AreApart (λ r. r.rowid) t.kept) (without_past n) old new) c.get-now.ensures.value
-    (forgets old new at c.run.ensures.crash.limit now (omega (arith, c.if-now-lt-A_DAY.false)) c.in_ok-run.field-0 ran)
+    (forgets old new at c.run.ensures.inside.crash.limit now (omega (arith, c.if-now-lt-A_DAY.false)) c.in_ok-run.field-0 ran)

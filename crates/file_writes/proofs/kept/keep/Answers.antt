@@ -12,4 +12,4 @@ returns-clause-written g c clean at =
     let new = state g.S.Store c.run.new.tx.conn.now in
     let row : KeptRow = record { rowid = c.args.number; kept = c.args.kept.now } in
     let ran : Executes insert_text (kept_row row) old new (Ok c.in_ok-run.field-0) = rw (c.in_ok-rowid.ensures.value, c.in_ok-token_id.ensures.value, c.in_ok-request_key.ensures.value, c.in_ok-first_moment.ensures.value, c.in_ok-status.ensures.value, c.bind_methods-allow.ensures, c.in_ok-body.ensures.value) at (c.in_ok-run.ensures.ran clean at.inside) in
-    adds old new at c.run.ensures.crash.limit row c.in_ok-run.field-0 ran
+    adds old new at c.run.ensures.inside.crash.limit row c.in_ok-run.field-0 ran

@@ -12,4 +12,4 @@ returns-clause-written g c clean at =
     let sql = c.delete_by_owner.result.now in
     let count = c.in_ok-run_bound.field-0 in
     let ran : Executes sql (number c.args.owner ∷ []) old new (Ok count) = c.in_ok-run_bound.ensures.ran clean at.inside (number c.args.owner ∷ []) (c.bind.ensures.value, refl) in
-    removes_owned sql g.T.Stored.as_row g.T.Numbered.number_of g.T.Member.owner_of g.T.Member.rows g.T.Member.with_rows c.delete_by_owner.ensures c.args.owner count old new at c.run_bound.ensures.crash.limit ran
+    removes_owned sql g.T.Stored.as_row g.T.Numbered.number_of g.T.Member.owner_of g.T.Member.rows g.T.Member.with_rows c.delete_by_owner.ensures c.args.owner count old new at c.run_bound.ensures.inside.crash.limit ran

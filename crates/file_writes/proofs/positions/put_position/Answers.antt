@@ -14,9 +14,9 @@ returns-in_ok-insert-in-0-clause-written g c clean at =
     let new = state g.S.Store c.insert.new.tx.conn.now in
     let row = c.args.row.now in
     let count = c.in_ok-count.count in
-    let early : HasCleanDisk mid = omega (arith, c.insert.ensures.crash.clean) in
+    let early : HasCleanDisk mid = omega (arith, c.insert.ensures.inside.crash.clean) in
     let ran : Executes update_text (position_row (head_of_position row)) old mid (Ok count) = c.in_ok-count.ensures.ran early at.inside in
-    let gone = missed old mid at c.run.ensures.crash.limit row count ran (search rules) in
+    let gone = missed old mid at c.run.ensures.inside.crash.limit row count ran (search rules) in
     then_changes (without_position row.id) (with_position row) old mid new gone (c.in_ok-insert-in-0.ensures.written clean (inside_after (without_position row.id) old mid gone))
 
 pub returns-in_ok-insert-in-0-clause-told : goal.returns-in_ok-insert-in-0-clause-told
@@ -25,9 +25,9 @@ returns-in_ok-insert-in-0-clause-told g c clean at =
     let mid = state g.S.Store c.run.new.tx.conn.now in
     let row = c.args.row.now in
     let count = c.in_ok-count.count in
-    let early : HasCleanDisk mid = omega (arith, c.insert.ensures.crash.clean) in
+    let early : HasCleanDisk mid = omega (arith, c.insert.ensures.inside.crash.clean) in
     let ran : Executes update_text (position_row (head_of_position row)) old mid (Ok count) = c.in_ok-count.ensures.ran early at.inside in
-    λ t held. sym (none_stands old mid at c.run.ensures.crash.limit row count ran (search rules) t held)
+    λ t held. sym (none_stands old mid at c.run.ensures.inside.crash.limit row count ran (search rules) t held)
 
 pub returns-in-1-clause-written : goal.returns-in-1-clause-written
 returns-in-1-clause-written g c clean at =
@@ -36,7 +36,7 @@ returns-in-1-clause-written g c clean at =
     let row = c.args.row.now in
     let count = c.in_ok-count.count in
     let ran : Executes update_text (position_row (head_of_position row)) old new (Ok count) = c.in_ok-count.ensures.ran clean at.inside in
-    put_one old new at c.run.ensures.crash.limit row count ran (search rules)
+    put_one old new at c.run.ensures.inside.crash.limit row count ran (search rules)
 
 pub returns-in-1-clause-told : goal.returns-in-1-clause-told
 returns-in-1-clause-told g c clean at =
@@ -45,4 +45,4 @@ returns-in-1-clause-told g c clean at =
     let row = c.args.row.now in
     let count = c.in_ok-count.count in
     let ran : Executes update_text (position_row (head_of_position row)) old new (Ok count) = c.in_ok-count.ensures.ran clean at.inside in
-    λ t held. sym (one_stands old new at c.run.ensures.crash.limit row count ran (search rules) t held)
+    λ t held. sym (one_stands old new at c.run.ensures.inside.crash.limit row count ran (search rules) t held)

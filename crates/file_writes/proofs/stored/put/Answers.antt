@@ -23,7 +23,7 @@ returns-clause-written g c clean at =
     let row = c.args.row.now in
     let gone : Tables → Tables = g.T.Stored.without_row (g.T.Stored.key row) in
     let here : Tables → Tables = λ t. g.T.Stored.with_row row (gone t) in
-    let before : HasCleanDisk mid = omega (arith, c.insert.ensures.crash.clean) in
+    let before : HasCleanDisk mid = omega (arith, c.insert.ensures.inside.crash.clean) in
     let missed : Changes gone old mid = subst (λ b. Changes (cond b here gone) old mid) c.if-stood.false (c.in_ok-stood.ensures.written before at) in
     on_ok c.insert.result (Changes (g.T.Stored.with_row row) mid new) _ (c.insert.ensures.written clean (inside_after gone old mid missed))
     (λ h. then_changes gone (g.T.Stored.with_row row) old mid new missed h)

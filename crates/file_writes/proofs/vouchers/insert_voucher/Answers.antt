@@ -10,4 +10,4 @@ returns-clause-written g c clean at =
     let old = state g.S.Store c.args.tx.now.conn.now in
     let new = state g.S.Store c.run_with.new.tx.conn.now in
     let ran : Executes insert_text (voucher_values c.args.row.now) old new (Ok c.in_ok-run_with.field-0) = c.in_ok-run_with.ensures.ran clean at.inside in
-    adds old new at c.run_with.ensures.crash.limit c.args.row.now c.in_ok-run_with.field-0 ran
+    adds old new at c.run_with.ensures.inside.crash.limit c.args.row.now c.in_ok-run_with.field-0 ran

@@ -11,4 +11,4 @@ returns-clause-written g c clean at =
     let new = state g.S.Store c.run.new.tx.conn.now in
     let count = c.args.count in
     let ran : Executes redeem_text (number count.voucher ∷ number count.redeemed ∷ []) old new (Ok c.in_ok-rows.rows) = rw (c.in_ok-id.ensures.value, c.in_ok-redeemed.ensures.value) at (c.in_ok-rows.ensures.ran clean at.inside) in
-    redeems old new at c.run.ensures.crash.limit count c.in_ok-rows.rows (omega arith) ran
+    redeems old new at c.run.ensures.inside.crash.limit count c.in_ok-rows.rows (omega arith) ran

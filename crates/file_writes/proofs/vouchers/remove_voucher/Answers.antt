@@ -10,4 +10,4 @@ returns-clause-written g c clean at =
     let old = state g.S.Store c.args.tx.now.conn.now in
     let new = state g.S.Store c.run.new.tx.conn.now in
     let ran : Executes delete_text (number c.args.id ∷ []) old new (Ok c.in_ok-run.field-0) = rw c.in_ok-key.ensures.value at (c.in_ok-run.ensures.ran clean at.inside) in
-    removes old new at c.run.ensures.crash.limit c.args.id c.in_ok-run.field-0 ran
+    removes old new at c.run.ensures.inside.crash.limit c.args.id c.in_ok-run.field-0 ran

@@ -10,6 +10,6 @@ returns-clause-written g c clean inside known listed =
     let s2 = state g.S.Store c.insert.new.tx.conn.now in
     let shop = c.args.self.now.shop.now in
     let token = c.args.self.now.token.now in
-    let early : HasCleanDisk s1 = before s1 s2 c.insert.ensures.crash clean in
+    let early : HasCleanDisk s1 = before s1 s2 c.insert.ensures.inside.crash clean in
     let a = c.in_ok-put.ensures.written early (inside_known s0 inside known) in
     has_token c.insert.result shop token s0 s1 s2 listed a (c.insert.ensures.written clean (inside_after _ s0 s1 a))

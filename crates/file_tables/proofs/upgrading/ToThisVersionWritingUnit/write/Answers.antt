@@ -12,9 +12,9 @@ returns-clause-written g c clean inside known listed =
     let s3 = state g.S.Store c.add_rows-2.new.tx.conn.now in
     let s4 = state g.S.Store c.put.new.tx.conn.now in
     let what = c.args.self.now in
-    let last : HasCleanDisk s3 = before s3 s4 c.put.ensures.crash clean in
-    let late : HasCleanDisk s2 = before s2 s3 c.add_rows-2.ensures.crash last in
-    let early : HasCleanDisk s1 = before s1 s2 c.add_rows.ensures.crash late in
+    let last : HasCleanDisk s3 = before s3 s4 c.put.ensures.inside.crash clean in
+    let late : HasCleanDisk s2 = before s2 s3 c.add_rows-2.ensures.inside.crash last in
+    let early : HasCleanDisk s1 = before s1 s2 c.add_rows.ensures.inside.crash late in
     let grown = c.in_ok-add_tables.ensures.grown early (record { known = known; inside = inside; listed = listed }) in
     let out = c.in_ok-add_rows.ensures.written late (inside_known s1 grown.inside grown.known) in
     let paid = c.in_ok-add_rows-2.ensures.written last (inside_known s2 out.inside out.known) in

@@ -14,7 +14,7 @@ returns-clause-written g c clean at =
     let s0 = state g.S.Store c.args.tx.now.conn.now in
     let s1 = state g.S.Store c.forget.new.tx.conn.now in
     let s2 = state g.S.Store c.keep_lasting.new.tx.conn.now in
-    let early : HasCleanDisk s1 = omega (arith, c.keep_lasting.ensures.crash.clean) in
+    let early : HasCleanDisk s1 = omega (arith, c.keep_lasting.ensures.inside.crash.clean) in
     let gone = c.in_ok-forget.ensures.written early at in
     on_ok c.keep_lasting.result (Changes (with_listed c.args.number (filter (λ k. lasts c.args.at k.at) (listed c.args.kept))) s1 s2) _ (c.keep_lasting.ensures.written clean (inside_fit _ _ s0 s1 gone))
     (λ h. answer_kept c.args.at c.args.number c.args.kept s0 s1 s2 gone h)

@@ -1,8 +1,7 @@
 use Rattle.std.proofs.Common.{◌≡◌, ℕ, ◌∙◌, ◌+◌, ◌∷◌, drop, arith, sym, ap, get_or, add-one, drop-cons}
 use Rattle.sqlite.specs.Held.{state}
-use Rattle.sqlite.specs.State.{HasCleanDisk, Survives}
-use Rattle.sqlite.proofs.StateLemmas.{survives_then}
-use Rattle.file_schema.proofs.Inside.{keeps_then}
+use Rattle.sqlite.specs.State.{HasCleanDisk}
+use Rattle.file_schema.proofs.Inside.{stays_then}
 use Rattle.file_rows.specs.Tables.{Tables}
 use Rattle.file_tables.specs.Steps.{made_each, next_each}
 use Rattle.file_tables.proofs.MemberLemmas.{next_members}
@@ -17,14 +16,11 @@ members-preserved g c =
     let all = c.args.members.now in
     let i = c.members.member-index in
     let inv = c.members.invariant in
-    let step = c.in_ok-free.ensures in
-    let whole : Survives old new (λ _. ⊥) = survives_then old mid new _ _ (λ _. ⊥) (λ _ db none. none) (λ _ db none. none) inv.1 step.crash in (
-      step.same ∙ inv.0,
-      whole,
-      λ clean. let early : HasCleanDisk mid = omega (arith, step.crash.clean) in keeps_then old mid new (inv.2 early) (step.kept clean),
+    let step = c.in_ok-free.ensures in (
+      stays_then g.S.Store c.args.tx.now.conn c.members.tx.conn c.add_member.new.tx.conn inv.0 step.inside,
       λ clean at.
-          let early : HasCleanDisk mid = omega (arith, step.crash.clean) in
-          let reached = inv.3 early at in
+          let early : HasCleanDisk mid = omega (arith, step.inside.crash.clean) in
+          let reached = inv.1 early at in
           let written = step.written clean (inside_reached _ _ _ _ old mid reached.1) in
           let made : ℕ → ℕ → Tables → Tables = λ id n. g.T.Stored.with_row (g.T.Member.row_of n c.args.owner id) in
           let next : ℕ → ℕ → ℕ = λ _ n. n + 1 in
@@ -41,7 +37,7 @@ returns-clause-written g c clean at =
     let new = state g.S.Store c.members.tx.conn.now in
     let all = c.args.members.now in
     let i = c.members.member-index in
-    let reached = c.members.invariant.3 clean at in
+    let reached = c.members.invariant.1 clean at in
     let none = drop_all all i c.members-test.false in
     let made : ℕ → ℕ → Tables → Tables = λ id n. g.T.Stored.with_row (g.T.Member.row_of n c.args.owner id) in
     let next : ℕ → ℕ → ℕ = λ _ n. n + 1 in (

@@ -28,8 +28,8 @@ returns-clause-written g c clean at =
     let ids = c.args.members.now in
     let m = g.T.Member in
     let l = g.met.T.Member in
-    let clean2 : HasCleanDisk s2 = omega (arith, c.add_members.ensures.crash.clean) in
-    let clean1 : HasCleanDisk s1 = omega (arith, c.remove_members.ensures.crash.clean) in
+    let clean2 : HasCleanDisk s2 = omega (arith, c.add_members.ensures.inside.crash.clean) in
+    let clean1 : HasCleanDisk s1 = omega (arith, c.remove_members.ensures.inside.crash.clean) in
     let other : (t : Tables) → Holds s0.now.trees t → false ≡ just m.row_of g.T.Numbered.number_of m.owner_of m.member_of m.rows m.with_rows g.T.Stored.with_row l.are_there l.are_same l.are_last g.met.T.RemoveByOwner.adds c.args.owner ids t =
     λ t held. sym c.if-stand.false ∙ c.in_ok-stand.ensures.told clean1 at t held in
     let a = c.in_ok-stand.ensures.still clean1 at in

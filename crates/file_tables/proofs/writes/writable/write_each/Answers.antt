@@ -1,8 +1,7 @@
 use Rattle.std.proofs.Common.{◌∙◌, ◌+◌, drop, arith, sym, ap}
 use Rattle.sqlite.specs.Held.{state}
-use Rattle.sqlite.specs.State.{HasCleanDisk, Survives}
-use Rattle.sqlite.proofs.StateLemmas.{survives_then}
-use Rattle.file_schema.proofs.Inside.{keeps_then}
+use Rattle.sqlite.specs.State.{HasCleanDisk}
+use Rattle.file_schema.proofs.Inside.{stays_then}
 use Rattle.file_meaning.specs.Free.{IsFree}
 use Rattle.file_tables.specs.Steps.{next_each}
 use Rattle.file_tables.proofs.Steps.{inside_reached, drop_at, drop_all, next_on, one_more, all_done}
@@ -16,14 +15,11 @@ things-preserved g c =
     let all = c.args.things.now in
     let i = c.things.thing-index in
     let inv = c.things.invariant in
-    let step = c.in_ok-free.ensures in
-    let whole : Survives old new (λ _. ⊥) = survives_then old mid new _ _ (λ _. ⊥) (λ _ db none. none) (λ _ db none. none) inv.1 step.crash in (
-      step.same ∙ inv.0,
-      whole,
-      λ clean. let early : HasCleanDisk mid = omega (arith, step.crash.clean) in keeps_then old mid new (inv.2 early) (step.kept clean),
+    let step = c.in_ok-free.ensures in (
+      stays_then g.S.Store c.args.tx.now.conn c.things.tx.conn c.write.new.tx.conn inv.0 step.inside,
       λ clean at.
-          let early : HasCleanDisk mid = omega (arith, step.crash.clean) in
-          let reached = inv.3 early at in
+          let early : HasCleanDisk mid = omega (arith, step.inside.crash.clean) in
+          let reached = inv.1 early at in
           let written = step.written clean (inside_reached _ _ _ _ old mid reached.1) in
           let made = g.T.Writable.made in
           let next = g.T.Writable.next in
@@ -38,7 +34,7 @@ pub returns-clause-written : goal.returns-clause-written
 returns-clause-written g c clean at =
     let all = c.args.things.now in
     let i = c.things.thing-index in
-    let reached = c.things.invariant.3 clean at in
+    let reached = c.things.invariant.1 clean at in
     let none = drop_all all i c.things-test.false in (
       sym (ap (λ l. next_each g.T.Writable.next l c.things.free) none) ∙ reached.0,
       all_done g.T.Writable.made g.T.Writable.next IsFree (drop i all) all c.args.from c.things.free none (state g.S.Store c.args.tx.now.conn.now) (state g.S.Store c.things.tx.conn.now) reached.1,

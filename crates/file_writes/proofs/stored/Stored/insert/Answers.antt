@@ -12,4 +12,4 @@ returns-clause-written g c clean at =
     let row = c.args.self.now in
     let count = c.in_ok-run.field-0 in
     let ran : Executes text.insert.now (g.Self.Stored.as_row row) old new (Ok count) = c.in_ok-run.ensures.ran clean at.inside in
-    adds g.Self.Stored.as_row g.Self.Stored.key g.Self.Stored.with_row g.Self.Stored.without_row text.insert.now text.update.now text.remove.now c.statements.ensures old new at c.run.ensures.crash.limit row count ran
+    adds g.Self.Stored.as_row g.Self.Stored.key g.Self.Stored.with_row g.Self.Stored.without_row text.insert.now text.update.now text.remove.now c.statements.ensures old new at c.run.ensures.inside.crash.limit row count ran

@@ -12,4 +12,4 @@ returns-clause-written g c clean at =
     let text = c.statements.result in
     let count = c.in_ok-run_bound.field-0 in
     let ran : Executes text.remove.now (number c.args.id ∷ []) old new (Ok count) = c.in_ok-run_bound.ensures.ran clean at.inside (number c.args.id ∷ []) (c.bind.ensures.value, refl) in
-    removes g.Self.Stored.as_row g.Self.Stored.key g.Self.Stored.with_row g.Self.Stored.without_row text.insert.now text.update.now text.remove.now c.statements.ensures old new at c.run_bound.ensures.crash.limit c.args.id count ran
+    removes g.Self.Stored.as_row g.Self.Stored.key g.Self.Stored.with_row g.Self.Stored.without_row text.insert.now text.update.now text.remove.now c.statements.ensures old new at c.run_bound.ensures.inside.crash.limit c.args.id count ran

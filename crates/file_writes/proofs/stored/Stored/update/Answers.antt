@@ -12,7 +12,7 @@ returns-in-0-clause-written g c clean at =
     let row = c.args.self.now in
     let count = c.in_ok-run.field-0 in
     let ran : Executes text.update.now (g.Self.Stored.as_row row) old new (Ok count) = c.in_ok-run.ensures.ran clean at.inside in
-    misses g.Self.Stored.as_row g.Self.Stored.key g.Self.Stored.with_row g.Self.Stored.without_row text.insert.now text.update.now text.remove.now c.statements.ensures old new at c.run.ensures.crash.limit row count (search rules) ran
+    misses g.Self.Stored.as_row g.Self.Stored.key g.Self.Stored.with_row g.Self.Stored.without_row text.insert.now text.update.now text.remove.now c.statements.ensures old new at c.run.ensures.inside.crash.limit row count (search rules) ran
 
 pub returns-in-1-clause-written : goal.returns-in-1-clause-written
 returns-in-1-clause-written g c clean at =
@@ -22,4 +22,4 @@ returns-in-1-clause-written g c clean at =
     let row = c.args.self.now in
     let count = c.in_ok-run.field-0 in
     let ran : Executes text.update.now (g.Self.Stored.as_row row) old new (Ok count) = c.in_ok-run.ensures.ran clean at.inside in
-    puts g.Self.Stored.as_row g.Self.Stored.key g.Self.Stored.with_row g.Self.Stored.without_row text.insert.now text.update.now text.remove.now c.statements.ensures old new at c.run.ensures.crash.limit row count (search rules) ran
+    puts g.Self.Stored.as_row g.Self.Stored.key g.Self.Stored.with_row g.Self.Stored.without_row text.insert.now text.update.now text.remove.now c.statements.ensures old new at c.run.ensures.inside.crash.limit row count (search rules) ran

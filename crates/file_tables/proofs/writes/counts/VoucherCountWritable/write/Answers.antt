@@ -11,7 +11,7 @@ returns-clause-written g c clean at =
     let s0 = state g.S.Store c.args.tx.now.conn.now in
     let s1 = state g.S.Store c.put_redeemed.new.tx.conn.now in
     let s2 = state g.S.Store c.put.new.tx.conn.now in
-    let early : HasCleanDisk s1 = omega (arith, c.put.ensures.crash.clean) in
+    let early : HasCleanDisk s1 = omega (arith, c.put.ensures.inside.crash.clean) in
     let a = c.in_ok-put_redeemed.ensures.written early at in
     let b = c.in_ok-put.ensures.written clean (inside_after _ s0 s1 a) in
     (refl, uses_put (IsFree c.args.from) c.args.self.now s0 s1 s2 a b)
