@@ -1,6 +1,7 @@
 -- Lines of a CSV file, and their fields.
 use Rattle.std.specs.Prelude.{◌≡◌, ℕ, List, [], ◌∷◌, ◌++◌, false, Option, Some, None}
 use Rattle.std.specs.Fmt.{decimal}
+use Rattle.std.specs.Global.{Vec}
 use Rattle.csv.specs.Records.{fields_of, partial_of}
 use Rattle.csv.specs.declared.record.ByteRecord.{ByteRecord}
 use Rattle.csv.specs.declared.writer.Writer.{Writer}
@@ -15,6 +16,10 @@ pub record IsAtLine {W : Type 0} (writer : Writer W) : Type 0 where
 -- what was written: what stands in the text, and what isn't handed on to it yet
 abbrev pub written : {W : Type 0} → (W → List ℕ) → Writer W → List ℕ
 written text writer = text (writer_under writer) ++ writer_pending writer
+
+-- a writer of bytes that stood before a line has this text more
+abbrev pub GainsText : List ℕ → Writer (Vec ℕ) → Writer (Vec ℕ) → Type 0
+GainsText text old new = IsAtLine old → written (λ v. v.items) new ≡ written (λ v. v.items) old ++ text
 
 -- the fields of a line with one more
 pub record Gains (field : List ℕ) (old new : ByteRecord) : Type 0 where

@@ -1,5 +1,5 @@
 -- A voucher file: the vouchers that its lines ask for, or the first fault, in the order of the file.
-use Rattle.std.specs.Prelude.{◌≡◌, ℕ, ◌+◌, Bool, ◌&&◌, ◌==◌, List, [], ◌∷◌, ◌++◌, length, Option, Some, None, Result, Ok, Err, codes, nat_le, if◌then◌else◌}
+use Rattle.std.specs.Prelude.{◌≡◌, ◌≢◌, IfErr, ℕ, ◌+◌, Bool, ◌&&◌, ◌==◌, List, [], ◌∷◌, ◌++◌, length, Option, Some, None, Result, Ok, Err, codes, nat_le, if◌then◌else◌}
 use Rattle.csv.specs.Reading.{AreRecords, default_config, strip_bom}
 use Rattle.csv.specs.declared.parser.State.TheVariants as states
 use Rattle.base_values.specs.Deciding.{◌>>=◌, ◌>>◌, check}
@@ -7,7 +7,7 @@ use Rattle.base_values.specs.Texts.{is_text}
 use Rattle.model_commands.specs.declared.vouchers.NewVoucher.{NewVoucher}
 use Rattle.app_csv.specs.Columns.{column, flag_in, id_in, is_code, is_column, is_named, mode_in, moment_in, uses_in, value_in}
 use Rattle.app_csv.specs.declared.voucher_file.FileFault.{FileFault}
-use Rattle.app_csv.specs.declared.voucher_file.FileFault.TheVariants.{Header, Line, Column, TooMany}
+use Rattle.app_csv.specs.declared.voucher_file.FileFault.TheVariants.{Memory, Header, Line, Column, TooMany}
 
 -- the columns from a place on have these names
 abbrev pub names_four : List (List ℕ) → ℕ → List ℕ → List ℕ → List ℕ → List ℕ → Bool
@@ -66,6 +66,10 @@ voucher_of line fields = do
     budget = None;
   })
 
+-- unless memory is refused, a reading that is refused has the fault that this one has
+abbrev pub FailsAsRead : {A B : Type 0} → Result A FileFault → Result B FileFault → Type 0
+FailsAsRead result read = IfErr result (λ e. e ≢ Memory → read ≡ Err e)
+
 -- vouchers in front of others
 abbrev pub behind : List NewVoucher → Result (List NewVoucher) FileFault → Result (List NewVoucher) FileFault
 behind vouchers (Ok more) = Ok (vouchers ++ more)
@@ -86,7 +90,11 @@ rows_read [] = Err Header
 rows_read (names ∷ lines) = if is_header names then lines_read 0 lines else Err Header
 
 -- the lines of a text are its records, a byte order mark before them taken off: empty lines are none, and line ends in quotes stay
+abbrev pub AreLinesOf : List ℕ → List (List (List ℕ)) → Type 0
+AreLinesOf text lines = AreRecords default_config states.StartRecord (strip_bom text) lines
+
+-- what is read of a text is what its lines ask for
 pub record IsFile (text : List ℕ) (read : Result (List NewVoucher) FileFault) : Type 0 where
   pub lines : List (List (List ℕ))
-  pub are_lines : AreRecords default_config states.StartRecord (strip_bom text) lines
+  pub are_lines : AreLinesOf text lines
   pub is_read : read ≡ rows_read lines

@@ -11,7 +11,8 @@ ghost use Rattle.app_csv.specs.declared.voucher_file.FileFault.{FileFault};
 
 /// A voucher file reads in one way: its bytes ask for these vouchers and no others, or have this fault and no other.
 pub fn a_file_reads_in_one_way()
-    ensures { (text : List ℕ) (one other : Result (List NewVoucher) FileFault) → IsFile text one → IsFile text other → one ≡ other }
+    ensures { (text : List ℕ) (one other : Result (List NewVoucher) FileFault)
+        → IsFile text one → IsFile text other → one ≡ other }
 {}
 
 /// The export is by number: in a sound box office its lines rise by the number of their order, and those of one order by

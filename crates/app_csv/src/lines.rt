@@ -1,10 +1,10 @@
 //! Lines of a CSV file, and their fields.
 
-ghost use Rattle.std.specs.Prelude.{◌≡◌, ◌++◌, [], OnOk};
+ghost use Rattle.std.specs.Prelude.{◌≡◌, [], OnOk};
 ghost use Rattle.std.specs.Fmt.{decimal};
 ghost use Rattle.csv.specs.Records.{fields_of, partial_of};
 ghost use Rattle.csv.specs.Writing.{default_writer, row_text};
-ghost use Rattle.app_csv.specs.Lines.{Gains, IsAtLine, number_or_empty, written};
+ghost use Rattle.app_csv.specs.Lines.{Gains, GainsText, IsAtLine, number_or_empty};
 
 use csv::{ByteRecord, Writer};
 use itoa::Buffer;
@@ -13,7 +13,8 @@ use std::alloc::AllocError;
 /// Appends a line of these fields, with commas between them, and quotes where a field needs them.
 pub(crate) fn append_line(writer: &mut Writer<Vec<u8>>, row: &ByteRecord) -> Result<(), AllocError>
     ensures line { OnOk result (IsAtLine writer.old → IsAtLine writer.new) }
-    ensures text { OnOk result (IsAtLine writer.old → written (λ v. v.items) writer.new ≡ written (λ v. v.items) writer.old ++ row_text default_writer (fields_of row.now)) }
+    ensures text { OnOk result
+        (GainsText (row_text default_writer (fields_of row.now)) writer.old writer.new) }
 {
     match writer.write_byte_record(row) {
         Ok(()) => Ok(()),

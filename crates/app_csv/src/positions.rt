@@ -3,11 +3,10 @@
 ghost use Rattle.std.specs.Prelude.{◌≡◌, ◌++◌, [], IfOk, OnOk, length, map};
 ghost use Rattle.std.specs.List.{concat};
 ghost use Rattle.csv.specs.Records.{fields_of, partial_of};
-ghost use Rattle.csv.specs.Writing.{default_writer, row_text};
 ghost use Rattle.base_values.specs.Codes.{order_code};
 ghost use Rattle.base_values.specs.Money.{cents_text};
 ghost use Rattle.app_csv.specs.Handing.{IsReady, gathered, settled};
-ghost use Rattle.app_csv.specs.Lines.{Gains, IsAtLine, written};
+ghost use Rattle.app_csv.specs.Lines.{Gains, GainsText, IsAtLine};
 ghost use Rattle.app_csv.specs.PositionLines.{code_or_empty, header_line, row_fields, row_line, rows_text};
 
 use crate::lines::{append_line, push_number, push_number_or_empty};
@@ -43,7 +42,8 @@ impl Lines {
     /// variation, the price with two decimals, the code of the voucher, and the secret of the ticket; what isn't there is empty.
     pub(crate) fn add(&mut self, alloc: Global, row: &ExportRow) -> Result<(), AllocError>
         ensures ready { OnOk result (IsReady self.old → IsReady self.new) }
-        ensures text { OnOk result (IsReady self.old → gathered self.new ≡ gathered self.old ++ row_line row.now) }
+        ensures text { OnOk result (IsReady self.old
+            → gathered self.new ≡ gathered self.old ++ row_line row.now) }
     {
         self.fields.clear();
         push_row(&mut self.fields, alloc, row)?;
@@ -83,7 +83,8 @@ pub fn export_positions(alloc: Global, rows: &[ExportRow]) -> Result<Body, Alloc
 // Adds the line of each of these rows.
 fn add_rows(lines: &mut Lines, alloc: Global, rows: &[ExportRow]) -> Result<(), AllocError>
     requires { IsReady lines.old }
-    ensures { OnOk result (gathered lines.new ≡ gathered lines.old ++ concat (map row_line rows.now)) }
+    ensures { OnOk result (gathered lines.new
+        ≡ gathered lines.old ++ concat (map row_line rows.now)) }
 {
     for row in rows {
         lines.add(alloc, row)?;
@@ -94,7 +95,7 @@ fn add_rows(lines: &mut Lines, alloc: Global, rows: &[ExportRow]) -> Result<(), 
 // Appends the names of the columns.
 fn append_header(writer: &mut Writer<Vec<u8>>, alloc: Global) -> Result<(), AllocError>
     ensures line { OnOk result (IsAtLine writer.old → IsAtLine writer.new) }
-    ensures text { OnOk result (IsAtLine writer.old → written (λ v. v.items) writer.new ≡ written (λ v. v.items) writer.old ++ header_line) }
+    ensures text { OnOk result (GainsText header_line writer.old writer.new) }
 {
     let names = ByteRecord::from_fields(
         alloc,

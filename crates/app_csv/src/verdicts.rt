@@ -74,7 +74,8 @@ fn append_verdict(text: &mut Vec<u8>, verdict: &Verdict) -> Result<(), AllocErro
 
 // Appends that a row is refused, with a number.
 fn append_refused(text: &mut Vec<u8>, number: u8) -> Result<(), AllocError>
-    ensures { OnOk result (text.new.items ≡ text.old.items ++ (codes "refused " ++ decimal number)) }
+    ensures { OnOk result (text.new.items
+        ≡ text.old.items ++ (codes "refused " ++ decimal number)) }
 {
     let mut buffer = Buffer::new();
     text.extend_from_slice(b"refused ")?;

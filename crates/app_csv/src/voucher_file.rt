@@ -1,11 +1,9 @@
 //! A voucher file, as a CSV file.
 
 ghost use Rattle.std.specs.Prelude.{◌≡◌, ◌≢◌, ◌≤◌, Ok, Err, IfOk, IfErr, map};
-ghost use Rattle.csv.specs.Reading.{AreRecords, default_config, strip_bom};
 ghost use Rattle.csv.specs.Records.{fields_of};
-ghost use Rattle.csv.specs.declared.parser.State.TheVariants as states;
 ghost use Rattle.app_csv.specs.declared.voucher_file.FileFault.TheVariants.{Memory};
-ghost use Rattle.app_csv.specs.VoucherFile.{IsFile, are_columns, is_header, is_line, known, line_read, lines_read, names_four, rows_read, voucher_of};
+ghost use Rattle.app_csv.specs.VoucherFile.{IsFile, AreLinesOf, FailsAsRead, are_columns, is_header, is_line, known, line_read, lines_read, names_four, rows_read, voucher_of};
 
 use crate::columns::{
     column, flag_in, id_in, is_code, is_column, is_named, mode_in, moment_in, uses_in, value_in,
@@ -63,7 +61,7 @@ pub fn read_vouchers(alloc: Global, text: &[u8]) -> Result<List<NewVoucher>, Fil
 
 // The records of a text.
 fn all_rows(alloc: Global, text: &[u8]) -> Result<Vec<ByteRecord>, FileFault>
-    ensures done { IfOk result (λ rows. AreRecords default_config states.StartRecord (strip_bom text.now) (map fields_of rows.items)) }
+    ensures done { IfOk result (λ rows. AreLinesOf text.now (map fields_of rows.items)) }
     ensures refused { IfErr result (λ e. e ≡ FileFault.Memory) }
 {
     let reader = ReaderBuilder::new()
@@ -81,8 +79,9 @@ fn all_rows(alloc: Global, text: &[u8]) -> Result<Vec<ByteRecord>, FileFault>
 
 // The vouchers of a file with these lines.
 fn rows_read(alloc: Global, rows: &[ByteRecord]) -> Result<Vec<NewVoucher>, FileFault>
-    ensures done { IfOk result (λ vouchers. rows_read (map fields_of rows.now) ≡ Ok vouchers.items) }
-    ensures refused { IfErr result (λ e. e ≢ FileFault.Memory → rows_read (map fields_of rows.now) ≡ Err e) }
+    ensures done { IfOk result (λ vouchers.
+        rows_read (map fields_of rows.now) ≡ Ok vouchers.items) }
+    ensures refused { FailsAsRead result (rows_read (map fields_of rows.now)) }
 {
     match rows {
         [names, lines @ ..] if is_header(names) => lines_read(alloc, lines),
@@ -111,8 +110,9 @@ fn names_four(row: &ByteRecord, at: usize, a: &str, b: &str, c: &str, d: &str) -
 
 // The vouchers of the lines below the header.
 fn lines_read(alloc: Global, lines: &[ByteRecord]) -> Result<Vec<NewVoucher>, FileFault>
-    ensures done { IfOk result (λ vouchers. lines_read 0 (map fields_of lines.now) ≡ Ok vouchers.items) }
-    ensures refused { IfErr result (λ e. e ≢ FileFault.Memory → lines_read 0 (map fields_of lines.now) ≡ Err e) }
+    ensures done { IfOk result (λ vouchers.
+        lines_read 0 (map fields_of lines.now) ≡ Ok vouchers.items) }
+    ensures refused { FailsAsRead result (lines_read 0 (map fields_of lines.now)) }
 {
     let mut vouchers = Vec::new(alloc);
     let mut earlier = 0;
@@ -130,7 +130,7 @@ fn lines_read(alloc: Global, lines: &[ByteRecord]) -> Result<Vec<NewVoucher>, Fi
 fn line_read(alloc: Global, earlier: u64, row: &ByteRecord) -> Result<NewVoucher, FileFault>
     ensures done { IfOk result (λ new. line_read earlier (fields_of row.now) ≡ Ok new) }
     ensures within { IfOk result (λ _. earlier ≤ 99999) }
-    ensures refused { IfErr result (λ e. e ≢ FileFault.Memory → line_read earlier (fields_of row.now) ≡ Err e) }
+    ensures refused { FailsAsRead result (line_read earlier (fields_of row.now)) }
 {
     if earlier >= MOST_LINES {
         return Err(FileFault::TooMany);
@@ -168,7 +168,7 @@ fn known<T>(line: u64, at: u64, value: Option<T>) -> Result<T, FileFault>
 #[tactic(auto, unfolding(crate::specs::VoucherFile::voucher_of))]
 fn voucher_of(alloc: Global, line: u64, row: &ByteRecord) -> Result<NewVoucher, FileFault>
     ensures done { IfOk result (λ new. voucher_of line (fields_of row.now) ≡ Ok new) }
-    ensures refused { IfErr result (λ e. e ≢ FileFault.Memory → voucher_of line (fields_of row.now) ≡ Err e) }
+    ensures refused { FailsAsRead result (voucher_of line (fields_of row.now)) }
 {
     if !is_line(row) {
         return Err(FileFault::Line(line));

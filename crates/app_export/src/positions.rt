@@ -2,7 +2,6 @@
 
 ghost use Rattle.std.specs.Prelude.{◌≡◌, ◌≢◌, false, IfOk, IfErr, OnOk};
 ghost use Rattle.sqlite.specs.Held.{state};
-ghost use Rattle.sqlite.specs.State.{Survives};
 ghost use Rattle.file_rows.specs.Unread.{IsUnread};
 ghost use Rattle.model_export.specs.declared.row.ExportRow.{ExportRow};
 ghost use Rattle.model_export.specs.Exported.{exported};
@@ -10,6 +9,7 @@ ghost use Rattle.file_scan.specs.Rests.{Rests};
 ghost use Rattle.app_export.specs.Cells.{IsFitLine, cells};
 ghost use Rattle.app_export.specs.Faults.{IsOfMachine, fault_of_walk};
 ghost use Rattle.app_export.specs.Handed.{OfFitTables, OfOffice, IsFrontOf, HandsAll, HandsSome, StopsAt};
+ghost use Rattle.file_schema.specs.Clean.{LeavesNoMore};
 
 use file_rows::Column;
 use file_scan::{Progress, Taker, each_row};
@@ -58,7 +58,8 @@ pub struct Walk<K> {
 impl<K: Sink> Taker<WalkError> for Walk<K> {
     ghost use Rattle.model_export.specs.declared.row.ExportRow.{ExportRow};
 
-    ghost takes = { λ old row new. (e : ExportRow) × (row ≡ cells e) × K.Sink.takes old.sink e new.sink };
+    ghost takes = { λ old row new. (e : ExportRow) × (row ≡ cells e)
+        × K.Sink.takes old.sink e new.sink };
 
     ghost stops = { λ old row fault new. StopsAt K.Sink.refuses old.sink row fault new.sink };
 
@@ -84,12 +85,17 @@ pub fn stream_positions<S: Alter, K: Sink, P: Progress>(
     progress: &mut P,
 ) -> Result<(), WalkError>
     requires { conn.old.in_transaction ≡ false }
-    ensures all { OnOk result (HandsAll K.Sink.takes K.Sink.refuses (λ rows. OfOffice (state S.Store conn.old) (state S.Store conn.new) (λ lists. rows ≡ exported lists)) walk.old.sink walk.new.sink) }
-    ensures some { IfErr result (HandsSome K.Sink.takes K.Sink.refuses (λ rows. OfOffice (state S.Store conn.old) (state S.Store conn.new) (λ lists. IsFrontOf rows (exported lists))) walk.old.sink walk.new.sink) }
-    ensures cause { OfFitTables (state S.Store conn.old) (state S.Store conn.new) (IfErr result (λ e. IsOfMachine (fault_of_walk e))) }
+    ensures all { OnOk result (HandsAll K.Sink.takes K.Sink.refuses (λ rows. OfOffice
+        (state S.Store conn.old) (state S.Store conn.new) (λ lists. rows ≡ exported lists))
+        walk.old.sink walk.new.sink) }
+    ensures some { IfErr result (HandsSome K.Sink.takes K.Sink.refuses
+        (λ rows. OfOffice (state S.Store conn.old) (state S.Store conn.new)
+        (λ lists. IsFrontOf rows (exported lists))) walk.old.sink walk.new.sink) }
+    ensures cause { OfFitTables (state S.Store conn.old) (state S.Store conn.new)
+        (IfErr result (λ e. IsOfMachine (fault_of_walk e))) }
     ensures rests { Rests (state S.Store conn.old) (state S.Store conn.new) }
     ensures mode { conn.new.in_transaction ≡ false }
-    ensures crash { Survives (state S.Store conn.old) (state S.Store conn.new) (λ _. ⊥) }
+    ensures crash { LeavesNoMore S.Store conn.old conn.new }
 {
     let sql =
         "SELECT p.order_id, p.positionid, o.status, p.item_id, p.variation_id, p.price, v.code, p.secret FROM order_positions AS p JOIN orders AS o ON o.id = p.order_id LEFT JOIN vouchers AS v ON v.id = p.voucher_id ORDER BY p.order_id, p.positionid";

@@ -6,6 +6,7 @@ ghost use Rattle.app_csv.specs.Handing.{IsReady, gathered};
 ghost use Rattle.app_csv.specs.PositionLines.{header_line};
 ghost use Rattle.app_export.specs.Faults.{fault_of_walk};
 ghost use Rattle.app_export.specs.Written.{Exports};
+ghost use Rattle.web_http.specs.Written.{writer_page};
 
 use crate::positions::{Walk, WalkError, stream_positions};
 use app_csv::{CsvSink, Lines};
@@ -44,7 +45,9 @@ fn write_into<S: Alter, W: Drain, P: Progress>(
     requires ready { IsReady walk.old.sink.lines.now }
     requires names { gathered walk.old.sink.lines.now ≡ header_line }
     ensures same { walk.new.sink.out.ghost_name ≡ walk.old.sink.out.ghost_name }
-    ensures exported { (text : List ℕ) × Exports (state S.Store connection.old) (state S.Store connection.new) text (record { taken = W.taken walk.old.sink.out.now; failures = W.failures walk.old.sink.out.now }) (record { taken = W.taken walk.new.sink.out.now; failures = W.failures walk.new.sink.out.now }) result }
+    ensures exported { (text : List ℕ) × Exports (state S.Store connection.old)
+        (state S.Store connection.new) text (writer_page W.Drain walk.old.sink.out.now)
+        (writer_page W.Drain walk.new.sink.out.now) result }
 {
     if let Err(error) = stream_positions(alloc, connection, walk, progress) {
         return Err(fault_of_walk(error));
@@ -63,7 +66,10 @@ fn write_outside<S: Alter, W: Drain, P: Progress>(
     progress: &mut P,
 ) -> Result<(), RunFault>
     requires { connection.old.in_transaction ≡ false }
-    ensures { (text : List ℕ) × Exports (state S.Store connection.old) (state S.Store connection.new) text (record { taken = W.taken writer.old; failures = W.failures writer.old }) (record { taken = W.taken writer.new; failures = W.failures writer.new }) result }
+    ensures { (text : List ℕ) × Exports (state S.Store connection.old)
+        (state S.Store connection.new) text
+        (writer_page W.Drain writer.old)
+        (writer_page W.Drain writer.new) result }
 {
     let Ok(mut lines) = Lines::new(alloc) else {
         return Err(RunFault::Memory);
@@ -83,7 +89,10 @@ pub fn write_positions<S: Alter, W: Drain, P: Progress>(
     writer: &mut W,
     progress: &mut P,
 ) -> Result<(), RunFault>
-    ensures { (text : List ℕ) × Exports (state S.Store connection.old) (state S.Store connection.new) text (record { taken = W.taken writer.old; failures = W.failures writer.old }) (record { taken = W.taken writer.new; failures = W.failures writer.new }) result }
+    ensures { (text : List ℕ) × Exports (state S.Store connection.old)
+        (state S.Store connection.new) text
+        (writer_page W.Drain writer.old)
+        (writer_page W.Drain writer.new) result }
 {
     if !connection.is_autocommit() {
         return Err(RunFault::Store);

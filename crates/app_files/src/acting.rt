@@ -1,9 +1,10 @@
 //! A command of the program's own is carried out at the shop in a database.
 
 ghost use Rattle.std.specs.Prelude.{◌≡◌};
-ghost use Rattle.web_handler.specs.Streams.{DeskView, desk_with, meaning};
+ghost use Rattle.web_handler.specs.Streams.{DeskView, desk_with};
 ghost use Rattle.web_server.specs.Clock.{IsRead};
 ghost use Rattle.app_files.specs.Acting.{Acts, ActsFrom, own_arrival, told_of};
+ghost use Rattle.web_arrivals.specs.DeskView.{trait_meaning};
 
 use crate::filed::{Filed, connection_of};
 use base_devices::Tick;
@@ -53,7 +54,10 @@ fn act_over<T: Tables + Drop, B: Dues + Drop, W: Wording + Drop>(
     wording: W,
     command: Command,
 ) -> (T, Result<Body, RunFault>)
-    ensures { (last : DeskView T) × Acts (W.words wording) command tick (meaning T.sure T.holds T.knows T.may_leave) (desk_with tables office.organizer office.event office.state) last result.1 × (result.0 ≡ last.tables) }
+    ensures { (last : DeskView T) × Acts (W.words wording) command tick
+        (trait_meaning T.Tables)
+        (desk_with tables office.organizer office.event office.state) last result.1
+        × (result.0 ≡ last.tables) }
 {
     let mut shop = Shop::over(tables, office, wording);
     let answer = shop.act(alloc, arrival(alloc, tick, command));
@@ -68,8 +72,10 @@ fn act_at<S: Alter + Drop, B: Dues + Drop, W: Wording + Drop>(
     wording: W,
     command: Command,
 ) -> Filed<S, Body>
-    ensures { (last : DeskView (SqlTables S)) × Acts (W.words wording) command tick (meaning ⟦<SqlTables<S> as Tables>⟧.sure ⟦<SqlTables<S> as Tables>⟧.holds ⟦<SqlTables<S> as Tables>⟧.knows ⟦<SqlTables<S> as Tables>⟧.may_leave)
-        (desk_with opened.0 opened.1.organizer opened.1.event opened.1.state) last result.outcome × (result.connection ≡ last.tables.connection) }
+    ensures { (last : DeskView (SqlTables S))
+        × Acts (W.words wording) command tick (trait_meaning ⟦<SqlTables<S> as Tables>⟧)
+        (desk_with opened.0 opened.1.organizer opened.1.event opened.1.state) last result.outcome
+        × (result.connection ≡ last.tables.connection) }
 {
     let (tables, office) = opened;
     let (tables, outcome) = act_over(alloc, tick, tables, office, wording, command);
@@ -89,8 +95,10 @@ pub(crate) fn act_opened<R: System, S: Alter + Drop, B: Dues + Drop, W: Wording 
     wording: W,
     command: Command,
 ) -> Filed<S, Body>
-    ensures { ActsFrom (IsRead R.shows R.gives) (W.words wording) command (meaning ⟦<SqlTables<S> as Tables>⟧.sure ⟦<SqlTables<S> as Tables>⟧.holds ⟦<SqlTables<S> as Tables>⟧.knows ⟦<SqlTables<S> as Tables>⟧.may_leave)
-        (desk_with opened.0 opened.1.organizer opened.1.event opened.1.state) result.connection result.outcome }
+    ensures { ActsFrom (IsRead R.shows R.gives) (W.words wording) command
+        (trait_meaning ⟦<SqlTables<S> as Tables>⟧)
+        (desk_with opened.0 opened.1.organizer opened.1.event opened.1.state) result.connection
+        result.outcome }
 {
     match read_tick(rt) {
         Some(tick) => act_at(alloc, tick, opened, wording, command),

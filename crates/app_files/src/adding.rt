@@ -36,17 +36,28 @@ fn told(added: Result<u64, TokenError>) -> Result<u64, RunFault>
 // Adds a token to tables that were opened together with something else, which is let go.
 fn add_over<S: Alter + Drop, O: Drop>(opened: (SqlTables<S>, O), token: &str) -> Filed<S, u64>
     ensures gets { IfOk result.outcome (λ number. HasCleanDisk (state S.Store result.connection)
-        → GetsToken opened.0.head opened.0.next_row (sha256 token.now) number (state S.Store opened.0.connection) (state S.Store result.connection)) }
+        → GetsToken opened.0.head opened.0.next_row (sha256 token.now) number
+        (state S.Store opened.0.connection) (state S.Store result.connection)) }
     ensures cause { IfErr result.outcome (λ fault. (fault ≡ Full) ⊎ IsOfStore fault) }
-    ensures full { result.outcome ≡ Err Full → HasCleanDisk (state S.Store result.connection) → (house : House) → KnowsWhileOpen opened.0.head opened.0.next_row (state S.Store opened.0.connection) house
+    ensures full { result.outcome ≡ Err Full → HasCleanDisk (state S.Store result.connection)
+        → (house : House)
+        → KnowsWhileOpen opened.0.head opened.0.next_row (state S.Store opened.0.connection) house
         → HasNoRoom (house.tokens (sha256 token.now)) opened.0.head.next_token }
-    ensures full_open { result.outcome ≡ Err Full → HasCleanDisk (state S.Store result.connection) → IsTrue (state S.Store opened.0.connection).is_open }
-    ensures clean { HasCleanDisk (state S.Store result.connection) → HasCleanDisk (state S.Store opened.0.connection) }
-    ensures none { HasCleanDisk (state S.Store result.connection) → IsOver schema (state S.Store opened.0.connection) → OnErr result.outcome (IsStill (state S.Store opened.0.connection) (state S.Store result.connection)) }
+    ensures full_open { result.outcome ≡ Err Full → HasCleanDisk (state S.Store result.connection)
+        → IsTrue (state S.Store opened.0.connection).is_open }
+    ensures clean { HasCleanDisk (state S.Store result.connection)
+        → HasCleanDisk (state S.Store opened.0.connection) }
+    ensures none { HasCleanDisk (state S.Store result.connection)
+        → IsOver schema (state S.Store opened.0.connection)
+        → OnErr result.outcome
+        (IsStill (state S.Store opened.0.connection) (state S.Store result.connection)) }
     ensures crash { Survives (state S.Store opened.0.connection) (state S.Store result.connection)
-        (MayBeWritten schema (λ (_ : Unit {0}). HasToken (raised opened.0.head) (next_one opened.0.head (sha256 token.now))) (state S.Store opened.0.connection)) }
-    ensures known_crash { HasCleanDisk (state S.Store result.connection) → (house : House) → KnowsWhileOpen opened.0.head opened.0.next_row (state S.Store opened.0.connection) house
-        → (number : ℕ) → house.tokens (sha256 token.now) ≡ Some number → Survives (state S.Store opened.0.connection) (state S.Store result.connection) (λ _. ⊥) }
+        (MayBeWritten schema (λ (_ : Unit {0}). HasToken (raised opened.0.head)
+        (next_one opened.0.head (sha256 token.now))) (state S.Store opened.0.connection)) }
+    ensures known_crash { HasCleanDisk (state S.Store result.connection) → (house : House)
+        → KnowsWhileOpen opened.0.head opened.0.next_row (state S.Store opened.0.connection) house
+        → (number : ℕ) → house.tokens (sha256 token.now) ≡ Some number
+        → Survives (state S.Store opened.0.connection) (state S.Store result.connection) (λ _. ⊥) }
 {
     let mut made = opened;
     let added = add_token(&mut made.0, &Sha256::digest(token.as_bytes()));
@@ -66,7 +77,8 @@ pub fn add_shop_token<O: Console, S: Alter + Drop>(
     connection: Connection<S>,
     token: &str,
 ) -> Filed<S, u64>
-    ensures { AddsTokenIn S.Store (sha256 token.now) (state S.Store connection) result.connection result.outcome }
+    ensures { AddsTokenIn S.Store (sha256 token.now)
+        (state S.Store connection) result.connection result.outcome }
 {
     match open_shop(rt, alloc, connection) {
         Ok(opened) => add_over(opened, token),

@@ -32,8 +32,10 @@ pub fn export_shop<O: Console, S: Alter + Drop, W: Drain>(
     connection: Connection<S>,
     writer: &mut W,
 ) -> Filed<S, ()>
-    ensures { (text : List ℕ) × IsExported S.Store text (state S.Store connection) result.connection result.outcome
-        × Adds (W.taken writer.old) text (W.taken writer.new) × CountsEnd result.outcome (W.failures writer.old) (W.failures writer.new) }
+    ensures { (text : List ℕ)
+        × IsExported S.Store text (state S.Store connection) result.connection result.outcome
+        × Adds (W.taken writer.old) text (W.taken writer.new)
+        × CountsEnd result.outcome (W.failures writer.old) (W.failures writer.new) }
 {
     match open_shop(rt, alloc, connection) {
         Ok(opened) => {

@@ -64,7 +64,8 @@ impl<'a, R, S: Alter + Drop, F: Shelf<Connection<S>>> House<'a, R, S, F> {
 
     // The file of this name, which has to be there.
     fn found(&self, file: &str) -> Result<Connection<S>, RunFault>
-        ensures given { IfOk result (λ connection. IsGiven F.stood F.gives true file.now connection) }
+        ensures given { IfOk result
+            (λ connection. IsGiven F.stood F.gives true file.now connection) }
         ensures refused { IfErr result (λ fault. IsMissing F.stood F.refuses file.now fault) }
     {
         if self.shelf.stands(file) {
@@ -76,7 +77,9 @@ impl<'a, R, S: Alter + Drop, F: Shelf<Connection<S>>> House<'a, R, S, F> {
 
     // A shop for this organizer and this event, in a file of this name that wasn't there.
     fn made(&self, alloc: Global, file: &str, organizer: Slug, event: Slug) -> Result<(), RunFault>
-        ensures { F.stood file.now false → IsShelved (IsGiven F.stood F.gives false) (IsTaken F.stood F.refuses) (λ connection left came. MakesShopIn S.Store organizer event (state S.Store connection) left came) file.now result }
+        ensures { F.stood file.now false → IsShelved (IsGiven F.stood F.gives false)
+            (IsTaken F.stood F.refuses) (λ connection left came. MakesShopIn S.Store organizer event
+            (state S.Store connection) left came) file.now result }
     {
         match self.shelf.open(file) {
             Ok(connection) => self.ended(make_new_shop(alloc, connection, organizer, event)),
@@ -105,7 +108,7 @@ impl<
     ghost use Rattle.std.specs.Prelude.{◌≡◌, ◌⊎◌, true, false, [], Result};
     ghost use Rattle.sqlite.specs.Held.{state};
     ghost use Rattle.sha2.specs.Sha256.{sha256};
-    ghost use Rattle.web_handler.specs.Streams.{meaning};
+    ghost use Rattle.web_arrivals.specs.DeskView.{trait_meaning};
     ghost use Rattle.web_cli.specs.declared.fault.RunFault.{RunFault};
     ghost use Rattle.web_server.specs.Clock.{IsRead};
     ghost use Rattle.app_files.specs.Exported.{IsExported};
@@ -116,29 +119,41 @@ impl<
     ghost use Rattle.app_files.specs.Shelved.{IsGiven, IsMissing, IsShelved, IsTaken};
     ghost use Rattle.app_files.specs.Worked.{IsOpenedAndWorked};
 
-    ghost made = { λ file organizer event outcome. IsShelved (IsGiven F.stood F.gives false) (IsTaken F.stood F.refuses) (λ connection left came.
-        MakesShopIn S.Store organizer event (state S.Store connection) left came) file outcome };
+    ghost made = { λ file organizer event outcome. IsShelved (IsGiven F.stood F.gives false)
+        (IsTaken F.stood F.refuses) (λ connection left came. MakesShopIn S.Store organizer event
+        (state S.Store connection) left came) file outcome };
 
-    ghost added = { λ file token outcome. IsShelved (IsGiven F.stood F.gives true) (IsMissing F.stood F.refuses) (λ connection left came.
-        AddsTokenIn S.Store (sha256 token) (state S.Store connection) left came) file outcome };
+    ghost added = { λ file token outcome. IsShelved (IsGiven F.stood F.gives true)
+        (IsMissing F.stood F.refuses) (λ connection left came. AddsTokenIn S.Store (sha256 token)
+        (state S.Store connection) left came) file outcome };
 
-    ghost served = { λ file addr most outcome. IsShelved (IsGiven F.stood F.gives true) (IsMissing F.stood F.refuses) (λ connection left came.
-        IsOpenedAndServed (IsRead R.shows R.gives) S.Store (meaning ⟦<SqlTables<S> as Tables>⟧.sure ⟦<SqlTables<S> as Tables>⟧.holds ⟦<SqlTables<S> as Tables>⟧.knows ⟦<SqlTables<S> as Tables>⟧.may_leave)
-        most (state S.Store connection) left came ⊎ StaysUnopened S.Store (state S.Store connection) left came) file outcome };
+    ghost served = { λ file addr most outcome. IsShelved (IsGiven F.stood F.gives true)
+        (IsMissing F.stood F.refuses) (λ connection left came. IsOpenedAndServed
+        (IsRead R.shows R.gives) S.Store (trait_meaning ⟦<SqlTables<S> as Tables>⟧) most
+        (state S.Store connection) left came
+        ⊎ StaysUnopened S.Store (state S.Store connection) left came) file outcome };
 
-    ghost worked = { λ file outcome. IsShelved (IsGiven F.stood F.gives true) (IsMissing F.stood F.refuses) (λ connection left came.
-        IsOpenedAndWorked (IsRead R.shows R.gives) S.Store (meaning ⟦<SqlTables<S> as Tables>⟧.sure ⟦<SqlTables<S> as Tables>⟧.holds ⟦<SqlTables<S> as Tables>⟧.knows ⟦<SqlTables<S> as Tables>⟧.may_leave)
-        (state S.Store connection) left came ⊎ StaysUnopened S.Store (state S.Store connection) left came) file outcome };
+    ghost worked = { λ file outcome. IsShelved (IsGiven F.stood F.gives true)
+        (IsMissing F.stood F.refuses) (λ connection left came. IsOpenedAndWorked
+        (IsRead R.shows R.gives) S.Store (trait_meaning ⟦<SqlTables<S> as Tables>⟧)
+        (state S.Store connection) left came
+        ⊎ StaysUnopened S.Store (state S.Store connection) left came) file outcome };
 
-    ghost reported = { λ file report outcome. IsShelved (IsGiven F.stood F.gives true) (IsMissing F.stood F.refuses) (λ connection left came.
-        TellsOf S.Store report (state S.Store connection) left came) file outcome };
+    ghost reported = { λ file report outcome. IsShelved (IsGiven F.stood F.gives true)
+        (IsMissing F.stood F.refuses) (λ connection left came. TellsOf S.Store report
+        (state S.Store connection) left came) file outcome };
 
-    ghost exported = { λ file text outcome. IsShelved (IsGiven F.stood F.gives true) (λ file fault. IsMissing F.stood F.refuses file fault × (text ≡ [])) (λ connection left came.
-        IsExported S.Store text (state S.Store connection) left came) file outcome };
+    ghost exported = { λ file text outcome. IsShelved (IsGiven F.stood F.gives true)
+        (λ file fault. IsMissing F.stood F.refuses file fault × (text ≡ []))
+        (λ connection left came. IsExported S.Store text (state S.Store connection) left came) file
+        outcome };
 
-    ghost imported = { λ file csv outcome. IsShelved (IsGiven F.stood F.gives true) (IsMissing F.stood F.refuses) (λ connection left came. (source : Result _ RunFault)
-        × F.held csv source × (IsOpenedAndImported (IsRead R.shows R.gives) S.Store (meaning ⟦<SqlTables<S> as Tables>⟧.sure ⟦<SqlTables<S> as Tables>⟧.holds ⟦<SqlTables<S> as Tables>⟧.knows ⟦<SqlTables<S> as Tables>⟧.may_leave)
-        source (state S.Store connection) left came ⊎ StaysUnopened S.Store (state S.Store connection) left came)) file outcome };
+    ghost imported = { λ file csv outcome. IsShelved (IsGiven F.stood F.gives true)
+        (IsMissing F.stood F.refuses) (λ connection left came. (source : Result _ RunFault)
+        × F.held csv source × (IsOpenedAndImported (IsRead R.shows R.gives) S.Store
+        (trait_meaning ⟦<SqlTables<S> as Tables>⟧) source
+        (state S.Store connection) left came
+        ⊎ StaysUnopened S.Store (state S.Store connection) left came)) file outcome };
 
     fn make(
         &self,

@@ -2,11 +2,12 @@
 
 ghost use Rattle.std.specs.Prelude.{◌⊎◌, Ok};
 ghost use Rattle.sqlite.specs.Held.{state};
-ghost use Rattle.web_handler.specs.Streams.{desk_with, meaning};
+ghost use Rattle.web_handler.specs.Streams.{desk_with};
 ghost use Rattle.web_server.specs.Clock.{IsRead};
 ghost use Rattle.app_files.specs.Imported.{AddsAll, AddsFrom, AddsNothing, IsOpenedAndImported};
 ghost use Rattle.app_files.specs.Served.{StaysUnopened};
 ghost use Rattle.web_cli.specs.declared.fault.RunFault.TheVariants.{Memory};
+ghost use Rattle.web_arrivals.specs.DeskView.{trait_meaning};
 
 use crate::acting::act_opened;
 use crate::faults::fault_of_file;
@@ -33,9 +34,11 @@ fn add_vouchers<R: System, S: Alter + Drop, B: Dues + Drop>(
     opened: (SqlTables<S>, Office<B>),
     vouchers: List<NewVoucher>,
 ) -> Filed<S, Body>
-    ensures { AddsAll (IsRead R.shows R.gives) (meaning ⟦<SqlTables<S> as Tables>⟧.sure ⟦<SqlTables<S> as Tables>⟧.holds ⟦<SqlTables<S> as Tables>⟧.knows ⟦<SqlTables<S> as Tables>⟧.may_leave)
-        vouchers (desk_with opened.0 opened.1.organizer opened.1.event opened.1.state) result.connection result.outcome
-        ⊎ AddsNothing Memory (desk_with opened.0 opened.1.organizer opened.1.event opened.1.state) result.connection result.outcome }
+    ensures { AddsAll (IsRead R.shows R.gives) (trait_meaning ⟦<SqlTables<S> as Tables>⟧) vouchers
+        (desk_with opened.0 opened.1.organizer opened.1.event opened.1.state) result.connection
+        result.outcome ⊎ AddsNothing Memory
+        (desk_with opened.0 opened.1.organizer opened.1.event opened.1.state) result.connection
+        result.outcome }
 {
     match codes_of(alloc, vouchers.as_slice()) {
         Ok(codes) => act_opened(
@@ -59,8 +62,9 @@ fn add_read<R: System + Console, S: Alter + Drop, B: Dues + Drop>(
     opened: (SqlTables<S>, Office<B>),
     text: &[u8],
 ) -> Filed<S, Body>
-    ensures { AddsFrom (IsRead R.shows R.gives) (meaning ⟦<SqlTables<S> as Tables>⟧.sure ⟦<SqlTables<S> as Tables>⟧.holds ⟦<SqlTables<S> as Tables>⟧.knows ⟦<SqlTables<S> as Tables>⟧.may_leave)
-        (Ok text.now) (desk_with opened.0 opened.1.organizer opened.1.event opened.1.state) result.connection result.outcome }
+    ensures { AddsFrom (IsRead R.shows R.gives) (trait_meaning ⟦<SqlTables<S> as Tables>⟧)
+        (Ok text.now) (desk_with opened.0 opened.1.organizer opened.1.event opened.1.state)
+        result.connection result.outcome }
 {
     match read_vouchers(alloc, text) {
         Ok(vouchers) => {
@@ -81,8 +85,9 @@ fn import_opened<R: System + Console, S: Alter + Drop, B: Dues + Drop>(
     opened: (SqlTables<S>, Office<B>),
     source: Result<Body, RunFault>,
 ) -> Filed<S, Body>
-    ensures { AddsFrom (IsRead R.shows R.gives) (meaning ⟦<SqlTables<S> as Tables>⟧.sure ⟦<SqlTables<S> as Tables>⟧.holds ⟦<SqlTables<S> as Tables>⟧.knows ⟦<SqlTables<S> as Tables>⟧.may_leave)
-        source (desk_with opened.0 opened.1.organizer opened.1.event opened.1.state) result.connection result.outcome }
+    ensures { AddsFrom (IsRead R.shows R.gives) (trait_meaning ⟦<SqlTables<S> as Tables>⟧) source
+        (desk_with opened.0 opened.1.organizer opened.1.event opened.1.state) result.connection
+        result.outcome }
 {
     match source {
         Ok(text) => add_read(rt, alloc, opened, text.as_slice()),
@@ -104,8 +109,10 @@ pub fn import_shop<R: System + Console, S: Alter + Drop>(
     connection: Connection<S>,
     source: Result<Body, RunFault>,
 ) -> Filed<S, Body>
-    ensures { IsOpenedAndImported (IsRead R.shows R.gives) S.Store (meaning ⟦<SqlTables<S> as Tables>⟧.sure ⟦<SqlTables<S> as Tables>⟧.holds ⟦<SqlTables<S> as Tables>⟧.knows ⟦<SqlTables<S> as Tables>⟧.may_leave)
-        source (state S.Store connection) result.connection result.outcome ⊎ StaysUnopened S.Store (state S.Store connection) result.connection result.outcome }
+    ensures { IsOpenedAndImported (IsRead R.shows R.gives) S.Store
+        (trait_meaning ⟦<SqlTables<S> as Tables>⟧) source
+        (state S.Store connection) result.connection result.outcome
+        ⊎ StaysUnopened S.Store (state S.Store connection) result.connection result.outcome }
 {
     match open_shop(rt, alloc, connection) {
         Ok(opened) => import_opened(rt, alloc, opened, source),

@@ -21,7 +21,7 @@ ghost use Rattle.model_answers.specs.ShopView.{ShopView};
 ghost use Rattle.app_csv.specs.VerdictLines.{verdict_lines};
 ghost use Rattle.office_deliveries.specs.Deliveries.{step};
 ghost use Rattle.office_deliveries.specs.Histories.{AreKeyless, Crashed, Event, IsRunning, MayLeave, Running, after_act, event_of, opened};
-ghost use Rattle.web_handler.specs.Streams.{DeskView, IsOf, Serves, ServesRunning, desk_with, meaning, words_of};
+ghost use Rattle.web_handler.specs.Streams.{DeskView, IsOf, Serves, ServesRunning, desk_with, words_of};
 ghost use Rattle.file_open.specs.Found.{IsFound};
 ghost use Rattle.file_open.specs.Opened.{IsReason};
 ghost use Rattle.app_files.specs.Acting.{Acts, own_arrival, told_of};
@@ -36,6 +36,7 @@ ghost use Rattle.web_arrivals.specs.Streams.{ServesHistory};
 ghost use Rattle.file_tables.specs.declared.sql.SqlTables.{SqlTables};
 ghost use Rattle.web_turns.specs.Acts.{Between, between, seen_at};
 ghost use Rattle.web_turns.specs.Halls.{Hall, Story};
+ghost use Rattle.web_arrivals.specs.DeskView.{trait_meaning};
 
 use base_devices::Ticks;
 use file_open::crashes::{a_crash_damages_nothing, a_shop_runs_on_after_a_crash};
@@ -54,20 +55,33 @@ pub fn callers_go_on_after_a_crash<S: Alter, K: Ticks>(
     fresh: &Connection<S>,
     again: &SqlTables<S>,
 )
-    ensures goes_on { (house : House) (r : Running) (came : ℕ) (all : Story) (first : Between (DeskView (SqlTables S))) (told : Option (List Tick)) (organizer event : List ℕ) (s : State)
-        → let tables = meaning ⟦<SqlTables<S> as Tables>⟧.sure ⟦<SqlTables<S> as Tables>⟧.holds ⟦<SqlTables<S> as Tables>⟧.knows ⟦<SqlTables<S> as Tables>⟧.may_leave in
-        let end = between told (desk_with last.now organizer event s) in
-        Hall (AtTick K.reads (Serves tables)) came first end all → IsOf tables house first.desk → IsRunning (words_of house) tables.holds tables.may_leave first.desk.tables first.desk.state r
+    ensures goes_on { (house : House) (r : Running) (came : ℕ) (all : Story)
+        (first : Between (DeskView (SqlTables S))) (told : Option (List Tick))
+        (organizer event : List ℕ) (s : State)
+        → let tables = trait_meaning ⟦<SqlTables<S> as Tables>⟧
+        in let end = between told (desk_with last.now organizer event s)
+        in Hall (AtTick K.reads (Serves tables)) came first end all → IsOf tables house first.desk
+        → IsRunning
+        (words_of house) tables.holds tables.may_leave first.desk.tables first.desk.state r
         → IsFound (state S.Store last.now.connection) (state S.Store fresh.now)
-        → (name happening : List ℕ) (z : State) → OpensAs S.Store (state S.Store fresh.now) (desk_with again.now name happening z)
+        → (name happening : List ℕ) (z : State)
+        → OpensAs S.Store (state S.Store fresh.now) (desk_with again.now name happening z)
         → HasCleanDisk (state S.Store again.now.connection)
-        → (q : Running) × (x : ShopView) × Hall (AtTick K.reads (ServesRunning house)) came (seen_at first r) (seen_at end q) all × MayLeave (words_of house) q x
-        × IsOf tables house (desk_with again.now name happening z) × IsRunning (words_of house) tables.holds tables.may_leave again.now z (opened (words_of house) x) }
-    ensures unharmed { (house : House) (r : Running) (came : ℕ) (all : Story) (first : Between (DeskView (SqlTables S))) (told : Option (List Tick)) (organizer event : List ℕ) (s : State)
-        → let tables = meaning ⟦<SqlTables<S> as Tables>⟧.sure ⟦<SqlTables<S> as Tables>⟧.holds ⟦<SqlTables<S> as Tables>⟧.knows ⟦<SqlTables<S> as Tables>⟧.may_leave in
-        Hall (AtTick K.reads (Serves tables)) came first (between told (desk_with last.now organizer event s)) all → IsOf tables house first.desk
-        → IsRunning (words_of house) tables.holds tables.may_leave first.desk.tables first.desk.state r
-        → IsFound (state S.Store last.now.connection) (state S.Store fresh.now) → (error : OpenError) → IsReason (state S.Store fresh.now).now error → IsOfMachine error }
+        → (q : Running) × (x : ShopView)
+        × Hall (AtTick K.reads (ServesRunning house)) came (seen_at first r) (seen_at end q) all
+        × MayLeave (words_of house) q x × IsOf tables house (desk_with again.now name happening z)
+        × IsRunning (words_of house) tables.holds tables.may_leave again.now z
+        (opened (words_of house) x) }
+    ensures unharmed { (house : House) (r : Running) (came : ℕ) (all : Story)
+        (first : Between (DeskView (SqlTables S))) (told : Option (List Tick))
+        (organizer event : List ℕ) (s : State)
+        → let tables = trait_meaning ⟦<SqlTables<S> as Tables>⟧
+        in Hall (AtTick K.reads (Serves tables)) came first
+        (between told (desk_with last.now organizer event s)) all → IsOf tables house first.desk
+        → IsRunning
+        (words_of house) tables.holds tables.may_leave first.desk.tables first.desk.state r
+        → IsFound (state S.Store last.now.connection) (state S.Store fresh.now)
+        → (error : OpenError) → IsReason (state S.Store fresh.now).now error → IsOfMachine error }
 {
     callers_run_on::<SqlTables<S>, K>();
     a_shop_runs_on_after_a_crash(last, fresh, again);
@@ -81,10 +95,14 @@ pub fn a_history_goes_on_after_a_crash<S: Alter, K: Ticks>(
     fresh: &Connection<S>,
     again: &SqlTables<S>,
 )
-    ensures { (house : House) (begun r : Running) (es : List Event) (before after : DeskView (SqlTables S))
-        → let tables = meaning ⟦<SqlTables<S> as Tables>⟧.sure ⟦<SqlTables<S> as Tables>⟧.holds ⟦<SqlTables<S> as Tables>⟧.knows ⟦<SqlTables<S> as Tables>⟧.may_leave in
-        RunsSo tables house begun es (over last.now before) r → IsOpenedAgain S.Store (state S.Store last.now.connection) (state S.Store fresh.now) (over again.now after)
-        → (x : ShopView) × RunsSo tables house begun (es ++ Crashed ∷ []) (over again.now after) (opened (words_of house) x) }
+    ensures { (house : House) (begun r : Running) (es : List Event)
+        (before after : DeskView (SqlTables S))
+        → let tables = trait_meaning ⟦<SqlTables<S> as Tables>⟧
+        in RunsSo tables house begun es (over last.now before) r
+        → IsOpenedAgain S.Store (state S.Store last.now.connection) (state S.Store fresh.now)
+        (over again.now after) → (x : ShopView)
+        × RunsSo tables house begun (es ++ Crashed ∷ []) (over again.now after)
+        (opened (words_of house) x) }
 {
     callers_go_on_after_a_crash::<S, K>(last, fresh, again);
 }
@@ -93,12 +111,15 @@ pub fn a_history_goes_on_after_a_crash<S: Alter, K: Ticks>(
 /// key would be: told in the house's words, or without an answer. That holds of a shop of which no undecided write has a key, as of one that
 /// was opened for that command.
 pub fn a_command_goes_on_with_a_history<S: Alter>()
-    ensures { (house : House) (begun r : Running) (es : List Event) (words : Reply → Response) (command : Command) (tick : Tick) (first last : DeskView (SqlTables S)) (outcome : Result (List ℕ) RunFault)
-        → let tables = meaning ⟦<SqlTables<S> as Tables>⟧.sure ⟦<SqlTables<S> as Tables>⟧.holds ⟦<SqlTables<S> as Tables>⟧.knows ⟦<SqlTables<S> as Tables>⟧.may_leave in
-        let a = own_arrival command tick in
-        RunsSo tables house begun es first r → AreKeyless r.undecided → Acts words command tick tables first last outcome → tables.sure last.tables
-        → (answer : Answer) × (outcome ≡ told_of answer)
-        × RunsSo tables house begun (es ++ event_of (words_of house) a answer r.shop ∷ []) last (after_act (words_of house) a answer r) }
+    ensures { (house : House) (begun r : Running) (es : List Event) (words : Reply → Response)
+        (command : Command) (tick : Tick) (first last : DeskView (SqlTables S))
+        (outcome : Result (List ℕ) RunFault)
+        → let tables = trait_meaning ⟦<SqlTables<S> as Tables>⟧
+        in let a = own_arrival command tick in RunsSo tables house begun es first r
+        → AreKeyless r.undecided → Acts words command tick tables first last outcome
+        → tables.sure last.tables → (answer : Answer) × (outcome ≡ told_of answer)
+        × RunsSo tables house begun (es ++ event_of (words_of house) a answer r.shop ∷ []) last
+        (after_act (words_of house) a answer r) }
 {
     shops_run_in_any_words::<SqlTables<S>>();
 }
@@ -115,20 +136,26 @@ pub fn an_evening_is_one_history<S: Alter, K: Ticks>(
     fresh: &Connection<S>,
     again: &SqlTables<S>,
 )
-    ensures { (house : House) (begun r : Running) (es : List Event) (n m : ℕ) (before after : Story) (first end : Between (DeskView (SqlTables S))) (told : Option (List Tick)) (a b c d : DeskView (SqlTables S))
-        (words : Reply → Response) (command : Command) (tick : Tick) (outcome : Result (List ℕ) RunFault)
-        → let tables = meaning ⟦<SqlTables<S> as Tables>⟧.sure ⟦<SqlTables<S> as Tables>⟧.holds ⟦<SqlTables<S> as Tables>⟧.knows ⟦<SqlTables<S> as Tables>⟧.may_leave in
-        RunsSo tables house begun es first.desk r
+    ensures { (house : House) (begun r : Running) (es : List Event) (n m : ℕ) (before after : Story)
+        (first end : Between (DeskView (SqlTables S))) (told : Option (List Tick))
+        (a b c d : DeskView (SqlTables S)) (words : Reply → Response) (command : Command)
+        (tick : Tick) (outcome : Result (List ℕ) RunFault)
+        → let tables = trait_meaning ⟦<SqlTables<S> as Tables>⟧
+        in RunsSo tables house begun es first.desk r
         → Hall (AtTick K.reads (Serves tables)) n first (between told (over served.now a)) before
-        → IsOpenedAgain S.Store (state S.Store served.now.connection) (state S.Store closed.now) (over opened_for.now b)
+        → IsOpenedAgain S.Store (state S.Store served.now.connection) (state S.Store closed.now)
+        (over opened_for.now b)
         → Acts words command tick tables (over opened_for.now b) (over acted.now c) outcome
-        → IsOpenedAgain S.Store (state S.Store acted.now.connection) (state S.Store fresh.now) (over again.now d)
-        → Hall (AtTick K.reads (Serves tables)) m (between None (over again.now d)) end after → HasCleanDisk (state S.Store end.desk.tables.connection)
+        → IsOpenedAgain S.Store (state S.Store acted.now.connection) (state S.Store fresh.now)
+        (over again.now d)
+        → Hall (AtTick K.reads (Serves tables)) m (between None (over again.now d)) end after
+        → HasCleanDisk (state S.Store end.desk.tables.connection)
         → (fs : List Event) × (x : ShopView) × (answer : Answer) × (gs : List Event) × (q : Running)
         × Hall (AtTick K.reads (ServesHistory house)) n (seen_at first es) (between told fs) before
         × (outcome ≡ told_of answer)
-        × Hall (AtTick K.reads (ServesHistory house)) m (between None (((fs ++ Crashed ∷ []) ++ event_of (words_of house) (own_arrival command tick) answer x ∷ []) ++ Crashed ∷ [])) (seen_at end gs) after
-        × RunsSo tables house begun gs end.desk q }
+        × Hall (AtTick K.reads (ServesHistory house)) m (between None
+        (((fs ++ Crashed ∷ []) ++ event_of (words_of house) (own_arrival command tick) answer x
+        ∷ []) ++ Crashed ∷ [])) (seen_at end gs) after × RunsSo tables house begun gs end.desk q }
 {
     callers_go_on_with_a_history::<SqlTables<S>, K>();
     a_history_goes_on_after_a_crash::<S, K>(served, closed, opened_for);
@@ -140,10 +167,16 @@ pub fn an_evening_is_one_history<S: Alter, K: Ticks>(
 /// for each row. No run has any other reply; what would be told of one is `{}`.
 pub fn own_commands_tell_what_they_did()
     ensures work { (at : ℕ) (draw : Draw) (state : State)
-        → (counts : PeriodicCounts) × ((work_words (step Periodic at draw state).1).body ≡ work_text counts) }
-    ensures imports { (given : List (List ℕ)) (vouchers : List NewVoucher) (at : ℕ) (draw : Draw) (state : State)
-        → (verdicts : List Verdict) × ((import_words given (step (ImportVouchers vouchers) at draw state).1).body ≡ verdict_lines given verdicts) }
-    ensures other_work { (reply : Reply) → ((counts : PeriodicCounts) → reply ≡ replies.Periodic counts → ⊥) → (work_words reply).body ≡ codes "{}" }
+        → (counts : PeriodicCounts)
+        × ((work_words (step Periodic at draw state).1).body ≡ work_text counts) }
+    ensures imports { (given : List (List ℕ)) (vouchers : List NewVoucher) (at : ℕ) (draw : Draw)
+        (state : State) → (verdicts : List Verdict)
+        × ((import_words given (step (ImportVouchers vouchers) at draw state).1).body
+        ≡ verdict_lines given verdicts) }
+    ensures other_work { (reply : Reply)
+        → ((counts : PeriodicCounts) → reply ≡ replies.Periodic counts → ⊥)
+        → (work_words reply).body ≡ codes "{}" }
     ensures other_imports { (given : List (List ℕ)) (reply : Reply)
-        → ((verdicts : List Verdict) → reply ≡ replies.Imported verdicts → ⊥) → (import_words given reply).body ≡ codes "{}" }
+        → ((verdicts : List Verdict) → reply ≡ replies.Imported verdicts → ⊥)
+        → (import_words given reply).body ≡ codes "{}" }
 {}

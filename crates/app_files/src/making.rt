@@ -18,7 +18,8 @@ pub fn make_new_shop<S: Alter + Drop>(
     organizer: Slug,
     event: Slug,
 ) -> Filed<S, ()>
-    ensures { MakesShopIn S.Store organizer event (state S.Store connection) result.connection result.outcome }
+    ensures { MakesShopIn S.Store organizer event
+        (state S.Store connection) result.connection result.outcome }
 {
     match create(alloc, connection, organizer, event) {
         Ok(tables) => Filed {

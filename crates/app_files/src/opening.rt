@@ -25,8 +25,10 @@ pub(crate) fn open_counted<O: Console, S: Alter, T: Drop>(
     connection: Connection<S>,
     rows: &mut u64,
 ) -> Result<(SqlTables<S>, Office<Counters>), Filed<S, T>>
-    ensures opens { IfOk result (λ it. OpensAs S.Store (state S.Store connection) (desk_with it.0 it.1.organizer it.1.event it.1.state)) }
-    ensures stays { IfErr result (λ filed. StaysUnopened S.Store (state S.Store connection) filed.connection filed.outcome) }
+    ensures opens { IfOk result (λ it. OpensAs S.Store (state S.Store connection)
+        (desk_with it.0 it.1.organizer it.1.event it.1.state)) }
+    ensures stays { IfErr result (λ filed. StaysUnopened S.Store
+        (state S.Store connection) filed.connection filed.outcome) }
 {
     let mut shown = Shown::opening(rt);
     let opened = open_file(alloc, connection, &mut shown);
@@ -46,8 +48,10 @@ pub(crate) fn open_shop<O: Console, S: Alter, T: Drop>(
     alloc: Global,
     connection: Connection<S>,
 ) -> Result<(SqlTables<S>, Office<Counters>), Filed<S, T>>
-    ensures opens { IfOk result (λ it. OpensAs S.Store (state S.Store connection) (desk_with it.0 it.1.organizer it.1.event it.1.state)) }
-    ensures stays { IfErr result (λ filed. StaysUnopened S.Store (state S.Store connection) filed.connection filed.outcome) }
+    ensures opens { IfOk result (λ it. OpensAs S.Store (state S.Store connection)
+        (desk_with it.0 it.1.organizer it.1.event it.1.state)) }
+    ensures stays { IfErr result (λ filed. StaysUnopened S.Store
+        (state S.Store connection) filed.connection filed.outcome) }
 {
     let mut rows = 0;
     open_counted(rt, alloc, connection, &mut rows)

@@ -88,7 +88,8 @@ pub fn report_shop<O: Console, S: Alter + Drop>(
     connection: Connection<S>,
     report: Report,
 ) -> Filed<S, Body>
-    ensures { IsOpenedAndReported S.Store report (state S.Store connection) result.connection result.outcome
+    ensures { IsOpenedAndReported S.Store report
+        (state S.Store connection) result.connection result.outcome
         ⊎ StaysUnopened S.Store (state S.Store connection) result.connection result.outcome }
 {
     match open_shop(rt, alloc, connection) {

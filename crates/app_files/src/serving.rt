@@ -2,10 +2,12 @@
 
 ghost use Rattle.std.specs.Prelude.{◌⊎◌};
 ghost use Rattle.sqlite.specs.Held.{state};
-ghost use Rattle.web_handler.specs.Streams.{DeskView, desk_with, meaning};
+ghost use Rattle.web_handler.specs.Streams.{desk_with};
 ghost use Rattle.web_cli.specs.Saying.{TellsListening};
 ghost use Rattle.web_server.specs.Clock.{IsRead};
 ghost use Rattle.app_files.specs.Served.{IsOpenedAndServed, IsSilent, LeadsFrom, StaysUnopened};
+ghost use Rattle.web_arrivals.specs.DeskView.{trait_meaning};
+ghost use Rattle.web_http.specs.Written.{writer_page};
 
 use crate::filed::{Filed, connection_of};
 use crate::opening::open_counted;
@@ -35,8 +37,10 @@ fn serve_desk<
     desk: ShopDesk<SqlTables<S>, B>,
     writer: &mut W,
 ) -> Filed<S, ()>
-    ensures said { TellsListening place.now.text.now (record { taken = W.taken writer.old; failures = W.failures writer.old }) (record { taken = W.taken writer.new; failures = W.failures writer.new }) result.outcome }
-    ensures leads { LeadsFrom (IsRead R.shows R.gives) (meaning ⟦<SqlTables<S> as Tables>⟧.sure ⟦<SqlTables<S> as Tables>⟧.holds ⟦<SqlTables<S> as Tables>⟧.knows ⟦<SqlTables<S> as Tables>⟧.may_leave)
+    ensures said { TellsListening place.now.text.now
+        (writer_page W.Drain writer.old)
+        (writer_page W.Drain writer.new) result.outcome }
+    ensures leads { LeadsFrom (IsRead R.shows R.gives) (trait_meaning ⟦<SqlTables<S> as Tables>⟧)
         place.now.connections desk result.connection result.outcome }
 {
     let mut noted = Noted::new(log, desk);
@@ -61,9 +65,13 @@ fn serve_opened<
     opened: (SqlTables<S>, Office<B>),
     writer: &mut W,
 ) -> Filed<S, ()>
-    ensures said { TellsListening place.now.text.now (record { taken = W.taken writer.old; failures = W.failures writer.old }) (record { taken = W.taken writer.new; failures = W.failures writer.new }) result.outcome }
-    ensures leads { LeadsFrom (IsRead R.shows R.gives) (meaning ⟦<SqlTables<S> as Tables>⟧.sure ⟦<SqlTables<S> as Tables>⟧.holds ⟦<SqlTables<S> as Tables>⟧.knows ⟦<SqlTables<S> as Tables>⟧.may_leave)
-        place.now.connections (desk_with opened.0 opened.1.organizer opened.1.event opened.1.state) result.connection result.outcome }
+    ensures said { TellsListening place.now.text.now
+        (writer_page W.Drain writer.old)
+        (writer_page W.Drain writer.new) result.outcome }
+    ensures leads { LeadsFrom (IsRead R.shows R.gives)
+        (trait_meaning ⟦<SqlTables<S> as Tables>⟧) place.now.connections
+        (desk_with opened.0 opened.1.organizer opened.1.event opened.1.state) result.connection
+        result.outcome }
 {
     match HouseWords::new(alloc, opened.1.organizer(), opened.1.event()) {
         Ok(words) => {
@@ -94,11 +102,15 @@ pub fn serve_shop<
     place: &Place<'_>,
     writer: &mut W,
 ) -> Filed<S, ()>
-    ensures said { TellsListening place.now.text.now (record { taken = W.taken writer.old; failures = W.failures writer.old }) (record { taken = W.taken writer.new; failures = W.failures writer.new }) result.outcome }
-    ensures served { IsOpenedAndServed (IsRead R.shows R.gives) S.Store (meaning ⟦<SqlTables<S> as Tables>⟧.sure ⟦<SqlTables<S> as Tables>⟧.holds ⟦<SqlTables<S> as Tables>⟧.knows ⟦<SqlTables<S> as Tables>⟧.may_leave)
-        place.now.connections (state S.Store connection) result.connection result.outcome
+    ensures said { TellsListening place.now.text.now
+        (writer_page W.Drain writer.old)
+        (writer_page W.Drain writer.new) result.outcome }
+    ensures served { IsOpenedAndServed (IsRead R.shows R.gives) S.Store
+        (trait_meaning ⟦<SqlTables<S> as Tables>⟧) place.now.connections
+        (state S.Store connection) result.connection result.outcome
         ⊎ (StaysUnopened S.Store (state S.Store connection) result.connection result.outcome
-        × IsSilent (record { taken = W.taken writer.old; failures = W.failures writer.old }) (record { taken = W.taken writer.new; failures = W.failures writer.new })) }
+        × IsSilent (writer_page W.Drain writer.old)
+        (writer_page W.Drain writer.new)) }
 {
     let mut rows = 0;
     match open_counted(rt, alloc, connection, &mut rows) {

@@ -2,10 +2,10 @@
 
 ghost use Rattle.std.specs.Prelude.{◌⊎◌};
 ghost use Rattle.sqlite.specs.Held.{state};
-ghost use Rattle.web_handler.specs.Streams.{meaning};
 ghost use Rattle.web_server.specs.Clock.{IsRead};
 ghost use Rattle.app_files.specs.Served.{StaysUnopened};
 ghost use Rattle.app_files.specs.Worked.{IsOpenedAndWorked};
+ghost use Rattle.web_arrivals.specs.DeskView.{trait_meaning};
 
 use crate::acting::act_opened;
 use crate::filed::Filed;
@@ -29,8 +29,10 @@ pub fn work_shop<R: System + Console, S: Alter + Drop>(
     alloc: Global,
     connection: Connection<S>,
 ) -> Filed<S, Body>
-    ensures { IsOpenedAndWorked (IsRead R.shows R.gives) S.Store (meaning ⟦<SqlTables<S> as Tables>⟧.sure ⟦<SqlTables<S> as Tables>⟧.holds ⟦<SqlTables<S> as Tables>⟧.knows ⟦<SqlTables<S> as Tables>⟧.may_leave)
-        (state S.Store connection) result.connection result.outcome ⊎ StaysUnopened S.Store (state S.Store connection) result.connection result.outcome }
+    ensures { IsOpenedAndWorked (IsRead R.shows R.gives) S.Store
+        (trait_meaning ⟦<SqlTables<S> as Tables>⟧)
+        (state S.Store connection) result.connection result.outcome
+        ⊎ StaysUnopened S.Store (state S.Store connection) result.connection result.outcome }
 {
     match open_shop(rt, alloc, connection) {
         Ok(opened) => act_opened(rt, alloc, opened, WorkWords, Command::Periodic),

@@ -1,12 +1,27 @@
 -- What is said of a shop's tables in SQLite.
+use Rattle.std.specs.Prelude.{[]}
 use Rattle.sqlite_trees.specs.declared.memory.MemStore.{MemStore}
 use Rattle.sqlite_trees.specs.declared.store.Store.{Ghosts}
 use Rattle.sqlite.specs.Held.{state}
 use Rattle.sqlite.specs.State.{HasCleanDisk}
 use Rattle.sqlite.specs.Steps.{over_memory}
+use Rattle.model_rows.specs.Lists.{empty}
+use Rattle.model_answers.specs.House.{House}
 use Rattle.file_tables.specs.declared.sql.SqlTables.{SqlTables}
 use Rattle.file_tables.specs.Shops.{HoldsWhileOpen, IsOfHouse, Leaves}
 use Rattle.web_handler.specs.Streams.{DeskView, Meaning, meaning}
+
+-- the disk has returned what was written so far
+abbrev pub IsOnCleanDisk : {S : Type 0} → Ghosts S → SqlTables S → Type 0
+IsOnCleanDisk g t = HasCleanDisk (state g t.connection)
+
+-- these tables hold no row and no answer
+abbrev pub HoldsNoRow : {S : Type 0} → Ghosts S → SqlTables S → Type 0
+HoldsNoRow g t = HoldsWhileOpen t.head t.next_row (state g t.connection) empty []
+
+-- these tables know this house
+abbrev pub KnowsHouse : {S : Type 0} → Ghosts S → SqlTables S → House → Type 0
+KnowsHouse g t house = IsOfHouse t.head t.next_row (state g t.connection) house
 
 -- whatever SQLite keeps them in
 abbrev pub in_store : {S : Type 0} → Ghosts S → Meaning (SqlTables S)

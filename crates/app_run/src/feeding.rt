@@ -2,6 +2,7 @@
 
 ghost use Rattle.app_run.specs.Feed.{Feeds, FeedsTexts};
 ghost use Rattle.web_cli.specs.Values.{feed_values};
+ghost use Rattle.web_handler.specs.Fed.{ports_at};
 
 use crate::opening::open_memory;
 use base_devices::{Drain, Source};
@@ -23,8 +24,8 @@ pub fn feed<R: Source, W: Drain>(
     writer: &mut W,
 ) -> Result<(), Failure>
     ensures { Feeds from step
-        (record { left = R.left reader.old; taken = W.taken writer.old; calls = R.calls reader.old; input = R.failures reader.old; output = W.failures writer.old })
-        (record { left = R.left reader.new; taken = W.taken writer.new; calls = R.calls reader.new; input = R.failures reader.new; output = W.failures writer.new }) result }
+        (ports_at R.Source W.Drain reader.old writer.old)
+        (ports_at R.Source W.Drain reader.new writer.new) result }
 {
     match open_memory(alloc) {
         Ok((tables, office)) => feed_office(alloc, tables, office, from, step, reader, writer),
@@ -41,8 +42,8 @@ pub fn feed_texts<R: Source, W: Drain>(
     writer: &mut W,
 ) -> Result<(), RunFault>
     ensures { FeedsTexts (feed_values from.now step.now)
-        (record { left = R.left reader.old; taken = W.taken writer.old; calls = R.calls reader.old; input = R.failures reader.old; output = W.failures writer.old })
-        (record { left = R.left reader.new; taken = W.taken writer.new; calls = R.calls reader.new; input = R.failures reader.new; output = W.failures writer.new }) result }
+        (ports_at R.Source W.Drain reader.old writer.old)
+        (ports_at R.Source W.Drain reader.new writer.new) result }
 {
     let Some((from, step)) = feed_values(from, step) else {
         return Err(RunFault::Argument);

@@ -2,6 +2,7 @@
 
 ghost use Rattle.std.specs.Prelude.{◌≡◌, ◌&&◌, option_map};
 ghost use Rattle.base_values.specs.Slugs.{is_slug};
+ghost use Rattle.web_http.specs.Written.{writer_page};
 ghost use Rattle.web_cli.specs.Saying.{AddsToken, ExportsFile, ImportsFile, MakesShop, ReportsFile, ServesFile, Tells, WorksFile};
 
 use base_devices::Drain;
@@ -27,7 +28,8 @@ pub fn make_shop<F: HouseFiles, W: Drain>(
     event: &str,
     writer: &mut W,
 ) -> Result<(), RunFault>
-    ensures { MakesShop F.made file.now organizer.now event.now (record { taken = W.taken writer.old; failures = W.failures writer.old }) (record { taken = W.taken writer.new; failures = W.failures writer.new }) result }
+    ensures { MakesShop F.made file.now organizer.now event.now
+        (writer_page W.Drain writer.old) (writer_page W.Drain writer.new) result }
 {
     if !are_slugs(organizer, event) {
         return Err(RunFault::Argument);
@@ -47,7 +49,8 @@ pub fn add_token<F: HouseFiles, W: Drain>(
     token: &str,
     writer: &mut W,
 ) -> Result<(), RunFault>
-    ensures { AddsToken F.added file.now token.now (record { taken = W.taken writer.old; failures = W.failures writer.old }) (record { taken = W.taken writer.new; failures = W.failures writer.new }) result }
+    ensures { AddsToken F.added file.now token.now
+        (writer_page W.Drain writer.old) (writer_page W.Drain writer.new) result }
 {
     if !is_token(token) {
         return Err(RunFault::Argument);
@@ -69,7 +72,9 @@ pub fn serve_shop<F: HouseFiles, W: Drain>(
     line: ServeLine<'_>,
     writer: &mut W,
 ) -> Result<(), RunFault>
-    ensures { ServesFile F.served line.entry.file.now line.entry.listen.now (option_map (λ t. t.now) line.entry.connections) (record { taken = W.taken writer.old; failures = W.failures writer.old }) (record { taken = W.taken writer.new; failures = W.failures writer.new }) result }
+    ensures { ServesFile F.served line.entry.file.now line.entry.listen.now
+        (option_map (λ t. t.now) line.entry.connections)
+        (writer_page W.Drain writer.old) (writer_page W.Drain writer.new) result }
 {
     let Some((addr, connections)) = serve_values(line.listen, line.connections) else {
         return Err(RunFault::Argument);
@@ -90,7 +95,8 @@ pub fn work_shop<F: HouseFiles, W: Drain>(
     file: &str,
     writer: &mut W,
 ) -> Result<(), RunFault>
-    ensures { WorksFile F.worked file.now (record { taken = W.taken writer.old; failures = W.failures writer.old }) (record { taken = W.taken writer.new; failures = W.failures writer.new }) result }
+    ensures { WorksFile F.worked file.now
+        (writer_page W.Drain writer.old) (writer_page W.Drain writer.new) result }
 {
     match files.work(alloc, file) {
         Ok(done) => said(say(writer, done.as_slice(), b"")),
@@ -100,7 +106,8 @@ pub fn work_shop<F: HouseFiles, W: Drain>(
 
 // Tells a text of lines as it is, where there is one.
 fn tell<W: Drain>(writer: &mut W, came: Result<Body, RunFault>) -> Result<(), RunFault>
-    ensures { Tells (λ text. text) came (record { taken = W.taken writer.old; failures = W.failures writer.old }) (record { taken = W.taken writer.new; failures = W.failures writer.new }) result }
+    ensures { Tells (λ text. text) came
+        (writer_page W.Drain writer.old) (writer_page W.Drain writer.new) result }
 {
     match came {
         Ok(text) => said(write_all(writer, text.as_slice())),
@@ -116,7 +123,8 @@ pub fn report_shop<F: HouseFiles, W: Drain>(
     report: Report,
     writer: &mut W,
 ) -> Result<(), RunFault>
-    ensures { ReportsFile F.reported file.now report (record { taken = W.taken writer.old; failures = W.failures writer.old }) (record { taken = W.taken writer.new; failures = W.failures writer.new }) result }
+    ensures { ReportsFile F.reported file.now report
+        (writer_page W.Drain writer.old) (writer_page W.Drain writer.new) result }
 {
     tell(writer, files.report(alloc, file, report))
 }
@@ -128,7 +136,8 @@ pub fn export_shop<F: HouseFiles, W: Drain>(
     file: &str,
     writer: &mut W,
 ) -> Result<(), RunFault>
-    ensures { ExportsFile F.exported file.now (record { taken = W.taken writer.old; failures = W.failures writer.old }) (record { taken = W.taken writer.new; failures = W.failures writer.new }) result }
+    ensures { ExportsFile F.exported file.now
+        (writer_page W.Drain writer.old) (writer_page W.Drain writer.new) result }
 {
     files.export(alloc, file, writer)
 }
@@ -141,7 +150,8 @@ pub fn import_vouchers<F: HouseFiles, W: Drain>(
     csv: &str,
     writer: &mut W,
 ) -> Result<(), RunFault>
-    ensures { ImportsFile F.imported file.now csv.now (record { taken = W.taken writer.old; failures = W.failures writer.old }) (record { taken = W.taken writer.new; failures = W.failures writer.new }) result }
+    ensures { ImportsFile F.imported file.now csv.now
+        (writer_page W.Drain writer.old) (writer_page W.Drain writer.new) result }
 {
     tell(writer, files.import(alloc, file, csv))
 }

@@ -1,7 +1,7 @@
 //! A stream of requests to a shop.
 
 ghost use Rattle.std.specs.Prelude.{◌+◌, ◌≤◌};
-ghost use Rattle.web_connection.specs.Run.{CountedAll};
+ghost use Rattle.web_connection.specs.Run.{CountedAll, device_counts, devices_at, most_reads};
 ghost use Rattle.app_run.specs.House.{ServesFresh, no_desk};
 
 use crate::opening::open_memory;
@@ -18,12 +18,12 @@ pub fn serve_house<R: Source, T: Ticks, W: Drain>(
     writer: &mut W,
 ) -> Result<(), Failure>
     ensures leads { ServesFresh
-        (record { left = R.left reader.old; calls = R.calls reader.old; told = T.told ticks.old; desk = no_desk; taken = W.taken writer.old })
-        (record { left = R.left reader.new; calls = R.calls reader.new; told = T.told ticks.new; desk = no_desk; taken = W.taken writer.new }) result }
+        (devices_at R.Source T.Ticks W.Drain reader.old ticks.old no_desk writer.old)
+        (devices_at R.Source T.Ticks W.Drain reader.new ticks.new no_desk writer.new) result }
     ensures counted { CountedAll result
-        (record { clock = T.failures ticks.old; output = W.failures writer.old; input = R.failures reader.old; calls = R.calls reader.old })
-        (record { clock = T.failures ticks.new; output = W.failures writer.new; input = R.failures reader.new; calls = R.calls reader.new }) }
-    ensures calls { R.calls reader.new ≤ R.calls reader.old + 1000000 }
+        (device_counts R.Source T.Ticks W.Drain reader.old ticks.old writer.old)
+        (device_counts R.Source T.Ticks W.Drain reader.new ticks.new writer.new) }
+    ensures calls { R.calls reader.new ≤ R.calls reader.old + most_reads }
 {
     match open_memory(alloc) {
         Ok((tables, office)) => serve_office(alloc, reader, ticks, tables, office, writer),

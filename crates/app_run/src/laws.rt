@@ -23,35 +23,50 @@ use model_answers::Tables;
 /// Whatever bytes are fed to a fresh shop, over whatever tables: each request that is executed makes a step that takes too much of
 /// no quota; a repeat, a read and what is refused before it is a command take nothing; and the shop stays sound.
 pub fn what_is_fed_takes_nothing_too_much<T: Tables>()
-    ensures { (first : DeskView T) (from step : ℕ) (old new : Ports) (result : Result (Unit {0}) Failure)
+    ensures { (first : DeskView T) (from step : ℕ) (old new : Ports)
+        (result : Result (Unit {0}) Failure)
         → let tables = meaning T.sure T.holds T.knows T.may_leave in
-        IsFresh tables first → (fed : FeedsDesk tables first from step old new result) → T.sure fed.house.tables
-        → (w : ShopView) × RunLeads (ServesAndKeeps feed_house) (devices old [] fresh_shop) (devices new (feed_ticks from step fed.count) w) result
+        IsFresh tables first → (fed : FeedsDesk tables first from step old new result)
+        → T.sure fed.house.tables
+        → (w : ShopView)
+        × RunLeads (ServesAndKeeps feed_house) (devices old [] fresh_shop)
+        (devices new (feed_ticks from step fed.count) w) result
         × Views T.holds fed.house.tables fed.house.state w × IsSound w.state }
 {}
 
 /// Whatever bytes are fed to a fresh shop, over whatever tables: there is a list of arrivals, those of the messages that were acted
 /// on, of which each was told what is told of the list, or 503; and the shop stands for it.
 pub fn what_is_fed_is_told_once<T: Tables>()
-    ensures { (first : DeskView T) (from step : ℕ) (old new : Ports) (result : Result (Unit {0}) Failure)
+    ensures { (first : DeskView T) (from step : ℕ) (old new : Ports)
+        (result : Result (Unit {0}) Failure)
         → let tables = meaning T.sure T.holds T.knows T.may_leave in
-        IsFresh tables first → (fed : FeedsDesk tables first from step old new result) → T.sure fed.house.tables
-        → (es : List Delivery) × RunLeads (ServesList feed_house fresh_opening) (devices old [] []) (devices new (feed_ticks from step fed.count) es) result
-        × StandsFor (words_of feed_house) T.holds fed.house.tables fed.house.state fresh_opening es }
+        IsFresh tables first → (fed : FeedsDesk tables first from step old new result)
+        → T.sure fed.house.tables
+        → (es : List Delivery)
+        × RunLeads (ServesList feed_house fresh_opening) (devices old [] [])
+        (devices new (feed_ticks from step fed.count) es) result
+        × StandsFor (words_of feed_house) T.holds
+        fed.house.tables fed.house.state fresh_opening es }
 {}
 
 /// Whatever bytes are fed to `feed`: each request that is executed makes a step that takes too much of no quota; a repeat, a read
 /// and what is refused before it is a command take nothing; and the shop that all leads to is sound.
 pub fn what_feed_is_fed_takes_nothing_too_much()
-    ensures { (from step : ℕ) (old new : Ports) (result : Result (Unit {0}) Failure) → Feeds from step old new result
-        → (count : ℕ) × (w : ShopView) × RunLeads (ServesAndKeeps feed_house) (devices old [] fresh_shop) (devices new (feed_ticks from step count) w) result × IsSound w.state }
+    ensures { (from step : ℕ) (old new : Ports) (result : Result (Unit {0}) Failure)
+        → Feeds from step old new result
+        → (count : ℕ) × (w : ShopView)
+        × RunLeads (ServesAndKeeps feed_house) (devices old [] fresh_shop)
+        (devices new (feed_ticks from step count) w) result × IsSound w.state }
 {}
 
 /// Whatever bytes are fed to `feed`: there is a list of arrivals, those of the messages that were acted on, of which each was told
 /// what is told of the list, or 503.
 pub fn what_feed_is_fed_is_told_once()
-    ensures { (from step : ℕ) (old new : Ports) (result : Result (Unit {0}) Failure) → Feeds from step old new result
-        → (count : ℕ) × (es : List Delivery) × RunLeads (ServesList feed_house fresh_opening) (devices old [] []) (devices new (feed_ticks from step count) es) result }
+    ensures { (from step : ℕ) (old new : Ports) (result : Result (Unit {0}) Failure)
+        → Feeds from step old new result
+        → (count : ℕ) × (es : List Delivery)
+        × RunLeads (ServesList feed_house fresh_opening) (devices old [] [])
+        (devices new (feed_ticks from step count) es) result }
 {}
 
 /// SQLite's memory has always returned what was written, so that what is said of a shop over sure tables holds of one in it.

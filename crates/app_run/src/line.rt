@@ -1,8 +1,10 @@
 //! What a command line comes to.
 
 ghost use Rattle.std.specs.Prelude.{map, option_map, string_bytes};
+ghost use Rattle.web_http.specs.Written.{writer_page};
 ghost use Rattle.app_run.specs.Line.{Ran, ReportsWhere};
 ghost use Rattle.web_cli.specs.Values.{report_of};
+ghost use Rattle.web_handler.specs.Fed.{ports_at};
 
 use crate::feeding::feed_texts;
 use crate::filing::{
@@ -25,7 +27,9 @@ fn report_file<O: Console, F: HouseFiles, W: Drain>(
     list: Option<&str>,
     writer: &mut W,
 ) -> LineEnd
-    ensures { ReportsWhere (report_of name.now (option_map (λ t. t.now) list.entry)) F.reported file.now (record { taken = W.taken writer.old; failures = W.failures writer.old }) (record { taken = W.taken writer.new; failures = W.failures writer.new }) result }
+    ensures { ReportsWhere (report_of name.now (option_map (λ t. t.now) list.entry))
+        F.reported file.now
+        (writer_page W.Drain writer.old) (writer_page W.Drain writer.new) result }
 {
     match report_of(name, list) {
         Ok(report) => tell_run(rt, report_shop(alloc, files, file, report, writer)),
@@ -45,9 +49,10 @@ pub fn run<O: Console, F: HouseFiles, R: Source, W: Drain>(
     reader: &mut R,
     writer: &mut W,
 ) -> LineEnd
-    ensures { Ran F.made F.added F.served F.worked F.reported F.exported F.imported (map string_bytes words.now)
-        (record { left = R.left reader.old; taken = W.taken writer.old; calls = R.calls reader.old; input = R.failures reader.old; output = W.failures writer.old })
-        (record { left = R.left reader.new; taken = W.taken writer.new; calls = R.calls reader.new; input = R.failures reader.new; output = W.failures writer.new }) result }
+    ensures { Ran F.made F.added F.served F.worked F.reported F.exported F.imported
+        (map string_bytes words.now)
+        (ports_at R.Source W.Drain reader.old writer.old)
+        (ports_at R.Source W.Drain reader.new writer.new) result }
 {
     let Ok(words) = plain_words(alloc, words) else {
         return tell_fault(rt, RunFault::Memory);

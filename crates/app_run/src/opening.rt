@@ -1,12 +1,11 @@
 //! A shop is opened in a database that has no tables yet.
 
-ghost use Rattle.std.specs.Prelude.{◌≡◌, [], Ok, Err, IfOk, IfErr, OnOk, codes};
+ghost use Rattle.std.specs.Prelude.{◌≡◌, Ok, Err, IfOk, IfErr, OnOk, codes};
 ghost use Rattle.sqlite.specs.Held.{state};
-ghost use Rattle.sqlite.specs.State.{HasCleanDisk};
 ghost use Rattle.sqlite.specs.Steps.{over_memory};
 ghost use Rattle.model_rows.specs.Lists.{empty};
-ghost use Rattle.file_tables.specs.Shops.{HoldsWhileOpen, IsOfHouse};
 ghost use Rattle.file_tables.specs.Tokens.{raised};
+ghost use Rattle.app_run.specs.Stored.{HoldsNoRow, IsOnCleanDisk, KnowsHouse};
 ghost use Rattle.app_run.specs.Opened.{IsFreshShop, bare_house, feed_digest, feed_house};
 
 use base_values::Slug;
@@ -65,11 +64,14 @@ fn begin<S: Alter + Drop>(
     alloc: Global,
     connection: Connection<S>,
 ) -> Result<(SqlTables<S>, Office<Counters>), AllocError>
-    ensures office { IfOk result (λ made. (made.1.organizer ≡ codes "house") × (made.1.event ≡ codes "hall") × (made.1.state ≡ empty)) }
-    ensures row { IfOk result (λ made. HasCleanDisk (state S.Store made.0.connection) → (made.0.head.organizer ≡ codes "house") × (made.0.head.event ≡ codes "hall")) }
-    ensures next { IfOk result (λ made. HasCleanDisk (state S.Store made.0.connection) → made.0.head.next_token ≡ 1) }
-    ensures holds { IfOk result (λ made. HasCleanDisk (state S.Store made.0.connection) → HoldsWhileOpen made.0.head made.0.next_row (state S.Store made.0.connection) empty []) }
-    ensures knows { IfOk result (λ made. HasCleanDisk (state S.Store made.0.connection) → IsOfHouse made.0.head made.0.next_row (state S.Store made.0.connection) bare_house) }
+    ensures office { IfOk result (λ made. (made.1.organizer ≡ codes "house")
+        × (made.1.event ≡ codes "hall") × (made.1.state ≡ empty)) }
+    ensures row { IfOk result (λ made. IsOnCleanDisk S.Store made.0
+        → (made.0.head.organizer ≡ codes "house") × (made.0.head.event ≡ codes "hall")) }
+    ensures next { IfOk result (λ made. IsOnCleanDisk S.Store made.0 → made.0.head.next_token ≡ 1) }
+    ensures holds { IfOk result (λ made. IsOnCleanDisk S.Store made.0 → HoldsNoRow S.Store made.0) }
+    ensures knows { IfOk result (λ made. IsOnCleanDisk S.Store made.0
+        → KnowsHouse S.Store made.0 bare_house) }
 {
     let of_office = names(alloc)?;
     let of_tables = names(alloc)?;
@@ -81,13 +83,14 @@ fn begin<S: Alter + Drop>(
 
 // Adds the token `feed`, as the first one.
 fn add_feed<S: Alter>(tables: &mut SqlTables<S>) -> Result<(), AllocError>
-    ensures clean { HasCleanDisk (state S.Store tables.new.connection) → HasCleanDisk (state S.Store tables.old.connection) }
-    ensures row { HasCleanDisk (state S.Store tables.new.connection) → IsOfHouse tables.old.head tables.old.next_row (state S.Store tables.old.connection) bare_house
+    ensures clean { IsOnCleanDisk S.Store tables.new → IsOnCleanDisk S.Store tables.old }
+    ensures row { IsOnCleanDisk S.Store tables.new → KnowsHouse S.Store tables.old bare_house
         → OnOk result (tables.new.head ≡ raised tables.old.head) }
-    ensures holds { HasCleanDisk (state S.Store tables.new.connection) → HoldsWhileOpen tables.old.head tables.old.next_row (state S.Store tables.old.connection) empty []
-        → HoldsWhileOpen tables.new.head tables.new.next_row (state S.Store tables.new.connection) empty [] }
-    ensures knows { HasCleanDisk (state S.Store tables.new.connection) → tables.old.head.next_token ≡ 1 → IsOfHouse tables.old.head tables.old.next_row (state S.Store tables.old.connection) bare_house
-        → OnOk result (IsOfHouse tables.new.head tables.new.next_row (state S.Store tables.new.connection) feed_house) }
+    ensures holds { IsOnCleanDisk S.Store tables.new → HoldsNoRow S.Store tables.old
+        → HoldsNoRow S.Store tables.new }
+    ensures knows { IsOnCleanDisk S.Store tables.new → tables.old.head.next_token ≡ 1
+        → KnowsHouse S.Store tables.old bare_house
+        → OnOk result (KnowsHouse S.Store tables.new feed_house) }
 {
     match add_token(tables, &digest_of_feed()) {
         Ok(_) => Ok(()),
@@ -114,7 +117,8 @@ pub fn open_store<S: Alter + Drop>(
     alloc: Global,
     connection: Connection<S>,
 ) -> Result<(SqlTables<S>, Office<Counters>), AllocError>
-    ensures { IfOk result (λ made. HasCleanDisk (state S.Store made.0.connection) → IsFreshShop S.Store made.0 made.1.organizer made.1.event made.1.state) }
+    ensures { IfOk result (λ made. IsOnCleanDisk S.Store made.0
+        → IsFreshShop S.Store made.0 made.1.organizer made.1.event made.1.state) }
 {
     let mut made = begin(alloc, connection)?;
     let ended = add_feed(&mut made.0);
@@ -123,7 +127,8 @@ pub fn open_store<S: Alter + Drop>(
 
 /// The same in SQLite's memory, which has no tables at first.
 pub fn open_memory(alloc: Global) -> Result<(SqlTables<MemStore>, Office<Counters>), AllocError>
-    ensures { IfOk result (λ made. IsFreshShop over_memory made.0 made.1.organizer made.1.event made.1.state) }
+    ensures { IfOk result
+        (λ made. IsFreshShop over_memory made.0 made.1.organizer made.1.event made.1.state) }
 {
     let connection = Connection::open_in_memory(alloc)?;
     open_store(alloc, connection)

@@ -1,8 +1,8 @@
 //! Readers, writers and clocks that tell what passed through them, and count their failures.
 
-ghost use Rattle.std.specs.Prelude.{◌≡◌, ℕ, ◌+◌, ◌<◌, ◌≤◌, List, [], ◌∷◌, Option, Some, None, length, take, IfOk, OnOk, OnErr};
+ghost use Rattle.std.specs.Prelude.{◌≡◌, ℕ, ◌+◌, ◌<◌, ◌≤◌, List, [], ◌∷◌, Option, Some, None, length, IfOk, OnOk, OnErr};
 ghost use Rattle.std.specs.Io.KnownBytes.{IsAtEnd};
-ghost use Rattle.base_devices.specs.Told.{Adds, Gives};
+ghost use Rattle.base_devices.specs.Told.{Adds, AddsSoMany, Gives, GivesSoMany};
 ghost use Rattle.base_devices.specs.declared.device.Tick.{Tick};
 
 use base_values::{Draw, Moment};
@@ -24,7 +24,7 @@ pub trait Source {
     /// Reads some bytes, none only at the end.
     fn read(&mut self, buffer: &mut [u8]) -> Result<usize, Refused>
         ensures fits { IfOk result (λ n. n ≤ length buffer.new) }
-        ensures given { IfOk result (λ n. Gives (left self.old) (take n buffer.new) (left self.new)) }
+        ensures given { GivesSoMany result (left self.old) buffer.new (left self.new) }
         ensures ended { IfOk result (λ n. n ≡ 0 → 0 < length buffer.new → IsAtEnd (left self.new)) }
         ensures kept { OnErr result (Gives (left self.old) [] (left self.new)) }
         ensures calls { calls self.new ≡ calls self.old + 1 }
@@ -45,7 +45,7 @@ pub trait Drain {
         requires { 0 < length bytes.now }
         ensures some { IfOk result (λ n. 0 < n) }
         ensures fits { IfOk result (λ n. n ≤ length bytes.now) }
-        ensures taken { IfOk result (λ n. Adds (taken self.old) (take n bytes.now) (taken self.new)) }
+        ensures taken { AddsSoMany result (taken self.old) bytes.now (taken self.new) }
         ensures kept { OnErr result (Adds (taken self.old) [] (taken self.new)) }
         ensures well { OnOk result (failures self.new ≡ failures self.old) }
         ensures failed { OnErr result (failures self.new ≡ failures self.old + 1) };

@@ -190,8 +190,10 @@ fn is_emptied(spot: Spot, filled: usize) -> bool
 // Where a spot is, once its block is split into two halves.
 fn half_of(spot: Spot) -> Spot
     requires { spot.block < 4294967296 }
-    ensures lower { spot.offset ≤ 256 → (result.block ≡ spot.block) × (result.offset ≡ spot.offset) }
-    ensures upper { 256 < spot.offset → (result.block ≡ spot.block + 1) × (result.offset + 256 ≡ spot.offset) }
+    ensures lower { spot.offset ≤ 256
+        → (result.block ≡ spot.block) × (result.offset ≡ spot.offset) }
+    ensures upper { 256 < spot.offset
+        → (result.block ≡ spot.block + 1) × (result.offset + 256 ≡ spot.offset) }
 {
     if spot.offset <= HALF {
         return spot;

@@ -81,7 +81,8 @@ impl Chain {
         ensures block { result.block ≤ last }
         ensures place { start_of result.block self.now + result.offset ≡ place }
         ensures within { result.offset ≤ length (slice_index_or self.now result.block []) }
-        ensures at_entry { place < start_of (last + 1) self.now → result.offset < length (slice_index_or self.now result.block []) }
+        ensures at_entry { place < start_of (last + 1) self.now
+            → result.offset < length (slice_index_or self.now result.block []) }
     {
         let block = block_at(&self.starts, last, place);
         Spot {
@@ -96,7 +97,8 @@ impl Chain {
         requires filled { (b : ℕ) → 0 < b → b ≤ last → 0 < length (slice_index_or self.now b []) }
         ensures within { result ≤ last }
         ensures from { 0 < result → slice_index (slice_index_or self.now result []) 0 ≤ entry }
-        ensures before { result < last → entry < slice_index (slice_index_or self.now (result + 1) []) 0 }
+        ensures before { result < last
+            → entry < slice_index (slice_index_or self.now (result + 1) []) 0 }
     {
         block_for(&self.blocks, last, entry)
     }
@@ -105,8 +107,12 @@ impl Chain {
     pub fn place_in(&self, block: usize, entry: u128) -> Result<usize, usize>
         requires within { block < length self.now }
         requires in_order { AreInOrder (λ n. n) (slice_index_or self.now block []) }
-        ensures found { IfOk result (λ place. (start_of block self.now ≤ place) × IsPlace (λ n. n) (slice_index_or self.now block []) entry (place - start_of block self.now)) }
-        ensures absent { IfErr result (λ place. (start_of block self.now ≤ place) × IsGap (λ n. n) (slice_index_or self.now block []) entry (place - start_of block self.now)) }
+        ensures found { IfOk result (λ place. (start_of block self.now ≤ place)
+            × IsPlace (λ n. n) (slice_index_or self.now block []) entry
+            (place - start_of block self.now)) }
+        ensures absent { IfErr result (λ place. (start_of block self.now ≤ place)
+            × IsGap (λ n. n) (slice_index_or self.now block []) entry
+            (place - start_of block self.now)) }
     {
         let start = self.starts[block];
         let block = &self.blocks[block];
@@ -120,7 +126,8 @@ impl Chain {
     pub fn at(&self, spot: Spot) -> u128
         requires block { spot.block < length self.now }
         requires within { spot.offset < length (slice_index_or self.now spot.block []) }
-        ensures { (d : ℕ) → slice_index_or (slice_index_or self.now spot.block []) spot.offset d ≡ result }
+        ensures { (d : ℕ)
+            → slice_index_or (slice_index_or self.now spot.block []) spot.offset d ≡ result }
     {
         let block = &self.blocks[spot.block];
         block.at(spot.offset)
@@ -130,7 +137,8 @@ impl Chain {
     pub fn set(&mut self, spot: Spot, entry: u128)
         requires block { spot.block < length self.old }
         requires within { spot.offset < length (slice_index_or self.old spot.block []) }
-        ensures { self.new ≡ slice_set self.old spot.block (slice_set (slice_index_or self.old spot.block []) spot.offset entry) }
+        ensures { self.new ≡ slice_set self.old spot.block
+            (slice_set (slice_index_or self.old spot.block []) spot.offset entry) }
     {
         let block = &mut self.blocks[spot.block];
         block.set(spot.offset, entry);
@@ -142,7 +150,8 @@ impl Chain {
         requires within { spot.offset ≤ length (slice_index_or self.old spot.block []) }
         requires fits { length (slice_index_or self.old spot.block []) < 512 }
         requires few { length (concat self.old) < 4294967296 }
-        ensures { self.new ≡ slice_set self.old spot.block (insert (slice_index_or self.old spot.block []) spot.offset entry) }
+        ensures { self.new ≡ slice_set self.old spot.block
+            (insert (slice_index_or self.old spot.block []) spot.offset entry) }
     {
         let block = &mut self.blocks[spot.block];
         block.insert(spot.offset, entry);
@@ -154,7 +163,8 @@ impl Chain {
     pub fn remove(&mut self, spot: Spot)
         requires block { spot.block < length self.old }
         requires within { spot.offset < length (slice_index_or self.old spot.block []) }
-        ensures { self.new ≡ slice_set self.old spot.block (remove (slice_index_or self.old spot.block []) spot.offset) }
+        ensures { self.new ≡ slice_set self.old spot.block
+            (remove (slice_index_or self.old spot.block []) spot.offset) }
     {
         let block = &mut self.blocks[spot.block];
         block.remove(spot.offset);
@@ -233,7 +243,8 @@ fn block_for(blocks: &[Block], last: usize, entry: u128) -> usize
     requires filled { (b : ℕ) → 0 < b → b ≤ last → 0 < length (slice_index_or blocks.now b []) }
     ensures within { result ≤ last }
     ensures from { 0 < result → slice_index (slice_index_or blocks.now result []) 0 ≤ entry }
-    ensures before { result < last → entry < slice_index (slice_index_or blocks.now (result + 1) []) 0 }
+    ensures before { result < last
+        → entry < slice_index (slice_index_or blocks.now (result + 1) []) 0 }
 {
     let mut low = 0;
     let mut high = last;
@@ -262,7 +273,8 @@ fn first_of(blocks: &[Block], block: usize) -> u128
 fn raise(starts: &mut Vec<usize>, from: usize)
     requires within { from ≤ length starts.old.items }
     requires few { (k : ℕ) → slice_index starts.old.items k ≤ 4294967296 }
-    ensures { starts.new.items ≡ take from starts.old.items ++ map (λ s. s + 1) (drop from starts.old.items) }
+    ensures { starts.new.items
+        ≡ take from starts.old.items ++ map (λ s. s + 1) (drop from starts.old.items) }
 {
     for at in from..starts.len() {
         starts[at] += 1;
@@ -272,7 +284,8 @@ fn raise(starts: &mut Vec<usize>, from: usize)
 // One fewer stands before each block from this one on.
 fn lower(starts: &mut Vec<usize>, from: usize)
     requires { from ≤ length starts.old.items }
-    ensures { starts.new.items ≡ take from starts.old.items ++ map (λ s. s - 1) (drop from starts.old.items) }
+    ensures { starts.new.items
+        ≡ take from starts.old.items ++ map (λ s. s - 1) (drop from starts.old.items) }
 {
     for at in from..starts.len() {
         starts[at] = starts[at].saturating_sub(1);

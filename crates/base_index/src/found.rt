@@ -24,7 +24,8 @@ impl<'a> Model for Found<'a> {
 
     ghost view = { λ f. map id_of (take (f.end - f.first) (drop f.first f.entries.now.rows)) };
 
-    ghost invariant = { λ f. (f.first ≤ f.end) × (f.end ≤ length f.entries.now.rows) × (f.end ≤ 4294967296) };
+    ghost invariant = { λ f. (f.first ≤ f.end) × (f.end ≤ length f.entries.now.rows)
+        × (f.end ≤ 4294967296) };
 }
 
 impl<'a> Found<'a> {

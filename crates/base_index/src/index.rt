@@ -183,7 +183,8 @@ fn move_up(entries: &mut Blocks, id: u64) -> usize
 // Moves the entry at a place behind so many that are kept, unless it is of an id. Returns how many are kept then.
 fn move_one(entries: &mut Blocks, kept: usize, at: usize, id: u64) -> usize
     requires { (kept ≤ at) × (at < length entries.old.rows) × (at < 4294967296) }
-    ensures rows { take result entries.new.rows ++ without_id id (drop (at + 1) entries.new.rows) ≡ take kept entries.old.rows ++ without_id id (drop at entries.old.rows) }
+    ensures rows { take result entries.new.rows ++ without_id id (drop (at + 1) entries.new.rows)
+        ≡ take kept entries.old.rows ++ without_id id (drop at entries.old.rows) }
     ensures within { result ≤ at + 1 }
     ensures count { length entries.new.rows ≡ length entries.old.rows }
     ensures room { entries.new.room ≡ entries.old.room }

@@ -28,7 +28,10 @@ impl<T: Row> Model for Rows<T> {
 
     ghost Value = { Table T };
 
-    ghost view = { λ t. record { rows = t.rows.items; room = min (vec_capacity t.rows) 4294967296 - length t.rows.items } };
+    ghost view = { λ t. record {
+      rows = t.rows.items;
+      room = min (vec_capacity t.rows) 4294967296 - length t.rows.items;
+    } };
 
     ghost invariant = { λ t. AreInOrder T.key t.rows.items × (length t.rows.items ≤ 4294967296) };
 }

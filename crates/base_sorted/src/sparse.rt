@@ -30,9 +30,14 @@ impl<T: Row> Model for Sparse<T> {
 
     ghost Value = { Table T };
 
-    ghost view = { λ t. record { rows = rows_in t.slots.items; room = min (vec_capacity t.slots) 4294967296 - length t.slots.items } };
+    ghost view = { λ t. record {
+      rows = rows_in t.slots.items;
+      room = min (vec_capacity t.slots) 4294967296 - length t.slots.items;
+    } };
 
-    ghost invariant = { λ t. AreInOrder (slot_key T.key) t.slots.items × (length t.slots.items ≤ 4294967296) × (t.len ≡ length (rows_in t.slots.items)) × (length t.slots.items ≤ 2 * t.len + 64) };
+    ghost invariant = { λ t. AreInOrder (slot_key T.key) t.slots.items
+        × (length t.slots.items ≤ 4294967296) × (t.len ≡ length (rows_in t.slots.items))
+        × (length t.slots.items ≤ 2 * t.len + 64) };
 }
 
 impl<T: Row> Sparse<T> {
@@ -147,7 +152,9 @@ fn put_slot<T: Row + Drop>(slots: &mut Vec<Slot<T>>, row: T)
     requires room { length slots.old.items < vec_capacity slots.old }
     ensures rows { rows_in slots.new.items ≡ with_row T.key row (rows_in slots.old.items) }
     ensures order { AreInOrder (slot_key T.key) slots.new.items }
-    ensures count { length slots.new.items + count_if (row_at T.key (T.key row) (rows_in slots.old.items)) ≤ length slots.old.items + 1 }
+    ensures count { length slots.new.items
+        + count_if (row_at T.key (T.key row) (rows_in slots.old.items))
+        ≤ length slots.old.items + 1 }
     ensures capacity { vec_capacity slots.old ≤ vec_capacity slots.new }
 {
     match place_of(slots, row.id()) {

@@ -16,5 +16,6 @@ pub fn codes_read_back()
 
 /// What reads is the code of the number that it gives, and that is an order's number: so nothing else reads.
 pub fn only_codes_read()
-    ensures { (text : List ℕ) (n : ℕ) → number_of_code text ≡ Ok n → (order_code n ≡ text) × (1 ≤ n) × (n ≤ last_order) }
+    ensures { (text : List ℕ) (n : ℕ) → number_of_code text ≡ Ok n
+        → (order_code n ≡ text) × (1 ≤ n) × (n ≤ last_order) }
 {}

@@ -13,6 +13,14 @@ lists_id members id (Some quota) = has id (members quota)
 abbrev pub AreMembers : (Quota → List ℕ) → List Quota → List ℕ → Type 0
 AreMembers members quotas entries = (id quota : ℕ) → has_entry id quota entries ≡ lists_id members id (row_at (λ r. r.id) quota quotas)
 
+-- the entries are the items of these quotas
+abbrev pub AreListedItems : List Quota → List ℕ → Type 0
+AreListedItems quotas entries = AreMembers (λ q. q.items) quotas entries
+
+-- the entries are the variations of these quotas
+abbrev pub AreListedVariations : List Quota → List ℕ → Type 0
+AreListedVariations quotas entries = AreMembers (λ q. q.variations) quotas entries
+
 -- the id is among these, where there are any
 abbrev pub has_if : ℕ → Option (List ℕ) → Bool
 has_if id None = false

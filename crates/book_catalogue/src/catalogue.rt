@@ -2,9 +2,10 @@
 
 ghost use Rattle.std.specs.Prelude.{◌≡◌, ◌≢◌, ◌≤◌, ◌+◌, Ok, Err, IfOk, IfErr, OnOk, []};
 ghost use Rattle.std.specs.Option.{option_copied};
-ghost use Rattle.base_sorted.specs.Tables.{with_row, AreKept};
+ghost use Rattle.base_sorted.specs.Tables.{AreKept};
 ghost use Rattle.model_catalogue.specs.CatalogueLists.{item_at, variation_at, quota_at, product_of, quotas_of, base_price, is_active, is_sold, variations_of, with_variations};
 ghost use Rattle.model_catalogue.specs.Member.{quota_weight};
+ghost use Rattle.book_catalogue.specs.Puts.{catalogue_with_item, catalogue_with_variation, catalogue_with_quota};
 
 use crate::members::{list_items, list_variations};
 use base_index::{Found, Index};
@@ -28,17 +29,23 @@ pub struct Catalogue {
 impl Model for Catalogue {
     ghost use Rattle.std.specs.Prelude.{min};
     ghost use Rattle.model_catalogue.specs.CatalogueLists.{CatalogueTables};
-    ghost use Rattle.book_catalogue.specs.Members.{AreMembers};
+    ghost use Rattle.book_catalogue.specs.Members.{AreListedItems, AreListedVariations};
 
     ghost Value = { CatalogueTables };
 
     ghost view = { λ c. record {
-      lists = record { items = c.items.rows; variations = c.variations.rows; quotas = c.quotas.rows };
-      room = min (min (min c.items.room c.variations.room) c.quotas.room) (min c.by_item.room c.by_variation.room);
+      lists = record {
+        items = c.items.rows;
+        variations = c.variations.rows;
+        quotas = c.quotas.rows;
+      };
+      room = min (min (min c.items.room c.variations.room) c.quotas.room)
+          (min c.by_item.room c.by_variation.room);
     } };
 
     // The indexes have exactly the items and the variations of the quotas.
-    ghost invariant = { λ c. AreMembers (λ q. q.items) c.quotas.rows c.by_item.rows × AreMembers (λ q. q.variations) c.quotas.rows c.by_variation.rows };
+    ghost invariant = { λ c. AreListedItems c.quotas.rows c.by_item.rows
+        × AreListedVariations c.quotas.rows c.by_variation.rows };
 }
 
 impl Catalogue {
@@ -237,7 +244,7 @@ impl Catalogue {
     /// There has to be room for a row in each table, also where it replaces one.
     pub fn put_item(&mut self, row: Item)
         requires { 1 ≤ self.old.room }
-        ensures lists { self.new.lists ≡ record self.old.lists { items = with_row (λ r. r.id) row self.old.lists.items } }
+        ensures lists { self.new.lists ≡ catalogue_with_item row self.old.lists }
         ensures room { self.old.room ≤ self.new.room + 1 }
     {
         self.items.put(row);
@@ -247,7 +254,7 @@ impl Catalogue {
     /// There has to be room for a row in each table, also where it replaces one.
     pub fn put_variation(&mut self, row: Variation)
         requires { 1 ≤ self.old.room }
-        ensures lists { self.new.lists ≡ record self.old.lists { variations = with_row (λ r. r.id) row self.old.lists.variations } }
+        ensures lists { self.new.lists ≡ catalogue_with_variation row self.old.lists }
         ensures room { self.old.room ≤ self.new.room + 1 }
     {
         self.variations.put(row);
@@ -257,7 +264,7 @@ impl Catalogue {
     /// There has to be room for its row and its members, also where it replaces one.
     pub fn put_quota(&mut self, row: Quota)
         requires { quota_weight row ≤ self.old.room }
-        ensures lists { self.new.lists ≡ record self.old.lists { quotas = with_row (λ r. r.id) row self.old.lists.quotas } }
+        ensures lists { self.new.lists ≡ catalogue_with_quota row self.old.lists }
         ensures room { self.old.room ≤ self.new.room + quota_weight row }
     {
         list_items(&mut self.by_item, &self.quotas, &row);

@@ -3,9 +3,9 @@
 ghost use Rattle.std.specs.Prelude.{◌≡◌, ◌≤◌, ◌+◌, ℕ, length};
 ghost use Rattle.std.specs.Bool.{Decides};
 ghost use Rattle.std.specs.Option.{option_copied};
-ghost use Rattle.base_sorted.specs.Tables.{with_row};
 ghost use Rattle.base_index.specs.Entries.{has_entry};
-ghost use Rattle.book_catalogue.specs.Members.{AreMembers, AreRelisted, has_if};
+ghost use Rattle.book_catalogue.specs.Members.{AreListedItems, AreListedVariations, AreRelisted, has_if};
+ghost use Rattle.book_catalogue.specs.Puts.{quotas_with_put};
 
 use base_index::Index;
 use base_sorted::{Ids, Rows};
@@ -14,8 +14,8 @@ use model_catalogue::Quota;
 /// Makes an index of quotas by their items tell of one that will be put.
 pub fn list_items(index: &mut Index, quotas: &Rows<Quota>, row: &Quota)
     requires room { length row.now.items ≤ index.old.room }
-    requires members { AreMembers (λ q. q.items) quotas.now.rows index.old.rows }
-    ensures members { AreMembers (λ q. q.items) (with_row (λ r. r.id) row.now quotas.now.rows) index.new.rows }
+    requires members { AreListedItems quotas.now.rows index.old.rows }
+    ensures members { AreListedItems (quotas_with_put row.now quotas.now.rows) index.new.rows }
     ensures room { index.old.room ≤ index.new.room + length row.now.items }
 {
     match quotas.get(row.id) {
@@ -27,8 +27,8 @@ pub fn list_items(index: &mut Index, quotas: &Rows<Quota>, row: &Quota)
 /// Makes an index of quotas by their variations tell of one that will be put.
 pub fn list_variations(index: &mut Index, quotas: &Rows<Quota>, row: &Quota)
     requires room { length row.now.variations ≤ index.old.room }
-    requires members { AreMembers (λ q. q.variations) quotas.now.rows index.old.rows }
-    ensures members { AreMembers (λ q. q.variations) (with_row (λ r. r.id) row.now quotas.now.rows) index.new.rows }
+    requires members { AreListedVariations quotas.now.rows index.old.rows }
+    ensures members { AreListedVariations (quotas_with_put row.now quotas.now.rows) index.new.rows }
     ensures room { index.old.room ≤ index.new.room + length row.now.variations }
 {
     match quotas.get(row.id) {

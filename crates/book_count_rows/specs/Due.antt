@@ -25,6 +25,7 @@ abbrev pub hit_by_name : CatalogueLists → Option ℕ → Voucher → List ℕ
 hit_by_name catalogue (Some quota) voucher = quota ∷ []
 hit_by_name catalogue None voucher = hit_by_product catalogue voucher.item voucher.variation
 
+-- the quotas of which a voucher may block places
 abbrev pub hit_by : CatalogueLists → Voucher → List ℕ
 hit_by catalogue voucher = hit_by_name catalogue voucher.quota voucher
 

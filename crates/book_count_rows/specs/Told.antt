@@ -20,6 +20,10 @@ pub record Passage : Type 0 where
   pub before : State
   pub after : State
 
+-- from the one office to the other
+abbrev pub from_to : State → State → Passage
+from_to before after = record { before = before; after = after }
+
 -- the office has this very count of a quota
 abbrev pub has_count : State → QuotaCount → Bool
 has_count state count = list_any (same_quota_count count) (quota_counts state)
@@ -32,6 +36,7 @@ has_exits state count = list_any (same_exits count) (quota_counts state)
 abbrev pub has_voucher : State → VoucherCount → Bool
 has_voucher state count = list_any (same_voucher_count count) (voucher_counts state)
 
+-- the row alone, unless it is known
 abbrev pub told_unless : {T : Type 0} → Bool → T → List T
 told_unless known row = if not known then row ∷ [] else []
 

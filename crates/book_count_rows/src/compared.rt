@@ -3,7 +3,7 @@
 ghost use Rattle.std.specs.Prelude.{◌≡◌, ◌++◌, [], ◌∷◌, IfOk, OnOk, flat_map, is_none, if◌then◌else◌};
 ghost use Rattle.model_rows.specs.Lists.{voucher_at};
 ghost use Rattle.model_rows.specs.CountRows.{counts_after};
-ghost use Rattle.book_count_rows.specs.Told.{quota_told, voucher_told, gone_told};
+ghost use Rattle.book_count_rows.specs.Told.{from_to, quota_told, voucher_told, gone_told};
 
 use crate::exits::exits_that_differ;
 use crate::recounts::recount;
@@ -39,7 +39,9 @@ fn quotas<A: Book, C: Book>(
     before: &A,
     after: &C,
 ) -> Result<Vec<QuotaCount>, AllocError>
-    ensures { IfOk result (λ rows. rows.items ≡ flat_map (quota_told (record { before = A.state before.now; after = C.state after.now })) (C.state after.now).lists.catalogue.quotas) }
+    ensures { IfOk result (λ rows. rows.items
+        ≡ flat_map (quota_told (from_to (A.state before.now) (C.state after.now)))
+        (C.state after.now).lists.catalogue.quotas) }
 {
     let mut rows = Vec::new(alloc);
     for quota in after.catalogue().quotas() {
@@ -55,7 +57,8 @@ fn add_quota<A: Book, C: Book>(
     quota: &Quota,
     rows: &mut Vec<QuotaCount>,
 ) -> Result<(), AllocError>
-    ensures { OnOk result (rows.new.items ≡ rows.old.items ++ quota_told (record { before = A.state before.now; after = C.state after.now }) quota.now) }
+    ensures { OnOk result (rows.new.items ≡ rows.old.items
+        ++ quota_told (from_to (A.state before.now) (C.state after.now)) quota.now) }
 {
     let count = QuotaCount {
         quota: quota.id,
@@ -70,7 +73,9 @@ fn vouchers<A: Book, C: Book>(
     before: &A,
     after: &C,
 ) -> Result<Vec<VoucherCount>, AllocError>
-    ensures { IfOk result (λ rows. rows.items ≡ flat_map (voucher_told (record { before = A.state before.now; after = C.state after.now })) (C.state after.now).lists.vouchers) }
+    ensures { IfOk result (λ rows. rows.items
+        ≡ flat_map (voucher_told (from_to (A.state before.now) (C.state after.now)))
+        (C.state after.now).lists.vouchers) }
 {
     let mut rows = Vec::new(alloc);
     for voucher in after.vouchers() {
@@ -86,7 +91,8 @@ fn add_voucher<A: Book, C: Book>(
     voucher: &Voucher,
     rows: &mut Vec<VoucherCount>,
 ) -> Result<(), AllocError>
-    ensures { OnOk result (rows.new.items ≡ rows.old.items ++ voucher_told (record { before = A.state before.now; after = C.state after.now }) voucher.now) }
+    ensures { OnOk result (rows.new.items ≡ rows.old.items
+        ++ voucher_told (from_to (A.state before.now) (C.state after.now)) voucher.now) }
 {
     let count = VoucherCount {
         voucher: voucher.id,
@@ -98,7 +104,9 @@ fn add_voucher<A: Book, C: Book>(
 
 // The ids of the vouchers that are gone.
 fn gone<A: Book, C: Book>(alloc: Global, before: &A, after: &C) -> Result<Vec<u64>, AllocError>
-    ensures { IfOk result (λ ids. ids.items ≡ flat_map (gone_told (record { before = A.state before.now; after = C.state after.now })) (A.state before.now).lists.vouchers) }
+    ensures { IfOk result (λ ids. ids.items
+        ≡ flat_map (gone_told (from_to (A.state before.now) (C.state after.now)))
+        (A.state before.now).lists.vouchers) }
 {
     let mut ids = Vec::new(alloc);
     for voucher in before.vouchers() {
@@ -109,7 +117,8 @@ fn gone<A: Book, C: Book>(alloc: Global, before: &A, after: &C) -> Result<Vec<u6
 
 // Adds the id of a voucher, if it doesn't stand.
 fn add_gone<C: Book>(after: &C, id: u64, ids: &mut Vec<u64>) -> Result<(), AllocError>
-    ensures { OnOk result (ids.new.items ≡ ids.old.items ++ (if is_none (voucher_at id (C.state after.now).lists) then id ∷ [] else [])) }
+    ensures { OnOk result (ids.new.items ≡ ids.old.items
+        ++ (if is_none (voucher_at id (C.state after.now).lists) then id ∷ [] else [])) }
 {
     if after.voucher(id).is_none() {
         Ok(ids.push(id)?)

@@ -28,8 +28,10 @@ pub fn counts_by_shifts<B: Dues>(
     at: Moment,
 ) -> Result<CountRows, AllocError>
     requires moment { (B.state book.now).moment ≤ at }
-    requires shifts { AreShifts (B.state book.now).lists (after_all changes.now.list (B.state book.now).lists) at shifts.now }
-    ensures { IfOk result (λ rows. rows ≡ counts_after (B.state book.now) (applied changes.now at (B.state book.now))) }
+    requires shifts { AreShifts (B.state book.now).lists
+        (after_all changes.now.list (B.state book.now).lists) at shifts.now }
+    ensures { IfOk result (λ rows. rows
+        ≡ counts_after (B.state book.now) (applied changes.now at (B.state book.now))) }
 {
     book.known();
     book.catalogue().known();

@@ -17,7 +17,8 @@ use std::alloc::{AllocError, Global};
 /// vouchers, and by cart positions that name one of these vouchers, since it covers them no longer.
 pub fn due_quotas<B: Dues>(book: &B, alloc: Global, at: Moment) -> Result<Ids, AllocError>
     requires { (B.state book.now).moment ≤ at }
-    ensures { IfOk result (λ ids. ids ≡ rising (due_quotas (B.state book.now).moment at (B.state book.now).lists)) }
+    ensures { IfOk result (λ ids. ids
+        ≡ rising (due_quotas (B.state book.now).moment at (B.state book.now).lists)) }
 {
     let vouchers = book.due_vouchers(alloc, at)?;
     let mut carts = book.due_carts(alloc, at)?;
@@ -35,7 +36,8 @@ fn add_naming_each<B: Book>(
     vouchers: &[u64],
     ids: &mut Vec<u64>,
 ) -> Result<(), AllocError>
-    ensures { OnOk result (ids.new.items ≡ ids.old.items ++ flat_map (ids_naming (B.state book.now).lists) vouchers.now) }
+    ensures { OnOk result (ids.new.items
+        ≡ ids.old.items ++ flat_map (ids_naming (B.state book.now).lists) vouchers.now) }
 {
     for voucher in vouchers {
         add_naming(book, alloc, *voucher, ids)?;
@@ -50,7 +52,8 @@ fn add_naming<B: Book>(
     voucher: u64,
     ids: &mut Vec<u64>,
 ) -> Result<(), AllocError>
-    ensures { OnOk result (ids.new.items ≡ ids.old.items ++ ids_naming (B.state book.now).lists voucher) }
+    ensures { OnOk result (ids.new.items
+        ≡ ids.old.items ++ ids_naming (B.state book.now).lists voucher) }
 {
     let more = book.carts_naming(alloc, voucher)?;
     Ok(ids.extend_from_slice(&more)?)
@@ -63,7 +66,8 @@ fn add_sold_each<B: Book>(
     carts: &[u64],
     quotas: &mut Vec<u64>,
 ) -> Result<(), AllocError>
-    ensures { OnOk result (quotas.new.items ≡ quotas.old.items ++ flat_map (quotas_sold (B.state book.now).lists) carts.now) }
+    ensures { OnOk result (quotas.new.items
+        ≡ quotas.old.items ++ flat_map (quotas_sold (B.state book.now).lists) carts.now) }
 {
     for id in carts {
         add_sold(book, alloc, *id, quotas)?;
@@ -78,7 +82,8 @@ fn add_sold<B: Book>(
     id: u64,
     quotas: &mut Vec<u64>,
 ) -> Result<(), AllocError>
-    ensures { OnOk result (quotas.new.items ≡ quotas.old.items ++ quotas_sold (B.state book.now).lists id) }
+    ensures { OnOk result (quotas.new.items
+        ≡ quotas.old.items ++ quotas_sold (B.state book.now).lists id) }
 {
     match book.cart(id) {
         None => Ok(()),
@@ -93,7 +98,8 @@ fn add_hit_each<B: Book>(
     vouchers: &[u64],
     quotas: &mut Vec<u64>,
 ) -> Result<(), AllocError>
-    ensures { OnOk result (quotas.new.items ≡ quotas.old.items ++ flat_map (quotas_hit (B.state book.now).lists) vouchers.now) }
+    ensures { OnOk result (quotas.new.items
+        ≡ quotas.old.items ++ flat_map (quotas_hit (B.state book.now).lists) vouchers.now) }
 {
     for id in vouchers {
         add_hit(book, alloc, *id, quotas)?;
@@ -108,7 +114,8 @@ fn add_hit<B: Book>(
     id: u64,
     quotas: &mut Vec<u64>,
 ) -> Result<(), AllocError>
-    ensures { OnOk result (quotas.new.items ≡ quotas.old.items ++ quotas_hit (B.state book.now).lists id) }
+    ensures { OnOk result (quotas.new.items
+        ≡ quotas.old.items ++ quotas_hit (B.state book.now).lists id) }
 {
     match book.voucher(id) {
         None => Ok(()),
@@ -123,7 +130,8 @@ fn add_hit_by<B: Book>(
     voucher: &Voucher,
     quotas: &mut Vec<u64>,
 ) -> Result<(), AllocError>
-    ensures { OnOk result (quotas.new.items ≡ quotas.old.items ++ hit_by (B.state book.now).lists.catalogue voucher.now) }
+    ensures { OnOk result (quotas.new.items
+        ≡ quotas.old.items ++ hit_by (B.state book.now).lists.catalogue voucher.now) }
 {
     match voucher.quota {
         Some(id) => Ok(quotas.push(id)?),
@@ -144,7 +152,9 @@ fn add_quotas_of<B: Book>(
     product: Option<Product>,
     quotas: &mut Vec<u64>,
 ) -> Result<(), AllocError>
-    ensures { OnOk result (quotas.new.items ≡ quotas.old.items ++ told_if (λ p. quotas_of p (B.state book.now).lists.catalogue) product) }
+    ensures { OnOk result (quotas.new.items
+        ≡ quotas.old.items
+        ++ told_if (λ p. quotas_of p (B.state book.now).lists.catalogue) product) }
 {
     match product {
         None => Ok(()),

@@ -29,7 +29,9 @@ pub fn recount<B: Book>(book: &B, quota: &Quota, at: Moment) -> Usage
 
 // The positions of paid orders.
 fn paid_in<B: Book>(book: &B, quota: &Quota) -> u64
-    ensures { result ≡ count_by (position_counts is_paid (B.state book.now).lists quota.now) (B.state book.now).lists.positions }
+    ensures { result ≡ count_by
+        (position_counts is_paid (B.state book.now).lists quota.now)
+        (B.state book.now).lists.positions }
 {
     let positions = book.positions();
     positions
@@ -46,7 +48,9 @@ fn is_paid_in<B: Book>(book: &B, quota: &Quota, position: &OrderPos) -> bool
 
 // The positions of pending orders.
 fn pending_in<B: Book>(book: &B, quota: &Quota) -> u64
-    ensures { result ≡ count_by (position_counts is_pending (B.state book.now).lists quota.now) (B.state book.now).lists.positions }
+    ensures { result ≡ count_by
+        (position_counts is_pending (B.state book.now).lists quota.now)
+        (B.state book.now).lists.positions }
 {
     let positions = book.positions();
     positions
@@ -63,7 +67,8 @@ fn is_pending_in<B: Book>(book: &B, quota: &Quota, position: &OrderPos) -> bool
 
 // The places that vouchers block.
 fn blocked_in<B: Book>(book: &B, quota: &Quota, at: Moment) -> u64
-    ensures { result ≡ sum_by (blocked_by (B.state book.now).lists at quota.now) (B.state book.now).lists.vouchers }
+    ensures { result ≡ sum_by
+        (blocked_by (B.state book.now).lists at quota.now) (B.state book.now).lists.vouchers }
 {
     book.known();
     let mut blocked = 0;
@@ -88,7 +93,8 @@ fn blocked_by<B: Book>(book: &B, quota: &Quota, at: Moment, voucher: &Voucher) -
 
 // The cart positions.
 fn carts_in<B: Book>(book: &B, quota: &Quota, at: Moment) -> u64
-    ensures { result ≡ count_by (cart_counts (B.state book.now).lists at quota.now) (B.state book.now).lists.carts }
+    ensures { result ≡ count_by
+        (cart_counts (B.state book.now).lists at quota.now) (B.state book.now).lists.carts }
 {
     let carts = book.carts();
     carts
@@ -123,7 +129,8 @@ fn waiting_in<B: Book>(book: &B, quota: &Quota) -> u64
 
 // The positions of paid orders that have gone out, where the quota releases places.
 fn exited_in<B: Book>(book: &B, quota: &Quota) -> u64
-    ensures { result ≡ count_by (exit_counts (B.state book.now).lists quota.now) (B.state book.now).lists.positions }
+    ensures { result ≡ count_by
+        (exit_counts (B.state book.now).lists quota.now) (B.state book.now).lists.positions }
 {
     let positions = book.positions();
     positions

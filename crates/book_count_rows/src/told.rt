@@ -139,7 +139,8 @@ pub fn has_voucher<B: Book>(book: &B, count: VoucherCount) -> bool
 
 // Whether a voucher is redeemed as often in the book, and as much is spent of it.
 fn has_numbers<B: Book>(book: &B, count: VoucherCount) -> bool
-    ensures { result ≡ (count.redeemed == redeemed count.voucher (B.state book.now).lists && count.spent == spent count.voucher (B.state book.now).lists) }
+    ensures { result ≡ (count.redeemed == redeemed count.voucher (B.state book.now).lists
+        && count.spent == spent count.voucher (B.state book.now).lists) }
 {
     count.redeemed == book.redeemed(count.voucher)
         && u128::from(count.spent) == book.spent(count.voucher)

@@ -44,7 +44,9 @@ struct Known {
 impl<'w, B: Book> Walk<'w, B> {
     /// The quotas whose counts may differ: those of the shifts, those that changes put, and those that what came due reaches.
     pub fn asked(&self, alloc: Global) -> Result<Ids, AllocError>
-        ensures { IfOk result (λ ids. ids ≡ rising (map (λ s. s.quota) self.now.shifts.now.quotas.items ++ self.now.put ++ self.now.due)) }
+        ensures { IfOk result (λ ids. ids
+            ≡ rising (map (λ s. s.quota) self.now.shifts.now.quotas.items
+            ++ self.now.put ++ self.now.due)) }
     {
         let mut ids = ids_of(alloc, &self.shifts.quotas)?;
         ids.extend_from_slice(self.put.as_slice())?;
@@ -54,8 +56,12 @@ impl<'w, B: Book> Walk<'w, B> {
 
     /// The counts of the quotas of these ids that differ.
     pub fn quotas(&self, alloc: Global, ids: &[u64]) -> Result<Vec<QuotaCount>, AllocError>
-        requires { IsWalk (B.state self.now.book.now) self.now.changes.now self.now.shifts.now.quotas.items self.now.at self.now.put self.now.due }
-        ensures { IfOk result (λ rows. rows.items ≡ flat_map (told_at (B.state self.now.book.now) self.now.changes.now self.now.at self.now.shifts.now.quotas.items) ids.now) }
+        requires { IsWalk (B.state self.now.book.now) self.now.changes.now
+            self.now.shifts.now.quotas.items self.now.at self.now.put self.now.due }
+        ensures { IfOk result (λ rows. rows.items ≡ flat_map
+            (told_at (B.state self.now.book.now) self.now.changes.now self.now.at
+            self.now.shifts.now.quotas.items)
+            ids.now) }
     {
         let mut rows = Vec::new(alloc);
         for id in ids {
@@ -66,8 +72,11 @@ impl<'w, B: Book> Walk<'w, B> {
 
     // Adds the count of the quota of an id, if it stands and its count differs.
     fn add_quota(&self, id: u64, rows: &mut Vec<QuotaCount>) -> Result<(), AllocError>
-        requires { IsWalk (B.state self.now.book.now) self.now.changes.now self.now.shifts.now.quotas.items self.now.at self.now.put self.now.due }
-        ensures { OnOk result (rows.new.items ≡ rows.old.items ++ told_at (B.state self.now.book.now) self.now.changes.now self.now.at self.now.shifts.now.quotas.items id) }
+        requires { IsWalk (B.state self.now.book.now) self.now.changes.now
+            self.now.shifts.now.quotas.items self.now.at self.now.put self.now.due }
+        ensures { OnOk result (rows.new.items ≡ rows.old.items
+            ++ told_at (B.state self.now.book.now) self.now.changes.now self.now.at
+            self.now.shifts.now.quotas.items id) }
     {
         match self.quota(id) {
             None => Ok(()),
@@ -77,8 +86,11 @@ impl<'w, B: Book> Walk<'w, B> {
 
     // Adds the count of a quota, if it differs.
     fn add_count(&self, quota: &Quota, rows: &mut Vec<QuotaCount>) -> Result<(), AllocError>
-        requires { IsWalk (B.state self.now.book.now) self.now.changes.now self.now.shifts.now.quotas.items self.now.at self.now.put self.now.due }
-        ensures { OnOk result (rows.new.items ≡ rows.old.items ++ told_by_shift (B.state self.now.book.now) self.now.at self.now.shifts.now.quotas.items quota.now) }
+        requires { IsWalk (B.state self.now.book.now) self.now.changes.now
+            self.now.shifts.now.quotas.items self.now.at self.now.put self.now.due }
+        ensures { OnOk result (rows.new.items ≡ rows.old.items
+            ++ told_by_shift (B.state self.now.book.now) self.now.at
+            self.now.shifts.now.quotas.items quota.now) }
     {
         let known = self.known(quota);
         let usage = shifted(known.base, shift_of(&self.shifts.quotas, quota.id))?;
@@ -91,8 +103,11 @@ impl<'w, B: Book> Walk<'w, B> {
 
     // The quota of an id after the changes.
     fn quota(&self, id: u64) -> Option<&Quota>
-        requires { IsWalk (B.state self.now.book.now) self.now.changes.now self.now.shifts.now.quotas.items self.now.at self.now.put self.now.due }
-        ensures { option_copied result ≡ quota_at id (after_all self.now.changes.now (B.state self.now.book.now).lists).catalogue }
+        requires { IsWalk (B.state self.now.book.now) self.now.changes.now
+            self.now.shifts.now.quotas.items self.now.at self.now.put self.now.due }
+        ensures { option_copied result
+            ≡ quota_at id
+            (after_all self.now.changes.now (B.state self.now.book.now).lists).catalogue }
     {
         let before = self.book.catalogue().quota(id);
         if self.put.has(id) {
@@ -104,9 +119,13 @@ impl<'w, B: Book> Walk<'w, B> {
 
     // What uses a quota by the rows before the changes.
     fn known(&self, quota: &Quota) -> Known
-        requires { IsWalk (B.state self.now.book.now) self.now.changes.now self.now.shifts.now.quotas.items self.now.at self.now.put self.now.due }
-        ensures base { result.base ≡ usage_of (B.state self.now.book.now).lists self.now.at quota.now }
-        ensures had { result.had ≡ option_map (usage_of (B.state self.now.book.now).lists (B.state self.now.book.now).moment) (quota_at quota.now.id (B.state self.now.book.now).lists.catalogue) }
+        requires { IsWalk (B.state self.now.book.now) self.now.changes.now
+            self.now.shifts.now.quotas.items self.now.at self.now.put self.now.due }
+        ensures base { result.base
+            ≡ usage_of (B.state self.now.book.now).lists self.now.at quota.now }
+        ensures had { result.had ≡ option_map
+            (usage_of (B.state self.now.book.now).lists (B.state self.now.book.now).moment)
+            (quota_at quota.now.id (B.state self.now.book.now).lists.catalogue) }
     {
         match self.book.catalogue().quota(quota.id) {
             None => Known {
@@ -119,10 +138,14 @@ impl<'w, B: Book> Walk<'w, B> {
 
     // The same of a quota that stood. Unless its products change, or whether it releases places, the book knows it.
     fn known_by(&self, old: &Quota, quota: &Quota) -> Known
-        requires walk { IsWalk (B.state self.now.book.now) self.now.changes.now self.now.shifts.now.quotas.items self.now.at self.now.put self.now.due }
-        requires stood { quota_at quota.now.id (B.state self.now.book.now).lists.catalogue ≡ Some old.now }
-        ensures base { result.base ≡ usage_of (B.state self.now.book.now).lists self.now.at quota.now }
-        ensures had { result.had ≡ Some (usage_of (B.state self.now.book.now).lists (B.state self.now.book.now).moment old.now) }
+        requires walk { IsWalk (B.state self.now.book.now) self.now.changes.now
+            self.now.shifts.now.quotas.items self.now.at self.now.put self.now.due }
+        requires stood { quota_at quota.now.id (B.state self.now.book.now).lists.catalogue
+            ≡ Some old.now }
+        ensures base { result.base
+            ≡ usage_of (B.state self.now.book.now).lists self.now.at quota.now }
+        ensures had { result.had ≡ Some (usage_of (B.state self.now.book.now).lists
+            (B.state self.now.book.now).moment old.now) }
     {
         if has_same_members(old, quota) {
             self.known_as(old)
@@ -136,10 +159,14 @@ impl<'w, B: Book> Walk<'w, B> {
 
     // The same of a quota as it stood. Where nothing that came due reaches it, it is used as before.
     fn known_as(&self, quota: &Quota) -> Known
-        requires walk { IsWalk (B.state self.now.book.now) self.now.changes.now self.now.shifts.now.quotas.items self.now.at self.now.put self.now.due }
-        requires stood { quota_at quota.now.id (B.state self.now.book.now).lists.catalogue ≡ Some quota.now }
-        ensures base { result.base ≡ usage_of (B.state self.now.book.now).lists self.now.at quota.now }
-        ensures had { result.had ≡ Some (usage_of (B.state self.now.book.now).lists (B.state self.now.book.now).moment quota.now) }
+        requires walk { IsWalk (B.state self.now.book.now) self.now.changes.now
+            self.now.shifts.now.quotas.items self.now.at self.now.put self.now.due }
+        requires stood { quota_at quota.now.id (B.state self.now.book.now).lists.catalogue
+            ≡ Some quota.now }
+        ensures base { result.base
+            ≡ usage_of (B.state self.now.book.now).lists self.now.at quota.now }
+        ensures had { result.had ≡ Some (usage_of (B.state self.now.book.now).lists
+            (B.state self.now.book.now).moment quota.now) }
     {
         let base = usage_of(self.book, quota, self.at);
         if self.due.has(quota.id) {
@@ -158,7 +185,8 @@ impl<'w, B: Book> Walk<'w, B> {
 
     /// The counts of the vouchers that are new or whose counts differ.
     pub fn vouchers(&self, alloc: Global) -> Result<Vec<VoucherCount>, AllocError>
-        ensures { IfOk result (λ rows. rows.items ≡ flat_map (voucher_told_by (B.state self.now.book.now)) self.now.shifts.now.vouchers.items) }
+        ensures { IfOk result (λ rows. rows.items ≡ flat_map
+            (voucher_told_by (B.state self.now.book.now)) self.now.shifts.now.vouchers.items) }
     {
         let mut rows = Vec::new(alloc);
         for shift in self.shifts.vouchers.as_slice() {
@@ -169,7 +197,8 @@ impl<'w, B: Book> Walk<'w, B> {
 
     /// The ids of the vouchers that are gone.
     pub fn gone(&self, alloc: Global) -> Result<Vec<u64>, AllocError>
-        ensures { IfOk result (λ ids. ids.items ≡ flat_map (gone_told_by (B.state self.now.book.now)) self.now.shifts.now.vouchers.items) }
+        ensures { IfOk result (λ ids. ids.items ≡ flat_map
+            (gone_told_by (B.state self.now.book.now)) self.now.shifts.now.vouchers.items) }
     {
         let mut ids = Vec::new(alloc);
         for shift in self.shifts.vouchers.as_slice() {
@@ -263,7 +292,8 @@ fn add_voucher<B: Book>(
     shift: &VoucherShift,
     rows: &mut Vec<VoucherCount>,
 ) -> Result<(), AllocError>
-    ensures { OnOk result (rows.new.items ≡ rows.old.items ++ voucher_told_by (B.state book.now) shift.now) }
+    ensures { OnOk result (rows.new.items
+        ≡ rows.old.items ++ voucher_told_by (B.state book.now) shift.now) }
 {
     if !shift.stands {
         return Ok(());
@@ -279,7 +309,8 @@ fn add_voucher<B: Book>(
 
 // Adds the id of a voucher that stood, if it doesn't stand any more.
 fn add_gone<B: Book>(book: &B, shift: &VoucherShift, ids: &mut Vec<u64>) -> Result<(), AllocError>
-    ensures { OnOk result (ids.new.items ≡ ids.old.items ++ gone_told_by (B.state book.now) shift.now) }
+    ensures { OnOk result (ids.new.items
+        ≡ ids.old.items ++ gone_told_by (B.state book.now) shift.now) }
 {
     if !shift.stands && book.voucher(shift.voucher).is_some() {
         Ok(ids.push(shift.voucher)?)

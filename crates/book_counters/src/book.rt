@@ -3,7 +3,7 @@
 ghost use Rattle.std.specs.Prelude.{◌≡◌, ◌≤◌, ◌+◌, Some};
 ghost use Rattle.model_catalogue.specs.CatalogueLists.{quota_at};
 ghost use Rattle.model_rows.specs.Usage.{usage_of};
-ghost use Rattle.model_rows.specs.CameDue.{came_due, naming_due};
+ghost use Rattle.book_usage.specs.Dues.{with_due_steps};
 
 use crate::counters::Counters;
 use base_sorted::Sparse;
@@ -155,7 +155,7 @@ impl Book for Counters {
         requires moment { self.now.state.moment ≤ at }
         requires stands { quota_at quota.now.id self.now.state.lists.catalogue ≡ Some quota.now }
         ensures value { result ≡ usage_of self.now.state.lists at quota.now }
-        ensures cost { steps.new ≤ steps.old + 1 + came_due self.now.state.moment at self.now.state.lists + naming_due self.now.state.moment at self.now.state.lists }
+        ensures cost { steps.new ≤ with_due_steps self.now.state at (steps.old + 1) }
     {
         self.usage_later(quota, at, steps)
     }

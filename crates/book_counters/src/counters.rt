@@ -8,8 +8,8 @@ ghost use Rattle.model_rows.specs.Headroom.{held};
 ghost use Rattle.model_rows.specs.Usage.{redeemed, spent, usage_of};
 ghost use Rattle.model_rows.specs.Change.{applied};
 ghost use Rattle.model_rows.specs.Weight.{weight};
-ghost use Rattle.model_rows.specs.CameDue.{came_due, naming_due};
-ghost use Rattle.model_rows.specs.CountRows.{counts_after};
+ghost use Rattle.book_usage.specs.Dues.{with_due_steps, counts_of_changes};
+ghost use Rattle.book_usage.specs.Limits.{most_listed, most_spent};
 ghost use Rattle.book_settle.specs.Spared.{spares_used};
 
 use base_sorted::place_of;
@@ -48,10 +48,14 @@ impl Model for Counters {
 
     ghost view = { λ c. record {
       state = c.store.state;
-      room = min c.store.room (min (vec_capacity c.usages - length c.usages.items) (min (vec_capacity c.redeems - length c.redeems.items) (min (vec_capacity c.spents - length c.spents.items) (vec_capacity c.holds - length c.holds.items))));
+      room = min c.store.room (min (vec_capacity c.usages - length c.usages.items)
+          (min (vec_capacity c.redeems - length c.redeems.items) (min
+          (vec_capacity c.spents - length c.spents.items)
+          (vec_capacity c.holds - length c.holds.items))));
     } };
 
-    ghost invariant = { λ c. IsAllCounted c.store.state.lists c.store.state.moment c.usages.items c.redeems.items c.spents.items c.holds.items };
+    ghost invariant = { λ c. IsAllCounted c.store.state.lists c.store.state.moment c.usages.items
+        c.redeems.items c.spents.items c.holds.items };
 }
 
 impl Counters {
@@ -65,7 +69,7 @@ impl Counters {
     /// How many positions of pending and paid orders name the voucher.
     pub fn redeemed_by(&self, voucher: u64) -> u64
         ensures value { result ≡ redeemed voucher self.now.state.lists }
-        ensures few { result ≤ 4294967296 }
+        ensures few { result ≤ most_listed }
     {
         redeemed_in(&self.store, &self.redeems, voucher)
     }
@@ -73,7 +77,7 @@ impl Counters {
     /// What is spent of the voucher's budget, in cents.
     pub fn spent_by(&self, voucher: u64) -> u128
         ensures value { result ≡ spent voucher self.now.state.lists }
-        ensures few { result ≤ 42949672955705032704 }
+        ensures few { result ≤ most_spent }
     {
         spent_in(&self.store, &self.spents, voucher)
     }
@@ -81,7 +85,7 @@ impl Counters {
     /// How many cart positions that are live at a moment name the voucher.
     pub fn held_at(&self, voucher: u64, at: Moment) -> u64
         ensures value { result ≡ held at voucher self.now.state.lists }
-        ensures few { result ≤ 4294967296 }
+        ensures few { result ≤ most_listed }
     {
         held_by(&self.store, &self.holds, voucher, at)
     }
@@ -102,7 +106,7 @@ impl Counters {
         requires moment { self.now.state.moment ≤ at }
         requires stands { quota_at quota.now.id self.now.state.lists.catalogue ≡ Some quota.now }
         ensures value { result ≡ usage_of self.now.state.lists at quota.now }
-        ensures cost { steps.new ≤ steps.old + 1 + came_due self.now.state.moment at self.now.state.lists + naming_due self.now.state.moment at self.now.state.lists }
+        ensures cost { steps.new ≤ with_due_steps self.now.state at (steps.old + 1) }
     {
         self.store.known();
         let catalogue = self.store.catalogue();
@@ -129,7 +133,7 @@ impl Counters {
     // Sets the ids that new rows get, where no row changes and no time passes.
     fn put_next(&mut self, next: NextIds, at: Moment)
         requires { self.old.state.moment ≡ at }
-        ensures { self.new.state ≡ record { lists = self.old.state.lists; next = next; moment = at } }
+        ensures { self.new.state ≡ record self.old.state { next = next; moment = at } }
     {
         self.store.set(next, at);
     }
@@ -175,7 +179,7 @@ impl Counters {
     fn put_counts(&mut self, changes: Changes, counts: &CountRows, at: Moment)
         requires room { weight changes.list ≤ self.old.room }
         requires moment { self.old.state.moment ≤ at }
-        requires counts { counts.now ≡ counts_after self.old.state (applied changes at self.old.state) }
+        requires counts { counts.now ≡ counts_of_changes changes at self.old.state }
         requires spared { list_all (spares_used self.old.state.lists) changes.list ≡ true }
         ensures { self.new.state ≡ applied changes at self.old.state }
     {
@@ -196,7 +200,7 @@ impl Counters {
     pub fn settle_all(&mut self, changes: Changes, counts: &CountRows, at: Moment)
         requires room { weight changes.list ≤ self.old.room }
         requires moment { self.old.state.moment ≤ at }
-        requires counts { counts.now ≡ counts_after self.old.state (applied changes at self.old.state) }
+        requires counts { counts.now ≡ counts_of_changes changes at self.old.state }
         ensures { self.new.state ≡ applied changes at self.old.state }
     {
         if self.spares_used(&changes) {

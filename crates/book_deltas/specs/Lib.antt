@@ -4,3 +4,5 @@ pub mod Names
 pub mod Shifts
 pub mod Spends
 pub mod Turns
+pub mod Beside
+pub mod Usages

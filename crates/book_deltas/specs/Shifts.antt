@@ -1,5 +1,5 @@
 -- What a change adds to the usage of a quota, and takes from it.
-use Rattle.std.specs.Prelude.{ℕ, ◌+◌, ◌-◌, min, max, Bool, ◌&&◌, List, [], ◌∷◌, Option, Some, count_by, sum_by, if◌then◌else◌}
+use Rattle.std.specs.Prelude.{◌≡◌, ℕ, ◌+◌, ◌-◌, min, max, Bool, ◌&&◌, List, [], ◌∷◌, Vec, Option, Some, count_by, sum_by, if◌then◌else◌}
 use Rattle.model_catalogue.specs.declared.rows.Quota.{Quota}
 use Rattle.model_rows.specs.declared.rows.CartPos.{CartPos}
 use Rattle.model_rows.specs.declared.rows.Waiting.{Waiting}
@@ -16,6 +16,10 @@ abbrev pub map_beside : {X Y : Type 0} → (X → Y → Y) → List X → List Y
 map_beside f [] ys = ys
 map_beside f (x ∷ xs) [] = []
 map_beside f (x ∷ xs) (y ∷ ys) = f x y ∷ map_beside f xs ys
+
+-- the usage of each of these quotas is shifted so
+abbrev pub AreShifted : {Z : Type 0} → (Quota → Usage → Usage) → List Quota → Vec Usage Z → Vec Usage Z → Type 0
+AreShifted shift quotas old new = new.items ≡ map_beside shift quotas old.items
 
 -- the quotas that pass, and no other
 abbrev pub only : (Quota → Bool) → (Quota → Usage → Usage) → Quota → Usage → Usage

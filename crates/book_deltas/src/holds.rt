@@ -1,15 +1,16 @@
 //! How many live cart positions name each voucher, kept beside the vouchers.
 
-ghost use Rattle.std.specs.Prelude.{◌≡◌, ◌≤◌, ◌&&◌, ℕ, count_by, length, map, vec_capacity, Some, true, false};
+ghost use Rattle.std.specs.Prelude.{◌≡◌, ◌≤◌, length, vec_capacity, Some, true, false};
 ghost use Rattle.base_sorted.specs.Tables.{AreInOrder};
-ghost use Rattle.model_rows.specs.Change.{after_change};
-ghost use Rattle.model_rows.specs.CameDue.{is_due_cart};
-ghost use Rattle.model_rows.specs.Conditions.{names};
+ghost use Rattle.model_rows.specs.Change.{changed};
 ghost use Rattle.model_rows.specs.Headroom.{held};
 ghost use Rattle.model_rows.specs.Lists.{cart_at};
 ghost use Rattle.book_store.specs.Walks.{one_if};
+ghost use Rattle.book_usage.specs.Limits.{most_listed};
+ghost use Rattle.book_usage.specs.Naming.{cart_names};
 ghost use Rattle.book_usage.specs.Shares.{held_name};
-ghost use Rattle.book_deltas.specs.Held.{AreHeld, named_by};
+ghost use Rattle.book_deltas.specs.Beside.{StepsBeside};
+ghost use Rattle.book_deltas.specs.Held.{AreHeld, AreHeldNow, ended_uses, named_by};
 ghost use Rattle.book_deltas.specs.Turns.{turn};
 
 use crate::turns::{turned, vouchers};
@@ -25,7 +26,7 @@ use model_rows::{CartPos, Change, Voucher};
 fn turn_one(vouchers: &[Voucher], counts: &mut Vec<u64>, name: Option<u64>, up: bool)
     requires order { AreInOrder (λ v. v.id) vouchers.now }
     requires same { length counts.old.items ≡ length vouchers.now }
-    ensures counts { (spent : ℕ → ℕ) → counts.old.items ≡ map (λ v. spent v.id) vouchers.now → counts.new.items ≡ map (λ v. turn up name spent v.id) vouchers.now }
+    ensures counts { StepsBeside (λ v. v.id) (turn up name) vouchers.now counts.old counts.new }
     ensures room { vec_capacity counts.new ≡ vec_capacity counts.old }
     ensures same { length counts.new.items ≡ length counts.old.items }
 {
@@ -42,8 +43,8 @@ fn turn_one(vouchers: &[Voucher], counts: &mut Vec<u64>, name: Option<u64>, up: 
 
 /// The numbers where a cart position is put.
 pub fn hold_put(store: &Store, holds: &mut Vec<u64>, row: &CartPos)
-    requires { AreHeld store.now.state.lists store.now.state.moment holds.old.items }
-    ensures held { AreHeld (after_change (Change.PutCart row.now) store.now.state.lists) store.now.state.moment holds.new.items }
+    requires { AreHeldNow store.now.state holds.old.items }
+    ensures held { AreHeldNow (changed (Change.PutCart row.now) store.now.state) holds.new.items }
     ensures room { vec_capacity holds.new ≡ vec_capacity holds.old }
     ensures same { length holds.new.items ≡ length holds.old.items }
 {
@@ -56,8 +57,8 @@ pub fn hold_put(store: &Store, holds: &mut Vec<u64>, row: &CartPos)
 
 /// The numbers where the cart position of an id is dropped.
 pub fn hold_drop(store: &Store, holds: &mut Vec<u64>, id: u64)
-    requires { AreHeld store.now.state.lists store.now.state.moment holds.old.items }
-    ensures held { AreHeld (after_change (Change.DropCart id) store.now.state.lists) store.now.state.moment holds.new.items }
+    requires { AreHeldNow store.now.state holds.old.items }
+    ensures held { AreHeldNow (changed (Change.DropCart id) store.now.state) holds.new.items }
     ensures room { vec_capacity holds.new ≡ vec_capacity holds.old }
     ensures same { length holds.new.items ≡ length holds.old.items }
 {
@@ -79,7 +80,7 @@ fn name_at(store: &Store, id: u64) -> Option<u64>
 /// The numbers at a later moment. It costs the cart positions that have ended until then.
 pub fn hold_at(store: &Store, holds: &mut Vec<u64>, at: Moment)
     requires moment { store.now.state.moment ≤ at }
-    requires held { AreHeld store.now.state.lists store.now.state.moment holds.old.items }
+    requires held { AreHeldNow store.now.state holds.old.items }
     ensures held { AreHeld store.now.state.lists at holds.new.items }
     ensures room { vec_capacity holds.new ≡ vec_capacity holds.old }
     ensures same { length holds.new.items ≡ length holds.old.items }
@@ -95,7 +96,7 @@ pub fn hold_at(store: &Store, holds: &mut Vec<u64>, at: Moment)
 // 1 where the cart position of an id names the voucher.
 #[tactic(auto, unfolding(book_store::specs::Walks::one_if))]
 fn name_of(store: &Store, id: u64, voucher: u64) -> u64
-    ensures value { result ≡ one_if (λ c. names voucher c.voucher) (cart_at id store.now.state.lists) }
+    ensures value { result ≡ one_if (cart_names voucher) (cart_at id store.now.state.lists) }
     ensures small { result ≤ 1 }
 {
     match store.cart(id) {
@@ -107,7 +108,7 @@ fn name_of(store: &Store, id: u64, voucher: u64) -> u64
 // How many cart positions name the voucher and have ended since the moment of the store, before another.
 fn ended_holds(store: &Store, voucher: u64, at: Moment) -> u64
     requires { store.now.state.moment ≤ at }
-    ensures value { result ≡ count_by (λ c. is_due_cart store.now.state.moment at c && names voucher c.voucher) store.now.state.lists.carts }
+    ensures value { result ≡ ended_uses store.now.state voucher at }
 {
     let mut count = 0;
     let ids = store.carts_due(store.moment(), at);
@@ -128,9 +129,9 @@ fn is_near(store: &Store, voucher: u64, at: Moment) -> bool
 /// How many cart positions that are live at a moment name the voucher: as it is kept, less those that have ended since,
 /// or else a walk over those that name it. The walk that is shorter is taken.
 pub fn held_by(store: &Store, holds: &[u64], voucher: u64, at: Moment) -> u64
-    requires { AreHeld store.now.state.lists store.now.state.moment holds.now }
+    requires { AreHeldNow store.now.state holds.now }
     ensures value { result ≡ held at voucher store.now.state.lists }
-    ensures few { result ≤ 4294967296 }
+    ensures few { result ≤ most_listed }
 {
     store.known();
     if is_near(store, voucher, at) {

@@ -1,10 +1,11 @@
 //! How the usages of all quotas are kept through a change.
 
-ghost use Rattle.std.specs.Prelude.{◌≡◌, ◌≤◌, ◌<◌, ◌+◌, ◌-◌, length, map, vec_capacity};
+ghost use Rattle.std.specs.Prelude.{◌≡◌, ◌≤◌, ◌<◌, ◌+◌, length, map, vec_capacity};
 ghost use Rattle.std.specs.List.{insert};
 ghost use Rattle.base_sorted.specs.Tables.{with_row, without_row, AreInOrder};
 ghost use Rattle.model_catalogue.specs.declared.rows.Quota.{Quota};
 ghost use Rattle.model_rows.specs.declared.rows.Usage.{Usage};
+ghost use Rattle.book_deltas.specs.Beside.{room_left};
 ghost use Rattle.book_deltas.specs.Shifts.{moved};
 
 use base_sorted::{Row, place_of};
@@ -37,8 +38,9 @@ pub fn keep<T: Row, U: Drop>(rows: &[T], kept: &mut Vec<U>, id: u64, value: U)
     requires order { AreInOrder T.key rows.now }
     requires same { length kept.old.items ≡ length rows.now }
     requires room { length kept.old.items < vec_capacity kept.old }
-    ensures kept { (f : T → U) (row : T) → T.key row ≡ id → value ≡ f row → kept.old.items ≡ map f rows.now → kept.new.items ≡ map f (with_row T.key row rows.now) }
-    ensures room { vec_capacity kept.old - length kept.old.items ≤ vec_capacity kept.new - length kept.new.items + 1 }
+    ensures kept { (f : T → U) (row : T) → T.key row ≡ id → value ≡ f row
+        → kept.old.items ≡ map f rows.now → kept.new.items ≡ map f (with_row T.key row rows.now) }
+    ensures room { room_left kept.old ≤ room_left kept.new + 1 }
 {
     match place_of(rows, id) {
         Ok(at) => {
@@ -52,8 +54,9 @@ pub fn keep<T: Row, U: Drop>(rows: &[T], kept: &mut Vec<U>, id: u64, value: U)
 pub fn forget<T: Row, U: Drop>(rows: &[T], kept: &mut Vec<U>, id: u64)
     requires order { AreInOrder T.key rows.now }
     requires same { length kept.old.items ≡ length rows.now }
-    ensures kept { (f : T → U) → kept.old.items ≡ map f rows.now → kept.new.items ≡ map f (without_row T.key id rows.now) }
-    ensures room { vec_capacity kept.old - length kept.old.items ≤ vec_capacity kept.new - length kept.new.items }
+    ensures kept { (f : T → U) → kept.old.items ≡ map f rows.now
+        → kept.new.items ≡ map f (without_row T.key id rows.now) }
+    ensures room { room_left kept.old ≤ room_left kept.new }
 {
     if let Ok(at) = place_of(rows, id) {
         let _ = kept.remove(at);

@@ -2,6 +2,7 @@
 
 ghost use Rattle.std.specs.Prelude.{◌≡◌, ◌≤◌};
 ghost use Rattle.model_rows.specs.Usage.{spent};
+ghost use Rattle.book_usage.specs.Limits.{most_spent};
 ghost use Rattle.book_deltas.specs.Spends.{ArePriced, AreSpent};
 
 use crate::turns::vouchers;
@@ -13,7 +14,7 @@ pub fn spent_in(store: &Store, spents: &[u128], voucher: u64) -> u128
     requires spents { AreSpent store.now.state.lists spents.now }
     requires priced { ArePriced store.now.state.lists }
     ensures value { result ≡ spent voucher store.now.state.lists }
-    ensures few { result ≤ 42949672955705032704 }
+    ensures few { result ≤ most_spent }
 {
     store.known();
     match place_of(vouchers(store), voucher) {

@@ -1,10 +1,10 @@
 //! The usages of those quotas alone that a change touches.
 
-ghost use Rattle.std.specs.Prelude.{◌≡◌, ◌==◌, ℕ, length, vec_capacity};
+ghost use Rattle.std.specs.Prelude.{◌≡◌, ◌==◌, length, vec_capacity};
 ghost use Rattle.base_sorted.specs.Tables.{AreInOrder, has};
 ghost use Rattle.model_catalogue.specs.Member.{is_in};
 ghost use Rattle.model_rows.specs.Conditions.{hits, hits_by, hits_by_product};
-ghost use Rattle.book_deltas.specs.Shifts.{map_beside, only};
+ghost use Rattle.book_deltas.specs.Shifts.{AreShifted, only};
 
 use crate::shift::Shift;
 use base_index::Found;
@@ -18,7 +18,8 @@ fn shift_one<S: Shift>(quotas: &[Quota], usages: &mut Vec<Usage>, id: u64, shift
     requires order { AreInOrder (λ q. q.id) quotas.now }
     requires same { length usages.old.items ≡ length quotas.now }
     requires ready { S.ready shift.now }
-    ensures items { usages.new.items ≡ map_beside (only (λ q. q.id == id) (S.shift shift.now)) quotas.now usages.old.items }
+    ensures items { AreShifted (only (λ q. q.id == id) (S.shift shift.now))
+        quotas.now usages.old usages.new }
     ensures room { vec_capacity usages.new ≡ vec_capacity usages.old }
     ensures same { length usages.new.items ≡ length usages.old.items }
 {
@@ -33,7 +34,8 @@ fn shift_each<S: Shift>(quotas: &[Quota], usages: &mut Vec<Usage>, ids: &Found<'
     requires rising { AreInOrder (λ n. n) ids.now }
     requires same { length usages.old.items ≡ length quotas.now }
     requires ready { S.ready shift.now }
-    ensures items { usages.new.items ≡ map_beside (only (λ q. has q.id ids.now) (S.shift shift.now)) quotas.now usages.old.items }
+    ensures items { AreShifted (only (λ q. has q.id ids.now) (S.shift shift.now))
+        quotas.now usages.old usages.new }
     ensures room { vec_capacity usages.new ≡ vec_capacity usages.old }
     ensures same { length usages.new.items ≡ length usages.old.items }
 {
@@ -51,7 +53,8 @@ pub fn shift_product<S: Shift>(
 )
     requires same { length usages.old.items ≡ length catalogue.now.lists.quotas }
     requires ready { S.ready shift.now }
-    ensures items { usages.new.items ≡ map_beside (only (λ q. is_in q product) (S.shift shift.now)) catalogue.now.lists.quotas usages.old.items }
+    ensures items { AreShifted (only (λ q. is_in q product) (S.shift shift.now))
+        catalogue.now.lists.quotas usages.old usages.new }
     ensures room { vec_capacity usages.new ≡ vec_capacity usages.old }
     ensures same { length usages.new.items ≡ length usages.old.items }
 {
@@ -69,7 +72,8 @@ pub fn shift_hit<S: Shift>(
 )
     requires same { length usages.old.items ≡ length catalogue.now.lists.quotas }
     requires ready { S.ready shift.now }
-    ensures items { usages.new.items ≡ map_beside (only (λ q. hits q voucher.now) (S.shift shift.now)) catalogue.now.lists.quotas usages.old.items }
+    ensures items { AreShifted (only (λ q. hits q voucher.now) (S.shift shift.now))
+        catalogue.now.lists.quotas usages.old usages.new }
     ensures room { vec_capacity usages.new ≡ vec_capacity usages.old }
     ensures same { length usages.new.items ≡ length usages.old.items }
 {
@@ -92,7 +96,8 @@ fn shift_target<S: Shift>(
 )
     requires same { length usages.old.items ≡ length catalogue.now.lists.quotas }
     requires ready { S.ready shift.now }
-    ensures items { usages.new.items ≡ map_beside (only (λ q. hits_by_product q item variation) (S.shift shift.now)) catalogue.now.lists.quotas usages.old.items }
+    ensures items { AreShifted (only (λ q. hits_by_product q item variation) (S.shift shift.now))
+        catalogue.now.lists.quotas usages.old usages.new }
     ensures room { vec_capacity usages.new ≡ vec_capacity usages.old }
     ensures same { length usages.new.items ≡ length usages.old.items }
 {

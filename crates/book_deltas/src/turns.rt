@@ -1,8 +1,10 @@
 //! Uses of vouchers, as they are kept.
 
-ghost use Rattle.std.specs.Prelude.{◌≡◌, ◌≤◌, map};
+ghost use Rattle.std.specs.Prelude.{◌≡◌, ◌≤◌};
 ghost use Rattle.model_rows.specs.Usage.{redeemed};
+ghost use Rattle.book_usage.specs.Limits.{most_listed};
 ghost use Rattle.book_deltas.specs.Turns.{turned};
+ghost use Rattle.book_deltas.specs.Usages.{AreRedeemed};
 
 use base_sorted::place_of;
 use book_store::Store;
@@ -17,9 +19,9 @@ pub fn vouchers(store: &Store) -> &[Voucher]
 
 /// How many positions of pending and paid orders name the voucher: as it is kept, or else counted afresh.
 pub fn redeemed_in(store: &Store, redeems: &[u64], voucher: u64) -> u64
-    requires { redeems.now ≡ map (λ v. redeemed v.id store.now.state.lists) store.now.state.lists.vouchers }
+    requires { AreRedeemed store.now.state.lists redeems.now }
     ensures value { result ≡ redeemed voucher store.now.state.lists }
-    ensures few { result ≤ 4294967296 }
+    ensures few { result ≤ most_listed }
 {
     store.known();
     match place_of(vouchers(store), voucher) {

@@ -1,16 +1,17 @@
 //! What uses a quota at a later moment, by what has ended until then. Each row that is looked at for it is a step.
 
-ghost use Rattle.std.specs.Prelude.{◌≡◌, ◌≤◌, ◌+◌, ◌&&◌, ℕ, map, count_by, sum_by, is_some, true, if◌then◌else◌, Some};
+ghost use Rattle.std.specs.Prelude.{◌≡◌, ◌≤◌, ◌+◌, is_some, true};
 ghost use Rattle.std.specs.Option.{option_copied};
-ghost use Rattle.model_catalogue.specs.Member.{is_in};
-ghost use Rattle.model_rows.specs.CameDue.{is_due_cart, is_due_voucher, came_due, naming_due};
-ghost use Rattle.model_rows.specs.Conditions.{is_live_cart};
 ghost use Rattle.model_rows.specs.Headroom.{held_in};
 ghost use Rattle.model_rows.specs.Lists.{voucher_at};
 ghost use Rattle.model_rows.specs.Usage.{redeemed, cart_counts};
+ghost use Rattle.book_usage.specs.Dues.{with_due_steps};
+ghost use Rattle.book_usage.specs.Limits.{last_use, most_listed};
+ghost use Rattle.book_store.specs.OneRow.{is_live_in};
 ghost use Rattle.book_store.specs.Walks.{one_if};
-ghost use Rattle.book_deltas.specs.Later.{named_in, release_if, free_if, naming_if, Stands};
-ghost use Rattle.book_deltas.specs.Shifts.{moved, time_shift};
+ghost use Rattle.book_deltas.specs.Later.{named_in, release_if, free_if, naming_if, carts_due_by, with_release_steps, Stands};
+ghost use Rattle.book_deltas.specs.Shifts.{moved, lapsed, released, freed, time_shift};
+ghost use Rattle.book_deltas.specs.Usages.{AreRedeemed};
 
 use base_values::{Moment, Steps};
 use book_store::Ended;
@@ -29,7 +30,7 @@ pub struct Release {
 
 // How often a voucher that stands is redeemed.
 fn redeemed_of<L: Ledger>(ended: &Ended<'_, L>, redeems: &[u64], voucher: u64) -> u64
-    requires redeems { redeems.now ≡ map (λ v. redeemed v.id ended.now.state.lists) ended.now.state.lists.vouchers }
+    requires redeems { AreRedeemed ended.now.state.lists redeems.now }
     requires stands { is_some (voucher_at voucher ended.now.state.lists) ≡ true }
     ensures { result ≡ redeemed voucher ended.now.state.lists }
 {
@@ -49,13 +50,16 @@ fn release_of<L: Ledger>(
     voucher: Option<&Voucher>,
     steps: &mut Steps<L>,
 ) -> Release
-    requires redeems { redeems.now ≡ map (λ v. redeemed v.id ended.now.state.lists) ended.now.state.lists.vouchers }
+    requires redeems { AreRedeemed ended.now.state.lists redeems.now }
     requires stands { Stands ended.now.state.lists (option_copied voucher) }
-    ensures blocked { result.blocked ≡ release_if ended.now.state.lists quota.now (option_copied voucher.entry) }
-    ensures carts { result.carts ≡ free_if ended.now.state.lists at quota.now (option_copied voucher.entry) }
-    ensures small { result.blocked ≤ 4294967295 }
-    ensures few { result.carts ≤ 4294967296 }
-    ensures cost { steps.new ≤ steps.old + naming_if ended.now.state.lists (option_copied voucher.entry) }
+    ensures blocked { result.blocked
+        ≡ release_if ended.now.state.lists quota.now (option_copied voucher.entry) }
+    ensures carts { result.carts
+        ≡ free_if ended.now.state.lists at quota.now (option_copied voucher.entry) }
+    ensures small { result.blocked ≤ last_use }
+    ensures few { result.carts ≤ most_listed }
+    ensures cost { steps.new
+        ≤ steps.old + naming_if ended.now.state.lists (option_copied voucher.entry) }
 {
     match voucher {
         None => Release {
@@ -81,7 +85,7 @@ fn release_of<L: Ledger>(
 // 1 where a cart position is live, and for a product of the quota.
 #[tactic(auto, unfolding(book_store::specs::Walks::one_if))]
 fn hold_if(at: Moment, quota: &Quota, cart: Option<&CartPos>) -> u64
-    ensures value { result ≡ one_if (λ c. is_live_cart at c && is_in quota.now c.product) (option_copied cart.entry) }
+    ensures value { result ≡ one_if (is_live_in at quota.now) (option_copied cart.entry) }
     ensures small { result ≤ 1 }
 {
     match cart {
@@ -99,7 +103,7 @@ fn freed_by<L: Ledger>(
     steps: &mut Steps<L>,
 ) -> u64
     ensures value { result ≡ held_in at quota.now voucher ended.now.state.lists }
-    ensures few { result ≤ 4294967296 }
+    ensures few { result ≤ most_listed }
     ensures cost { steps.new ≡ steps.old + named_in voucher ended.now.state.lists }
 {
     let mut count = 0;
@@ -119,7 +123,8 @@ fn count_if<L: Ledger>(
     quota: &Quota,
     cart: Option<&CartPos>,
 ) -> u64
-    ensures value { result ≡ one_if (cart_counts ended.now.state.lists at quota.now) (option_copied cart.entry) }
+    ensures value { result
+        ≡ one_if (cart_counts ended.now.state.lists at quota.now) (option_copied cart.entry) }
     ensures small { result ≤ 1 }
 {
     match cart {
@@ -131,9 +136,9 @@ fn count_if<L: Ledger>(
 // How many cart positions counted in the quota at the moment of the store, and have ended since.
 fn lapsed<L: Ledger>(ended: &Ended<'_, L>, quota: &Quota, at: Moment, steps: &mut Steps<L>) -> u64
     requires { ended.now.state.moment ≤ at }
-    ensures value { result ≡ count_by (λ c. is_due_cart ended.now.state.moment at c && cart_counts ended.now.state.lists ended.now.state.moment quota.now c) ended.now.state.lists.carts }
-    ensures few { result ≤ 4294967296 }
-    ensures cost { steps.new ≡ steps.old + count_by (is_due_cart ended.now.state.moment at) ended.now.state.lists.carts }
+    ensures value { result ≡ lapsed ended.now.state.lists ended.now.state.moment at quota.now }
+    ensures few { result ≤ most_listed }
+    ensures cost { steps.new ≡ steps.old + carts_due_by ended.now.state at }
 {
     let from = ended.moment();
     let mut count = 0;
@@ -172,11 +177,12 @@ fn released<L: Ledger>(
     steps: &mut Steps<L>,
 ) -> Releases
     requires moment { ended.now.state.moment ≤ at }
-    requires redeems { redeems.now ≡ map (λ v. redeemed v.id ended.now.state.lists) ended.now.state.lists.vouchers }
-    ensures blocked { result.blocked ≡ sum_by (λ v. if is_due_voucher ended.now.state.moment at v then release_if ended.now.state.lists quota.now (Some v) else 0) ended.now.state.lists.vouchers }
-    ensures carts { result.carts ≡ sum_by (λ v. if is_due_voucher ended.now.state.moment at v then free_if ended.now.state.lists at quota.now (Some v) else 0) ended.now.state.lists.vouchers }
+    requires redeems { AreRedeemed ended.now.state.lists redeems.now }
+    ensures blocked { result.blocked
+        ≡ released ended.now.state.lists ended.now.state.moment at quota.now }
+    ensures carts { result.carts ≡ freed ended.now.state.lists ended.now.state.moment at quota.now }
     ensures few { result.carts ≤ 18446744073709551616 }
-    ensures cost { steps.new ≤ steps.old + count_by (is_due_voucher ended.now.state.moment at) ended.now.state.lists.vouchers + sum_by (λ v. if is_due_voucher ended.now.state.moment at v then naming_if ended.now.state.lists (Some v) else 0) ended.now.state.lists.vouchers }
+    ensures cost { steps.new ≤ with_release_steps ended.now.state at steps.old }
 {
     let mut blocked = 0;
     let mut carts = 0;
@@ -200,10 +206,11 @@ pub fn later<L: Ledger>(
     steps: &mut Steps<L>,
 ) -> Usage
     requires moment { ended.now.state.moment ≤ at }
-    requires redeems { redeems.now ≡ map (λ v. redeemed v.id ended.now.state.lists) ended.now.state.lists.vouchers }
-    ensures value { result ≡ time_shift ended.now.state.lists ended.now.state.moment at quota.now usage }
+    requires redeems { AreRedeemed ended.now.state.lists redeems.now }
+    ensures value { result
+        ≡ time_shift ended.now.state.lists ended.now.state.moment at quota.now usage }
     ensures fits { usage.blocked ≤ 18446744073709551615 }
-    ensures cost { steps.new ≤ steps.old + came_due ended.now.state.moment at ended.now.state.lists + naming_due ended.now.state.moment at ended.now.state.lists }
+    ensures cost { steps.new ≤ with_due_steps ended.now.state at steps.old }
 {
     ended.known();
     let lapsed = lapsed(ended, quota, at, steps);

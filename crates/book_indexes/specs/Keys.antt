@@ -1,12 +1,13 @@
 -- The keys by which a row is found: when it ends, the row that it names, the digest of its text, what it belongs to.
-use Rattle.std.specs.Prelude.{ℕ, List, Option, Some, None, if◌then◌else◌}
+use Rattle.std.specs.Prelude.{ℕ, Bool, List, Option, Some, None, if◌then◌else◌}
 use Rattle.model_rows.specs.declared.rows.Voucher.{Voucher}
 use Rattle.model_rows.specs.declared.rows.CartPos.{CartPos}
 use Rattle.model_rows.specs.declared.rows.Order.{Order}
 use Rattle.model_rows.specs.declared.rows.OrderPos.{OrderPos}
 use Rattle.model_rows.specs.declared.rows.Waiting.{Waiting}
 use Rattle.model_rows.specs.declared.rows.Checkin.{Checkin}
-use Rattle.model_rows.specs.Conditions.{is_pending}
+use Rattle.model_rows.specs.CameDue.{ends_between}
+use Rattle.model_rows.specs.Conditions.{is_pending, names}
 use Rattle.book_indexes.specs.declared.keys.Keys.{Keys}
 use Rattle.book_indexes.specs.Digests.{digest, pair}
 
@@ -18,6 +19,22 @@ no_keys = record { until = None; named = None; text = None; group = None }
 abbrev pub keys_if : {T : Type 0} → (T → Keys) → Option T → Keys
 keys_if keys None = no_keys
 keys_if keys (Some row) = keys row
+
+-- by its keys a row ends at `from` or later, and before `to`
+abbrev pub has_end : {T : Type 0} → (T → Keys) → ℕ → ℕ → T → Bool
+has_end keys from to row = ends_between from to (keys row).until
+
+-- it names the row of this id
+abbrev pub has_name : {T : Type 0} → (T → Keys) → ℕ → T → Bool
+has_name keys id row = names id (keys row).named
+
+-- its text has this digest
+abbrev pub has_text : {T : Type 0} → (T → Keys) → ℕ → T → Bool
+has_text keys digest row = names digest (keys row).text
+
+-- it belongs to this
+abbrev pub has_group : {T : Type 0} → (T → Keys) → ℕ → T → Bool
+has_group keys group row = names group (keys row).group
 
 -- a voucher has its end and its code
 abbrev pub voucher_keys : Voucher → Keys

@@ -1,13 +1,11 @@
 //! Tables of rows that are found by keys, too.
 
-ghost use Rattle.std.specs.Prelude.{◌≡◌, ◌≤◌, ◌+◌, [], length, map, filter, OnOk};
+ghost use Rattle.std.specs.Prelude.{◌≡◌, ◌≤◌, ◌+◌, [], length, OnOk};
 ghost use Rattle.std.specs.Option.{option_copied};
 ghost use Rattle.base_sorted.specs.Rising.{rising};
 ghost use Rattle.base_sorted.specs.Tables.{row_at, with_row, without_row, AreInOrder, AreKept};
-ghost use Rattle.model_rows.specs.CameDue.{ends_between};
-ghost use Rattle.model_rows.specs.Conditions.{names};
-ghost use Rattle.book_indexes.specs.Keys.{keys_if};
-ghost use Rattle.book_indexes.specs.Indexes.{AreIndexed, Finds, with_entry, without_entry};
+ghost use Rattle.book_indexes.specs.Keys.{keys_if, has_end, has_name, has_text, has_group};
+ghost use Rattle.book_indexes.specs.Indexes.{AreIndexed, Finds, ids_passing, with_entry, without_entry};
 
 use crate::keyed::Keyed;
 use crate::keys::Keys;
@@ -36,9 +34,14 @@ impl<T: Keyed + Drop, R: OrderedRows<T>> Model for Indexed<T, R> {
 
     ghost Value = { Table T };
 
-    ghost view = { λ t. record { rows = (R.table t.rows).rows; room = min (R.table t.rows).room (min (min t.by_until.room t.by_named.room) (min t.by_text.room t.by_group.room)) } };
+    ghost view = { λ t. record {
+      rows = (R.table t.rows).rows;
+      room = min (R.table t.rows).room
+          (min (min t.by_until.room t.by_named.room) (min t.by_text.room t.by_group.room));
+    } };
 
-    ghost invariant = { λ t. AreIndexed T.key T.keys (R.table t.rows).rows t.by_until.rows t.by_named.rows t.by_text.rows t.by_group.rows };
+    ghost invariant = { λ t. AreIndexed T.key T.keys
+        (R.table t.rows).rows t.by_until.rows t.by_named.rows t.by_text.rows t.by_group.rows };
 }
 
 impl<T: Keyed + Drop, R: OrderedRows<T>> Indexed<T, R> {
@@ -80,8 +83,8 @@ impl<T: Keyed + Drop, R: OrderedRows<T>> Indexed<T, R> {
     /// The ids of the rows that end at `from` or later, and before `to`: by end, and rising for each.
     pub fn ending(&self, from: u64, to: u64) -> Found<'_>
         requires { from ≤ to }
-        ensures finds { Finds T.key (λ r. ends_between from to (T.keys r).until) self.now.rows result }
-        ensures sorted { rising result ≡ map T.key (filter (λ r. ends_between from to (T.keys r).until) self.now.rows) }
+        ensures finds { Finds T.key (has_end T.keys from to) self.now.rows result }
+        ensures sorted { rising result ≡ ids_passing T.key (has_end T.keys from to) self.now.rows }
         ensures few { length result ≤ 4294967296 }
     {
         self.rows.known();
@@ -91,8 +94,8 @@ impl<T: Keyed + Drop, R: OrderedRows<T>> Indexed<T, R> {
 
     /// The ids of the rows that name this one, rising.
     pub fn naming(&self, named: u64) -> Found<'_>
-        ensures finds { Finds T.key (λ r. names named (T.keys r).named) self.now.rows result }
-        ensures all { result ≡ map T.key (filter (λ r. names named (T.keys r).named) self.now.rows) }
+        ensures finds { Finds T.key (has_name T.keys named) self.now.rows result }
+        ensures all { result ≡ ids_passing T.key (has_name T.keys named) self.now.rows }
         ensures few { length result ≤ 4294967296 }
     {
         self.rows.known();
@@ -102,8 +105,8 @@ impl<T: Keyed + Drop, R: OrderedRows<T>> Indexed<T, R> {
 
     /// The ids of the rows whose text has this digest, rising.
     pub fn with_text(&self, digest: u64) -> Found<'_>
-        ensures finds { Finds T.key (λ r. names digest (T.keys r).text) self.now.rows result }
-        ensures all { result ≡ map T.key (filter (λ r. names digest (T.keys r).text) self.now.rows) }
+        ensures finds { Finds T.key (has_text T.keys digest) self.now.rows result }
+        ensures all { result ≡ ids_passing T.key (has_text T.keys digest) self.now.rows }
         ensures few { length result ≤ 4294967296 }
     {
         self.rows.known();
@@ -113,8 +116,8 @@ impl<T: Keyed + Drop, R: OrderedRows<T>> Indexed<T, R> {
 
     /// The ids of the rows that belong to this, rising.
     pub fn in_group(&self, group: u64) -> Found<'_>
-        ensures finds { Finds T.key (λ r. names group (T.keys r).group) self.now.rows result }
-        ensures all { result ≡ map T.key (filter (λ r. names group (T.keys r).group) self.now.rows) }
+        ensures finds { Finds T.key (has_group T.keys group) self.now.rows result }
+        ensures all { result ≡ ids_passing T.key (has_group T.keys group) self.now.rows }
         ensures few { length result ≤ 4294967296 }
     {
         self.rows.known();

@@ -1,7 +1,7 @@
 -- The rows that changes touch, and the last place in a log that touches a row.
 use Rattle.std.specs.Prelude.{◌≡◌, ℕ, suc, ◌<◌, Bool, ◌&&◌, ◌==◌, List, [], ◌∷◌, length, take, Option, Some, None, count_by, if◌then◌else◌, slice_index_or}
 use Rattle.std.specs.List.{list_any}
-use Rattle.base_sorted.specs.Tables.{row_at}
+use Rattle.base_sorted.specs.Tables.{row_at, with_row}
 use Rattle.model_rows.specs.declared.changes.Change.{Change}
 use Rattle.model_rows.specs.declared.changes.Change.TheVariants.{PutItem, PutVariation, PutQuota, PutVoucher, PutCart, PutOrder, PutPosition, PutWaiting, DropVoucher, DropCart, DropWaiting, PutCheckinList, PutCheckin}
 use Rattle.book_log.specs.declared.change_log.Table.{Table}
@@ -83,6 +83,10 @@ kept_place (Some touch) = touch.place
 -- the place that is kept of the row of this id
 abbrev pub place_in : ℕ → List Touch → Option ℕ
 place_in id touches = kept_place (row_at (λ t. t.id) id touches)
+
+-- the rows touched, with this place kept of the row of an id
+abbrev pub with_kept_place : ℕ → Option ℕ → List Touch → List Touch
+with_kept_place id place touches = with_row (λ t. t.id) (record { id = id; place = place }) touches
 
 -- the place before this one where a log touches the same row
 abbrev pub place_before : ℕ → Change → List Change → Option ℕ

@@ -165,7 +165,8 @@ impl ChangeLog {
     /// The place before this one that touches the same row.
     pub fn before(&self, place: usize) -> Option<usize>
         requires { place < length self.now }
-        ensures { (d : Change) → result ≡ place_before place (slice_index_or self.now place d) self.now }
+        ensures { (d : Change)
+            → result ≡ place_before place (slice_index_or self.now place d) self.now }
     {
         self.before[place]
     }

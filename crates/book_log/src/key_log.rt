@@ -1,8 +1,8 @@
 //! A log of keys, with the places of each key.
 
-ghost use Rattle.std.specs.Prelude.{◌≡◌, ◌<◌, ◌-◌, ◌++◌, ◌==◌, [], ◌∷◌, ℕ, length, take, OnOk, OnErr, slice_index_or};
+ghost use Rattle.std.specs.Prelude.{◌≡◌, ◌<◌, ◌-◌, ◌++◌, [], ◌∷◌, ℕ, length, take, OnOk, OnErr, slice_index_or};
 ghost use Rattle.std.specs.Option.{IfSome};
-ghost use Rattle.book_log.specs.Places.{last_place};
+ghost use Rattle.book_log.specs.Keys.{key_place};
 
 use crate::touched::{Touched, note};
 use std::alloc::{AllocError, Global};
@@ -45,7 +45,7 @@ impl KeyLog {
 
     /// The last place of a key.
     pub fn last(&self, key: u64) -> Option<usize>
-        ensures { result ≡ last_place (λ k. k == key) self.now }
+        ensures { result ≡ key_place key self.now }
     {
         self.last.last(key)
     }
@@ -53,7 +53,8 @@ impl KeyLog {
     /// The last place before this one that has its key.
     pub fn before(&self, place: usize) -> Option<usize>
         requires { place < length self.now }
-        ensures { (d : ℕ) → result ≡ last_place (λ k. k == slice_index_or self.now place d) (take place self.now) }
+        ensures { (d : ℕ)
+            → result ≡ key_place (slice_index_or self.now place d) (take place self.now) }
     {
         self.before[place]
     }

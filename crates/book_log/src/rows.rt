@@ -7,6 +7,7 @@ ghost use Rattle.model_rows.specs.Change.{after_all};
 ghost use Rattle.model_rows.specs.Passages.{last_at};
 ghost use Rattle.model_rows.specs.Lists.{Lists, voucher_at, cart_at, order_at, position_at, waiting_at, checkin_list_at, checkin_at};
 ghost use Rattle.book_log.specs.NewCheckins.{AreNewCheckins, last_with, last_with_all};
+ghost use Rattle.book_log.specs.RowsAfter.{IsRowAfter};
 ghost use Rattle.book_log.specs.Puts.{quota_put, voucher_put, cart_put, order_put, position_put, waiting_put, checkin_list_put, checkin_put};
 
 use crate::change_log::{ChangeLog, Table};
@@ -18,7 +19,7 @@ use model_rows::{
 
 /// The quota of an id with all changes, where this one stands before them.
 pub fn quota_in<'l>(log: &'l ChangeLog, id: u64, before: Option<&'l Quota>) -> Option<&'l Quota>
-    ensures { (lists : Lists) → option_copied before.entry ≡ quota_at id lists.catalogue → option_copied result ≡ quota_at id (after_all log.now lists).catalogue }
+    ensures { IsRowAfter log.now (λ l. quota_at id l.catalogue) before.entry result }
 {
     match log.last(Table::Quotas, id) {
         None => before,
@@ -32,7 +33,7 @@ pub fn voucher_in<'l>(
     id: u64,
     before: Option<&'l Voucher>,
 ) -> Option<&'l Voucher>
-    ensures { (lists : Lists) → option_copied before.entry ≡ voucher_at id lists → option_copied result ≡ voucher_at id (after_all log.now lists) }
+    ensures { IsRowAfter log.now (voucher_at id) before.entry result }
 {
     match log.last(Table::Vouchers, id) {
         None => before,
@@ -42,7 +43,7 @@ pub fn voucher_in<'l>(
 
 /// The cart position of an id with all changes, where this one stands before them.
 pub fn cart_in<'l>(log: &'l ChangeLog, id: u64, before: Option<&'l CartPos>) -> Option<&'l CartPos>
-    ensures { (lists : Lists) → option_copied before.entry ≡ cart_at id lists → option_copied result ≡ cart_at id (after_all log.now lists) }
+    ensures { IsRowAfter log.now (cart_at id) before.entry result }
 {
     match log.last(Table::Carts, id) {
         None => before,
@@ -52,7 +53,7 @@ pub fn cart_in<'l>(log: &'l ChangeLog, id: u64, before: Option<&'l CartPos>) -> 
 
 /// The order of an id with all changes, where this one stands before them.
 pub fn order_in<'l>(log: &'l ChangeLog, id: u64, before: Option<&'l Order>) -> Option<&'l Order>
-    ensures { (lists : Lists) → option_copied before.entry ≡ order_at id lists → option_copied result ≡ order_at id (after_all log.now lists) }
+    ensures { IsRowAfter log.now (order_at id) before.entry result }
 {
     match log.last(Table::Orders, id) {
         None => before,
@@ -66,7 +67,7 @@ pub fn position_in<'l>(
     id: u64,
     before: Option<&'l OrderPos>,
 ) -> Option<&'l OrderPos>
-    ensures { (lists : Lists) → option_copied before.entry ≡ position_at id lists → option_copied result ≡ position_at id (after_all log.now lists) }
+    ensures { IsRowAfter log.now (position_at id) before.entry result }
 {
     match log.last(Table::Positions, id) {
         None => before,
@@ -80,7 +81,7 @@ pub fn waiting_in<'l>(
     id: u64,
     before: Option<&'l Waiting>,
 ) -> Option<&'l Waiting>
-    ensures { (lists : Lists) → option_copied before.entry ≡ waiting_at id lists → option_copied result ≡ waiting_at id (after_all log.now lists) }
+    ensures { IsRowAfter log.now (waiting_at id) before.entry result }
 {
     match log.last(Table::Waiting, id) {
         None => before,
@@ -94,7 +95,7 @@ pub fn checkin_list_in<'l>(
     id: u64,
     before: Option<&'l CheckinList>,
 ) -> Option<&'l CheckinList>
-    ensures { (lists : Lists) → option_copied before.entry ≡ checkin_list_at id lists → option_copied result ≡ checkin_list_at id (after_all log.now lists) }
+    ensures { IsRowAfter log.now (checkin_list_at id) before.entry result }
 {
     match log.last(Table::CheckinLists, id) {
         None => before,
@@ -108,7 +109,7 @@ pub fn checkin_in<'l>(
     id: u64,
     before: Option<&'l Checkin>,
 ) -> Option<&'l Checkin>
-    ensures { (lists : Lists) → option_copied before.entry ≡ checkin_at id lists → option_copied result ≡ checkin_at id (after_all log.now lists) }
+    ensures { IsRowAfter log.now (checkin_at id) before.entry result }
 {
     match log.last(Table::Checkins, id) {
         None => before,
@@ -119,7 +120,9 @@ pub fn checkin_in<'l>(
 /// The last check-in of a position with all changes, where this one is it before them, and each check-in that they put
 /// is a new one. It goes over the changes where they put any.
 pub fn last_checkin_in(log: &ChangeLog, position: u64, before: Option<Passage>) -> Option<Passage>
-    ensures { (lists : Lists) → AreNewCheckins log.now lists → before ≡ last_at position lists.checkins → result ≡ last_at position (after_all log.now lists).checkins }
+    ensures { (lists : Lists) → AreNewCheckins log.now lists
+        → before ≡ last_at position lists.checkins
+        → result ≡ last_at position (after_all log.now lists).checkins }
 {
     if !log.touches(Table::Checkins) {
         return before;
@@ -158,7 +161,7 @@ pub fn cart_after<'l>(
     before: Option<&'l CartPos>,
 ) -> Option<&'l CartPos>
     requires { count ≤ length log.now }
-    ensures { (lists : Lists) → option_copied before.entry ≡ cart_at id lists → option_copied result ≡ cart_at id (after_all (take count log.now) lists) }
+    ensures { IsRowAfter (take count log.now) (cart_at id) before.entry result }
 {
     match log.last_before(count, Table::Carts, id) {
         None => before,
@@ -174,7 +177,7 @@ pub fn order_after<'l>(
     before: Option<&'l Order>,
 ) -> Option<&'l Order>
     requires { count ≤ length log.now }
-    ensures { (lists : Lists) → option_copied before.entry ≡ order_at id lists → option_copied result ≡ order_at id (after_all (take count log.now) lists) }
+    ensures { IsRowAfter (take count log.now) (order_at id) before.entry result }
 {
     match log.last_before(count, Table::Orders, id) {
         None => before,
@@ -190,7 +193,7 @@ pub fn waiting_after<'l>(
     before: Option<&'l Waiting>,
 ) -> Option<&'l Waiting>
     requires { count ≤ length log.now }
-    ensures { (lists : Lists) → option_copied before.entry ≡ waiting_at id lists → option_copied result ≡ waiting_at id (after_all (take count log.now) lists) }
+    ensures { IsRowAfter (take count log.now) (waiting_at id) before.entry result }
 {
     match log.last_before(count, Table::Waiting, id) {
         None => before,

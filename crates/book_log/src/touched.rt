@@ -2,8 +2,7 @@
 
 ghost use Rattle.std.specs.Prelude.{◌≡◌, ◌++◌, [], ◌∷◌, OnOk, OnErr, None, Some};
 ghost use Rattle.book_log.specs.declared.touched.Touch.{Touch};
-ghost use Rattle.base_sorted.specs.Tables.{with_row};
-ghost use Rattle.book_log.specs.Places.{place_in};
+ghost use Rattle.book_log.specs.Places.{place_in, with_kept_place};
 
 use base_sorted::{Row, place_of};
 use std::alloc::{AllocError, Global};
@@ -64,7 +63,7 @@ impl Touched {
 
     /// Keeps a place as the last one that touches the row.
     pub fn touch(&mut self, id: u64, place: usize) -> Result<(), AllocError>
-        ensures ok { OnOk result (self.new ≡ with_row (λ r. r.id) (record { id = id; place = Some place }) self.old) }
+        ensures ok { OnOk result (self.new ≡ with_kept_place id (Some place) self.old) }
         ensures err { OnErr result (self.new ≡ self.old) }
     {
         let touch = Touch {
@@ -83,7 +82,7 @@ impl Touched {
     /// Goes back to an earlier place, or to none, of a row that is touched.
     pub fn go_back(&mut self, id: u64, place: Option<usize>)
         requires { place_in id self.old ≡ None → ⊥ }
-        ensures { self.new ≡ with_row (λ r. r.id) (record { id = id; place = place }) self.old }
+        ensures { self.new ≡ with_kept_place id place self.old }
     {
         if let Ok(at) = place_of(&self.rows, id) {
             self.rows[at] = Touch { id, place };
@@ -99,8 +98,9 @@ pub fn note(
     id: u64,
     place: usize,
 ) -> Result<(), AllocError>
-    ensures last { OnOk result (touched.new ≡ with_row (λ r. r.id) (record { id = id; place = Some place }) touched.old) }
-    ensures earlier { OnOk result (before.new.items ≡ before.old.items ++ place_in id touched.old ∷ []) }
+    ensures last { OnOk result (touched.new ≡ with_kept_place id (Some place) touched.old) }
+    ensures earlier { OnOk result
+        (before.new.items ≡ before.old.items ++ place_in id touched.old ∷ []) }
     ensures same { OnErr result (touched.new ≡ touched.old) }
     ensures as_before { OnErr result (before.new.items ≡ before.old.items) }
 {

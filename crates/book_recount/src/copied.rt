@@ -3,8 +3,7 @@
 ghost use Rattle.std.specs.Prelude.{◌≡◌, ◌≤◌, ◌++◌, [], ◌∷◌, map, IfOk, OnOk};
 ghost use Rattle.model_rows.specs.declared.changes.Change.{Change};
 ghost use Rattle.model_rows.specs.declared.changes.Change.TheVariants.{PutQuota, PutVoucher, PutCart, PutOrder, PutPosition, PutWaiting, PutCheckin};
-ghost use Rattle.model_rows.specs.Change.{applied};
-ghost use Rattle.model_rows.specs.CountRows.{counts_after};
+ghost use Rattle.book_usage.specs.Dues.{counts_of_changes};
 ghost use Rattle.book_recount.specs.Copied.{counted, puts_of};
 
 use crate::recount::Recount;
@@ -27,7 +26,7 @@ pub fn counts_after<B: Book>(
     at: Moment,
 ) -> Result<CountRows, AllocError>
     requires moment { (B.state book.now).moment ≤ at }
-    ensures { IfOk result (λ rows. rows ≡ counts_after (B.state book.now) (applied changes at (B.state book.now))) }
+    ensures { IfOk result (λ rows. rows ≡ counts_of_changes changes at (B.state book.now)) }
 {
     let mut copy = copy_of(book, alloc)?;
     copy.reserve(&changes)?;

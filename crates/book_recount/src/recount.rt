@@ -1,12 +1,14 @@
 //! A book that counts.
 
-ghost use Rattle.std.specs.Prelude.{◌≡◌, ◌≤◌, ◌+◌, ◌↔◌, ℕ, OnOk, IsTrue, [], min, count_by, sum_by};
+ghost use Rattle.std.specs.Prelude.{◌≡◌, ◌≤◌, ◌+◌, ◌↔◌, ℕ, OnOk, IsTrue, [], min, count_by};
 ghost use Rattle.std.specs.Option.{option_copied};
 ghost use Rattle.model_rows.specs.Lists.{empty};
-ghost use Rattle.model_rows.specs.Conditions.{is_paid, is_pending, names};
-ghost use Rattle.model_rows.specs.Usage.{redeemed, usage_of, position_counts, exit_counts, blocked_by, cart_counts, waits_for};
-ghost use Rattle.model_rows.specs.Change.{applied, after_change, after_all};
+ghost use Rattle.model_rows.specs.Usage.{redeemed, usage_of, blocked_by, waits_for};
+ghost use Rattle.model_rows.specs.Change.{applied, after_all, changed};
 ghost use Rattle.model_rows.specs.Weight.{change_weight, weight};
+ghost use Rattle.book_usage.specs.Counts.{paid_in, pending_in, exited_in, blocked_in, carts_in_quota};
+ghost use Rattle.book_usage.specs.Limits.{most_listed, last_use};
+ghost use Rattle.book_usage.specs.Naming.{position_names, cart_names, entry_names};
 
 use base_sorted::{Rows, Sparse};
 use base_values::{List, Moment, Steps, Text};
@@ -60,7 +62,9 @@ impl Model for Recount {
         next = b.next;
         moment = b.moment;
       };
-      room = min b.catalogue.room (min (min b.vouchers.room b.carts.room) (min (min b.orders.room b.positions.room) (min b.waiting.room (min b.checkin_lists.room b.checkins.room))));
+      room = min b.catalogue.room (min (min b.vouchers.room b.carts.room)
+          (min (min b.orders.room b.positions.room)
+          (min b.waiting.room (min b.checkin_lists.room b.checkins.room))));
     } };
 }
 
@@ -85,7 +89,7 @@ impl Recount {
 
     fn apply_one(&mut self, change: Change)
         requires { change_weight change ≤ self.old.room }
-        ensures lists { self.new.state ≡ record self.old.state { lists = after_change change self.old.state.lists } }
+        ensures lists { self.new.state ≡ changed change self.old.state }
         ensures room { self.old.room ≤ self.new.room + change_weight change }
     {
         match change {
@@ -109,14 +113,14 @@ impl Recount {
 impl Recount {
     fn redeemed_by(&self, voucher: u64) -> u64
         ensures value { result ≡ redeemed voucher self.now.state.lists }
-        ensures few { result ≤ 4294967296 }
+        ensures few { result ≤ most_listed }
     {
         let positions = self.positions.as_slice();
         positions.iter().filter(|p| uses(self, voucher, p)).count() as u64
     }
 
     fn blocked_in(&self, at: Moment, quota: &Quota) -> u64
-        ensures { result ≡ sum_by (blocked_by self.now.state.lists at quota.now) self.now.state.lists.vouchers }
+        ensures { result ≡ blocked_in self.now.state.lists at quota.now }
     {
         let mut blocked = 0;
         for voucher in self.vouchers.as_slice() {
@@ -128,7 +132,7 @@ impl Recount {
     #[tactic(auto, unfolding(model_rows::specs::Usage::blocked_by))]
     fn blocked_by(&self, at: Moment, quota: &Quota, voucher: &Voucher) -> u64
         ensures value { result ≡ blocked_by self.now.state.lists at quota.now voucher.now }
-        ensures small { result ≤ 4294967295 }
+        ensures small { result ≤ last_use }
     {
         if voucher.blocks(at, quota) {
             left_of(voucher, self.redeemed_by(voucher.id))
@@ -138,7 +142,7 @@ impl Recount {
     }
 
     fn count_carts(&self, at: Moment, quota: &Quota) -> u64
-        ensures { result ≡ count_by (cart_counts self.now.state.lists at quota.now) self.now.state.lists.carts }
+        ensures { result ≡ carts_in_quota self.now.state.lists at quota.now }
     {
         self.carts
             .iter()
@@ -147,7 +151,7 @@ impl Recount {
     }
 
     fn paid_in(&self, quota: &Quota) -> u64
-        ensures { result ≡ count_by (position_counts is_paid self.now.state.lists quota.now) self.now.state.lists.positions }
+        ensures { result ≡ paid_in self.now.state.lists quota.now }
     {
         let positions = self.positions.as_slice();
         positions
@@ -157,7 +161,7 @@ impl Recount {
     }
 
     fn pending_in(&self, quota: &Quota) -> u64
-        ensures { result ≡ count_by (position_counts is_pending self.now.state.lists quota.now) self.now.state.lists.positions }
+        ensures { result ≡ pending_in self.now.state.lists quota.now }
     {
         let positions = self.positions.as_slice();
         positions
@@ -167,7 +171,7 @@ impl Recount {
     }
 
     fn exited_in(&self, quota: &Quota) -> u64
-        ensures { result ≡ count_by (exit_counts self.now.state.lists quota.now) self.now.state.lists.positions }
+        ensures { result ≡ exited_in self.now.state.lists quota.now }
     {
         let positions = self.positions.as_slice();
         positions
@@ -178,8 +182,8 @@ impl Recount {
 
     // How many order positions name the voucher.
     fn naming_positions(&self, voucher: u64) -> u64
-        ensures value { result ≡ count_by (λ p. names voucher p.voucher) self.now.state.lists.positions }
-        ensures few { result ≤ 4294967296 }
+        ensures value { result ≡ count_by (position_names voucher) self.now.state.lists.positions }
+        ensures few { result ≤ most_listed }
     {
         let positions = self.positions.as_slice();
         positions
@@ -190,8 +194,8 @@ impl Recount {
 
     // How many cart positions name it, dead ones too.
     fn naming_carts(&self, voucher: u64) -> u64
-        ensures value { result ≡ count_by (λ c. names voucher c.voucher) self.now.state.lists.carts }
-        ensures few { result ≤ 4294967296 }
+        ensures value { result ≡ count_by (cart_names voucher) self.now.state.lists.carts }
+        ensures few { result ≤ most_listed }
     {
         self.carts
             .iter()
@@ -201,8 +205,8 @@ impl Recount {
 
     // How many waiting entries name it.
     fn naming_entries(&self, voucher: u64) -> u64
-        ensures value { result ≡ count_by (λ w. names voucher w.voucher) self.now.state.lists.waiting }
-        ensures few { result ≤ 4294967296 }
+        ensures value { result ≡ count_by (entry_names voucher) self.now.state.lists.waiting }
+        ensures few { result ≤ most_listed }
     {
         self.waiting
             .iter()
@@ -509,7 +513,8 @@ impl Recount {
 
     fn apply_list(&mut self, mut list: Vec<Change>)
         requires { weight list.items ≤ self.old.room }
-        ensures { self.new.state ≡ record self.old.state { lists = after_all list.items self.old.state.lists } }
+        ensures { self.new.state
+            ≡ record self.old.state { lists = after_all list.items self.old.state.lists } }
     {
         list.reverse();
         while let Some(change) = list.pop() {

@@ -1,6 +1,6 @@
 -- What is kept beside rows, by their ids, and some of it put.
 use Rattle.std.specs.List.{AllByRecursion}
-use Rattle.std.specs.Prelude.{◌≡◌, ◌≤◌, ℕ, ◌==◌, List, [], ◌∷◌, Option, Some, None, if◌then◌else◌}
+use Rattle.std.specs.Prelude.{◌≡◌, ◌≤◌, ℕ, ◌==◌, List, [], ◌∷◌, Vec, Option, Some, None, if◌then◌else◌}
 use Rattle.model_catalogue.specs.declared.rows.Quota.{Quota}
 use Rattle.model_catalogue.specs.CatalogueLists.{quota_at}
 use Rattle.model_rows.specs.declared.changes.Change.{Change}
@@ -10,6 +10,8 @@ use Rattle.model_rows.specs.declared.rows.Voucher.{Voucher}
 use Rattle.model_rows.specs.Change.{after_change}
 use Rattle.model_rows.specs.Lists.{Lists, State, voucher_at}
 use Rattle.model_rows.specs.Usage.{usage_of, redeemed, spent}
+use Rattle.book_usage.specs.Limits.{last_use}
+use Rattle.book_deltas.specs.Beside.{AreBeside}
 use Rattle.book_deltas.specs.Spends.{ArePriced}
 
 -- the usage of a quota of which no place is used
@@ -52,6 +54,14 @@ abbrev pub put_each : {C U : Type 0} → (C → ℕ) → (C → U) → List C �
 put_each of value [] f x = f x
 put_each of value (count ∷ counts) f x = put_each of value counts (put_at (of count) (value count) f) x
 
+-- whatever stood beside the quotas by their ids, and was nothing for those that don't stand, stands beside those after the change
+abbrev pub KeepsQuotas : {Z : Type 0} → Change → Lists → Vec Usage Z → Vec Usage Z → Type 0
+KeepsQuotas change lists old new = (f : ℕ → Usage) → ((id : ℕ) → quota_at id lists.catalogue ≡ None → f id ≡ nothing) → AreBeside (λ q. q.id) f lists.catalogue.quotas old.items → AreBeside (λ q. q.id) f (after_change change lists).catalogue.quotas new.items
+
+-- whatever stood beside the vouchers by their ids, and was this other value for a new one, stands beside those after the change
+abbrev pub KeepsVouchers : {U Z : Type 0} → U → Change → Lists → Vec U Z → Vec U Z → Type 0
+KeepsVouchers {U} other change lists old new = (f : ℕ → U) → ((row : Voucher) → change ≡ PutVoucher row → voucher_at row.id lists ≡ None → f row.id ≡ other) → AreBeside (λ v. v.id) f lists.vouchers old.items → AreBeside (λ v. v.id) f (after_change change lists).vouchers new.items
+
 -- of a voucher that is put where none stands nothing is kept: it is a new one
 abbrev pub ArePutsNew : (ℕ → ℕ) → List Change → Lists → Type 0
 ArePutsNew kept [] lists = Unit {0}
@@ -60,5 +70,5 @@ ArePutsNew kept (change ∷ changes) lists = ArePutsNew kept changes (after_chan
 
 -- how often vouchers may be used, and the discounts of order positions: as their types have it
 pub record AreSmall (lists : Lists) : Type 0 where
-  pub uses : AllByRecursion (λ v. v.max_usages ≤ 4294967295) lists.vouchers
+  pub uses : AllByRecursion (λ v. v.max_usages ≤ last_use) lists.vouchers
   pub discounts : ArePriced lists

@@ -1,11 +1,12 @@
 //! Changes of which it isn't known which counts they change: the rows are put, and then all that is kept beside them is counted afresh.
 
-ghost use Rattle.std.specs.Prelude.{◌≡◌, ◌≤◌, ◌+◌, ◌-◌, length, map, vec_capacity};
-ghost use Rattle.model_rows.specs.Change.{after_change, after_all, applied};
-ghost use Rattle.model_rows.specs.Usage.{redeemed, usage_of};
+ghost use Rattle.std.specs.Prelude.{◌≡◌, ◌≤◌, ◌+◌, length};
+ghost use Rattle.model_rows.specs.Change.{after_change, after_all, applied, changed};
 ghost use Rattle.model_rows.specs.Weight.{change_weight, weight};
-ghost use Rattle.book_deltas.specs.Held.{AreHeld};
+ghost use Rattle.book_deltas.specs.Beside.{room_left};
+ghost use Rattle.book_deltas.specs.Held.{AreHeldNow};
 ghost use Rattle.book_deltas.specs.Spends.{AreSpent};
+ghost use Rattle.book_deltas.specs.Usages.{AreUsages, AreRedeemed};
 ghost use Rattle.book_settle.specs.Settled.{AreSmall};
 
 use crate::fresh::{count_holds, count_redeems, count_spents, count_usages};
@@ -19,7 +20,7 @@ use model_rows::{Change, Changes, Usage};
 fn put_row(store: &mut Store, change: Change)
     requires room { change_weight change ≤ store.old.room }
     requires small { AreSmall store.old.state.lists }
-    ensures state { store.new.state ≡ record store.old.state { lists = after_change change store.old.state.lists } }
+    ensures state { store.new.state ≡ changed change store.old.state }
     ensures room { store.old.room ≤ store.new.room + change_weight change }
     ensures small { AreSmall (after_change change store.old.state.lists) }
 {
@@ -31,10 +32,13 @@ fn put_row(store: &mut Store, change: Change)
 fn put_rows(store: &mut Store, mut list: Vec<Change>)
     requires room { weight list.items ≤ store.old.room }
     requires small { AreSmall store.old.state.lists }
-    ensures state { store.new.state ≡ record store.old.state { lists = after_all list.items store.old.state.lists } }
+    ensures state { store.new.state
+        ≡ record store.old.state { lists = after_all list.items store.old.state.lists } }
     ensures small { AreSmall store.new.state.lists }
-    ensures quotas { length store.new.state.lists.catalogue.quotas ≤ length store.old.state.lists.catalogue.quotas + weight list.items }
-    ensures vouchers { length store.new.state.lists.vouchers ≤ length store.old.state.lists.vouchers + weight list.items }
+    ensures quotas { length store.new.state.lists.catalogue.quotas
+        ≤ length store.old.state.lists.catalogue.quotas + weight list.items }
+    ensures vouchers { length store.new.state.lists.vouchers
+        ≤ length store.old.state.lists.vouchers + weight list.items }
 {
     list.reverse();
     while let Some(change) = list.pop() {
@@ -58,15 +62,15 @@ pub fn count_again(
     requires holds { length holds.old.items ≡ length store.old.state.lists.vouchers }
     requires small { AreSmall store.old.state.lists }
     requires room { weight changes.list ≤ store.old.room }
-    requires usages_room { weight changes.list ≤ vec_capacity usages.old - length usages.old.items }
-    requires redeems_room { weight changes.list ≤ vec_capacity redeems.old - length redeems.old.items }
-    requires spents_room { weight changes.list ≤ vec_capacity spents.old - length spents.old.items }
-    requires holds_room { weight changes.list ≤ vec_capacity holds.old - length holds.old.items }
+    requires usages_room { weight changes.list ≤ room_left usages.old }
+    requires redeems_room { weight changes.list ≤ room_left redeems.old }
+    requires spents_room { weight changes.list ≤ room_left spents.old }
+    requires holds_room { weight changes.list ≤ room_left holds.old }
     ensures state { store.new.state ≡ applied changes at store.old.state }
-    ensures usages { usages.new.items ≡ map (usage_of store.new.state.lists store.new.state.moment) store.new.state.lists.catalogue.quotas }
-    ensures redeems { redeems.new.items ≡ map (λ v. redeemed v.id store.new.state.lists) store.new.state.lists.vouchers }
+    ensures usages { AreUsages store.new.state.lists store.new.state.moment usages.new.items }
+    ensures redeems { AreRedeemed store.new.state.lists redeems.new.items }
     ensures spents { AreSpent store.new.state.lists spents.new.items }
-    ensures held { AreHeld store.new.state.lists store.new.state.moment holds.new.items }
+    ensures held { AreHeldNow store.new.state holds.new.items }
     ensures small { AreSmall store.new.state.lists }
 {
     let (list, next) = changes.into_parts();

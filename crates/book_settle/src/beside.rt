@@ -1,7 +1,8 @@
 //! Values that are kept beside rows, by their ids.
 
-ghost use Rattle.std.specs.Prelude.{◌≡◌, ◌≤◌, ◌<◌, ◌+◌, ◌-◌, ℕ, None, length, map, vec_capacity};
+ghost use Rattle.std.specs.Prelude.{◌≡◌, ◌≤◌, ◌<◌, ◌+◌, ℕ, None, length, vec_capacity};
 ghost use Rattle.base_sorted.specs.Tables.{AreInOrder, row_at, with_row};
+ghost use Rattle.book_deltas.specs.Beside.{AreBeside, StepsBeside, room_left};
 ghost use Rattle.book_settle.specs.Settled.{put_at};
 
 use base_sorted::{Row, place_of};
@@ -11,7 +12,7 @@ use book_deltas::shift::keep;
 pub fn set_one<T: Row, U: Copy + Drop>(rows: &[T], kept: &mut Vec<U>, id: u64, value: U)
     requires order { AreInOrder T.key rows.now }
     requires same { length kept.old.items ≡ length rows.now }
-    ensures kept { (f : ℕ → U) → kept.old.items ≡ map (λ r. f (T.key r)) rows.now → kept.new.items ≡ map (λ r. put_at id value f (T.key r)) rows.now }
+    ensures kept { StepsBeside T.key (put_at id value) rows.now kept.old kept.new }
     ensures same { length kept.new.items ≡ length kept.old.items }
 {
     if let Ok(at) = place_of(rows, id) {
@@ -23,7 +24,8 @@ pub fn set_one<T: Row, U: Copy + Drop>(rows: &[T], kept: &mut Vec<U>, id: u64, v
 fn value_beside<T: Row, U: Copy + Drop>(rows: &[T], kept: &[U], id: u64, other: U) -> U
     requires order { AreInOrder T.key rows.now }
     requires same { length kept.now ≡ length rows.now }
-    ensures { (f : ℕ → U) → (row_at T.key id rows.now ≡ None → f id ≡ other) → kept.now ≡ map (λ r. f (T.key r)) rows.now → result ≡ f id }
+    ensures { (f : ℕ → U) → (row_at T.key id rows.now ≡ None → f id ≡ other)
+        → AreBeside T.key f rows.now kept.now → result ≡ f id }
 {
     match place_of(rows, id) {
         Ok(at) => kept[at],
@@ -36,8 +38,11 @@ pub fn keep_place<T: Row, U: Copy + Drop>(rows: &[T], kept: &mut Vec<U>, id: u64
     requires order { AreInOrder T.key rows.now }
     requires same { length kept.old.items ≡ length rows.now }
     requires room { length kept.old.items < vec_capacity kept.old }
-    ensures kept { (f : ℕ → U) (row : T) → T.key row ≡ id → (row_at T.key id rows.now ≡ None → f id ≡ other) → kept.old.items ≡ map (λ r. f (T.key r)) rows.now → kept.new.items ≡ map (λ r. f (T.key r)) (with_row T.key row rows.now) }
-    ensures room { vec_capacity kept.old - length kept.old.items ≤ vec_capacity kept.new - length kept.new.items + 1 }
+    ensures kept { (f : ℕ → U) (row : T) → T.key row ≡ id
+        → (row_at T.key id rows.now ≡ None → f id ≡ other)
+        → AreBeside T.key f rows.now kept.old.items
+        → AreBeside T.key f (with_row T.key row rows.now) kept.new.items }
+    ensures room { room_left kept.old ≤ room_left kept.new + 1 }
 {
     let value = value_beside(rows, kept.as_slice(), id, other);
     keep(rows, kept, id, value);

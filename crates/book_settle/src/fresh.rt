@@ -3,9 +3,10 @@
 
 ghost use Rattle.std.specs.Prelude.{◌≡◌, ◌≤◌, ◌<◌, ◌++◌, [], ◌∷◌, length, map, vec_capacity, None, Some};
 ghost use Rattle.model_rows.specs.Headroom.{held};
-ghost use Rattle.model_rows.specs.Usage.{redeemed, spent, usage_of};
-ghost use Rattle.book_deltas.specs.Shifts.{map_beside, block_shift, cart_shift, waiting_shift};
+ghost use Rattle.model_rows.specs.Usage.{redeemed, spent};
+ghost use Rattle.book_deltas.specs.Shifts.{AreShifted, block_shift, cart_shift, waiting_shift};
 ghost use Rattle.book_deltas.specs.Turns.{position_shift};
+ghost use Rattle.book_deltas.specs.Usages.{AreUsages, AreRedeemed};
 ghost use Rattle.book_settle.specs.Fresh.{after_each, position_comes, cart_comes, entry_comes, voucher_comes};
 ghost use Rattle.book_settle.specs.Settled.{nothing, AreSmall};
 
@@ -139,7 +140,8 @@ impl<'s> Shift for VoucherComes<'s> {
 // Adds what one order position counts.
 fn add_position<'s>(store: &'s Store, usages: &mut Vec<Usage>, row: &'s OrderPos)
     requires { length usages.old.items ≡ length store.now.state.lists.catalogue.quotas }
-    ensures items { usages.new.items ≡ map_beside (position_comes store.now.state.lists row.now) store.now.state.lists.catalogue.quotas usages.old.items }
+    ensures items { AreShifted (position_comes store.now.state.lists row.now)
+        store.now.state.lists.catalogue.quotas usages.old usages.new }
     ensures same { length usages.new.items ≡ length usages.old.items }
 {
     let shift = PositionComes { store, row };
@@ -149,7 +151,8 @@ fn add_position<'s>(store: &'s Store, usages: &mut Vec<Usage>, row: &'s OrderPos
 // Adds what one cart position counts.
 fn add_cart<'s>(store: &'s Store, usages: &mut Vec<Usage>, at: Moment, row: &'s CartPos)
     requires { length usages.old.items ≡ length store.now.state.lists.catalogue.quotas }
-    ensures items { usages.new.items ≡ map_beside (cart_comes store.now.state.lists at row.now) store.now.state.lists.catalogue.quotas usages.old.items }
+    ensures items { AreShifted (cart_comes store.now.state.lists at row.now)
+        store.now.state.lists.catalogue.quotas usages.old usages.new }
     ensures same { length usages.new.items ≡ length usages.old.items }
 {
     let shift = CartComes { store, at, row };
@@ -159,7 +162,8 @@ fn add_cart<'s>(store: &'s Store, usages: &mut Vec<Usage>, at: Moment, row: &'s 
 // Adds what one waiting entry counts.
 fn add_entry<'s>(store: &'s Store, usages: &mut Vec<Usage>, row: &'s Waiting)
     requires { length usages.old.items ≡ length store.now.state.lists.catalogue.quotas }
-    ensures items { usages.new.items ≡ map_beside (entry_comes row.now) store.now.state.lists.catalogue.quotas usages.old.items }
+    ensures items { AreShifted (entry_comes row.now)
+        store.now.state.lists.catalogue.quotas usages.old usages.new }
     ensures same { length usages.new.items ≡ length usages.old.items }
 {
     let shift = EntryComes { row };
@@ -175,8 +179,9 @@ fn add_voucher<'s>(
     row: &'s Voucher,
 )
     requires same { length usages.old.items ≡ length store.now.state.lists.catalogue.quotas }
-    requires redeems { redeems.now ≡ map (λ v. redeemed v.id store.now.state.lists) store.now.state.lists.vouchers }
-    ensures items { usages.new.items ≡ map_beside (voucher_comes store.now.state.lists at row.now) store.now.state.lists.catalogue.quotas usages.old.items }
+    requires redeems { AreRedeemed store.now.state.lists redeems.now }
+    ensures items { AreShifted (voucher_comes store.now.state.lists at row.now)
+        store.now.state.lists.catalogue.quotas usages.old usages.new }
     ensures same { length usages.new.items ≡ length usages.old.items }
 {
     let spent = redeemed_in(store, redeems, row.id);
@@ -187,7 +192,8 @@ fn add_voucher<'s>(
 // Adds what these order positions count: of paid orders, of pending ones, and where they have gone out.
 fn add_positions(store: &Store, usages: &mut Vec<Usage>, rows: &[OrderPos])
     requires { length usages.old.items ≡ length store.now.state.lists.catalogue.quotas }
-    ensures items { usages.new.items ≡ map_beside (after_each (position_comes store.now.state.lists) rows.now) store.now.state.lists.catalogue.quotas usages.old.items }
+    ensures items { AreShifted (after_each (position_comes store.now.state.lists) rows.now)
+        store.now.state.lists.catalogue.quotas usages.old usages.new }
     ensures same { length usages.new.items ≡ length usages.old.items }
 {
     for row in rows {
@@ -204,8 +210,9 @@ fn add_vouchers(
     rows: &[Voucher],
 )
     requires same { length usages.old.items ≡ length store.now.state.lists.catalogue.quotas }
-    requires redeems { redeems.now ≡ map (λ v. redeemed v.id store.now.state.lists) store.now.state.lists.vouchers }
-    ensures items { usages.new.items ≡ map_beside (after_each (voucher_comes store.now.state.lists at) rows.now) store.now.state.lists.catalogue.quotas usages.old.items }
+    requires redeems { AreRedeemed store.now.state.lists redeems.now }
+    ensures items { AreShifted (after_each (voucher_comes store.now.state.lists at) rows.now)
+        store.now.state.lists.catalogue.quotas usages.old usages.new }
     ensures same { length usages.new.items ≡ length usages.old.items }
 {
     for row in rows {
@@ -216,7 +223,9 @@ fn add_vouchers(
 // Adds what all cart positions count.
 fn add_carts(store: &Store, usages: &mut Vec<Usage>, at: Moment)
     requires { length usages.old.items ≡ length store.now.state.lists.catalogue.quotas }
-    ensures items { usages.new.items ≡ map_beside (after_each (cart_comes store.now.state.lists at) store.now.state.lists.carts) store.now.state.lists.catalogue.quotas usages.old.items }
+    ensures items { AreShifted
+        (after_each (cart_comes store.now.state.lists at) store.now.state.lists.carts)
+        store.now.state.lists.catalogue.quotas usages.old usages.new }
     ensures same { length usages.new.items ≡ length usages.old.items }
 {
     for row in store.carts().rows().iter() {
@@ -227,7 +236,8 @@ fn add_carts(store: &Store, usages: &mut Vec<Usage>, at: Moment)
 // Adds what all waiting entries count.
 fn add_entries(store: &Store, usages: &mut Vec<Usage>)
     requires { length usages.old.items ≡ length store.now.state.lists.catalogue.quotas }
-    ensures items { usages.new.items ≡ map_beside (after_each entry_comes store.now.state.lists.waiting) store.now.state.lists.catalogue.quotas usages.old.items }
+    ensures items { AreShifted (after_each entry_comes store.now.state.lists.waiting)
+        store.now.state.lists.catalogue.quotas usages.old usages.new }
     ensures same { length usages.new.items ≡ length usages.old.items }
 {
     for row in store.waiting().rows().iter() {
@@ -292,9 +302,9 @@ pub fn count_holds(store: &Store, holds: &mut Vec<u64>, at: Moment, rows: &[Vouc
 /// The usages of all quotas, counted afresh.
 pub fn count_usages(store: &Store, usages: &mut Vec<Usage>, redeems: &[u64])
     requires room { length store.now.state.lists.catalogue.quotas ≤ vec_capacity usages.old }
-    requires redeems { redeems.now ≡ map (λ v. redeemed v.id store.now.state.lists) store.now.state.lists.vouchers }
+    requires redeems { AreRedeemed store.now.state.lists redeems.now }
     requires small { AreSmall store.now.state.lists }
-    ensures { usages.new.items ≡ map (usage_of store.now.state.lists store.now.state.moment) store.now.state.lists.catalogue.quotas }
+    ensures { AreUsages store.now.state.lists store.now.state.moment usages.new.items }
 {
     store.known();
     let at = store.moment();

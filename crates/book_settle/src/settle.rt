@@ -1,21 +1,21 @@
 //! The counts that a book keeps, after changes of which it is known which counts they change: the rows are put, and then these
 //! counts. Nothing is counted.
 
-ghost use Rattle.std.specs.Prelude.{◌≡◌, ◌≤◌, ◌<◌, ◌+◌, ◌-◌, ℕ, None, true, length, map, vec_capacity};
-ghost use Rattle.base_sorted.specs.Tables.{AreInOrder, row_at};
-ghost use Rattle.model_rows.specs.declared.changes.Change.TheVariants.{PutVoucher};
+ghost use Rattle.std.specs.Prelude.{◌≡◌, ◌≤◌, ◌+◌, ℕ, true, length, map};
 ghost use Rattle.model_rows.specs.declared.rows.Usage.{Usage};
-ghost use Rattle.model_rows.specs.declared.rows.Voucher.{Voucher};
-ghost use Rattle.model_rows.specs.Change.{after_change, after_all, applied};
-ghost use Rattle.model_rows.specs.CountRows.{counts_after};
-ghost use Rattle.model_rows.specs.Lists.{voucher_at};
-ghost use Rattle.model_rows.specs.Usage.{redeemed, usage_of};
-ghost use Rattle.model_rows.specs.Weight.{change_weight, weight};
-ghost use Rattle.book_deltas.specs.Held.{AreHeld};
-ghost use Rattle.book_deltas.specs.Spends.{AreSpent};
 ghost use Rattle.std.specs.List.{list_all};
+ghost use Rattle.base_sorted.specs.Tables.{AreInOrder};
+ghost use Rattle.base_values.specs.Money.{last_cents};
+ghost use Rattle.model_rows.specs.Change.{after_change, after_all, applied, changed};
+ghost use Rattle.model_rows.specs.Weight.{change_weight, weight};
+ghost use Rattle.book_usage.specs.Dues.{counts_of_changes};
+ghost use Rattle.book_usage.specs.Limits.{last_use};
+ghost use Rattle.book_deltas.specs.Beside.{AreBeside, room_left};
+ghost use Rattle.book_deltas.specs.Held.{AreHeldNow};
+ghost use Rattle.book_deltas.specs.Spends.{AreSpent};
+ghost use Rattle.book_deltas.specs.Usages.{AreUsages, AreRedeemed};
 ghost use Rattle.book_settle.specs.Spared.{spares_used};
-ghost use Rattle.book_settle.specs.Settled.{nothing, put_each, redeemed_at, spent_at, used_at, ArePutsNew, AreSmall};
+ghost use Rattle.book_settle.specs.Settled.{put_each, redeemed_at, spent_at, used_at, ArePutsNew, AreSmall, KeepsQuotas, KeepsVouchers};
 
 use crate::beside::{keep_place, set_one};
 use base_values::Moment;
@@ -40,7 +40,9 @@ const NOTHING: Usage = Usage {
 fn set_usages(quotas: &[Quota], usages: &mut Vec<Usage>, counts: &[QuotaCount])
     requires order { AreInOrder (λ q. q.id) quotas.now }
     requires same { length usages.old.items ≡ length quotas.now }
-    ensures kept { (f : ℕ → Usage) → usages.old.items ≡ map (λ q. f q.id) quotas.now → usages.new.items ≡ map (λ q. put_each (λ c. c.quota) (λ c. c.usage) counts.now f q.id) quotas.now }
+    ensures kept { (f : ℕ → Usage) → usages.old.items ≡ map (λ q. f q.id) quotas.now
+        → usages.new.items
+        ≡ map (λ q. put_each (λ c. c.quota) (λ c. c.usage) counts.now f q.id) quotas.now }
 {
     for i in 0..counts.len() {
         set_one(quotas, usages, counts[i].quota, counts[i].usage);
@@ -51,7 +53,9 @@ fn set_usages(quotas: &[Quota], usages: &mut Vec<Usage>, counts: &[QuotaCount])
 fn set_redeems(rows: &[Voucher], redeems: &mut Vec<u64>, counts: &[VoucherCount])
     requires order { AreInOrder (λ v. v.id) rows.now }
     requires same { length redeems.old.items ≡ length rows.now }
-    ensures kept { (f : ℕ → ℕ) → redeems.old.items ≡ map (λ v. f v.id) rows.now → redeems.new.items ≡ map (λ v. put_each (λ c. c.voucher) (λ c. c.redeemed) counts.now f v.id) rows.now }
+    ensures kept { (f : ℕ → ℕ) → redeems.old.items ≡ map (λ v. f v.id) rows.now
+        → redeems.new.items
+        ≡ map (λ v. put_each (λ c. c.voucher) (λ c. c.redeemed) counts.now f v.id) rows.now }
 {
     for i in 0..counts.len() {
         set_one(rows, redeems, counts[i].voucher, counts[i].redeemed);
@@ -62,7 +66,9 @@ fn set_redeems(rows: &[Voucher], redeems: &mut Vec<u64>, counts: &[VoucherCount]
 fn set_spents(rows: &[Voucher], spents: &mut Vec<u128>, counts: &[VoucherCount])
     requires order { AreInOrder (λ v. v.id) rows.now }
     requires same { length spents.old.items ≡ length rows.now }
-    ensures kept { (f : ℕ → ℕ) → spents.old.items ≡ map (λ v. f v.id) rows.now → spents.new.items ≡ map (λ v. put_each (λ c. c.voucher) (λ c. c.spent) counts.now f v.id) rows.now }
+    ensures kept { (f : ℕ → ℕ) → spents.old.items ≡ map (λ v. f v.id) rows.now
+        → spents.new.items
+        ≡ map (λ v. put_each (λ c. c.voucher) (λ c. c.spent) counts.now f v.id) rows.now }
 {
     for i in 0..counts.len() {
         set_one(rows, spents, counts[i].voucher, u128::from(counts[i].spent));
@@ -72,10 +78,9 @@ fn set_spents(rows: &[Voucher], spents: &mut Vec<u128>, counts: &[VoucherCount])
 // Keeps what is kept beside quotas where a change comes.
 fn keep_usages(store: &Store, usages: &mut Vec<Usage>, change: &Change)
     requires same { length usages.old.items ≡ length store.now.state.lists.catalogue.quotas }
-    requires room { change_weight change.now ≤ vec_capacity usages.old - length usages.old.items }
-    ensures kept { (f : ℕ → Usage) → ((id : ℕ) → row_at (λ q. q.id) id store.now.state.lists.catalogue.quotas ≡ None → f id ≡ nothing) → usages.old.items ≡ map (λ q. f q.id) store.now.state.lists.catalogue.quotas
-        → usages.new.items ≡ map (λ q. f q.id) (after_change change.now store.now.state.lists).catalogue.quotas }
-    ensures room { vec_capacity usages.old - length usages.old.items ≤ vec_capacity usages.new - length usages.new.items + change_weight change.now }
+    requires room { change_weight change.now ≤ room_left usages.old }
+    ensures kept { KeepsQuotas change.now store.now.state.lists usages.old usages.new }
+    ensures room { room_left usages.old ≤ room_left usages.new + change_weight change.now }
 {
     let catalogue = store.catalogue();
     catalogue.known();
@@ -88,10 +93,9 @@ fn keep_usages(store: &Store, usages: &mut Vec<Usage>, change: &Change)
 // Keeps what is kept beside vouchers where a change comes, and another value for a new one.
 fn keep_beside<U: Copy + Drop>(store: &Store, kept: &mut Vec<U>, change: &Change, other: U)
     requires same { length kept.old.items ≡ length store.now.state.lists.vouchers }
-    requires room { change_weight change.now ≤ vec_capacity kept.old - length kept.old.items }
-    ensures kept { (f : ℕ → U) → ((row : Voucher) → change.now ≡ PutVoucher row → voucher_at row.id store.now.state.lists ≡ None → f row.id ≡ other) → kept.old.items ≡ map (λ v. f v.id) store.now.state.lists.vouchers
-        → kept.new.items ≡ map (λ v. f v.id) (after_change change.now store.now.state.lists).vouchers }
-    ensures room { vec_capacity kept.old - length kept.old.items ≤ vec_capacity kept.new - length kept.new.items + change_weight change.now }
+    requires room { change_weight change.now ≤ room_left kept.old }
+    ensures kept { KeepsVouchers other change.now store.now.state.lists kept.old kept.new }
+    ensures room { room_left kept.old ≤ room_left kept.new + change_weight change.now }
 {
     store.known();
     match change {
@@ -103,10 +107,10 @@ fn keep_beside<U: Copy + Drop>(store: &Store, kept: &mut Vec<U>, change: &Change
 
 // Keeps how many live cart positions name each voucher where a change comes.
 fn keep_holds(store: &Store, holds: &mut Vec<u64>, change: &Change)
-    requires held { AreHeld store.now.state.lists store.now.state.moment holds.old.items }
-    requires room { change_weight change.now ≤ vec_capacity holds.old - length holds.old.items }
-    ensures held { AreHeld (after_change change.now store.now.state.lists) store.now.state.moment holds.new.items }
-    ensures room { vec_capacity holds.old - length holds.old.items ≤ vec_capacity holds.new - length holds.new.items + change_weight change.now }
+    requires held { AreHeldNow store.now.state holds.old.items }
+    requires room { change_weight change.now ≤ room_left holds.old }
+    ensures held { AreHeldNow (changed change.now store.now.state) holds.new.items }
+    ensures room { room_left holds.old ≤ room_left holds.new + change_weight change.now }
 {
     match change {
         Change::PutVoucher(row) => keep_hold(store, holds, row),
@@ -118,10 +122,11 @@ fn keep_holds(store: &Store, holds: &mut Vec<u64>, change: &Change)
 }
 
 fn keep_hold(store: &Store, holds: &mut Vec<u64>, row: &Voucher)
-    requires held { AreHeld store.now.state.lists store.now.state.moment holds.old.items }
-    requires room { 1 ≤ vec_capacity holds.old - length holds.old.items }
-    ensures held { AreHeld (after_change (Change.PutVoucher row.now) store.now.state.lists) store.now.state.moment holds.new.items }
-    ensures room { vec_capacity holds.old - length holds.old.items ≤ vec_capacity holds.new - length holds.new.items + 1 }
+    requires held { AreHeldNow store.now.state holds.old.items }
+    requires room { 1 ≤ room_left holds.old }
+    ensures held { AreHeldNow (changed (Change.PutVoucher row.now) store.now.state)
+        holds.new.items }
+    ensures room { room_left holds.old ≤ room_left holds.new + 1 }
 {
     store.known();
     let held = held_by(store, holds, row.id, store.moment());
@@ -129,9 +134,9 @@ fn keep_hold(store: &Store, holds: &mut Vec<u64>, row: &Voucher)
 }
 
 fn drop_hold(store: &Store, holds: &mut Vec<u64>, id: u64)
-    requires held { AreHeld store.now.state.lists store.now.state.moment holds.old.items }
-    ensures held { AreHeld (after_change (Change.DropVoucher id) store.now.state.lists) store.now.state.moment holds.new.items }
-    ensures room { vec_capacity holds.old - length holds.old.items ≤ vec_capacity holds.new - length holds.new.items }
+    requires held { AreHeldNow store.now.state holds.old.items }
+    ensures held { AreHeldNow (changed (Change.DropVoucher id) store.now.state) holds.new.items }
+    ensures room { room_left holds.old ≤ room_left holds.new }
 {
     store.known();
     forget(vouchers(store), holds, id);
@@ -139,14 +144,14 @@ fn drop_hold(store: &Store, holds: &mut Vec<u64>, id: u64)
 
 // A voucher may be used at most 2^32 - 1 times.
 fn few_uses(row: &Voucher)
-    ensures { row.now.max_usages ≤ 4294967295 }
+    ensures { row.now.max_usages ≤ last_use }
 {
     let _ = left_of(row, 0);
 }
 
 // A discount is at most 99,999,999.99.
 fn few_cents(row: &OrderPos)
-    ensures { row.now.discount ≤ 9999999999 }
+    ensures { row.now.discount ≤ last_cents }
 {
     let _ = row.discount.get();
 }
@@ -178,26 +183,23 @@ fn carry(
     requires redeems_same { length redeems.old.items ≡ length store.old.state.lists.vouchers }
     requires spents_same { length spents.old.items ≡ length store.old.state.lists.vouchers }
     requires room { change_weight change ≤ store.old.room }
-    requires usages_room { change_weight change ≤ vec_capacity usages.old - length usages.old.items }
-    requires redeems_room { change_weight change ≤ vec_capacity redeems.old - length redeems.old.items }
-    requires spents_room { change_weight change ≤ vec_capacity spents.old - length spents.old.items }
-    requires holds_room { change_weight change ≤ vec_capacity holds.old - length holds.old.items }
-    requires held { AreHeld store.old.state.lists store.old.state.moment holds.old.items }
+    requires usages_room { change_weight change ≤ room_left usages.old }
+    requires redeems_room { change_weight change ≤ room_left redeems.old }
+    requires spents_room { change_weight change ≤ room_left spents.old }
+    requires holds_room { change_weight change ≤ room_left holds.old }
+    requires held { AreHeldNow store.old.state holds.old.items }
     requires small { AreSmall store.old.state.lists }
     ensures small { AreSmall (after_change change store.old.state.lists) }
-    ensures held { AreHeld (after_change change store.old.state.lists) store.old.state.moment holds.new.items }
-    ensures holds_room { vec_capacity holds.old - length holds.old.items ≤ vec_capacity holds.new - length holds.new.items + change_weight change }
-    ensures state { store.new.state ≡ record store.old.state { lists = after_change change store.old.state.lists } }
-    ensures usages { (f : ℕ → Usage) → ((id : ℕ) → row_at (λ q. q.id) id store.old.state.lists.catalogue.quotas ≡ None → f id ≡ nothing) → usages.old.items ≡ map (λ q. f q.id) store.old.state.lists.catalogue.quotas
-        → usages.new.items ≡ map (λ q. f q.id) (after_change change store.old.state.lists).catalogue.quotas }
-    ensures redeems { (f : ℕ → ℕ) → ((row : Voucher) → change ≡ PutVoucher row → voucher_at row.id store.old.state.lists ≡ None → f row.id ≡ 0) → redeems.old.items ≡ map (λ v. f v.id) store.old.state.lists.vouchers
-        → redeems.new.items ≡ map (λ v. f v.id) (after_change change store.old.state.lists).vouchers }
-    ensures spents { (f : ℕ → ℕ) → ((row : Voucher) → change ≡ PutVoucher row → voucher_at row.id store.old.state.lists ≡ None → f row.id ≡ 0) → spents.old.items ≡ map (λ v. f v.id) store.old.state.lists.vouchers
-        → spents.new.items ≡ map (λ v. f v.id) (after_change change store.old.state.lists).vouchers }
+    ensures held { AreHeldNow (changed change store.old.state) holds.new.items }
+    ensures holds_room { room_left holds.old ≤ room_left holds.new + change_weight change }
+    ensures state { store.new.state ≡ changed change store.old.state }
+    ensures usages { KeepsQuotas change store.old.state.lists usages.old usages.new }
+    ensures redeems { KeepsVouchers 0 change store.old.state.lists redeems.old redeems.new }
+    ensures spents { KeepsVouchers 0 change store.old.state.lists spents.old spents.new }
     ensures room { store.old.room ≤ store.new.room + change_weight change }
-    ensures usages_room { vec_capacity usages.old - length usages.old.items ≤ vec_capacity usages.new - length usages.new.items + change_weight change }
-    ensures redeems_room { vec_capacity redeems.old - length redeems.old.items ≤ vec_capacity redeems.new - length redeems.new.items + change_weight change }
-    ensures spents_room { vec_capacity spents.old - length spents.old.items ≤ vec_capacity spents.new - length spents.new.items + change_weight change }
+    ensures usages_room { room_left usages.old ≤ room_left usages.new + change_weight change }
+    ensures redeems_room { room_left redeems.old ≤ room_left redeems.new + change_weight change }
+    ensures spents_room { room_left spents.old ≤ room_left spents.new + change_weight change }
 {
     stay_small(store, &change);
     keep_usages(store, usages, &change);
@@ -217,23 +219,27 @@ fn carry_all(
     from: Moment,
     mut list: Vec<Change>,
 )
-    requires usages { usages.old.items ≡ map (usage_of store.old.state.lists from) store.old.state.lists.catalogue.quotas }
-    requires redeems { redeems.old.items ≡ map (λ v. redeemed v.id store.old.state.lists) store.old.state.lists.vouchers }
+    requires usages { AreUsages store.old.state.lists from usages.old.items }
+    requires redeems { AreRedeemed store.old.state.lists redeems.old.items }
     requires spents { AreSpent store.old.state.lists spents.old.items }
-    requires held { AreHeld store.old.state.lists store.old.state.moment holds.old.items }
+    requires held { AreHeldNow store.old.state holds.old.items }
     requires small { AreSmall store.old.state.lists }
     requires new { ArePutsNew (redeemed_at store.old.state) list.items store.old.state.lists }
     requires unspent { ArePutsNew (spent_at store.old.state) list.items store.old.state.lists }
     requires room { weight list.items ≤ store.old.room }
-    requires usages_room { weight list.items ≤ vec_capacity usages.old - length usages.old.items }
-    requires redeems_room { weight list.items ≤ vec_capacity redeems.old - length redeems.old.items }
-    requires spents_room { weight list.items ≤ vec_capacity spents.old - length spents.old.items }
-    requires holds_room { weight list.items ≤ vec_capacity holds.old - length holds.old.items }
-    ensures state { store.new.state ≡ record store.old.state { lists = after_all list.items store.old.state.lists } }
-    ensures usages { usages.new.items ≡ map (λ q. used_at (record store.old.state { moment = from }) q.id) store.new.state.lists.catalogue.quotas }
-    ensures redeems { redeems.new.items ≡ map (λ v. redeemed_at store.old.state v.id) store.new.state.lists.vouchers }
-    ensures spents { spents.new.items ≡ map (λ v. spent_at store.old.state v.id) store.new.state.lists.vouchers }
-    ensures held { AreHeld store.new.state.lists store.new.state.moment holds.new.items }
+    requires usages_room { weight list.items ≤ room_left usages.old }
+    requires redeems_room { weight list.items ≤ room_left redeems.old }
+    requires spents_room { weight list.items ≤ room_left spents.old }
+    requires holds_room { weight list.items ≤ room_left holds.old }
+    ensures state { store.new.state
+        ≡ record store.old.state { lists = after_all list.items store.old.state.lists } }
+    ensures usages { AreBeside (λ q. q.id) (used_at (record store.old.state { moment = from }))
+        store.new.state.lists.catalogue.quotas usages.new.items }
+    ensures redeems { AreBeside (λ v. v.id) (redeemed_at store.old.state)
+        store.new.state.lists.vouchers redeems.new.items }
+    ensures spents { AreBeside (λ v. v.id) (spent_at store.old.state)
+        store.new.state.lists.vouchers spents.new.items }
+    ensures held { AreHeldNow store.new.state holds.new.items }
     ensures small { AreSmall store.new.state.lists }
 {
     let _ = from;
@@ -261,23 +267,23 @@ pub fn settle(
     at: Moment,
 )
     requires moment { store.old.state.moment ≤ at }
-    requires usages { usages.old.items ≡ map (usage_of store.old.state.lists store.old.state.moment) store.old.state.lists.catalogue.quotas }
-    requires redeems { redeems.old.items ≡ map (λ v. redeemed v.id store.old.state.lists) store.old.state.lists.vouchers }
+    requires usages { AreUsages store.old.state.lists store.old.state.moment usages.old.items }
+    requires redeems { AreRedeemed store.old.state.lists redeems.old.items }
     requires spents { AreSpent store.old.state.lists spents.old.items }
-    requires held { AreHeld store.old.state.lists store.old.state.moment holds.old.items }
+    requires held { AreHeldNow store.old.state holds.old.items }
     requires small { AreSmall store.old.state.lists }
-    requires counts { counts.now ≡ counts_after store.old.state (applied changes at store.old.state) }
+    requires counts { counts.now ≡ counts_of_changes changes at store.old.state }
     requires spared { list_all (spares_used store.old.state.lists) changes.list ≡ true }
     requires room { weight changes.list ≤ store.old.room }
-    requires usages_room { weight changes.list ≤ vec_capacity usages.old - length usages.old.items }
-    requires redeems_room { weight changes.list ≤ vec_capacity redeems.old - length redeems.old.items }
-    requires spents_room { weight changes.list ≤ vec_capacity spents.old - length spents.old.items }
-    requires holds_room { weight changes.list ≤ vec_capacity holds.old - length holds.old.items }
+    requires usages_room { weight changes.list ≤ room_left usages.old }
+    requires redeems_room { weight changes.list ≤ room_left redeems.old }
+    requires spents_room { weight changes.list ≤ room_left spents.old }
+    requires holds_room { weight changes.list ≤ room_left holds.old }
     ensures state { store.new.state ≡ applied changes at store.old.state }
-    ensures usages { usages.new.items ≡ map (usage_of store.new.state.lists store.new.state.moment) store.new.state.lists.catalogue.quotas }
-    ensures redeems { redeems.new.items ≡ map (λ v. redeemed v.id store.new.state.lists) store.new.state.lists.vouchers }
+    ensures usages { AreUsages store.new.state.lists store.new.state.moment usages.new.items }
+    ensures redeems { AreRedeemed store.new.state.lists redeems.new.items }
     ensures spents { AreSpent store.new.state.lists spents.new.items }
-    ensures held { AreHeld store.new.state.lists store.new.state.moment holds.new.items }
+    ensures held { AreHeldNow store.new.state holds.new.items }
     ensures small { AreSmall store.new.state.lists }
 {
     store.known();

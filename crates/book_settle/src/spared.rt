@@ -1,8 +1,8 @@
 //! Whether changes leave each voucher that is redeemed.
 
-ghost use Rattle.std.specs.Prelude.{◌≡◌, map};
+ghost use Rattle.std.specs.Prelude.{◌≡◌};
 ghost use Rattle.std.specs.List.{list_all};
-ghost use Rattle.model_rows.specs.Usage.{redeemed};
+ghost use Rattle.book_deltas.specs.Usages.{AreRedeemed};
 ghost use Rattle.book_settle.specs.Spared.{spares_used};
 
 use book_deltas::turns::redeemed_in;
@@ -11,7 +11,7 @@ use model_rows::Change;
 
 /// Whether these changes drop no voucher that is redeemed by the rows before them.
 pub fn spare_used(store: &Store, redeems: &[u64], changes: &[Change]) -> bool
-    requires { redeems.now ≡ map (λ v. redeemed v.id store.now.state.lists) store.now.state.lists.vouchers }
+    requires { AreRedeemed store.now.state.lists redeems.now }
     ensures { result ≡ list_all (spares_used store.now.state.lists) changes.now }
 {
     for change in changes {
@@ -24,7 +24,7 @@ pub fn spare_used(store: &Store, redeems: &[u64], changes: &[Change]) -> bool
 
 // Whether one of them does.
 fn spares_used(store: &Store, redeems: &[u64], change: &Change) -> bool
-    requires { redeems.now ≡ map (λ v. redeemed v.id store.now.state.lists) store.now.state.lists.vouchers }
+    requires { AreRedeemed store.now.state.lists redeems.now }
     ensures { result ≡ spares_used store.now.state.lists change.now }
 {
     match change {

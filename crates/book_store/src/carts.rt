@@ -1,11 +1,11 @@
 //! Carts.
 
-ghost use Rattle.std.specs.Prelude.{◌≡◌, ◌++◌, map, filter, IfOk};
-ghost use Rattle.base_values.specs.Texts.{same_text};
+ghost use Rattle.std.specs.Prelude.{◌≡◌, ◌++◌, IfOk};
 ghost use Rattle.model_rows.specs.Consumed.{consumed};
 ghost use Rattle.model_rows.specs.Due.{dead_carts};
 ghost use Rattle.model_rows.specs.Lists.{cart_at};
 ghost use Rattle.book_store.specs.Walks.{listed};
+ghost use Rattle.book_store.specs.OneRow.{ids_in_cart};
 
 use crate::store::Store;
 use base_sorted::ids::sorted;
@@ -17,7 +17,8 @@ use std::alloc::{AllocError, Global};
 impl Store {
     // Adds the id of a cart position, if it stands and is in the cart.
     fn push_cart(&self, ids: &mut Vec<u64>, id: u64, cart: &Text) -> Result<(), AllocError>
-        ensures { IfOk result (λ _. ids.new.items ≡ ids.old.items ++ map (λ c. c.id) (filter (λ c. same_text c.cart_id cart.now) (listed (cart_at id self.now.state.lists)))) }
+        ensures { IfOk result (λ _. ids.new.items
+            ≡ ids.old.items ++ ids_in_cart cart.now (listed (cart_at id self.now.state.lists))) }
     {
         if let Some(row) = self.cart(id) {
             if row.cart_id.same(cart.as_str()) {
@@ -29,7 +30,8 @@ impl Store {
 
     // Adds the ids of the cart positions that are in a cart: a walk over those whose carts have its digest.
     fn push_carts(&self, ids: &mut Vec<u64>, cart: &Text) -> Result<(), AllocError>
-        ensures { IfOk result (λ _. ids.new.items ≡ ids.old.items ++ map (λ c. c.id) (filter (λ c. same_text c.cart_id cart.now) self.now.state.lists.carts)) }
+        ensures { IfOk result (λ _. ids.new.items
+            ≡ ids.old.items ++ ids_in_cart cart.now self.now.state.lists.carts) }
     {
         self.known();
         let found = self.carts().with_text(digest(cart.as_str()));

@@ -1,9 +1,10 @@
 //! Check-ins.
 
-ghost use Rattle.std.specs.Prelude.{◌≡◌, ◌==◌, ◌&&◌, ◌++◌, filter, IfOk};
+ghost use Rattle.std.specs.Prelude.{◌≡◌, ◌++◌, IfOk};
 ghost use Rattle.model_rows.specs.Lists.{checkin_at, checkins_by};
 ghost use Rattle.model_rows.specs.Passages.{last_after, last_at};
 ghost use Rattle.book_store.specs.Walks.{listed};
+ghost use Rattle.book_store.specs.OneRow.{checkin_by};
 
 use crate::store::Store;
 use base_values::List;
@@ -64,7 +65,8 @@ impl Store {
         list: u64,
         position: u64,
     ) -> Result<(), AllocError>
-        ensures { IfOk result (λ _. rows.new.items ≡ rows.old.items ++ filter (λ c. c.list == list && c.position == position) (listed (checkin_at id self.now.state.lists))) }
+        ensures { IfOk result (λ _. rows.new.items
+            ≡ rows.old.items ++ checkin_by id list position self.now.state.lists) }
     {
         if let Some(row) = self.checkin(id) {
             if row.list == list && row.position == position {

@@ -3,10 +3,11 @@
 ghost use Rattle.std.specs.Prelude.{◌≡◌, ◌≤◌, IfOk, IfErr, length};
 ghost use Rattle.base_sorted.specs.Tables.{IsPlace, IsGap};
 ghost use Rattle.model_rows.specs.CameDue.{is_due_cart, is_due_voucher};
-ghost use Rattle.model_rows.specs.Conditions.{names};
 ghost use Rattle.model_rows.specs.Kept.{IsKept};
 ghost use Rattle.model_rows.specs.Usage.{cart_counts};
-ghost use Rattle.book_indexes.specs.Indexes.{Finds};
+ghost use Rattle.book_usage.specs.Limits.{most_listed};
+ghost use Rattle.book_usage.specs.Naming.{cart_names};
+ghost use Rattle.book_store.specs.Found.{FindsCarts, FindsVouchers};
 
 use crate::store::Store;
 use base_sorted::{Rows, Sparse, place_of};
@@ -47,7 +48,7 @@ impl<'s, L: Ledger> Ended<'s, L> {
 
     /// Ids rise in each list of sales and of the door, and none of these lists is longer than 2^32.
     pub fn known(&self)
-        ensures { IsKept 4294967296 self.now.state.lists }
+        ensures { IsKept most_listed self.now.state.lists }
     {
         self.store.known();
     }
@@ -63,8 +64,9 @@ impl<'s, L: Ledger> Ended<'s, L> {
     pub fn carts(&self, to: Moment) -> Walk<'s, CartPos, Sparse<CartPos>, L>
         requires { self.now.state.moment ≤ to }
         ensures rows { result.rows ≡ self.now.state.lists.carts }
-        ensures finds { Finds (λ r. r.id) (is_due_cart self.now.state.moment to) self.now.state.lists.carts result.ids }
-        ensures few { length result.ids ≤ 4294967296 }
+        ensures finds { FindsCarts (is_due_cart self.now.state.moment to) self.now.state.lists
+            result.ids }
+        ensures few { length result.ids ≤ most_listed }
     {
         let store = self.store;
         Walk::over(store.carts(), store.carts_due(store.moment(), to))
@@ -74,8 +76,9 @@ impl<'s, L: Ledger> Ended<'s, L> {
     pub fn vouchers(&self, to: Moment) -> Walk<'s, Voucher, Rows<Voucher>, L>
         requires { self.now.state.moment ≤ to }
         ensures rows { result.rows ≡ self.now.state.lists.vouchers }
-        ensures finds { Finds (λ r. r.id) (is_due_voucher self.now.state.moment to) self.now.state.lists.vouchers result.ids }
-        ensures few { length result.ids ≤ 4294967296 }
+        ensures finds { FindsVouchers (is_due_voucher self.now.state.moment to) self.now.state.lists
+            result.ids }
+        ensures few { length result.ids ≤ most_listed }
     {
         let store = self.store;
         Walk::over(store.vouchers(), store.vouchers_due(store.moment(), to))
@@ -84,8 +87,8 @@ impl<'s, L: Ledger> Ended<'s, L> {
     /// The cart positions that name a voucher, dead ones too.
     pub fn naming(&self, voucher: u64) -> Walk<'s, CartPos, Sparse<CartPos>, L>
         ensures rows { result.rows ≡ self.now.state.lists.carts }
-        ensures finds { Finds (λ r. r.id) (λ c. names voucher c.voucher) self.now.state.lists.carts result.ids }
-        ensures few { length result.ids ≤ 4294967296 }
+        ensures finds { FindsCarts (cart_names voucher) self.now.state.lists result.ids }
+        ensures few { length result.ids ≤ most_listed }
     {
         let store = self.store;
         Walk::over(store.carts(), store.carts_naming(voucher))

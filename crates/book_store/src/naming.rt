@@ -1,15 +1,16 @@
 //! What names a voucher.
 
-ghost use Rattle.std.specs.Prelude.{◌≡◌, ◌≤◌, ◌+◌, ◌&&◌, length, map, IfOk};
-ghost use Rattle.model_catalogue.specs.Member.{is_in};
-ghost use Rattle.model_rows.specs.Conditions.{is_in_force, is_live_cart, names};
-ghost use Rattle.model_rows.specs.Lists.{cart_at, position_at, order_at};
-ghost use Rattle.model_rows.specs.Usage.{stands_as, redeemed, spends, spent};
+ghost use Rattle.std.specs.Prelude.{◌≡◌, ◌≤◌, ◌+◌, length, IfOk};
+ghost use Rattle.base_values.specs.Money.{last_cents};
+ghost use Rattle.model_rows.specs.Conditions.{is_live_cart};
+ghost use Rattle.model_rows.specs.Lists.{cart_at};
+ghost use Rattle.model_rows.specs.Usage.{redeemed, spent};
 ghost use Rattle.model_rows.specs.Headroom.{held, held_in};
-ghost use Rattle.model_rows.specs.Named.{carts_naming};
-ghost use Rattle.book_usage.specs.Naming.{naming};
-ghost use Rattle.book_indexes.specs.Indexes.{Finds};
-ghost use Rattle.book_store.specs.Walks.{amount_of, one_if};
+ghost use Rattle.book_usage.specs.Limits.{most_listed, most_naming, most_spent};
+ghost use Rattle.book_usage.specs.Naming.{naming, position_names, cart_names, entry_names, cart_ids_naming};
+ghost use Rattle.book_store.specs.Found.{FindsPositions, FindsCarts, FindsEntries};
+ghost use Rattle.book_store.specs.OneRow.{use_at, spend_at, is_live_in};
+ghost use Rattle.book_store.specs.Walks.{one_if};
 
 use crate::counts::count_one;
 use crate::store::Store;
@@ -23,32 +24,32 @@ use std::alloc::{AllocError, Global};
 impl Store {
     /// The ids of the order positions that name a voucher.
     pub fn positions_naming(&self, voucher: u64) -> Found<'_>
-        ensures finds { Finds (λ r. r.id) (λ p. names voucher p.voucher) self.now.state.lists.positions result }
-        ensures few { length result ≤ 4294967296 }
+        ensures finds { FindsPositions (position_names voucher) self.now.state.lists result }
+        ensures few { length result ≤ most_listed }
     {
         self.positions().naming(voucher)
     }
 
     /// The ids of the cart positions that name a voucher, dead ones too.
     pub fn carts_naming(&self, voucher: u64) -> Found<'_>
-        ensures finds { Finds (λ r. r.id) (λ c. names voucher c.voucher) self.now.state.lists.carts result }
-        ensures all { result ≡ map (λ c. c.id) (carts_naming voucher self.now.state.lists) }
-        ensures few { length result ≤ 4294967296 }
+        ensures finds { FindsCarts (cart_names voucher) self.now.state.lists result }
+        ensures all { result ≡ cart_ids_naming voucher self.now.state.lists }
+        ensures few { length result ≤ most_listed }
     {
         self.carts().naming(voucher)
     }
 
     /// The ids of the waiting entries to which a voucher was sent.
     pub fn entries_naming(&self, voucher: u64) -> Found<'_>
-        ensures finds { Finds (λ r. r.id) (λ w. names voucher w.voucher) self.now.state.lists.waiting result }
-        ensures few { length result ≤ 4294967296 }
+        ensures finds { FindsEntries (entry_names voucher) self.now.state.lists result }
+        ensures few { length result ≤ most_listed }
     {
         self.waiting().naming(voucher)
     }
 
     /// The ids of the cart positions that name the voucher, dead ones too, in order.
     pub fn ids_naming(&self, alloc: Global, voucher: u64) -> Result<Vec<u64>, AllocError>
-        ensures { IfOk result (λ ids. ids.items ≡ map (λ c. c.id) (carts_naming voucher self.now.state.lists)) }
+        ensures { IfOk result (λ ids. ids.items ≡ cart_ids_naming voucher self.now.state.lists) }
     {
         self.carts_naming(voucher).to_vec(alloc)
     }
@@ -56,7 +57,7 @@ impl Store {
     /// How many order positions, cart positions and waiting entries name the voucher. Nothing is walked for it.
     pub fn naming(&self, voucher: u64) -> u64
         ensures value { result ≡ naming voucher self.now.state.lists }
-        ensures few { result ≤ 12884901888 }
+        ensures few { result ≤ most_naming }
     {
         let positions = self.positions_naming(voucher).len() as u64;
         let carts = self.carts_naming(voucher).len() as u64;
@@ -67,7 +68,7 @@ impl Store {
     // Whether the order position of an id is of an order whose positions use vouchers.
     #[tactic(auto, unfolding(crate::specs::Walks::one_if))]
     fn use_of(&self, id: u64) -> u64
-        ensures value { result ≡ one_if (λ p. stands_as is_in_force (order_at p.order self.now.state.lists)) (position_at id self.now.state.lists) }
+        ensures value { result ≡ use_at id self.now.state.lists }
         ensures small { result ≤ 1 }
     {
         match self.position(id) {
@@ -79,7 +80,7 @@ impl Store {
     /// How many positions of pending and paid orders name the voucher: a walk over the positions that name it.
     pub fn redeemed(&self, voucher: u64) -> u64
         ensures value { result ≡ redeemed voucher self.now.state.lists }
-        ensures few { result ≤ 4294967296 }
+        ensures few { result ≤ most_listed }
     {
         let mut count = 0;
         let named = self.positions_naming(voucher);
@@ -92,8 +93,8 @@ impl Store {
     // What the order position of an id takes of a voucher's budget, in cents.
     #[tactic(auto, unfolding(crate::specs::Walks::amount_of))]
     fn spend_of(&self, voucher: u64, id: u64) -> u64
-        ensures value { result ≡ amount_of (spends voucher self.now.state.lists) (position_at id self.now.state.lists) }
-        ensures small { result ≤ 9999999999 }
+        ensures value { result ≡ spend_at voucher id self.now.state.lists }
+        ensures small { result ≤ last_cents }
     {
         match self.position(id) {
             None => 0,
@@ -104,7 +105,7 @@ impl Store {
     /// What is spent of the voucher's budget, in cents: a walk over the order positions that name it.
     pub fn spent(&self, voucher: u64) -> u128
         ensures value { result ≡ spent voucher self.now.state.lists }
-        ensures few { result ≤ 42949672955705032704 }
+        ensures few { result ≤ most_spent }
     {
         let mut total = 0;
         let named = self.positions_naming(voucher);
@@ -129,7 +130,7 @@ impl Store {
     /// How many cart positions that are live at a moment name the voucher: a walk over those that name it.
     pub fn held(&self, voucher: u64, at: Moment) -> u64
         ensures value { result ≡ held at voucher self.now.state.lists }
-        ensures few { result ≤ 4294967296 }
+        ensures few { result ≤ most_listed }
     {
         let mut count = 0;
         let named = self.carts_naming(voucher);
@@ -142,7 +143,8 @@ impl Store {
     /// 1 where the cart position of an id is live, and for a product of the quota.
     #[tactic(auto, unfolding(crate::specs::Walks::one_if))]
     pub fn hold_in_of(&self, at: Moment, quota: &Quota, id: u64) -> u64
-        ensures value { result ≡ one_if (λ c. is_live_cart at c && is_in quota.now c.product) (cart_at id self.now.state.lists) }
+        ensures value { result
+            ≡ one_if (is_live_in at quota.now) (cart_at id self.now.state.lists) }
         ensures small { result ≤ 1 }
     {
         match self.cart(id) {
@@ -155,7 +157,7 @@ impl Store {
     /// a walk over those that name it.
     pub fn held_in(&self, voucher: u64, quota: &Quota, at: Moment) -> u64
         ensures value { result ≡ held_in at quota.now voucher self.now.state.lists }
-        ensures few { result ≤ 4294967296 }
+        ensures few { result ≤ most_listed }
     {
         let mut count = 0;
         let named = self.carts_naming(voucher);

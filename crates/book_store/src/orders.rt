@@ -1,13 +1,15 @@
 //! Orders and their positions.
 
-ghost use Rattle.std.specs.Prelude.{◌≡◌, ◌≤◌, ◌&&◌, ◌==◌, ◌++◌, length, map, count_by, is_some, IfOk};
+ghost use Rattle.std.specs.Prelude.{◌≡◌, ◌≤◌, ◌==◌, ◌++◌, length, map, is_some, IfOk};
 ghost use Rattle.std.specs.Option.{option_copied};
-ghost use Rattle.base_values.specs.Texts.{same_text};
 ghost use Rattle.model_rows.specs.Lists.{position_at, positions_of};
 ghost use Rattle.model_rows.specs.Named.{with_secret};
 ghost use Rattle.model_rows.specs.Due.{due_orders};
-ghost use Rattle.book_indexes.specs.Indexes.{Finds};
-ghost use Rattle.book_store.specs.Walks.{listed, passing, one_if};
+ghost use Rattle.book_usage.specs.Limits.{most_listed};
+ghost use Rattle.book_usage.specs.OfOrder.{count_ordered};
+ghost use Rattle.book_store.specs.Found.{FindsPositions};
+ghost use Rattle.book_store.specs.OneRow.{secret_at};
+ghost use Rattle.book_store.specs.Walks.{listed, one_if};
 
 use crate::counts::count_one;
 use crate::store::Store;
@@ -22,9 +24,9 @@ use std::alloc::{AllocError, Global};
 impl Store {
     /// The ids of the positions of an order, rising.
     pub fn positions_ordered(&self, order: u64) -> Found<'_>
-        ensures finds { Finds (λ r. r.id) (λ p. order == p.order) self.now.state.lists.positions result }
+        ensures finds { FindsPositions (λ p. order == p.order) self.now.state.lists result }
         ensures all { result ≡ map (λ p. p.id) (positions_of order self.now.state.lists) }
-        ensures few { length result ≤ 4294967296 }
+        ensures few { length result ≤ most_listed }
     {
         self.positions().in_group(order)
     }
@@ -49,7 +51,8 @@ impl Store {
         rows: &mut Vec<OrderPos>,
         id: u64,
     ) -> Result<(), AllocError>
-        ensures { IfOk result (λ _. rows.new.items ≡ rows.old.items ++ listed (position_at id self.now.state.lists)) }
+        ensures { IfOk result (λ _. rows.new.items
+            ≡ rows.old.items ++ listed (position_at id self.now.state.lists)) }
     {
         if let Some(row) = self.position(id) {
             rows.push(row.copy(alloc)?)?;
@@ -71,8 +74,8 @@ impl Store {
 
     /// How many positions of the order pass the test: a walk over its positions.
     pub fn count_ordered<T: PositionTest>(&self, order: u64, test: &T) -> u64
-        ensures value { result ≡ count_by (λ p. order == p.order && T.passes test.now p) self.now.state.lists.positions }
-        ensures few { result ≤ 4294967296 }
+        ensures value { result ≡ count_ordered order (T.passes test.now) self.now.state.lists }
+        ensures few { result ≤ most_listed }
     {
         let mut count = 0;
         let ids = self.positions_ordered(order);
@@ -84,8 +87,8 @@ impl Store {
 
     // The order position of an id, if it has the secret.
     fn secret_at(&self, id: u64, secret: &str) -> Option<&OrderPos>
-        ensures found { option_copied result ≡ passing (λ p. same_text p.secret secret.now) (position_at id self.now.state.lists) }
-        ensures some { is_some result ≡ is_some (passing (λ p. same_text p.secret secret.now) (position_at id self.now.state.lists)) }
+        ensures found { option_copied result ≡ secret_at id secret.now self.now.state.lists }
+        ensures some { is_some result ≡ is_some (secret_at id secret.now self.now.state.lists) }
     {
         self.position(id).filter(|row| row.secret.same(secret))
     }

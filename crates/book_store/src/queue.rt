@@ -1,10 +1,10 @@
 //! Who waits.
 
-ghost use Rattle.std.specs.Prelude.{◌≡◌, map, find, is_some, IfOk};
+ghost use Rattle.std.specs.Prelude.{◌≡◌, is_some, IfOk};
 ghost use Rattle.std.specs.Option.{option_copied};
-ghost use Rattle.model_rows.specs.Lists.{waiting_at};
-ghost use Rattle.model_rows.specs.Waits.{waits_as, is_waiting, waiters};
-ghost use Rattle.book_store.specs.Walks.{passing};
+ghost use Rattle.model_rows.specs.Waits.{is_waiting};
+ghost use Rattle.book_usage.specs.Waiters.{waiter_ids};
+ghost use Rattle.book_store.specs.OneRow.{entry_as, first_waiting};
 
 use crate::store::Store;
 use book_indexes::digest;
@@ -19,22 +19,23 @@ const QUEUE: u64 = 0;
 impl Store {
     /// The ids of the waiting entries without voucher, in order.
     pub fn waiters(&self, alloc: Global) -> Result<Vec<u64>, AllocError>
-        ensures { IfOk result (λ ids. ids.items ≡ map (λ e. e.id) (waiters self.now.state.lists)) }
+        ensures { IfOk result (λ ids. ids.items ≡ waiter_ids self.now.state.lists) }
     {
         self.waiting().in_group(QUEUE).to_vec(alloc)
     }
 
     // The waiting entry of an id, if it is of this email and waits, without a voucher, for this product.
     fn waiting_at(&self, id: u64, email: &str, product: Product) -> Option<&Waiting>
-        ensures found { option_copied result ≡ passing (waits_as email.now product) (waiting_at id self.now.state.lists) }
-        ensures some { is_some result ≡ is_some (passing (waits_as email.now product) (waiting_at id self.now.state.lists)) }
+        ensures found { option_copied result ≡ entry_as id email.now product self.now.state.lists }
+        ensures some { is_some result
+            ≡ is_some (entry_as id email.now product self.now.state.lists) }
     {
         self.entry(id).filter(|row| row.waits_as(email, product))
     }
 
     // The first of these entries: a walk over those that wait and whose emails have the digest.
     fn entry_waiting(&self, email: &str, product: Product) -> Option<&Waiting>
-        ensures { option_copied result ≡ find (waits_as email.now product) self.now.state.lists.waiting }
+        ensures { option_copied result ≡ first_waiting email.now product self.now.state.lists }
     {
         self.known();
         let ids = self.waiting().with_text(digest(email));

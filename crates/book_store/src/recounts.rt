@@ -1,8 +1,10 @@
 //! Usage, counted afresh.
 
-ghost use Rattle.std.specs.Prelude.{◌≡◌, ◌≤◌, ◌+◌, ◌*◌, count_by, sum_by, length};
-ghost use Rattle.model_rows.specs.Conditions.{is_paid, is_pending};
-ghost use Rattle.model_rows.specs.Usage.{usage_of, exit_counts, position_counts, blocked_by, cart_counts, waits_for};
+ghost use Rattle.std.specs.Prelude.{◌≡◌, ◌≤◌, ◌+◌, count_by, length};
+ghost use Rattle.model_rows.specs.Usage.{usage_of, blocked_by, waits_for};
+ghost use Rattle.book_usage.specs.Limits.{last_use};
+ghost use Rattle.book_usage.specs.Counts.{paid_in, pending_in, exited_in, blocked_in, carts_in_quota};
+ghost use Rattle.book_store.specs.OneRow.{recount_steps};
 
 use crate::counts::count_one;
 use crate::store::Store;
@@ -18,7 +20,7 @@ impl Store {
     #[tactic(auto, unfolding(model_rows::specs::Usage::usage_of))]
     pub fn recount<L: Ledger>(&self, at: Moment, quota: &Quota, steps: &mut Steps<L>) -> Usage
         ensures value { result ≡ usage_of self.now.state.lists at quota.now }
-        ensures cost { steps.new ≡ steps.old + (length self.now.state.lists.positions * 3 + length self.now.state.lists.vouchers + length self.now.state.lists.carts + length self.now.state.lists.waiting) }
+        ensures cost { steps.new ≡ steps.old + recount_steps self.now.state.lists }
     {
         Usage {
             paid: self.paid_in(quota, steps),
@@ -32,7 +34,7 @@ impl Store {
 
     // The positions of paid orders.
     fn paid_in<L: Ledger>(&self, quota: &Quota, steps: &mut Steps<L>) -> u64
-        ensures value { result ≡ count_by (position_counts is_paid self.now.state.lists quota.now) self.now.state.lists.positions }
+        ensures value { result ≡ paid_in self.now.state.lists quota.now }
         ensures cost { steps.new ≡ steps.old + length self.now.state.lists.positions }
     {
         let mut count = 0;
@@ -45,7 +47,7 @@ impl Store {
 
     // The positions of pending orders.
     fn pending_in<L: Ledger>(&self, quota: &Quota, steps: &mut Steps<L>) -> u64
-        ensures value { result ≡ count_by (position_counts is_pending self.now.state.lists quota.now) self.now.state.lists.positions }
+        ensures value { result ≡ pending_in self.now.state.lists quota.now }
         ensures cost { steps.new ≡ steps.old + length self.now.state.lists.positions }
     {
         let mut count = 0;
@@ -58,7 +60,7 @@ impl Store {
 
     // The positions of paid orders that are released.
     fn exited_in<L: Ledger>(&self, quota: &Quota, steps: &mut Steps<L>) -> u64
-        ensures value { result ≡ count_by (exit_counts self.now.state.lists quota.now) self.now.state.lists.positions }
+        ensures value { result ≡ exited_in self.now.state.lists quota.now }
         ensures cost { steps.new ≡ steps.old + length self.now.state.lists.positions }
     {
         let mut count = 0;
@@ -71,7 +73,7 @@ impl Store {
 
     // The places that vouchers block.
     fn blocked_in<L: Ledger>(&self, at: Moment, quota: &Quota, steps: &mut Steps<L>) -> u64
-        ensures value { result ≡ sum_by (blocked_by self.now.state.lists at quota.now) self.now.state.lists.vouchers }
+        ensures value { result ≡ blocked_in self.now.state.lists at quota.now }
         ensures cost { steps.new ≡ steps.old + length self.now.state.lists.vouchers }
     {
         let mut blocked = 0;
@@ -86,7 +88,7 @@ impl Store {
     #[tactic(auto, unfolding(model_rows::specs::Usage::blocked_by))]
     fn blocked_by(&self, at: Moment, quota: &Quota, voucher: &Voucher) -> u64
         ensures value { result ≡ blocked_by self.now.state.lists at quota.now voucher.now }
-        ensures small { result ≤ 4294967295 }
+        ensures small { result ≤ last_use }
     {
         if voucher.blocks(at, quota) {
             left_of(voucher, self.redeemed(voucher.id))
@@ -97,7 +99,7 @@ impl Store {
 
     // The cart positions.
     fn carts_in_quota<L: Ledger>(&self, at: Moment, quota: &Quota, steps: &mut Steps<L>) -> u64
-        ensures value { result ≡ count_by (cart_counts self.now.state.lists at quota.now) self.now.state.lists.carts }
+        ensures value { result ≡ carts_in_quota self.now.state.lists at quota.now }
         ensures cost { steps.new ≡ steps.old + length self.now.state.lists.carts }
     {
         let mut count = 0;

@@ -3,9 +3,10 @@
 ghost use Rattle.std.specs.Prelude.{◌≡◌, ◌≤◌, ◌+◌, OnOk};
 ghost use Rattle.std.specs.Option.{option_copied};
 ghost use Rattle.model_rows.specs.Lists.{empty, checkin_list_at, checkin_at};
-ghost use Rattle.model_rows.specs.Change.{after_change};
+ghost use Rattle.model_rows.specs.Change.{changed};
 ghost use Rattle.model_rows.specs.Weight.{change_weight};
 ghost use Rattle.model_rows.specs.Kept.{IsKept};
+ghost use Rattle.book_usage.specs.Limits.{most_listed};
 
 use base_sorted::{Rows, Sparse};
 use base_values::Moment;
@@ -54,7 +55,9 @@ impl Model for Store {
         next = b.next;
         moment = b.moment;
       };
-      room = min b.catalogue.room (min (min b.vouchers.room b.carts.room) (min (min b.orders.room b.positions.room) (min b.waiting.room (min b.checkin_lists.room b.checkins.room))));
+      room = min b.catalogue.room (min (min b.vouchers.room b.carts.room)
+          (min (min b.orders.room b.positions.room)
+          (min b.waiting.room (min b.checkin_lists.room b.checkins.room))));
     } };
 }
 
@@ -79,7 +82,7 @@ impl Store {
 
     /// Ids rise in each list of sales and of the door, and none of these lists is longer than 2^32.
     pub fn known(&self)
-        ensures { IsKept 4294967296 self.now.state.lists }
+        ensures { IsKept most_listed self.now.state.lists }
     {
         self.vouchers.known();
         self.carts.known();
@@ -231,7 +234,7 @@ impl Store {
     /// Makes one change.
     pub fn apply_one(&mut self, change: Change)
         requires { change_weight change ≤ self.old.room }
-        ensures lists { self.new.state ≡ record self.old.state { lists = after_change change self.old.state.lists } }
+        ensures lists { self.new.state ≡ changed change self.old.state }
         ensures room { self.old.room ≤ self.new.room + change_weight change }
     {
         match change {
@@ -253,7 +256,7 @@ impl Store {
 
     /// Sets the ids that new rows get, and the moment.
     pub fn set(&mut self, next: NextIds, moment: Moment)
-        ensures state { self.new.state ≡ record { lists = self.old.state.lists; next = next; moment = moment } }
+        ensures state { self.new.state ≡ record self.old.state { next = next; moment = moment } }
         ensures room { self.new.room ≡ self.old.room }
     {
         self.next = next;

@@ -2,12 +2,11 @@
 
 ghost use Rattle.std.specs.Prelude.{◌≡◌, ◌≤◌, length, is_some};
 ghost use Rattle.std.specs.Option.{option_copied};
-ghost use Rattle.base_values.specs.Texts.{same_text};
-ghost use Rattle.model_rows.specs.Lists.{voucher_at};
 ghost use Rattle.model_rows.specs.Named.{voucher_of};
 ghost use Rattle.model_rows.specs.CameDue.{is_due_cart, is_due_voucher};
-ghost use Rattle.book_indexes.specs.Indexes.{Finds};
-ghost use Rattle.book_store.specs.Walks.{passing};
+ghost use Rattle.book_usage.specs.Limits.{most_listed};
+ghost use Rattle.book_store.specs.Found.{FindsCarts, FindsVouchers};
+ghost use Rattle.book_store.specs.OneRow.{coded_at};
 
 use crate::store::Store;
 use base_index::Found;
@@ -19,8 +18,8 @@ use model_rows::Voucher;
 impl Store {
     // The voucher of an id, if it has the code.
     fn coded_at(&self, id: u64, code: &str) -> Option<&Voucher>
-        ensures found { option_copied result ≡ passing (λ v. same_text v.code code.now) (voucher_at id self.now.state.lists) }
-        ensures some { is_some result ≡ is_some (passing (λ v. same_text v.code code.now) (voucher_at id self.now.state.lists)) }
+        ensures found { option_copied result ≡ coded_at id code.now self.now.state.lists }
+        ensures some { is_some result ≡ is_some (coded_at id code.now self.now.state.lists) }
     {
         self.voucher(id).filter(|row| row.code.same(code))
     }
@@ -43,8 +42,8 @@ impl Store {
     /// The ids of the vouchers that end at one moment or later, and before another.
     pub fn vouchers_due(&self, from: Moment, to: Moment) -> Found<'_>
         requires { from ≤ to }
-        ensures finds { Finds (λ r. r.id) (is_due_voucher from to) self.now.state.lists.vouchers result }
-        ensures few { length result ≤ 4294967296 }
+        ensures finds { FindsVouchers (is_due_voucher from to) self.now.state.lists result }
+        ensures few { length result ≤ most_listed }
     {
         self.vouchers().ending(from.get(), to.get())
     }
@@ -52,8 +51,8 @@ impl Store {
     /// The ids of the cart positions that end at one moment or later, and before another.
     pub fn carts_due(&self, from: Moment, to: Moment) -> Found<'_>
         requires { from ≤ to }
-        ensures finds { Finds (λ r. r.id) (is_due_cart from to) self.now.state.lists.carts result }
-        ensures few { length result ≤ 4294967296 }
+        ensures finds { FindsCarts (is_due_cart from to) self.now.state.lists result }
+        ensures few { length result ≤ most_listed }
     {
         self.carts().ending(from.get(), to.get())
     }

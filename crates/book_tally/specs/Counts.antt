@@ -1,5 +1,5 @@
 -- Counts by key as a journal of additions: each has its key, with all that had come and gone of it by then.
-use Rattle.std.specs.Prelude.{◌≡◌, ℕ, ◌==◌, List, length, take, Option, Some, None, slice_index_or}
+use Rattle.std.specs.Prelude.{◌≡◌, ℕ, ◌==◌, Bool, List, length, take, Option, Some, None, slice_index_or, if◌then◌else◌}
 use Rattle.book_log.specs.Places.{last_place}
 use Rattle.book_tally.specs.declared.tally.Count.{Count}
 
@@ -19,6 +19,10 @@ came none key journal = part_at none (λ c. c.come) journal (newest key journal)
 -- how much went
 abbrev pub went : {A : Type 0} → A → ℕ → List (Count A) → A
 went none key journal = part_at none (λ c. c.gone) journal (newest key journal)
+
+-- of each key that passes, so much more is counted in the new journal; of any other one as much as in the old one
+abbrev pub CountsMore : {A : Type 0} → (ℕ → List (Count A) → A) → (A → A → A) → (ℕ → Bool) → A → List (Count A) → List (Count A) → Type 0
+CountsMore count sum passes more old new = (k : ℕ) → count k new ≡ (if passes k then sum (count k old) more else count k old)
 
 -- the new journal goes on from the old one
 abbrev pub GoesOn : {A : Type 0} → List (Count A) → List (Count A) → Type 0

@@ -1,9 +1,9 @@
 //! Counts by key: how much came and how much went of each, now and at each earlier place.
 
-ghost use Rattle.std.specs.Prelude.{◌≡◌, ◌≤◌, ◌<◌, ◌++◌, ◌==◌, [], ◌∷◌, ℕ, length, take, OnOk, OnErr, slice_index_or, if◌then◌else◌};
+ghost use Rattle.std.specs.Prelude.{◌≡◌, ◌≤◌, ◌<◌, ◌==◌, [], length, take, OnOk, OnErr, slice_index_or};
 ghost use Rattle.std.specs.Option.{IfSome};
 ghost use Rattle.model_rows.specs.Conditions.{names};
-ghost use Rattle.book_tally.specs.Counts.{newest, part_at, came, went, GoesOn};
+ghost use Rattle.book_tally.specs.Counts.{newest, part_at, came, went, CountsMore, GoesOn};
 ghost use Rattle.book_tally.specs.declared.tally.Count.{Count};
 
 use crate::amount::Amount;
@@ -94,8 +94,10 @@ impl<A: Amount> Tally<A> {
 
     /// Adds to the counts of a key. `Err` where there is no memory; they are then as they were.
     pub fn add(&mut self, key: u64, come: A, gone: A) -> Result<(), AllocError>
-        ensures comes { OnOk result ((k : ℕ) → came A.zero k self.new ≡ (if key == k then A.sum (came A.zero k self.old) come else came A.zero k self.old)) }
-        ensures goes { OnOk result ((k : ℕ) → went A.zero k self.new ≡ (if key == k then A.sum (went A.zero k self.old) gone else went A.zero k self.old)) }
+        ensures comes { OnOk result
+            (CountsMore (came A.zero) A.sum (λ k. key == k) come self.old self.new) }
+        ensures goes { OnOk result
+            (CountsMore (went A.zero) A.sum (λ k. key == k) gone self.old self.new) }
         ensures on { OnOk result (GoesOn self.old self.new) }
         ensures err { OnErr result (self.new ≡ self.old) }
     {
@@ -115,8 +117,10 @@ impl<A: Amount> Tally<A> {
 
     /// Adds to the counts of a key, if one is named. `Err` where there is no memory; they are then as they were.
     pub fn add_named(&mut self, key: Option<u64>, come: A, gone: A) -> Result<(), AllocError>
-        ensures comes { OnOk result ((k : ℕ) → came A.zero k self.new ≡ (if names k key then A.sum (came A.zero k self.old) come else came A.zero k self.old)) }
-        ensures goes { OnOk result ((k : ℕ) → went A.zero k self.new ≡ (if names k key then A.sum (went A.zero k self.old) gone else went A.zero k self.old)) }
+        ensures comes { OnOk result
+            (CountsMore (came A.zero) A.sum (λ k. names k key) come self.old self.new) }
+        ensures goes { OnOk result
+            (CountsMore (went A.zero) A.sum (λ k. names k key) gone self.old self.new) }
         ensures on { OnOk result (GoesOn self.old self.new) }
         ensures err { OnErr result (self.new ≡ self.old) }
     {
@@ -174,7 +178,8 @@ impl<A: Amount> Tally<A> {
     // The place of the addition before this one that is one to the same key.
     fn earlier(&self, place: usize) -> Option<usize>
         requires { place < length self.now }
-        ensures { (d : Count A) → result ≡ newest (slice_index_or self.now place d).id (take place self.now) }
+        ensures { (d : Count A)
+            → result ≡ newest (slice_index_or self.now place d).id (take place self.now) }
     {
         self.keys.before(place)
     }

@@ -4,3 +4,6 @@ pub mod Covers
 pub mod OfOrder
 pub mod Shares
 pub mod Dues
+pub mod Counts
+pub mod Waiters
+pub mod Limits

@@ -1,6 +1,6 @@
 //! What keeps the rows.
 
-ghost use Rattle.std.specs.Prelude.{◌≡◌, ◌≤◌, ◌+◌, ◌↔◌, ◌==◌, ◌&&◌, ℕ, Bool, IfOk, OnOk, IsTrue, count_by, map, Some};
+ghost use Rattle.std.specs.Prelude.{◌≡◌, ◌≤◌, ◌+◌, ◌↔◌, ℕ, Bool, IfOk, OnOk, IsTrue, Some};
 ghost use Rattle.model_catalogue.specs.CatalogueLists.{quota_at};
 ghost use Rattle.std.specs.Option.{option_copied};
 ghost use Rattle.model_rows.specs.declared.rows.OrderPos.{OrderPos};
@@ -10,11 +10,14 @@ ghost use Rattle.model_rows.specs.Usage.{redeemed, spent, usage_of};
 ghost use Rattle.model_rows.specs.Change.{applied};
 ghost use Rattle.model_rows.specs.Weight.{weight};
 ghost use Rattle.model_rows.specs.Headroom.{held, held_in};
-ghost use Rattle.model_rows.specs.Named.{voucher_of, with_secret, carts_naming};
-ghost use Rattle.model_rows.specs.Waits.{waiters, is_waiting};
+ghost use Rattle.model_rows.specs.Named.{voucher_of, with_secret};
+ghost use Rattle.model_rows.specs.Waits.{is_waiting};
 ghost use Rattle.model_rows.specs.Due.{due_orders, dead_carts};
-ghost use Rattle.model_rows.specs.CameDue.{came_due, naming_due};
-ghost use Rattle.book_usage.specs.Naming.{naming};
+ghost use Rattle.book_usage.specs.Dues.{with_due_steps};
+ghost use Rattle.book_usage.specs.Limits.{most_listed, most_naming, most_spent};
+ghost use Rattle.book_usage.specs.Naming.{naming, cart_ids_naming};
+ghost use Rattle.book_usage.specs.OfOrder.{count_ordered};
+ghost use Rattle.book_usage.specs.Waiters.{waiter_ids};
 ghost use Rattle.model_rows.specs.Kept.{IsKept};
 ghost use Rattle.model_rows.specs.Consumed.{consumed};
 
@@ -49,7 +52,7 @@ pub trait Book {
 
     /// Ids rise in each list of sales and of the door, and none of these lists is longer than 2^32.
     fn known(&self)
-        ensures { IsKept 4294967296 (state self.now).lists };
+        ensures { IsKept most_listed (state self.now).lists };
 
     /// All that is for sale.
     fn catalogue(&self) -> &Catalogue
@@ -78,7 +81,7 @@ pub trait Book {
     /// How many order positions, cart positions and waiting entries name the voucher.
     fn naming(&self, voucher: u64) -> u64
         ensures value { result ≡ naming voucher (state self.now).lists }
-        ensures few { result ≤ 12884901888 };
+        ensures few { result ≤ most_naming };
 
     /// The cart position of an id.
     fn cart(&self, id: u64) -> Option<&CartPos>
@@ -106,8 +109,8 @@ pub trait Book {
 
     /// How many positions of the order pass the test.
     fn count_ordered<T: PositionTest>(&self, order: u64, test: &T) -> u64
-        ensures value { result ≡ count_by (λ p. order == p.order && T.passes test.now p) (state self.now).lists.positions }
-        ensures few { result ≤ 4294967296 };
+        ensures value { result ≡ count_ordered order (T.passes test.now) (state self.now).lists }
+        ensures few { result ≤ most_listed };
 
     /// Copies of the positions of an order, by id.
     fn positions_of(&self, alloc: Global, order: u64) -> Result<List<OrderPos>, AllocError>
@@ -119,7 +122,7 @@ pub trait Book {
 
     /// The ids of the cart positions that name the voucher, dead ones too, in order.
     fn carts_naming(&self, alloc: Global, voucher: u64) -> Result<Vec<u64>, AllocError>
-        ensures { IfOk result (λ ids. ids.items ≡ map (λ c. c.id) (carts_naming voucher (state self.now).lists)) };
+        ensures { IfOk result (λ ids. ids.items ≡ cart_ids_naming voucher (state self.now).lists) };
 
     /// Copies of the check-ins of a position by a list, by id.
     fn checkins_of(
@@ -136,7 +139,7 @@ pub trait Book {
 
     /// The ids of the waiting entries without voucher, in order.
     fn waiters(&self, alloc: Global) -> Result<Vec<u64>, AllocError>
-        ensures { IfOk result (λ ids. ids.items ≡ map (λ e. e.id) (waiters (state self.now).lists)) };
+        ensures { IfOk result (λ ids. ids.items ≡ waiter_ids (state self.now).lists) };
 
     /// Whether an entry of this email waits, without a voucher, for this product.
     fn is_waiting(&self, email: &str, product: Product) -> bool
@@ -185,27 +188,27 @@ pub trait Book {
         requires moment { (state self.now).moment ≤ at }
         requires stands { quota_at quota.now.id (state self.now).lists.catalogue ≡ Some quota.now }
         ensures value { result ≡ usage_of (state self.now).lists at quota.now }
-        ensures cost { steps.new ≤ steps.old + 1 + came_due (state self.now).moment at (state self.now).lists + naming_due (state self.now).moment at (state self.now).lists };
+        ensures cost { steps.new ≤ with_due_steps (state self.now) at (steps.old + 1) };
 
     /// How many positions of pending and paid orders name the voucher.
     fn redeemed(&self, voucher: u64) -> u64
         ensures value { result ≡ redeemed voucher (state self.now).lists }
-        ensures few { result ≤ 4294967296 };
+        ensures few { result ≤ most_listed };
 
     /// What is spent of the voucher's budget, in cents: the discounts of the positions of pending and paid orders that name it, added up.
     fn spent(&self, voucher: u64) -> u128
         ensures value { result ≡ spent voucher (state self.now).lists }
-        ensures few { result ≤ 42949672955705032704 };
+        ensures few { result ≤ most_spent };
 
     /// How many cart positions that are live at a moment name the voucher.
     fn held(&self, voucher: u64, at: Moment) -> u64
         ensures value { result ≡ held at voucher (state self.now).lists }
-        ensures few { result ≤ 4294967296 };
+        ensures few { result ≤ most_listed };
 
     /// How many cart positions that are live at a moment name the voucher and are for a product of the quota.
     fn held_in(&self, voucher: u64, quota: &Quota, at: Moment) -> u64
         ensures value { result ≡ held_in at quota.now voucher (state self.now).lists }
-        ensures few { result ≤ 4294967296 };
+        ensures few { result ≤ most_listed };
 
     /// Takes the memory that these changes need.
     fn reserve(&mut self, changes: &Changes) -> Result<(), AllocError>

@@ -2,9 +2,8 @@
 
 ghost use Rattle.std.specs.Prelude.{◌≡◌, ◌≤◌, IfOk};
 ghost use Rattle.model_rows.specs.Change.{applied};
-ghost use Rattle.model_rows.specs.CountRows.{counts_after};
 ghost use Rattle.model_rows.specs.Weight.{weight};
-ghost use Rattle.book_usage.specs.Dues.{due_carts, due_vouchers};
+ghost use Rattle.book_usage.specs.Dues.{carts_ended_by, vouchers_ended_by, counts_of_changes};
 
 use crate::Book;
 use base_values::Moment;
@@ -16,17 +15,17 @@ pub trait Dues: Book {
     /// The ids of the cart positions that ended, or end, at the book's moment or later, and before this one, in order.
     fn due_carts(&self, alloc: Global, at: Moment) -> Result<Vec<u64>, AllocError>
         requires { (Self.state self.now).moment ≤ at }
-        ensures { IfOk result (λ ids. ids.items ≡ due_carts (Self.state self.now).moment at (Self.state self.now).lists) };
+        ensures { IfOk result (λ ids. ids.items ≡ carts_ended_by at (Self.state self.now)) };
 
     /// The ids of such vouchers, in order.
     fn due_vouchers(&self, alloc: Global, at: Moment) -> Result<Vec<u64>, AllocError>
         requires { (Self.state self.now).moment ≤ at }
-        ensures { IfOk result (λ ids. ids.items ≡ due_vouchers (Self.state self.now).moment at (Self.state self.now).lists) };
+        ensures { IfOk result (λ ids. ids.items ≡ vouchers_ended_by at (Self.state self.now)) };
 
     /// Makes exactly these changes, as `apply` does, where the counts that they change are known.
     fn settle(&mut self, changes: Changes, counts: &CountRows, at: Moment)
         requires room { weight changes.list ≤ Self.room self.old }
         requires moment { (Self.state self.old).moment ≤ at }
-        requires counts { counts.now ≡ counts_after (Self.state self.old) (applied changes at (Self.state self.old)) }
+        requires counts { counts.now ≡ counts_of_changes changes at (Self.state self.old) }
         ensures { Self.state self.new ≡ applied changes at (Self.state self.old) };
 }

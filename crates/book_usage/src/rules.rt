@@ -2,11 +2,13 @@
 
 ghost use Rattle.std.specs.Prelude.{◌≡◌, ◌≤◌, ◌-◌};
 ghost use Rattle.std.specs.Option.{option_copied};
+ghost use Rattle.base_values.specs.Money.{last_cents};
 ghost use Rattle.model_rows.specs.Conditions.{is_paid, is_pending, is_in_force, same_id};
 ghost use Rattle.model_rows.specs.Fits.{fits};
 ghost use Rattle.model_rows.specs.Over.{ignores};
 ghost use Rattle.model_rows.specs.Usage.{stands_as, is_released, exit_counts, holds_place, takes_place, position_counts, uses, spends, blocks_if, is_covered_by, cart_counts};
 ghost use Rattle.book_usage.specs.Covers.{cover_alike};
+ghost use Rattle.book_usage.specs.Limits.{last_use};
 ghost use Rattle.book_usage.specs.Shares.{status_share, exited_share, cart_share, waiting_share, blocked_share, held_name, used_name};
 
 use crate::look_ups::{Exits, LookUps};
@@ -99,7 +101,7 @@ pub fn uses<R: LookUps>(rows: &R, voucher: u64, position: &OrderPos) -> bool
 /// What an order position takes of the voucher's budget, in cents: its discount, where it uses the voucher, else 0.
 pub fn spends<R: LookUps>(rows: &R, voucher: u64, position: &OrderPos) -> u64
     ensures value { result ≡ spends voucher (R.rows rows.now) position.now }
-    ensures small { result ≤ 9999999999 }
+    ensures small { result ≤ last_cents }
 {
     if uses(rows, voucher, position) {
         position.discount.get()
@@ -193,7 +195,8 @@ pub fn cart_counts<R: LookUps>(rows: &R, at: Moment, quota: &Quota, cart: &CartP
 /// 1 where an order position is of a paid order, and for a product of the quota.
 #[tactic(auto, unfolding(crate::specs::Shares::status_share))]
 pub fn paid_share<R: LookUps>(rows: &R, quota: &Quota, position: Option<&OrderPos>) -> u64
-    ensures value { result ≡ status_share is_paid (R.rows rows.now) quota.now (option_copied position.entry) }
+    ensures value { result ≡ status_share is_paid (R.rows rows.now) quota.now
+        (option_copied position.entry) }
     ensures small { result ≤ 1 }
 {
     match position {
@@ -205,7 +208,8 @@ pub fn paid_share<R: LookUps>(rows: &R, quota: &Quota, position: Option<&OrderPo
 /// 1 where it is of a pending order, and for a product of the quota.
 #[tactic(auto, unfolding(crate::specs::Shares::status_share))]
 pub fn pending_share<R: LookUps>(rows: &R, quota: &Quota, position: Option<&OrderPos>) -> u64
-    ensures value { result ≡ status_share is_pending (R.rows rows.now) quota.now (option_copied position.entry) }
+    ensures value { result ≡ status_share is_pending (R.rows rows.now) quota.now
+        (option_copied position.entry) }
     ensures small { result ≤ 1 }
 {
     match position {
@@ -217,7 +221,8 @@ pub fn pending_share<R: LookUps>(rows: &R, quota: &Quota, position: Option<&Orde
 /// 1 where it is of a paid order, for a product of the quota, and its place is released.
 #[tactic(auto, unfolding(crate::specs::Shares::exited_share))]
 pub fn exited_share<R: Exits>(rows: &R, quota: &Quota, position: Option<&OrderPos>) -> u64
-    ensures value { result ≡ exited_share (R.rows rows.now) quota.now (option_copied position.entry) }
+    ensures value { result ≡ exited_share (R.rows rows.now) quota.now
+        (option_copied position.entry) }
     ensures small { result ≤ 1 }
 {
     match position {
@@ -253,7 +258,7 @@ pub fn waiting_share(quota: &Quota, entry: Option<&Waiting>) -> u64
 /// How many of its uses a voucher that is redeemed so often has left.
 pub fn left_of(voucher: &Voucher, redeemed: u64) -> u64
     ensures value { result ≡ voucher.now.max_usages - redeemed }
-    ensures small { result ≤ 4294967295 }
+    ensures small { result ≤ last_use }
 {
     u64::from(voucher.max_usages.get()).saturating_sub(redeemed)
 }
@@ -262,7 +267,7 @@ pub fn left_of(voucher: &Voucher, redeemed: u64) -> u64
 #[tactic(auto, unfolding(crate::specs::Shares::blocked_share))]
 pub fn blocked_share(at: Moment, quota: &Quota, redeemed: u64, voucher: Option<&Voucher>) -> u64
     ensures value { result ≡ blocked_share at quota.now redeemed (option_copied voucher.entry) }
-    ensures small { result ≤ 4294967295 }
+    ensures small { result ≤ last_use }
 {
     match voucher {
         Some(voucher) if voucher.blocks(at, quota) => left_of(voucher, redeemed),

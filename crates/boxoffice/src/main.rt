@@ -1,7 +1,7 @@
 //! Which streams and files of the machine does the program use?
 #![tactic(auto)]
 
-ghost use Rattle.std.specs.Prelude.{◌≡◌, ◌<◌};
+ghost use Rattle.base_devices.specs.Blanks.{IsBlankOf};
 
 mod files;
 
@@ -38,10 +38,10 @@ fn run_words<
     writes: Blank,
     write_failures: Blank,
 ) -> LineEnd
-    requires reads { (reads.name ≡ A.name) × (reads.parts ≡ A.parts) × (0 < A.parts) }
-    requires read_failures { (read_failures.name ≡ B.name) × (read_failures.parts ≡ B.parts) × (0 < B.parts) }
-    requires writes { (writes.name ≡ C.name) × (writes.parts ≡ C.parts) × (0 < C.parts) }
-    requires write_failures { (write_failures.name ≡ D.name) × (write_failures.parts ≡ D.parts) × (0 < D.parts) }
+    requires reads { IsBlankOf A.Ledger reads }
+    requires read_failures { IsBlankOf B.Ledger read_failures }
+    requires writes { IsBlankOf C.Ledger writes }
+    requires write_failures { IsBlankOf D.Ledger write_failures }
 {
     let mut reader = counted::<Stdin, A, B>(rt.stdin(), reads, read_failures);
     let mut writer = counted::<Stdout, C, D>(rt.stdout(), writes, write_failures);

@@ -1,9 +1,9 @@
 //! New items and variations, and changed items.
 
-ghost use Rattle.std.specs.Prelude.{◌≡◌, ◌≢◌, Ok, Err, IfOk, IfErr};
 ghost use Rattle.model_catalogue.specs.ItemAdded.{item_added};
 ghost use Rattle.model_catalogue.specs.ItemChanged.{item_changed};
 ghost use Rattle.model_catalogue.specs.VariationAdded.{variation_added};
+ghost use Rattle.decide_catalogue.specs.GoesBy.{GoesBy};
 
 use book_catalogue::Catalogue;
 use model_catalogue::requests::variation_rows;
@@ -24,8 +24,7 @@ pub fn add_item(
     id: u64,
     first: u64,
 ) -> Result<ItemRows, CatalogueRefusal>
-    ensures done { IfOk result (λ rows. item_added new.now id first catalogue.now.lists ≡ Ok rows) }
-    ensures refused { IfErr result (λ e. e ≢ CatalogueRefusal.Memory → item_added new.now id first catalogue.now.lists ≡ Err e) }
+    ensures { GoesBy (item_added new.now id first catalogue.now.lists) result }
 {
     let count = new.variations.as_slice().len();
     if !(takes_row(id, catalogue.items()) && takes_rows(count, first, catalogue.variations())) {
@@ -45,8 +44,7 @@ pub fn change_item(
     id: u64,
     patch: &ItemPatch,
 ) -> Result<Item, CatalogueRefusal>
-    ensures done { IfOk result (λ row. item_changed id patch.now catalogue.now.lists ≡ Ok row) }
-    ensures refused { IfErr result (λ e. e ≢ CatalogueRefusal.Memory → item_changed id patch.now catalogue.now.lists ≡ Err e) }
+    ensures { GoesBy (item_changed id patch.now catalogue.now.lists) result }
 {
     match catalogue.item(id) {
         None => Err(CatalogueRefusal::NoItem),
@@ -65,8 +63,7 @@ pub fn add_variation(
     new: &NewVariation,
     id: u64,
 ) -> Result<PricedVariation, CatalogueRefusal>
-    ensures done { IfOk result (λ row. variation_added item new.now id catalogue.now.lists ≡ Ok row) }
-    ensures refused { IfErr result (λ e. e ≢ CatalogueRefusal.Memory → variation_added item new.now id catalogue.now.lists ≡ Err e) }
+    ensures { GoesBy (variation_added item new.now id catalogue.now.lists) result }
 {
     let Some(row) = catalogue.item(item) else {
         return Err(CatalogueRefusal::NoItem);

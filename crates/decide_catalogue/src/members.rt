@@ -89,7 +89,8 @@ fn is_of_one(catalogue: &Catalogue, variation: u64, quota: &Quota) -> bool
 
 // Whether each of these items is sold by itself, or is among those of which a variation is listed.
 fn are_offered(catalogue: &Catalogue, items: &[u64], offered: &Ids) -> bool
-    ensures { result ≡ list_all (λ id. is_offered offered.now (item_at id catalogue.now.lists)) items.now }
+    ensures { result ≡
+        list_all (λ id. is_offered offered.now (item_at id catalogue.now.lists)) items.now }
 {
     items.iter().all(|id| is_offered(catalogue, *id, offered))
 }

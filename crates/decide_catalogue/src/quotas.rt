@@ -1,8 +1,8 @@
 //! New quotas, and resized ones.
 
-ghost use Rattle.std.specs.Prelude.{◌≡◌, ◌≢◌, Ok, Err, IfOk, IfErr};
 ghost use Rattle.model_catalogue.specs.QuotaAdded.{quota_added, quota_test};
 ghost use Rattle.model_catalogue.specs.Resized.{resized};
+ghost use Rattle.decide_catalogue.specs.GoesBy.{GoesBy};
 
 use crate::members::{items_fit, items_stand, variations_fit, variations_stand};
 use book_catalogue::Catalogue;
@@ -17,8 +17,7 @@ pub fn resize(
     id: u64,
     patch: QuotaPatch,
 ) -> Result<Quota, CatalogueRefusal>
-    ensures done { IfOk result (λ row. resized id patch catalogue.now.lists ≡ Ok row) }
-    ensures refused { IfErr result (λ e. e ≢ CatalogueRefusal.Memory → resized id patch catalogue.now.lists ≡ Err e) }
+    ensures { GoesBy (resized id patch catalogue.now.lists) result }
 {
     match catalogue.quota(id) {
         None => Err(CatalogueRefusal::NoQuota),
@@ -37,8 +36,7 @@ pub fn add_quota(
     new: &NewQuota,
     id: u64,
 ) -> Result<Quota, CatalogueRefusal>
-    ensures done { IfOk result (λ row. quota_added new.now id catalogue.now.lists ≡ Ok row) }
-    ensures refused { IfErr result (λ e. e ≢ CatalogueRefusal.Memory → quota_added new.now id catalogue.now.lists ≡ Err e) }
+    ensures { GoesBy (quota_added new.now id catalogue.now.lists) result }
 {
     let quota = new.row(alloc, id)?;
     test_quota(catalogue, alloc, &quota)?;
@@ -48,8 +46,7 @@ pub fn add_quota(
 // Whether a quota may be added.
 #[tactic(auto, unfolding(model_catalogue::specs::QuotaAdded::quota_test))]
 fn test_quota(catalogue: &Catalogue, alloc: Global, quota: &Quota) -> Result<(), CatalogueRefusal>
-    ensures done { IfOk result (λ u. quota_test quota.now catalogue.now.lists ≡ Ok u) }
-    ensures refused { IfErr result (λ e. e ≢ CatalogueRefusal.Memory → quota_test quota.now catalogue.now.lists ≡ Err e) }
+    ensures { GoesBy (quota_test quota.now catalogue.now.lists) result }
 {
     if !items_stand(catalogue, quota) {
         return Err(CatalogueRefusal::NoItem);

@@ -1,12 +1,15 @@
 -- Worked cases: a house of one order with one position, and one check-in list.
-use Rattle.std.specs.Prelude.{ℕ, ◌+◌, Bool, true, false, List, [], ◌∷◌, Option, Some, None}
+use Rattle.std.specs.Prelude.{ℕ, ◌+◌, Bool, true, false, List, [], ◌∷◌, length, Option, Some, None}
 use Rattle.model_rows.specs.declared.rows.Status.{Status}
 use Rattle.model_rows.specs.declared.rows.OrderPos.{OrderPos}
 use Rattle.model_rows.specs.declared.rows.CheckinKind.{CheckinKind}
+use Rattle.model_rows.specs.declared.rows.CheckinKind.TheVariants.{Entry, Exit}
 use Rattle.model_rows.specs.declared.rows.CheckinList.{CheckinList}
 use Rattle.model_rows.specs.declared.rows.Checkin.{Checkin}
 use Rattle.model_rows.specs.Lists.{State, no_rows, first_ids}
 use Rattle.model_commands.specs.declared.doors.Scan.{Scan}
+use Rattle.model_commands.specs.declared.doors.Ticket.{Ticket}
+use Rattle.model_commands.specs.declared.doors.Ticket.TheVariants.{Position, Secret}
 
 -- a list for all items, which may include pending orders and allow an entry after an exit
 abbrev pub door : Bool → Bool → CheckinList
@@ -16,15 +19,30 @@ door pending again = record { id = 1; name = []; all_products = true; limit_prod
 abbrev pub plain : CheckinList
 plain = door false false
 
+-- the same list, but for one thing: it includes pending orders
+abbrev pub pending_list : CheckinList
+pending_list = door true false
+
+-- the same list, but for one thing: it allows an entry after an exit
+abbrev pub return_list : CheckinList
+return_list = door false true
+
 -- the one ticket: position 1 of order 1, of item 1 at 23.00, with the secret `a`
 abbrev pub seat : OrderPos
 seat = record { id = 1; order = 1; positionid = 1; product = record { item = 1; variation = None }; price = 2300; voucher = None; secret = 97 ∷ []; discount = 0 }
 
--- at the moment 1000, with these check-ins and the next one's id
-abbrev pub house : Status → CheckinList → List Checkin → ℕ → State
-house status list checkins next = record {
+-- the ticket is shown by its id, and by its secret
+abbrev pub by_id : Ticket
+by_id = Position 1
+
+abbrev pub by_secret : Ticket
+by_secret = Secret (97 ∷ [])
+
+-- at the moment 1000, with these check-ins, whose ids count from 1
+abbrev pub house : Status → CheckinList → List Checkin → State
+house status list checkins = record {
   lists = record no_rows { orders = record { id = 1; email = None; status = status; made_at = 0; expires = 0 } ∷ []; positions = seat ∷ []; checkin_lists = list ∷ []; checkins = checkins };
-  next = record first_ids { checkin = next };
+  next = record first_ids { checkin = length checkins + 1 };
   moment = 1000;
 }
 
@@ -32,10 +50,45 @@ house status list checkins next = record {
 abbrev pub nonce : ℕ → Option (List ℕ)
 nonce n = Some ((48 + n) ∷ [])
 
--- a scan of this kind, with this nonce and at this moment, which isn't forced and doesn't ignore that an order is unpaid
-abbrev pub scan : CheckinKind → Option (List ℕ) → Option ℕ → Scan
-scan kind nonce at = record { kind = kind; nonce = nonce; datetime = at; force = false; ignore_unpaid = false }
+-- a scan of this kind with this nonce, at the box office's moment, which isn't forced and doesn't ignore that an order is unpaid
+abbrev pub scan : CheckinKind → Option (List ℕ) → Scan
+scan kind nonce = record { kind = kind; nonce = nonce; datetime = None; force = false; ignore_unpaid = false }
+
+-- an entry with a nonce of one digit, and an exit
+abbrev pub entry_with : ℕ → Scan
+entry_with n = scan Entry (nonce n)
+
+abbrev pub exit_with : ℕ → Scan
+exit_with n = scan Exit (nonce n)
+
+-- an entry without a nonce that ignores that the order is unpaid, and one that is forced
+abbrev pub lenient_entry : Scan
+lenient_entry = record (scan Entry None) { ignore_unpaid = true }
+
+abbrev pub forced_entry : Scan
+forced_entry = record (scan Entry None) { force = true }
 
 -- a check-in of the ticket: its id, its list, its kind, its nonce and its moment
 abbrev pub passed : ℕ → ℕ → CheckinKind → Option (List ℕ) → ℕ → Checkin
 passed id list kind nonce at = record { id = id; list = list; position = 1; kind = kind; datetime = at; nonce = nonce }
+
+-- three check-ins of the ticket by list 1: it comes in, goes out, and comes in again
+abbrev pub first_in : Checkin
+first_in = passed 1 1 Entry (nonce 1) 1000
+
+abbrev pub then_out : Checkin
+then_out = passed 2 1 Exit (nonce 3) 1000
+
+abbrev pub in_again : Checkin
+in_again = passed 3 1 Entry (nonce 4) 1000
+
+-- it comes in by list 2
+abbrev pub elsewhere_in : Checkin
+elsewhere_in = passed 1 2 Entry (nonce 1) 1000
+
+-- check-in 1 by list 1 is an entry at this moment, and check-in 2 an exit
+abbrev pub in_at : ℕ → Checkin
+in_at moment = passed 1 1 Entry None moment
+
+abbrev pub out_at : ℕ → Checkin
+out_at moment = passed 2 1 Exit None moment

@@ -1,9 +1,9 @@
 //! The positions that belong to a check-in list.
 
-ghost use Rattle.std.specs.Prelude.{◌≡◌, IfOk, List, ◌∷◌, length, map, take, drop};
+ghost use Rattle.std.specs.Prelude.{◌≡◌, IfOk, List, ◌∷◌, length};
 ghost use Rattle.model_rows.specs.declared.rows.OrderPos.{OrderPos};
 ghost use Rattle.decide_door.specs.Belongs.{is_for, includes, belongs, belonging};
-ghost use Rattle.decide_door.specs.Status.{ticket_of, part};
+ghost use Rattle.decide_door.specs.Status.{ticket_of, tickets_page, tickets_more};
 
 use book_usage::Book;
 use model_commands::ListedTicket;
@@ -58,7 +58,8 @@ pub fn positions<B: Book>(
     skip: usize,
     most: usize,
 ) -> Result<Vec<ListedTicket>, AllocError>
-    ensures { IfOk result (λ rows. rows.items ≡ map (ticket_of list.now (B.state book.now).lists) (take most (drop skip (belonging list.now (B.state book.now).lists)))) }
+    ensures { IfOk result (λ rows.
+        rows.items ≡ tickets_page skip most list.now (B.state book.now).lists) }
 {
     let mut skip = skip;
     let mut rows = Vec::new(alloc);
@@ -80,8 +81,9 @@ fn list_one<B: Book>(
     rows: &mut Vec<ListedTicket>,
 ) -> Result<usize, AllocError>
     ensures { IfOk result (λ left. (others : List OrderPos) →
-        part (ticket_of list.now (B.state book.now).lists) (belongs list.now (B.state book.now).lists) rows.new.items left most others
-        ≡ part (ticket_of list.now (B.state book.now).lists) (belongs list.now (B.state book.now).lists) rows.old.items skip most (position.now ∷ others)) }
+        tickets_more list.now (B.state book.now).lists rows.new.items left most others
+        ≡ tickets_more list.now (B.state book.now).lists rows.old.items skip most
+        (position.now ∷ others)) }
 {
     if !belongs(book, list, position) {
         return Ok(skip);
@@ -103,7 +105,7 @@ pub fn ticket_of<B: Book>(
     list: &CheckinList,
     position: &OrderPos,
 ) -> Result<ListedTicket, AllocError>
-    ensures { IfOk result (λ ticket. ticket ≡ ticket_of list.now (B.state book.now).lists position.now) }
+    ensures { IfOk result (λ t. t ≡ ticket_of list.now (B.state book.now).lists position.now) }
 {
     Ok(ListedTicket {
         position: position.copy(alloc)?,

@@ -1,7 +1,9 @@
 //! Adding check-in lists.
 
-ghost use Rattle.std.specs.Prelude.{◌≡◌, ◌≢◌, [], ◌∷◌, ◌++◌, Ok, Err, IfOk, IfErr, OnErr};
-ghost use Rattle.draft_changes.specs.DraftState.{now, Extends};
+ghost use Rattle.std.specs.Prelude.{◌≡◌, [], ◌∷◌, IfOk};
+ghost use Rattle.model_commands.specs.declared.doors.DoorRefusal.TheVariants.{Memory};
+ghost use Rattle.draft_changes.specs.Decides.{DecidesBy};
+ghost use Rattle.draft_changes.specs.DraftState.{now};
 ghost use Rattle.model_rows.specs.declared.changes.Change.TheVariants.{PutCheckinList};
 ghost use Rattle.decide_door.specs.ListAdded.{list_row, items_stand, list_added};
 
@@ -24,11 +26,8 @@ pub fn add_list<B: Book>(
     new: &NewCheckinList,
 ) -> Result<CheckinList, DoorRefusal>
     requires { (now draft.old).lists.checkin_lists ≡ draft.old.log.base.checkin_lists }
-    ensures done { IfOk result (λ row. list_added new.now (now draft.old) ≡ Ok (now draft.new, row)) }
-    ensures refused { IfErr result (λ e. e ≢ DoorRefusal.Memory → list_added new.now (now draft.old) ≡ Err e) }
-    ensures extends { Extends draft.old draft.new }
-    ensures same { OnErr result (draft.new ≡ draft.old) }
-    ensures changes { IfOk result (λ row. draft.new.log.changes ≡ draft.old.log.changes ++ PutCheckinList row ∷ []) }
+    ensures { DecidesBy Memory (list_added new.now) (λ row. PutCheckinList row ∷ [])
+        draft.old draft.new result }
 {
     let row = new_row(alloc, new, draft.next_checkin_list())?;
     if !items_stand(draft.rows().catalogue(), row.limit_products.as_slice()) {

@@ -1,7 +1,9 @@
 //! Scanning tickets at a door.
 
-ghost use Rattle.std.specs.Prelude.{◌≡◌, ◌≢◌, [], ◌∷◌, ◌++◌, None, Ok, Err, IfOk, IfErr, OnOk, OnErr};
-ghost use Rattle.draft_changes.specs.DraftState.{now, Extends};
+ghost use Rattle.std.specs.Prelude.{◌≡◌, [], ◌∷◌, None, IfOk};
+ghost use Rattle.model_commands.specs.declared.doors.DoorRefusal.TheVariants.{Memory};
+ghost use Rattle.draft_changes.specs.Decides.{DecidesBy};
+ghost use Rattle.draft_changes.specs.DraftState.{now};
 ghost use Rattle.model_rows.specs.declared.changes.Change.TheVariants.{PutCheckin};
 ghost use Rattle.model_rows.specs.Lists.{checkin_at};
 ghost use Rattle.decide_door.specs.Scanned.{checkin_row, stored, scanned, scan_puts};
@@ -32,11 +34,9 @@ pub fn redeem<B: Book>(
     requires positions { (now draft.old).lists.positions ≡ draft.old.log.base.positions }
     requires checkins { (now draft.old).lists.checkins ≡ draft.old.log.base.checkins }
     requires new { checkin_at (now draft.old).next.checkin (now draft.old).lists ≡ None }
-    ensures done { IfOk result (λ row. scanned list ticket.now scan.now (now draft.old) ≡ Ok (now draft.new, row)) }
-    ensures refused { IfErr result (λ e. e ≢ DoorRefusal.Memory → scanned list ticket.now scan.now (now draft.old) ≡ Err e) }
-    ensures extends { Extends draft.old draft.new }
-    ensures same { OnErr result (draft.new ≡ draft.old) }
-    ensures changes { OnOk result (draft.new.log.changes ≡ draft.old.log.changes ++ scan_puts list ticket.now scan.now (now draft.old)) }
+    ensures { DecidesBy Memory (scanned list ticket.now scan.now)
+        (λ _. scan_puts list ticket.now scan.now (now draft.old))
+        draft.old draft.new result }
 {
     match judge(draft, alloc, list, ticket, scan)? {
         Admission::Again(position) => Ok(position),
@@ -80,11 +80,8 @@ fn store<B: Book>(
 ) -> Result<OrderPos, DoorRefusal>
     requires checkins { (now draft.old).lists.checkins ≡ draft.old.log.base.checkins }
     requires new { checkin_at row.id (now draft.old).lists ≡ None }
-    ensures done { IfOk result (λ answer. stored row position (now draft.old) ≡ Ok (now draft.new, answer)) }
-    ensures refused { IfErr result (λ e. e ≢ DoorRefusal.Memory → stored row position (now draft.old) ≡ Err e) }
-    ensures extends { Extends draft.old draft.new }
-    ensures same { OnErr result (draft.new ≡ draft.old) }
-    ensures changes { OnOk result (draft.new.log.changes ≡ draft.old.log.changes ++ PutCheckin row ∷ []) }
+    ensures { DecidesBy Memory (stored row position) (λ _. PutCheckin row ∷ [])
+        draft.old draft.new result }
 {
     if !draft.takes_checkin() {
         return Err(DoorRefusal::Catalogue(CatalogueRefusal::Full));

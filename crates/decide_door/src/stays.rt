@@ -2,8 +2,7 @@
 
 ghost use Rattle.std.specs.Prelude.{◌≡◌, IfOk, map};
 ghost use Rattle.base_sorted.specs.Tables.{AreInOrder};
-ghost use Rattle.decide_door.specs.Belongs.{belonging};
-ghost use Rattle.decide_door.specs.Stays.{no_stay, noted, noted_all, stays_inside, counts_of};
+ghost use Rattle.decide_door.specs.Stays.{no_stay, noted, noted_all, stays_inside, counts_of, no_stays};
 ghost use Rattle.decide_door.specs.Status.{status_of};
 
 use crate::listing::belongs;
@@ -66,7 +65,7 @@ fn is_inside(stay: &Stay) -> bool
 
 // The positions that belong to the list, by id, before any check-in.
 fn no_stays<B: Book>(book: &B, alloc: Global, list: &CheckinList) -> Result<Vec<Stay>, AllocError>
-    ensures { IfOk result (λ stays. stays.items ≡ map no_stay (belonging list.now (B.state book.now).lists)) }
+    ensures { IfOk result (λ stays. stays.items ≡ no_stays list.now (B.state book.now).lists) }
 {
     book.positions()
         .iter()

@@ -39,8 +39,10 @@ pub fn judge<B: Book>(
 ) -> Result<Admission, DoorRefusal>
     requires positions { (now draft.now).lists.positions ≡ draft.now.log.base.positions }
     requires checkins { (now draft.now).lists.checkins ≡ draft.now.log.base.checkins }
-    ensures done { IfOk result (λ admission. verdict_of list ticket.now scan.now (now draft.now) ≡ Ok admission) }
-    ensures refused { IfErr result (λ e. e ≢ DoorRefusal.Memory → verdict_of list ticket.now scan.now (now draft.now) ≡ Err e) }
+    ensures done { IfOk result
+        (λ admission. verdict_of list ticket.now scan.now (now draft.now) ≡ Ok admission) }
+    ensures refused { IfErr result (λ e. e ≢ DoorRefusal.Memory
+        → verdict_of list ticket.now scan.now (now draft.now) ≡ Err e) }
 {
     let Some(list) = draft.rows().checkin_list(list) else {
         return Err(DoorRefusal::NoList);
@@ -61,8 +63,10 @@ fn judge_position<B: Book>(
     scan: &Scan,
 ) -> Result<Admission, DoorRefusal>
     requires { (now draft.now).lists.checkins ≡ draft.now.log.base.checkins }
-    ensures done { IfOk result (λ admission. verdict (Some list.now) (Some position.now) scan.now (now draft.now).lists ≡ Ok admission) }
-    ensures refused { IfErr result (λ e. e ≢ DoorRefusal.Memory → verdict (Some list.now) (Some position.now) scan.now (now draft.now).lists ≡ Err e) }
+    ensures done { IfOk result (λ admission.
+        verdict (Some list.now) (Some position.now) scan.now (now draft.now).lists ≡ Ok admission) }
+    ensures refused { IfErr result (λ e. e ≢ DoorRefusal.Memory
+        → verdict (Some list.now) (Some position.now) scan.now (now draft.now).lists ≡ Err e) }
 {
     if !is_in_force(draft, position) {
         return Err(DoorRefusal::Canceled);
@@ -113,7 +117,8 @@ fn is_unpaid<B: Book>(
     position: &OrderPos,
     scan: &Scan,
 ) -> bool
-    ensures { result ≡ is_unpaid_if list.now scan.now (order_at position.now.order (now draft.now).lists) }
+    ensures { result ≡ is_unpaid_if list.now scan.now
+        (order_at position.now.order (now draft.now).lists) }
 {
     match draft.rows().order(position.order) {
         None => false,

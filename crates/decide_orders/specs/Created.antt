@@ -1,5 +1,5 @@
 -- Making an order out of carts.
-use Rattle.std.specs.Prelude.{◌≡◌, ℕ, ◌+◌, ◌≤◌, ◌&&◌, nat_lt, List, [], ◌∷◌, ◌++◌, ◌==◌, length, map, min, unwrap_or, Result, Ok, Err}
+use Rattle.std.specs.Prelude.{◌≡◌, ℕ, ◌+◌, ◌≤◌, Bool, ◌&&◌, nat_lt, List, [], ◌∷◌, ◌++◌, ◌==◌, length, map, min, unwrap_or, Result, Ok, Err}
 use Rattle.base_values.specs.Deciding.{◌>>=◌, ◌>>◌, check, refuse_if, refuse_some, map_err}
 use Rattle.base_values.specs.Moments.{last_moment}
 use Rattle.base_values.specs.Secrets.{secret}
@@ -9,7 +9,6 @@ use Rattle.model_catalogue.specs.declared.refusal.CatalogueRefusal.TheVariants.{
 use Rattle.model_rows.specs.declared.rows.Order.{Order}
 use Rattle.model_rows.specs.declared.rows.OrderPos.{OrderPos}
 use Rattle.model_rows.specs.declared.rows.OrderRows.{OrderRows}
-use Rattle.model_rows.specs.declared.rows.Own.TheVariants.{Position}
 use Rattle.model_rows.specs.declared.changes.Change.{Change}
 use Rattle.model_rows.specs.declared.changes.Change.TheVariants.{PutOrder, PutPosition, DropCart}
 use Rattle.model_rows.specs.Budgets.{are_within}
@@ -28,6 +27,7 @@ use Rattle.model_commands.specs.declared.carts.Asked.{Asked}
 use Rattle.decide_orders.specs.declared.sold.Sold.{Sold}
 use Rattle.model_commands.specs.declared.orders.OrderRefusal.{OrderRefusal}
 use Rattle.model_commands.specs.declared.orders.OrderRefusal.TheVariants.{Voucher as OfVoucher, Empty, TooMany}
+use Rattle.decide_orders.specs.Places.{own_positions}
 use Rattle.decide_orders.specs.Sold.{sold_for, discount_of}
 
 -- the order's row: it has the next number, and 14 days where no end is given
@@ -73,6 +73,10 @@ rows_for draw state before id number (asked ∷ more) = do
   row ← position_for draw state before id number asked
   after_rows (row ∷ []) (rows_for draw state (before ++ row ∷ []) (id + 1) (number + 1) more)
 
+-- the rows of all that is asked of an order, which is the next one
+abbrev pub rows_asked : Draw → State → List Asked → Result (List OrderPos) OrderRefusal
+rows_asked draw state asked = rows_for draw state [] state.next.position 1 asked
+
 -- a position needs a use of its voucher that is left
 unfoldable pub position_put : OrderPos → State → Result State OrderRefusal
 position_put row state = do
@@ -84,6 +88,18 @@ abbrev pub with_positions : List OrderPos → Result State OrderRefusal → Resu
 with_positions rows (Err refusal) = Err refusal
 with_positions [] (Ok state) = Ok state
 with_positions (row ∷ rows) (Ok state) = with_positions rows (position_put row state)
+
+-- the box office with the order, which has no positions yet, and without the carts that it consumes
+abbrev pub with_order_row : Order → List (List ℕ) → State → State
+with_order_row row carts state = changed (PutOrder row) (without_carts (consumed carts state.lists) state)
+
+-- the order's row is put, without the carts that it consumes, and then its positions
+abbrev pub rows_put : Order → List OrderPos → List (List ℕ) → State → Result State OrderRefusal
+rows_put row rows carts state = with_positions rows (Ok (with_order_row row carts state))
+
+-- the tables take an order and so many positions
+abbrev pub takes_whole : ℕ → State → Bool
+takes_whole count state = takes_order state && takes_positions count state
 
 -- the next ids, with the order's and its positions' counted as used
 abbrev pub with_ids_used : ℕ → State → State
@@ -101,19 +117,19 @@ abbrev pub AreCounted : ℕ → List OrderPos → Type 0
 AreCounted id [] = Unit {0}
 AreCounted id (row ∷ rows) = (row.id ≡ id) × AreCounted (id + 1) rows
 
--- the box office with the order, which has no positions yet, and without the carts that it consumes
-abbrev pub with_order_row : Order → List (List ℕ) → State → State
-with_order_row row carts state = changed (PutOrder row) (without_carts (consumed carts state.lists) state)
+-- the box office once their ids count as used, and the order with its positions
+abbrev pub order_made : Order → List OrderPos → State → State × OrderRows
+order_made row rows after = (with_ids_used (length rows) after, record { order = row; positions = rows })
 
 -- without the carts that it consumes, each voucher needs its uses, and then its budget all that is spent of it, and no quota may be
 -- taken too much of
 unfoldable pub order_placed : Order → List OrderPos → List (List ℕ) → State → Result (State × OrderRows) OrderRefusal
 order_placed row rows carts state = do
-  after ← with_positions rows (Ok (with_order_row row carts state))
+  after ← rows_put row rows carts state
   check (are_within after.lists rows) (OfVoucher OverBudget)
-  refuse_some (λ quota. OfVoucher (SoldOut quota)) (first_over state.lists after.lists state.moment (map (λ p. Position p.id) rows))
-  check (takes_order state && takes_positions (length rows) state) (OfVoucher (Catalogue Full))
-  Ok (with_ids_used (length rows) after, record { order = row; positions = rows })
+  refuse_some (λ quota. OfVoucher (SoldOut quota)) (first_over state.lists after.lists state.moment (own_positions rows))
+  check (takes_whole (length rows) state) (OfVoucher (Catalogue Full))
+  Ok (order_made row rows after)
 
 -- a new order has 1 to 500 positions, and consumes 500 carts at most
 abbrev pub counts_test : NewOrder → Result (Unit {0}) OrderRefusal
@@ -127,7 +143,7 @@ counts_test new = do
 unfoldable pub order_created : NewOrder → Draw → State → Result (State × OrderRows) OrderRefusal
 order_created new draw state = do
   counts_test new
-  rows ← rows_for draw state [] state.next.position 1 new.positions
+  rows ← rows_asked draw state new.positions
   order_placed (order_row new state) rows new.consume_carts state
 
 -- the changes that make an order: the cart positions that it consumes go, then it is put, and then its positions

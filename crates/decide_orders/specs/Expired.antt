@@ -7,7 +7,7 @@ use Rattle.model_rows.specs.declared.rows.Status.TheVariants.{Expired}
 use Rattle.model_rows.specs.Conditions.{is_live_cart}
 use Rattle.model_rows.specs.Lists.{Lists, State}
 use Rattle.base_sorted.specs.Tables.{row_at, with_row}
-use Rattle.model_rows.specs.Due.{is_due, dead_carts}
+use Rattle.model_rows.specs.Due.{is_due, due_orders, dead_carts}
 
 -- an order with the status expired, and all else as it was
 abbrev pub expired_row : Order → Order
@@ -33,9 +33,16 @@ expired_changes state = map PutOrder (expired_rows state.moment state.lists)
 unfoldable pub carts_dropped : State → State
 carts_dropped state = record state { lists = record state.lists { carts = filter (is_live_cart state.moment) state.lists.carts } }
 
+-- the orders that are overdue at its moment, and the cart positions that are dead, by their ids
+abbrev pub due_now : State → List ℕ
+due_now state = due_orders state.moment state.lists
+
+abbrev pub dead_now : State → List ℕ
+dead_now state = dead_carts state.moment state.lists
+
 -- the changes that lead there
 abbrev pub dropped_changes : State → List Change
-dropped_changes state = map DropCart (dead_carts state.moment state.lists)
+dropped_changes state = map DropCart (dead_now state)
 
 -- ONE AFTER ANOTHER
 

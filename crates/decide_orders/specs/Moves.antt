@@ -1,23 +1,24 @@
 -- The moves of an order.
-use Rattle.std.specs.Prelude.{ℕ, Bool, true, false, map, Option, Some, None, Result, Ok, if◌then◌else◌}
+use Rattle.std.specs.Prelude.{ℕ, ◌+◌, Bool, true, false, Option, Some, None, Result, Ok, if◌then◌else◌}
 use Rattle.std.specs.Option.{ok_or}
 use Rattle.base_values.specs.Deciding.{◌>>=◌, ◌>>◌, check, refuse_some}
 use Rattle.model_rows.specs.declared.rows.Order.{Order}
 use Rattle.model_rows.specs.declared.rows.OrderRows.{OrderRows}
-use Rattle.model_rows.specs.declared.rows.Own.TheVariants.{Position}
 use Rattle.model_rows.specs.declared.rows.Status.{Status}
 use Rattle.model_rows.specs.declared.rows.Status.TheVariants.{Pending, Paid, Expired, Cancelled}
 use Rattle.model_rows.specs.declared.changes.Change.TheVariants.{PutOrder}
 use Rattle.model_rows.specs.Budgets.{are_within}
 use Rattle.model_rows.specs.Lists.{State, order_at, positions_of}
 use Rattle.model_rows.specs.Change.{after_change, changed}
-use Rattle.model_rows.specs.Headroom.{have_room}
+use Rattle.model_rows.specs.Headroom.{has_room, have_room, held}
 use Rattle.model_rows.specs.Over.{first_over}
+use Rattle.model_rows.specs.Usage.{redeemed}
 use Rattle.model_invariant.specs.Positions.{by_positionid}
 use Rattle.model_commands.specs.declared.vouchers.VoucherRefusal.TheVariants.{NoHeadroom, OverBudget, SoldOut}
 use Rattle.model_commands.specs.declared.orders.Move.{Move}
 use Rattle.model_commands.specs.declared.orders.Move.TheVariants.{MarkPaid, MarkPending, MarkExpired, MarkCanceled, Extend}
 use Rattle.decide_orders.specs.declared.moves.Transition.{Transition}
+use Rattle.decide_orders.specs.Places.{own_positions}
 use Rattle.model_commands.specs.declared.orders.OrderRefusal.{OrderRefusal}
 use Rattle.model_commands.specs.declared.orders.OrderRefusal.TheVariants.{Voucher as OfVoucher, NoOrder, WrongStatus}
 
@@ -57,6 +58,14 @@ end_after change old = old
 abbrev pub moved_row : Order → Status → Move → Order
 moved_row order status change = record order { status = status; expires = end_after change order.expires }
 
+-- how often a voucher is used once the order has come back
+abbrev pub uses_again : Order → State → ℕ → ℕ
+uses_again row state voucher = redeemed voucher (after_change (PutOrder row) state.lists) + held state.moment voucher state.lists
+
+-- a voucher, if there is one, has the uses that the order takes again
+abbrev pub has_room_again : Order → State → Option ℕ → Bool
+has_room_again row state voucher = has_room state.moment (after_change (PutOrder row) state.lists) voucher
+
 -- the vouchers of the order's positions have the uses that it takes again
 abbrev pub have_uses_again : Order → State → Bool
 have_uses_again row state = have_room state.moment (after_change (PutOrder row) state.lists) (positions_of row.id state.lists)
@@ -75,7 +84,7 @@ moved_to row state = (changed (PutOrder row) state, order_rows row state)
 
 -- the least quota of which an order takes too much as it comes back
 abbrev pub over_again : Order → State → Option ℕ
-over_again row state = first_over state.lists (after_change (PutOrder row) state.lists) state.moment (map (λ p. Position p.id) (positions_of row.id state.lists))
+over_again row state = first_over state.lists (after_change (PutOrder row) state.lists) state.moment (own_positions (positions_of row.id state.lists))
 
 -- an order that comes back to life is tested for the uses, the budgets and the places that it takes again
 unfoldable pub revival : Order → State → Result (State × OrderRows) OrderRefusal

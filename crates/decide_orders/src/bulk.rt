@@ -1,6 +1,8 @@
 //! Adding many cart positions in one call.
 
-ghost use Rattle.std.specs.Prelude.{◌≡◌, ◌≢◌, [], ◌∷◌, ◌++◌, Ok, Err, IfOk, IfErr, OnErr};
+ghost use Rattle.std.specs.Prelude.{◌≡◌, [], ◌∷◌, IfOk};
+ghost use Rattle.model_commands.specs.declared.orders.OrderRefusal.TheVariants.{Memory};
+ghost use Rattle.draft_changes.specs.Decides.{Logs, DecidesBy};
 ghost use Rattle.draft_changes.specs.DraftState.{now, Extends};
 ghost use Rattle.decide_orders.specs.Bulk.{bulk_changes, entry_added, all_added, many_added};
 
@@ -26,11 +28,8 @@ pub fn add_many<B: Book>(
     draw: Draw,
     entries: &[Entry],
 ) -> Result<List<Outcome>, OrderRefusal>
-    ensures done { IfOk result (λ outcomes. many_added entries.now draw (now draft.old) ≡ Ok (now draft.new, outcomes)) }
-    ensures refused { IfErr result (λ e. e ≢ OrderRefusal.Memory → many_added entries.now draw (now draft.old) ≡ Err e) }
-    ensures changes { IfOk result (λ outcomes. draft.new.log.changes ≡ draft.old.log.changes ++ bulk_changes outcomes) }
-    ensures extends { Extends draft.old draft.new }
-    ensures same { OnErr result (draft.new ≡ draft.old) }
+    ensures { DecidesBy Memory (many_added entries.now draw) bulk_changes
+        draft.old draft.new result }
 {
     if MOST_ENTRIES < entries.len() {
         return Err(OrderRefusal::TooMany);
@@ -48,8 +47,9 @@ fn add_all<B: Book>(
     draw: Draw,
     entries: &[Entry],
 ) -> Result<Vec<Outcome>, AllocError>
-    ensures done { IfOk result (λ outcomes. all_added entries.now draw (now draft.old) ≡ (now draft.new, outcomes.items)) }
-    ensures changes { IfOk result (λ outcomes. draft.new.log.changes ≡ draft.old.log.changes ++ bulk_changes outcomes.items) }
+    ensures done { IfOk result (λ outcomes.
+        all_added entries.now draw (now draft.old) ≡ (now draft.new, outcomes.items)) }
+    ensures changes { IfOk result (λ o. Logs (bulk_changes o.items) draft.old draft.new) }
     ensures extends { Extends draft.old draft.new }
 {
     let mut outcomes = Vec::new(alloc);
@@ -66,8 +66,9 @@ fn add_entry<B: Book>(
     draw: Draw,
     entry: &Entry,
 ) -> Result<Outcome, AllocError>
-    ensures done { IfOk result (λ outcome. entry_added entry.now draw (now draft.old) ≡ (now draft.new, outcome)) }
-    ensures changes { IfOk result (λ outcome. draft.new.log.changes ≡ draft.old.log.changes ++ bulk_changes (outcome ∷ [])) }
+    ensures done { IfOk result (λ outcome.
+        entry_added entry.now draw (now draft.old) ≡ (now draft.new, outcome)) }
+    ensures changes { IfOk result (λ o. Logs (bulk_changes (o ∷ [])) draft.old draft.new) }
     ensures extends { Extends draft.old draft.new }
 {
     match entry {

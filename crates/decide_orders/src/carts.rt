@@ -1,7 +1,9 @@
 //! Adding and deleting cart positions.
 
-ghost use Rattle.std.specs.Prelude.{◌≡◌, ◌≢◌, [], ◌∷◌, ◌++◌, Ok, Err, IfOk, IfErr, OnErr};
-ghost use Rattle.draft_changes.specs.DraftState.{now, Extends};
+ghost use Rattle.std.specs.Prelude.{◌≡◌, [], ◌∷◌};
+ghost use Rattle.model_commands.specs.declared.orders.OrderRefusal.TheVariants.{Memory};
+ghost use Rattle.draft_changes.specs.Decides.{AnswersBy, DecidesBy, DeletesBy};
+ghost use Rattle.draft_changes.specs.DraftState.{now};
 ghost use Rattle.model_rows.specs.declared.changes.Change.TheVariants.{PutCart, DropCart};
 ghost use Rattle.decide_orders.specs.Carts.{cart_row, placed, position_added, has_use_for};
 ghost use Rattle.decide_orders.specs.Dropped.{position_dropped};
@@ -32,11 +34,8 @@ pub fn add_position<B: Book>(
     draw: Draw,
     new: &NewCart,
 ) -> Result<CartPos, OrderRefusal>
-    ensures done { IfOk result (λ row. position_added new.now draw (now draft.old) ≡ Ok (now draft.new, row)) }
-    ensures refused { IfErr result (λ e. e ≢ OrderRefusal.Memory → position_added new.now draw (now draft.old) ≡ Err e) }
-    ensures changes { IfOk result (λ row. draft.new.log.changes ≡ draft.old.log.changes ++ PutCart row ∷ []) }
-    ensures extends { Extends draft.old draft.new }
-    ensures same { OnErr result (draft.new ≡ draft.old) }
+    ensures { DecidesBy Memory (position_added new.now draw) (λ row. PutCart row ∷ [])
+        draft.old draft.new result }
 {
     let row = new_row(draft, alloc, draw, new)?;
     place(draft, alloc, row)
@@ -50,8 +49,7 @@ fn new_row<B: Book>(
     draw: Draw,
     new: &NewCart,
 ) -> Result<CartPos, OrderRefusal>
-    ensures done { IfOk result (λ row. cart_row new.now draw (now draft.now) ≡ Ok row) }
-    ensures refused { IfErr result (λ e. e ≢ OrderRefusal.Memory → cart_row new.now draw (now draft.now) ≡ Err e) }
+    ensures { AnswersBy Memory (cart_row new.now draw (now draft.now)) result }
 {
     test_cart_id(new)?;
     let sold = sold_for(draft, &new.asked, &[])?;
@@ -81,11 +79,8 @@ fn place<B: Book>(
     alloc: Global,
     row: CartPos,
 ) -> Result<CartPos, OrderRefusal>
-    ensures done { IfOk result (λ copy. placed row (now draft.old) ≡ Ok (now draft.new, copy)) }
-    ensures refused { IfErr result (λ e. e ≢ OrderRefusal.Memory → placed row (now draft.old) ≡ Err e) }
-    ensures changes { IfOk result (λ copy. draft.new.log.changes ≡ draft.old.log.changes ++ PutCart copy ∷ []) }
-    ensures extends { Extends draft.old draft.new }
-    ensures same { OnErr result (draft.new ≡ draft.old) }
+    ensures { DecidesBy Memory (placed row) (λ copy. PutCart copy ∷ [])
+        draft.old draft.new result }
 {
     if !has_use_for(draft, &row) {
         return Err(OrderRefusal::Voucher(VoucherRefusal::NoHeadroom));
@@ -109,11 +104,7 @@ pub fn drop_position<B: Book>(
     alloc: Global,
     id: u64,
 ) -> Result<(), OrderRefusal>
-    ensures done { IfOk result (λ _. position_dropped id (now draft.old) ≡ Ok (now draft.new)) }
-    ensures refused { IfErr result (λ e. e ≢ OrderRefusal.Memory → position_dropped id (now draft.old) ≡ Err e) }
-    ensures changes { IfOk result (λ _. draft.new.log.changes ≡ draft.old.log.changes ++ DropCart id ∷ []) }
-    ensures extends { Extends draft.old draft.new }
-    ensures same { OnErr result (draft.new ≡ draft.old) }
+    ensures { DeletesBy Memory (position_dropped id) (DropCart id ∷ []) draft.old draft.new result }
 {
     if draft.rows().cart(id).is_none() {
         return Err(OrderRefusal::NoPosition);

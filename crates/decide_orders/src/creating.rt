@@ -1,14 +1,15 @@
 //! Making an order.
 
-ghost use Rattle.std.specs.Prelude.{◌≡◌, ◌≢◌, ◌≤◌, ◌+◌, true, Ok, Err, IfOk, IfErr, OnOk, OnErr, ◌&&◌, [], ◌∷◌, ◌++◌, length, map};
+ghost use Rattle.std.specs.Prelude.{◌≡◌, ◌≤◌, ◌+◌, true, Ok, IfOk, OnOk, [], ◌∷◌, length, map};
+ghost use Rattle.model_commands.specs.declared.orders.OrderRefusal.TheVariants.{Memory};
+ghost use Rattle.draft_changes.specs.Decides.{Logs, RefusesBy, AnswersBy, DecidesBy};
 ghost use Rattle.draft_changes.specs.DraftState.{now, back, Extends, IsMarkOf};
 ghost use Rattle.model_rows.specs.declared.changes.Change.TheVariants.{PutPosition, DropCart};
 ghost use Rattle.model_rows.specs.Change.{without_carts};
 ghost use Rattle.model_catalogue.specs.Limits.{last_id};
-ghost use Rattle.model_rows.specs.Full.{takes_order, takes_positions};
 ghost use Rattle.model_invariant.specs.Sound.{IsSound};
-ghost use Rattle.model_rows.specs.declared.rows.Own.TheVariants.{Position};
-ghost use Rattle.decide_orders.specs.Created.{order_changes, order_created, counts_test, order_row, position_for, rows_for, position_put, with_positions, with_order_row, with_ids_used, order_placed, IsReady, AreCounted};
+ghost use Rattle.decide_orders.specs.Created.{order_changes, order_created, counts_test, order_row, position_for, position_put, with_positions, with_order_row, order_placed, IsReady, AreCounted, rows_asked, rows_put, takes_whole, order_made};
+ghost use Rattle.decide_orders.specs.Places.{own_positions};
 
 use crate::places::test_sale;
 use crate::sold::sold_for;
@@ -39,11 +40,9 @@ pub fn create<B: Book>(
 ) -> Result<OrderRows, OrderRefusal>
     requires fresh { draft.old.log.changes ≡ [] }
     requires sound { IsSound (now draft.old) }
-    ensures done { IfOk result (λ rows. order_created new.now draw (now draft.old) ≡ Ok (now draft.new, rows)) }
-    ensures refused { IfErr result (λ e. e ≢ OrderRefusal.Memory → order_created new.now draw (now draft.old) ≡ Err e) }
-    ensures changes { IfOk result (λ rows. draft.new.log.changes ≡ draft.old.log.changes ++ order_changes new.now.consume_carts rows.order rows.positions (now draft.old).lists) }
-    ensures extends { Extends draft.old draft.new }
-    ensures same { OnErr result (draft.new ≡ draft.old) }
+    ensures { DecidesBy Memory (order_created new.now draw) (λ rows.
+        order_changes new.now.consume_carts rows.order rows.positions (now draft.old).lists)
+        draft.old draft.new result }
 {
     test_counts(new)?;
     let rows = new_rows(draft, alloc, draw, new.positions.as_slice())?;
@@ -100,8 +99,8 @@ fn new_row<B: Book>(
     number: u32,
     asked: &Asked,
 ) -> Result<OrderPos, OrderRefusal>
-    ensures done { IfOk result (λ row. position_for draw (now draft.now) before.now id number asked.now ≡ Ok row) }
-    ensures refused { IfErr result (λ e. e ≢ OrderRefusal.Memory → position_for draw (now draft.now) before.now id number asked.now ≡ Err e) }
+    ensures { AnswersBy Memory (position_for draw (now draft.now) before.now id number asked.now)
+        result }
 {
     let sold = sold_for(draft, asked, before)?;
     Ok(OrderPos {
@@ -126,8 +125,8 @@ fn new_rows<B: Book>(
 ) -> Result<Vec<OrderPos>, OrderRefusal>
     requires few { length asked.now ≤ 500 }
     requires next { (now draft.now).next.position ≤ last_id + 1 }
-    ensures done { IfOk result (λ rows. rows_for draw (now draft.now) [] (now draft.now).next.position 1 asked.now ≡ Ok rows.items) }
-    ensures refused { IfErr result (λ e. e ≢ OrderRefusal.Memory → rows_for draw (now draft.now) [] (now draft.now).next.position 1 asked.now ≡ Err e) }
+    ensures done { IfOk result (λ rows. rows_asked draw (now draft.now) asked.now ≡ Ok rows.items) }
+    ensures refused { RefusesBy Memory (rows_asked draw (now draft.now) asked.now) result }
 {
     let mut rows = Vec::new(alloc);
     let mut id = draft.next_position();
@@ -148,7 +147,7 @@ pub(crate) fn drop_carts<B: Book>(
     ids: &[u64],
 ) -> Result<(), AllocError>
     ensures done { OnOk result (now draft.new ≡ without_carts ids.now (now draft.old)) }
-    ensures changes { OnOk result (draft.new.log.changes ≡ draft.old.log.changes ++ map DropCart ids.now) }
+    ensures changes { OnOk result (Logs (map DropCart ids.now) draft.old draft.new) }
     ensures extends { Extends draft.old draft.new }
 {
     for id in ids {
@@ -167,8 +166,10 @@ fn put_order<B: Book>(
     requires fresh { draft.old.log.changes ≡ [] }
     requires sound { IsSound (now draft.old) }
     requires new { order.now.id ≡ (now draft.old).next.order }
-    ensures done { OnOk result (now draft.new ≡ with_order_row order.now carts.now (now draft.old)) }
-    ensures changes { OnOk result (draft.new.log.changes ≡ draft.old.log.changes ++ order_changes carts.now order.now [] (now draft.old).lists) }
+    ensures done { OnOk result (
+        now draft.new ≡ with_order_row order.now carts.now (now draft.old)) }
+    ensures changes { OnOk result (
+        Logs (order_changes carts.now order.now [] (now draft.old).lists) draft.old draft.new) }
     ensures extends { Extends draft.old draft.new }
 {
     let ids = draft.book().carts_in(alloc, carts)?;
@@ -185,8 +186,8 @@ fn put_position<B: Book>(
 ) -> Result<(), OrderRefusal>
     requires { IsReady row.now.id (now draft.old) }
     ensures done { OnOk result (position_put row.now (now draft.old) ≡ Ok (now draft.new)) }
-    ensures refused { IfErr result (λ e. e ≢ OrderRefusal.Memory → position_put row.now (now draft.old) ≡ Err e) }
-    ensures changes { OnOk result (draft.new.log.changes ≡ draft.old.log.changes ++ PutPosition row.now ∷ []) }
+    ensures refused { RefusesBy Memory (position_put row.now (now draft.old)) result }
+    ensures changes { OnOk result (Logs (PutPosition row.now ∷ []) draft.old draft.new) }
     ensures extends { Extends draft.old draft.new }
 {
     if !draft.has_use(row.voucher) {
@@ -206,8 +207,8 @@ fn put_positions<B: Book>(
     requires ready { IsReady first (now draft.old) }
     requires counted { AreCounted first rows.now }
     ensures done { OnOk result (with_positions rows.now (Ok (now draft.old)) ≡ Ok (now draft.new)) }
-    ensures refused { IfErr result (λ e. e ≢ OrderRefusal.Memory → with_positions rows.now (Ok (now draft.old)) ≡ Err e) }
-    ensures changes { OnOk result (draft.new.log.changes ≡ draft.old.log.changes ++ map PutPosition rows.now) }
+    ensures refused { RefusesBy Memory (with_positions rows.now (Ok (now draft.old))) result }
+    ensures changes { OnOk result (Logs (map PutPosition rows.now) draft.old draft.new) }
     ensures extends { Extends draft.old draft.new }
 {
     for row in rows {
@@ -228,9 +229,12 @@ fn put_all<B: Book>(
     requires sound { IsSound (now draft.old) }
     requires new { order.now.id ≡ (now draft.old).next.order }
     requires counted { AreCounted (now draft.old).next.position rows.now }
-    ensures done { OnOk result (with_positions rows.now (Ok (with_order_row order.now carts.now (now draft.old))) ≡ Ok (now draft.new)) }
-    ensures refused { IfErr result (λ e. e ≢ OrderRefusal.Memory → with_positions rows.now (Ok (with_order_row order.now carts.now (now draft.old))) ≡ Err e) }
-    ensures changes { OnOk result (draft.new.log.changes ≡ draft.old.log.changes ++ order_changes carts.now order.now rows.now (now draft.old).lists) }
+    ensures done { OnOk result (
+        rows_put order.now rows.now carts.now (now draft.old) ≡ Ok (now draft.new)) }
+    ensures refused { RefusesBy Memory
+        (rows_put order.now rows.now carts.now (now draft.old)) result }
+    ensures changes { OnOk result (Logs
+        (order_changes carts.now order.now rows.now (now draft.old).lists) draft.old draft.new) }
     ensures extends { Extends draft.old draft.new }
 {
     let first = draft.next_position();
@@ -240,7 +244,7 @@ fn put_all<B: Book>(
 
 // The rows of a request, by their ids.
 fn own_of(alloc: Global, rows: &[OrderPos]) -> Result<Vec<Own>, AllocError>
-    ensures { IfOk result (λ own. own.items ≡ map (λ p. Position p.id) rows.now) }
+    ensures { IfOk result (λ own. own.items ≡ own_positions rows.now) }
 {
     rows.iter().map(|row| Own::Position(row.id)).collect(alloc)
 }
@@ -248,7 +252,7 @@ fn own_of(alloc: Global, rows: &[OrderPos]) -> Result<Vec<Own>, AllocError>
 // Whether the tables take an order and so many positions.
 fn takes<B: Book>(draft: &Draft<'_, B>, count: usize) -> bool
     requires fresh { draft.now.log.changes ≡ [] }
-    ensures { result ≡ (takes_order (now draft.now) && takes_positions count (now draft.now)) }
+    ensures { result ≡ takes_whole count (now draft.now) }
 {
     draft.takes_order() && draft.takes_positions(count)
 }
@@ -271,12 +275,16 @@ fn put_tested<B: Book>(
     requires counted { AreCounted (now draft.old).next.position rows.now }
     requires mark { IsMarkOf draft.old mark.now }
     requires here { back mark.now draft.old ≡ draft.old }
-    requires own { own.now ≡ map (λ p. Position p.id) rows.now }
-    ensures put { OnOk result (with_positions rows.now (Ok (with_order_row order.now carts.now (now draft.old))) ≡ Ok (now draft.new)) }
-    ensures takes { OnOk result ((takes_order (now draft.old) && takes_positions (length rows.now) (now draft.old)) ≡ true) }
-    ensures done { OnOk result (order_placed order.now rows.now carts.now (now draft.old) ≡ Ok (with_ids_used (length rows.now) (now draft.new), record { order = order.now; positions = rows.now })) }
-    ensures refused { IfErr result (λ e. e ≢ OrderRefusal.Memory → order_placed order.now rows.now carts.now (now draft.old) ≡ Err e) }
-    ensures changes { OnOk result (draft.new.log.changes ≡ draft.old.log.changes ++ order_changes carts.now order.now rows.now (now draft.old).lists) }
+    requires own { own.now ≡ own_positions rows.now }
+    ensures put { OnOk result (
+        rows_put order.now rows.now carts.now (now draft.old) ≡ Ok (now draft.new)) }
+    ensures takes { OnOk result (takes_whole (length rows.now) (now draft.old) ≡ true) }
+    ensures done { OnOk result (order_placed order.now rows.now carts.now (now draft.old)
+        ≡ Ok (order_made order.now rows.now (now draft.new))) }
+    ensures refused { RefusesBy Memory
+        (order_placed order.now rows.now carts.now (now draft.old)) result }
+    ensures changes { OnOk result (Logs
+        (order_changes carts.now order.now rows.now (now draft.old).lists) draft.old draft.new) }
     ensures extends { Extends draft.old draft.new }
 {
     let takes = takes(draft, rows.len());
@@ -298,11 +306,9 @@ fn place<B: Book>(
     requires sound { IsSound (now draft.old) }
     requires new { order.id ≡ (now draft.old).next.order }
     requires counted { AreCounted (now draft.old).next.position rows.items }
-    ensures done { IfOk result (λ made. order_placed order rows.items carts.now (now draft.old) ≡ Ok (now draft.new, made)) }
-    ensures refused { IfErr result (λ e. e ≢ OrderRefusal.Memory → order_placed order rows.items carts.now (now draft.old) ≡ Err e) }
-    ensures changes { IfOk result (λ made. draft.new.log.changes ≡ draft.old.log.changes ++ order_changes carts.now made.order made.positions (now draft.old).lists) }
-    ensures extends { Extends draft.old draft.new }
-    ensures same { OnErr result (draft.new ≡ draft.old) }
+    ensures { DecidesBy Memory (order_placed order rows.items carts.now) (λ made.
+        order_changes carts.now made.order made.positions (now draft.old).lists)
+        draft.old draft.new result }
 {
     let own = own_of(alloc, &rows)?;
     let mark = draft.mark();

@@ -1,13 +1,13 @@
 //! Laws of the decisions.
 
-ghost use Rattle.std.specs.Prelude.{◌≡◌, ◌≢◌, ℕ, ◌+◌, ◌≤◌, ◌⊎◌, true, false, List, [], ◌∷◌, ◌++◌, length, map, take, Some, None, Ok, Err};
+ghost use Rattle.std.specs.Prelude.{◌≡◌, ◌≢◌, ℕ, ◌+◌, ◌≤◌, ◌⊎◌, true, false, List, [], ◌∷◌, ◌++◌, length, take, Some, None, Ok, Err};
 ghost use Rattle.std.specs.List.{AllByRecursion};
 ghost use Rattle.base_values.specs.Draws.{IsDraw};
 ghost use Rattle.base_values.specs.declared.draw.Draw.{Draw};
 ghost use Rattle.model_catalogue.specs.CatalogueLists.{quota_at};
 ghost use Rattle.model_catalogue.specs.declared.rows.Quota.{Quota};
 ghost use Rattle.model_rows.specs.Lists.{Lists, State, order_at};
-ghost use Rattle.model_rows.specs.Over.{first_over, ignores};
+ghost use Rattle.model_rows.specs.Over.{ignores};
 ghost use Rattle.model_rows.specs.declared.rows.CartPos.{CartPos};
 ghost use Rattle.model_rows.specs.declared.rows.Order.{Order};
 ghost use Rattle.model_rows.specs.declared.rows.OrderPos.{OrderPos};
@@ -28,20 +28,21 @@ ghost use Rattle.model_commands.specs.declared.orders.OrderRefusal.{OrderRefusal
 ghost use Rattle.model_commands.specs.declared.vouchers.VoucherRefusal.{VoucherRefusal};
 ghost use Rattle.decide_orders.specs.Bulk.{all_added, many_added, after_outcomes};
 ghost use Rattle.decide_orders.specs.Carts.{position_added};
-ghost use Rattle.decide_orders.specs.Created.{after_rows, order_created, order_row, rows_for, with_order_row, with_positions};
+ghost use Rattle.decide_orders.specs.Created.{after_rows, order_created, order_row, rows_for, with_order_row, with_positions, rows_asked};
 ghost use Rattle.decide_orders.specs.Dropped.{position_dropped};
 ghost use Rattle.decide_orders.specs.Expired.{orders_expired, carts_dropped};
 ghost use Rattle.decide_orders.specs.Moves.{order_moved};
 ghost use Rattle.decide_orders.specs.Whole.{put_whole};
 ghost use Rattle.model_commands.specs.declared.orders.Move.{Move};
 ghost use Rattle.model_rows.specs.Takes.{used, TakesNoMore};
+ghost use Rattle.decide_orders.specs.Places.{own_positions, NoneIsOver, AllHeed};
 
 /// Each cart position that is added was weighed: it takes too much of no quota, where the position itself
 /// doesn't weigh if its voucher ignores quotas.
 pub fn added_none_over()
     ensures { (new : NewCart) (draw : Draw) (before after : State) (row : CartPos) →
         position_added new draw before ≡ Ok (after, row) →
-        first_over before.lists after.lists before.moment (Own.Cart row.id ∷ []) ≡ None }
+        NoneIsOver (Own.Cart row.id ∷ []) before after }
 {}
 
 /// Where its voucher, if it names one, heeds quotas, what is used afterwards is within each quota's size, or no
@@ -64,9 +65,12 @@ pub fn bulk_is_each_by_itself()
 /// after it no voucher is named by more order positions in force and live cart positions than it may be used.
 pub fn carts_keep_sound()
     ensures added { (new : NewCart) (draw : Draw) (before after : State) (row : CartPos) →
-        IsFitCart new → IsDraw draw → IsSound before → position_added new draw before ≡ Ok (after, row) → IsSound after }
-    ensures many { (entries : List Entry) (draw : Draw) (before after : State) (outcomes : List Outcome) →
-        AllByRecursion IsFitEntry entries → IsDraw draw → IsSound before → many_added entries draw before ≡ Ok (after, outcomes) → IsSound after }
+        IsFitCart new → IsDraw draw → IsSound before →
+        position_added new draw before ≡ Ok (after, row) → IsSound after }
+    ensures many { (entries : List Entry) (draw : Draw) (before after : State)
+        (outcomes : List Outcome) →
+        AllByRecursion IsFitEntry entries → IsDraw draw → IsSound before →
+        many_added entries draw before ≡ Ok (after, outcomes) → IsSound after }
     ensures dropped { (id : ℕ) (before after : State) →
         IsSound before → position_dropped id before ≡ Ok after → IsSound after }
 {}
@@ -82,14 +86,14 @@ pub fn dropping_lowers()
 pub fn created_none_over()
     ensures { (new : NewOrder) (draw : Draw) (before after : State) (rows : OrderRows) →
         order_created new draw before ≡ Ok (after, rows) →
-        first_over before.lists after.lists before.moment (map (λ p. Own.Position p.id) rows.positions) ≡ None }
+        NoneIsOver (own_positions rows.positions) before after }
 {}
 
 /// Where all vouchers of its positions heed quotas, what is used afterwards is within each quota's size, or no more
 /// than was used before.
 pub fn created_takes_no_more()
     ensures { (new : NewOrder) (draw : Draw) (before after : State) (rows : OrderRows) →
-        AllByRecursion (λ p. ignores after.lists p.voucher ≡ false) rows.positions →
+        AllHeed after.lists rows.positions →
         order_created new draw before ≡ Ok (after, rows) → TakesNoMore before after }
 {}
 
@@ -97,15 +101,16 @@ pub fn created_takes_no_more()
 /// is still one when an order is made.
 pub fn created_sound()
     ensures { (new : NewOrder) (draw : Draw) (before after : State) (rows : OrderRows) →
-        IsFitOrder new → IsDraw draw → IsSound before → order_created new draw before ≡ Ok (after, rows) → IsSound after }
+        IsFitOrder new → IsDraw draw → IsSound before →
+        order_created new draw before ≡ Ok (after, rows) → IsSound after }
 {}
 
 /// The uses of an order's vouchers are tested position by position, each against what those before it left. In a sound box
 /// office that is one test of the whole: it refuses exactly where, with all positions put, some voucher is named more often
 /// than it may be; elsewhere all of them are put.
 pub fn uses_are_tested_as_a_whole()
-    ensures { (new : NewOrder) (draw : Draw) (state : State) (rows : List OrderPos) → IsSound state →
-        rows_for draw state [] state.next.position 1 new.positions ≡ Ok rows →
+    ensures { (new : NewOrder) (draw : Draw) (state : State) (rows : List OrderPos) →
+        IsSound state → rows_asked draw state new.positions ≡ Ok rows →
         let placed = with_order_row (order_row new state) new.consume_carts state in
         with_positions rows (Ok placed) ≡ put_whole rows placed }
 {}
@@ -113,11 +118,13 @@ pub fn uses_are_tested_as_a_whole()
 /// The positions of an order are priced in turn: more that is asked comes behind the rows of those in front, and is priced
 /// within what all of them leave of its voucher's budget. A refusal of one in front refuses all.
 pub fn an_order_is_priced_in_turn()
-    ensures rows { (draw : Draw) (state : State) (before rows : List OrderPos) (id number : ℕ) (xs ys : List Asked) →
+    ensures rows { (draw : Draw) (state : State) (before rows : List OrderPos) (id number : ℕ)
+        (xs ys : List Asked) →
         rows_for draw state before id number xs ≡ Ok rows →
-        rows_for draw state before id number (xs ++ ys) ≡
-        after_rows rows (rows_for draw state (before ++ rows) (id + length rows) (number + length rows) ys) }
-    ensures refused { (draw : Draw) (state : State) (before : List OrderPos) (id number : ℕ) (xs ys : List Asked) (refusal : OrderRefusal) →
+        rows_for draw state before id number (xs ++ ys) ≡ after_rows rows
+        (rows_for draw state (before ++ rows) (id + length rows) (number + length rows) ys) }
+    ensures refused { (draw : Draw) (state : State) (before : List OrderPos) (id number : ℕ)
+        (xs ys : List Asked) (refusal : OrderRefusal) →
         rows_for draw state before id number xs ≡ Err refusal →
         rows_for draw state before id number (xs ++ ys) ≡ Err refusal }
 {}
@@ -134,22 +141,26 @@ pub fn asked_prices_fit()
 pub fn carts_take_no_budget()
     ensures unrefused { (new : NewCart) (draw : Draw) (state : State) →
         position_added new draw state ≢ Err (OrderRefusal.Voucher VoucherRefusal.OverBudget) }
-    ensures spent { (new : NewCart) (draw : Draw) (before after : State) (row : CartPos) (voucher : ℕ) →
-        position_added new draw before ≡ Ok (after, row) → spent voucher after.lists ≡ spent voucher before.lists }
+    ensures spent { (new : NewCart) (draw : Draw) (before after : State) (row : CartPos)
+        (voucher : ℕ) →
+        position_added new draw before ≡ Ok (after, row) →
+        spent voucher after.lists ≡ spent voucher before.lists }
 {}
 
 /// Each order that comes back to life was weighed: it takes too much of no quota, where its positions don't weigh if
 /// their vouchers ignore quotas. Where all of them heed quotas, what is used afterwards is within each quota's size, or
 /// no more than was used before.
 pub fn revivals_take_no_more()
-    ensures none_over { (number : ℕ) (change : Move) (before after : State) (rows : OrderRows) (old : Order) →
-        order_at number before.lists ≡ Some old → is_in_force old.status ≡ false → is_in_force rows.order.status ≡ true →
-        order_moved number change before ≡ Ok (after, rows) →
-        first_over before.lists after.lists before.moment (map (λ p. Own.Position p.id) rows.positions) ≡ None }
-    ensures takes { (number : ℕ) (change : Move) (before after : State) (rows : OrderRows) (old : Order) →
+    ensures none_over { (number : ℕ) (change : Move) (before after : State) (rows : OrderRows)
+        (old : Order) →
+        order_at number before.lists ≡ Some old → is_in_force old.status ≡ false →
+        is_in_force rows.order.status ≡ true → order_moved number change before ≡ Ok (after, rows) →
+        NoneIsOver (own_positions rows.positions) before after }
+    ensures takes { (number : ℕ) (change : Move) (before after : State) (rows : OrderRows)
+        (old : Order) →
         IsSound before → order_at number before.lists ≡ Some old → is_in_force old.status ≡ false →
         is_in_force rows.order.status ≡ true →
-        AllByRecursion (λ p. ignores after.lists p.voucher ≡ false) rows.positions →
+        AllHeed after.lists rows.positions →
         order_moved number change before ≡ Ok (after, rows) → TakesNoMore before after }
 {}
 
@@ -157,9 +168,11 @@ pub fn revivals_take_no_more()
 /// free: a payment that is taken back, where the quota releases places, and a paid order that ends while the voucher of one who
 /// has gone out blocks a place of it. Of a quota that keeps its places no move takes one again.
 pub fn other_moves_lower()
-    ensures lower { (number : ℕ) (change : Move) (before after : State) (rows : OrderRows) (old : Order) (quota : Quota) →
+    ensures lower { (number : ℕ) (change : Move) (before after : State) (rows : OrderRows)
+        (old : Order) (quota : Quota) →
         IsSound before → quota_at quota.id before.lists.catalogue ≡ Some quota →
-        order_at number before.lists ≡ Some old → (is_in_force old.status ≡ true) ⊎ (is_in_force rows.order.status ≡ false) →
+        order_at number before.lists ≡ Some old →
+        (is_in_force old.status ≡ true) ⊎ (is_in_force rows.order.status ≡ false) →
         refills before.lists before.moment quota old rows.order.status ≡ false →
         order_moved number change before ≡ Ok (after, rows) → used after quota ≤ used before quota }
     ensures kept { (lists : Lists) (at : ℕ) (quota : Quota) (old : Order) (status : Status) →
@@ -169,7 +182,8 @@ pub fn other_moves_lower()
 /// A sound box office stays sound where an order is moved, to an end that is a moment.
 pub fn moves_keep_sound()
     ensures { (number : ℕ) (change : Move) (before after : State) (rows : OrderRows) →
-        IsFitMove change → IsSound before → order_moved number change before ≡ Ok (after, rows) → IsSound after }
+        IsFitMove change → IsSound before → order_moved number change before ≡ Ok (after, rows) →
+        IsSound after }
 {}
 
 /// The first 501 entries of a bulk call, and the first 501 positions of an order, are answered as all of them are: who
@@ -178,15 +192,18 @@ pub fn the_first_are_enough()
     ensures entries { (entries : List Entry) (draw : Draw) (state : State) →
         many_added (take 501 entries) draw state ≡ many_added entries draw state }
     ensures positions { (new : NewOrder) (draw : Draw) (state : State) →
-        order_created (record new { positions = take 501 new.positions }) draw state ≡ order_created new draw state }
+        order_created (record new { positions = take 501 new.positions }) draw state
+        ≡ order_created new draw state }
 {}
 
 /// In a sound box office no quota that stands is used more than before where overdue orders expire, nor is any where dead
 /// cart positions are deleted.
 pub fn overdue_lowers()
-    ensures expired { (state : State) (quota : Quota) → IsSound state → quota_at quota.id state.lists.catalogue ≡ Some quota →
+    ensures expired { (state : State) (quota : Quota) →
+        IsSound state → quota_at quota.id state.lists.catalogue ≡ Some quota →
         used (orders_expired state) quota ≤ used state quota }
-    ensures dropped { (state : State) (quota : Quota) → IsSound state → used (carts_dropped state) quota ≤ used state quota }
+    ensures dropped { (state : State) (quota : Quota) →
+        IsSound state → used (carts_dropped state) quota ≤ used state quota }
 {}
 
 /// A sound box office stays sound where overdue orders expire, and where dead cart positions are deleted.

@@ -1,16 +1,16 @@
 //! The moves of an order.
 
-ghost use Rattle.std.specs.Prelude.{◌≡◌, ◌≢◌, ◌+◌, true, false, Ok, Err, IfOk, IfErr, OnErr, Some, None, [], ◌∷◌, ◌++◌, map, count_by};
+ghost use Rattle.std.specs.Prelude.{◌≡◌, ◌≢◌, true, false, IfOk, IfErr, OnErr, Some, None, [], ◌∷◌, count_by};
+ghost use Rattle.model_commands.specs.declared.orders.OrderRefusal.TheVariants.{Memory};
+ghost use Rattle.draft_changes.specs.Decides.{Logs, DecidesBy};
 ghost use Rattle.draft_changes.specs.DraftState.{now, Extends};
 ghost use Rattle.model_rows.specs.declared.changes.Change.TheVariants.{PutOrder};
-ghost use Rattle.model_rows.specs.declared.rows.Own.TheVariants.{Position};
-ghost use Rattle.model_rows.specs.Change.{after_change};
-ghost use Rattle.model_rows.specs.Headroom.{held, has_room};
 ghost use Rattle.model_rows.specs.Lists.{order_at, positions_of};
 ghost use Rattle.model_invariant.specs.Sound.{IsSound};
 ghost use Rattle.model_rows.specs.Conditions.{is_in_force, names};
-ghost use Rattle.model_rows.specs.Usage.{stands_as, redeemed};
-ghost use Rattle.decide_orders.specs.Moves.{to, revived, turned, end_after, moved_row, moved_to, moved_as, have_uses_again, revival, order_moved};
+ghost use Rattle.model_rows.specs.Usage.{stands_as};
+ghost use Rattle.decide_orders.specs.Moves.{to, revived, turned, end_after, moved_row, moved_to, moved_as, have_uses_again, revival, order_moved, uses_again, has_room_again};
+ghost use Rattle.decide_orders.specs.Places.{own_positions};
 
 use crate::places::test_sale;
 use base_values::Moment;
@@ -77,11 +77,8 @@ pub fn move_order<B: Book>(
 ) -> Result<OrderRows, OrderRefusal>
     requires fresh { draft.old.log.changes ≡ [] }
     requires sound { IsSound (now draft.old) }
-    ensures done { IfOk result (λ rows. order_moved number change (now draft.old) ≡ Ok (now draft.new, rows)) }
-    ensures refused { IfErr result (λ e. e ≢ OrderRefusal.Memory → order_moved number change (now draft.old) ≡ Err e) }
-    ensures changes { IfOk result (λ rows. draft.new.log.changes ≡ draft.old.log.changes ++ PutOrder rows.order ∷ []) }
-    ensures extends { Extends draft.old draft.new }
-    ensures same { OnErr result (draft.new ≡ draft.old) }
+    ensures { DecidesBy Memory (order_moved number change) (λ rows. PutOrder rows.order ∷ [])
+        draft.old draft.new result }
 {
     let order = order_of(draft, alloc, number)?;
     let turn = turn_of(order.status, &change)?;
@@ -96,8 +93,8 @@ fn order_of<B: Book>(
 ) -> Result<Order, OrderRefusal>
     ensures done { IfOk result (λ order. order_at number (now draft.now).lists ≡ Some order) }
     ensures id { IfOk result (λ order. order.id ≡ number) }
-    ensures absent { IfErr result (λ e. e ≢ OrderRefusal.Memory → order_at number (now draft.now).lists ≡ None) }
-    ensures refused { IfErr result (λ e. e ≢ OrderRefusal.Memory → e ≡ OrderRefusal.NoOrder) }
+    ensures absent { IfErr result (λ e. e ≢ Memory → order_at number (now draft.now).lists ≡ None) }
+    ensures refused { IfErr result (λ e. e ≢ Memory → e ≡ OrderRefusal.NoOrder) }
 {
     match draft.rows().order(number) {
         None => Err(OrderRefusal::NoOrder),
@@ -126,11 +123,8 @@ fn move_as<B: Book>(
     requires sound { IsSound (now draft.old) }
     requires stands { order_at order.id (now draft.old).lists ≡ Some order }
     requires turn { turned order.status change.now ≡ Some turn }
-    ensures done { IfOk result (λ rows. moved_as order change.now (now draft.old) turn ≡ Ok (now draft.new, rows)) }
-    ensures refused { IfErr result (λ e. e ≢ OrderRefusal.Memory → moved_as order change.now (now draft.old) turn ≡ Err e) }
-    ensures changes { IfOk result (λ rows. draft.new.log.changes ≡ draft.old.log.changes ++ PutOrder rows.order ∷ []) }
-    ensures extends { Extends draft.old draft.new }
-    ensures same { OnErr result (draft.new ≡ draft.old) }
+    ensures { DecidesBy Memory (λ state. moved_as order change.now state turn)
+        (λ rows. PutOrder rows.order ∷ []) draft.old draft.new result }
 {
     let row = moved_row(order, turn.status, change);
     if turn.revival {
@@ -170,10 +164,11 @@ fn put<B: Book>(
 ) -> Result<OrderRows, OrderRefusal>
     requires fresh { draft.old.log.changes ≡ [] }
     requires sound { IsSound (now draft.old) }
-    requires kept { is_in_force row.status ≡ true → stands_as is_in_force (order_at row.id (now draft.old).lists) ≡ true }
+    requires kept { is_in_force row.status ≡ true →
+        stands_as is_in_force (order_at row.id (now draft.old).lists) ≡ true }
     ensures done { IfOk result (λ rows. (now draft.new, rows) ≡ moved_to row (now draft.old)) }
-    ensures refused { IfErr result (λ e. e ≡ OrderRefusal.Memory) }
-    ensures changes { IfOk result (λ rows. draft.new.log.changes ≡ draft.old.log.changes ++ PutOrder rows.order ∷ []) }
+    ensures refused { IfErr result (λ e. e ≡ Memory) }
+    ensures changes { IfOk result (λ rows. Logs (PutOrder rows.order ∷ []) draft.old draft.new) }
     ensures extends { Extends draft.old draft.new }
     ensures same { OnErr result (draft.new ≡ draft.old) }
 {
@@ -195,11 +190,8 @@ fn revive<B: Book>(
     requires sound { IsSound (now draft.old) }
     requires ended { stands_as is_in_force (order_at row.id (now draft.old).lists) ≡ false }
     requires back { is_in_force row.status ≡ true }
-    ensures done { IfOk result (λ rows. revival row (now draft.old) ≡ Ok (now draft.new, rows)) }
-    ensures refused { IfErr result (λ e. e ≢ OrderRefusal.Memory → revival row (now draft.old) ≡ Err e) }
-    ensures changes { IfOk result (λ rows. draft.new.log.changes ≡ draft.old.log.changes ++ PutOrder rows.order ∷ []) }
-    ensures extends { Extends draft.old draft.new }
-    ensures same { OnErr result (draft.new ≡ draft.old) }
+    ensures { DecidesBy Memory (revival row) (λ rows. PutOrder rows.order ∷ [])
+        draft.old draft.new result }
 {
     let positions = draft.book().positions_of(alloc, row.id)?;
     if !have_uses_again(draft, &row, positions.as_slice()) {
@@ -217,7 +209,7 @@ fn revive<B: Book>(
 
 // The positions as rows that the request revives.
 fn own_rows(alloc: Global, positions: &[OrderPos]) -> Result<Vec<Own>, AllocError>
-    ensures { IfOk result (λ own. own.items ≡ map (λ p. Position p.id) positions.now) }
+    ensures { IfOk result (λ own. own.items ≡ own_positions positions.now) }
 {
     positions
         .iter()
@@ -245,7 +237,7 @@ fn has_room_again<B: Book>(
     requires positions { positions.now ≡ positions_of row.now.id (now draft.now).lists }
     requires ended { stands_as is_in_force (order_at row.now.id (now draft.now).lists) ≡ false }
     requires back { is_in_force row.now.status ≡ true }
-    ensures { result ≡ has_room (now draft.now).moment (after_change (PutOrder row.now) (now draft.now).lists) voucher }
+    ensures { result ≡ has_room_again row.now (now draft.now) voucher }
 {
     let Some(id) = voucher else {
         return true;
@@ -268,7 +260,7 @@ fn uses_again<B: Book>(
     requires positions { positions.now ≡ positions_of row.now.id (now draft.now).lists }
     requires ended { stands_as is_in_force (order_at row.now.id (now draft.now).lists) ≡ false }
     requires back { is_in_force row.now.status ≡ true }
-    ensures { result ≡ redeemed voucher (after_change (PutOrder row.now) (now draft.now).lists) + held (now draft.now).moment voucher (now draft.now).lists }
+    ensures { result ≡ uses_again row.now (now draft.now) voucher }
 {
     draft.uses(voucher) + named_by(positions, voucher) as u128
 }

@@ -1,11 +1,11 @@
 //! What is overdue: orders that expire, and cart positions that go.
 
-ghost use Rattle.std.specs.Prelude.{◌≡◌, ◌++◌, length, IfOk, OnOk, OnErr};
+ghost use Rattle.std.specs.Prelude.{◌≡◌, length, IfOk, OnOk, OnErr};
+ghost use Rattle.draft_changes.specs.Decides.{Logs};
 ghost use Rattle.draft_changes.specs.DraftState.{now, Extends};
 ghost use Rattle.model_rows.specs.Lists.{order_at};
-ghost use Rattle.model_rows.specs.Due.{due_orders, dead_carts};
 ghost use Rattle.model_invariant.specs.Sound.{IsSound};
-ghost use Rattle.decide_orders.specs.Expired.{expired_row, expired_changes, orders_expired, expired_at, each_expired, expiry_of, each_expiry, dropped_changes, carts_dropped};
+ghost use Rattle.decide_orders.specs.Expired.{expired_row, expired_changes, orders_expired, expired_at, each_expired, expiry_of, each_expiry, dropped_changes, carts_dropped, due_now, dead_now};
 
 use crate::creating::drop_carts;
 use book_usage::{Book, LookUps};
@@ -19,10 +19,10 @@ pub fn expire_orders<B: Book>(draft: &mut Draft<'_, B>, alloc: Global) -> Result
     requires sound { IsSound (now draft.old) }
     requires orders { (now draft.old).lists.orders ≡ draft.old.log.base.orders }
     ensures done { OnOk result (now draft.new ≡ orders_expired (now draft.old)) }
-    ensures count { IfOk result (λ n. n ≡ length (due_orders (now draft.old).moment (now draft.old).lists)) }
+    ensures count { IfOk result (λ n. n ≡ length (due_now (now draft.old))) }
     ensures extends { Extends draft.old draft.new }
     ensures same { OnErr result (draft.new ≡ draft.old) }
-    ensures changes { OnOk result (draft.new.log.changes ≡ draft.old.log.changes ++ expired_changes (now draft.old)) }
+    ensures changes { OnOk result (Logs (expired_changes (now draft.old)) draft.old draft.new) }
 {
     let ids = draft.book().due_orders(alloc, draft.moment())?;
     let mark = draft.mark();
@@ -38,7 +38,8 @@ fn expire_each<B: Book>(
     ids: &[u64],
 ) -> Result<(), AllocError>
     ensures done { OnOk result (now draft.new ≡ each_expired ids.now (now draft.old)) }
-    ensures changes { OnOk result (draft.new.log.changes ≡ draft.old.log.changes ++ each_expiry ids.now (now draft.old).lists.orders) }
+    ensures changes { OnOk result (
+        Logs (each_expiry ids.now (now draft.old).lists.orders) draft.old draft.new) }
     ensures extends { Extends draft.old draft.new }
 {
     for id in ids {
@@ -50,7 +51,8 @@ fn expire_each<B: Book>(
 // Expires the order of a number, if it stands.
 fn expire<B: Book>(draft: &mut Draft<'_, B>, alloc: Global, id: u64) -> Result<(), AllocError>
     ensures done { OnOk result (now draft.new ≡ expired_at id (now draft.old)) }
-    ensures changes { OnOk result (draft.new.log.changes ≡ draft.old.log.changes ++ expiry_of (order_at id (now draft.old).lists)) }
+    ensures changes { OnOk result (
+        Logs (expiry_of (order_at id (now draft.old).lists)) draft.old draft.new) }
     ensures extends { Extends draft.old draft.new }
 {
     let row = match draft.rows().order(id) {
@@ -77,10 +79,10 @@ fn expired_row(alloc: Global, order: &Order) -> Result<Order, AllocError>
 pub fn drop_dead_carts<B: Book>(draft: &mut Draft<'_, B>, alloc: Global) -> Result<u64, AllocError>
     requires carts { (now draft.old).lists.carts ≡ draft.old.log.base.carts }
     ensures done { OnOk result (now draft.new ≡ carts_dropped (now draft.old)) }
-    ensures count { IfOk result (λ n. n ≡ length (dead_carts (now draft.old).moment (now draft.old).lists)) }
+    ensures count { IfOk result (λ n. n ≡ length (dead_now (now draft.old))) }
     ensures extends { Extends draft.old draft.new }
     ensures same { OnErr result (draft.new ≡ draft.old) }
-    ensures changes { OnOk result (draft.new.log.changes ≡ draft.old.log.changes ++ dropped_changes (now draft.old)) }
+    ensures changes { OnOk result (Logs (dropped_changes (now draft.old)) draft.old draft.new) }
 {
     draft.known();
     let ids = draft.book().dead_carts(alloc, draft.moment())?;

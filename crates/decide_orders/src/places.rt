@@ -1,8 +1,8 @@
 //! Whether what was put may stay.
 
 ghost use Rattle.std.specs.Prelude.{◌≡◌};
-ghost use Rattle.draft_changes.specs.DraftState.{now, back, IsMarkOf};
-ghost use Rattle.model_rows.specs.Over.{first_over};
+ghost use Rattle.draft_changes.specs.Decides.{first_over_since};
+ghost use Rattle.draft_changes.specs.DraftState.{now, IsMarkOf};
 ghost use Rattle.model_rows.specs.Budgets.{are_within};
 ghost use Rattle.decide_orders.specs.Places.{places_test, sale_test};
 
@@ -22,7 +22,7 @@ pub fn test_places<B: Book>(
     takes: bool,
 ) -> Result<(), OrderRefusal>
     requires { IsMarkOf draft.now mark.now }
-    ensures { result ≡ places_test (first_over (now (back mark.now draft.now)).lists (now draft.now).lists (now draft.now).moment own.now) takes }
+    ensures { result ≡ places_test (first_over_since mark.now own.now draft.now) takes }
 {
     if let Some(quota) = draft.first_over(mark, own) {
         return Err(OrderRefusal::Voucher(VoucherRefusal::SoldOut(quota)));
@@ -44,7 +44,8 @@ pub fn test_sale<B: Book>(
     takes: bool,
 ) -> Result<(), OrderRefusal>
     requires { IsMarkOf draft.now mark.now }
-    ensures { result ≡ sale_test (are_within (now draft.now).lists positions.now) (first_over (now (back mark.now draft.now)).lists (now draft.now).lists (now draft.now).moment own.now) takes }
+    ensures { result ≡ sale_test (are_within (now draft.now).lists positions.now)
+        (first_over_since mark.now own.now draft.now) takes }
 {
     if !are_within(draft, positions) {
         return Err(OrderRefusal::Voucher(VoucherRefusal::OverBudget));

@@ -66,7 +66,8 @@ fn product_for_sale<B: Book>(
     draft: &Draft<'_, B>,
     asked: &Asked,
 ) -> Result<Product, CatalogueRefusal>
-    ensures { result ≡ product_for_sale asked.now.item asked.now.variation (now draft.now).lists.catalogue }
+    ensures { result ≡ product_for_sale asked.now.item asked.now.variation
+        (now draft.now).lists.catalogue }
 {
     let product = draft
         .rows()
@@ -88,8 +89,10 @@ fn voucher_asked<'d, B: Book>(
     code: Option<&Text>,
     product: Product,
 ) -> Result<Option<&'d Voucher>, VoucherRefusal>
-    ensures done { IfOk result (λ v. voucher_asked (option_copied code.entry) (now draft.now) product ≡ Ok (option_copied v)) }
-    ensures refused { IfErr result (λ e. voucher_asked (option_copied code.entry) (now draft.now) product ≡ Err e) }
+    ensures done { IfOk result (λ v.
+        voucher_asked (option_copied code.entry) (now draft.now) product ≡ Ok (option_copied v)) }
+    ensures refused { IfErr result (λ e.
+        voucher_asked (option_copied code.entry) (now draft.now) product ≡ Err e) }
 {
     let Some(code) = code else {
         return Ok(None);
@@ -118,7 +121,8 @@ fn price_with<B: Book>(
     voucher: Option<&Voucher>,
     base: Cents,
 ) -> Cents
-    ensures { result ≡ price_with (now draft.now).lists before.now (option_copied voucher.entry) base }
+    ensures { result ≡
+        price_with (now draft.now).lists before.now (option_copied voucher.entry) base }
 {
     let Some(voucher) = voucher else {
         return base;

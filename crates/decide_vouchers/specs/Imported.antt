@@ -60,9 +60,13 @@ abbrev pub made_verdict : State → Result (State × Voucher) VoucherRefusal →
 made_verdict state (Ok (after, row)) = (after, verdicts.Added row)
 made_verdict state (Err refusal) = (state, verdicts.Refused refusal)
 
+-- a row whose code no voucher has: a voucher is made, or it says why not
+abbrev pub new_imported : NewVoucher → Draw → State → State × Verdict
+new_imported new draw state = made_verdict state (voucher_made new draw state)
+
 -- a row beside the voucher that has its code, if there is one: only without one a voucher is made
 abbrev pub imported_beside : Option Voucher → NewVoucher → Draw → State → State × Verdict
-imported_beside None new draw state = made_verdict state (voucher_made new draw state)
+imported_beside None new draw state = new_imported new draw state
 imported_beside (Some row) new draw state = (state, verdict_on new row)
 
 -- a row whose code no voucher has is a new voucher, and any other changes nothing

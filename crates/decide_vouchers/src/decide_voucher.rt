@@ -1,10 +1,11 @@
 //! Making, changing and deleting vouchers.
 
-ghost use Rattle.std.specs.Prelude.{◌≡◌, ◌≢◌, [], ◌∷◌, ◌++◌, Ok, Err, IfOk, IfErr, OnErr};
+ghost use Rattle.std.specs.Prelude.{◌≡◌, [], ◌∷◌};
 ghost use Rattle.base_values.specs.Deciding.{check};
 ghost use Rattle.model_catalogue.specs.declared.refusal.CatalogueRefusal.TheVariants.{Full};
-ghost use Rattle.model_commands.specs.declared.vouchers.VoucherRefusal.TheVariants.{Catalogue};
-ghost use Rattle.draft_changes.specs.DraftState.{now, Extends};
+ghost use Rattle.model_commands.specs.declared.vouchers.VoucherRefusal.TheVariants.{Catalogue, Memory};
+ghost use Rattle.draft_changes.specs.Decides.{AnswersBy, DecidesBy, DeletesBy};
+ghost use Rattle.draft_changes.specs.DraftState.{now};
 ghost use Rattle.model_rows.specs.Lists.{voucher_at};
 ghost use Rattle.model_rows.specs.declared.changes.Change.TheVariants.{PutVoucher, DropVoucher};
 ghost use Rattle.decide_vouchers.specs.Made.{voucher_made};
@@ -36,11 +37,8 @@ pub fn make<B: Book>(
     draw: Draw,
     new: &NewVoucher,
 ) -> Result<Voucher, VoucherRefusal>
-    ensures done { IfOk result (λ row. voucher_made new.now draw (now draft.old) ≡ Ok (now draft.new, row)) }
-    ensures refused { IfErr result (λ e. e ≢ VoucherRefusal.Memory → voucher_made new.now draw (now draft.old) ≡ Err e) }
-    ensures changes { IfOk result (λ row. draft.new.log.changes ≡ draft.old.log.changes ++ PutVoucher row ∷ []) }
-    ensures extends { Extends draft.old draft.new }
-    ensures same { OnErr result (draft.new ≡ draft.old) }
+    ensures { DecidesBy Memory (voucher_made new.now draw) (λ row. PutVoucher row ∷ [])
+        draft.old draft.new result }
 {
     let row = new_row(alloc, new, draw, draft.next_voucher())?;
     test_row(draft, new.code.as_ref(), &row)?;
@@ -76,11 +74,8 @@ pub fn patch<B: Book>(
     id: u64,
     patch: &VoucherPatch,
 ) -> Result<Voucher, VoucherRefusal>
-    ensures done { IfOk result (λ row. voucher_changed id patch.now (now draft.old) ≡ Ok (now draft.new, row)) }
-    ensures refused { IfErr result (λ e. e ≢ VoucherRefusal.Memory → voucher_changed id patch.now (now draft.old) ≡ Err e) }
-    ensures changes { IfOk result (λ row. draft.new.log.changes ≡ draft.old.log.changes ++ PutVoucher row ∷ []) }
-    ensures extends { Extends draft.old draft.new }
-    ensures same { OnErr result (draft.new ≡ draft.old) }
+    ensures { DecidesBy Memory (voucher_changed id patch.now) (λ row. PutVoucher row ∷ [])
+        draft.old draft.new result }
 {
     let row = match draft.rows().voucher(id) {
         None => return Err(VoucherRefusal::NoVoucher),
@@ -100,8 +95,7 @@ fn changed_row<B: Book>(
     patch: &VoucherPatch,
     old: &Voucher,
 ) -> Result<Voucher, VoucherRefusal>
-    ensures done { IfOk result (λ row. changed_row patch.now (now draft.now).lists old.now ≡ Ok row) }
-    ensures refused { IfErr result (λ e. e ≢ VoucherRefusal.Memory → changed_row patch.now (now draft.now).lists old.now ≡ Err e) }
+    ensures { AnswersBy Memory (changed_row patch.now (now draft.now).lists old.now) result }
 {
     let row = patched_row(alloc, patch, old)?;
     test_row(draft, new_code(&patch.code, &old.code), &row)?;
@@ -136,11 +130,8 @@ pub fn delete<B: Book>(
     alloc: Global,
     id: u64,
 ) -> Result<(), VoucherRefusal>
-    ensures done { IfOk result (λ _. voucher_deleted id (now draft.old) ≡ Ok (now draft.new)) }
-    ensures refused { IfErr result (λ e. e ≢ VoucherRefusal.Memory → voucher_deleted id (now draft.old) ≡ Err e) }
-    ensures changes { IfOk result (λ _. draft.new.log.changes ≡ draft.old.log.changes ++ DropVoucher id ∷ []) }
-    ensures extends { Extends draft.old draft.new }
-    ensures same { OnErr result (draft.new ≡ draft.old) }
+    ensures { DeletesBy Memory (voucher_deleted id) (DropVoucher id ∷ [])
+        draft.old draft.new result }
 {
     if draft.rows().voucher(id).is_none() {
         return Err(VoucherRefusal::NoVoucher);

@@ -1,11 +1,11 @@
 //! Adding the vouchers of a file.
 
-ghost use Rattle.std.specs.Prelude.{◌≡◌, [], ◌∷◌, ◌++◌, IfOk, OnErr};
+ghost use Rattle.std.specs.Prelude.{◌≡◌, [], ◌∷◌, IfOk, OnErr};
 ghost use Rattle.std.specs.Option.{option_copied};
+ghost use Rattle.draft_changes.specs.Decides.{Logs};
 ghost use Rattle.draft_changes.specs.DraftState.{now, Extends};
 ghost use Rattle.model_rows.specs.Conditions.{same_id};
-ghost use Rattle.decide_vouchers.specs.Imported.{has_target, has_terms, import_changes, is_as_given, made_verdict, namesake, row_imported, rows_imported, same_flag, same_mode, verdict_on};
-ghost use Rattle.decide_vouchers.specs.Made.{voucher_made};
+ghost use Rattle.decide_vouchers.specs.Imported.{has_target, has_terms, import_changes, is_as_given, namesake, new_imported, row_imported, rows_imported, same_flag, same_mode, verdict_on};
 
 use crate::decide_voucher::make;
 use base_values::{Cents, Draw, List, Moment, PriceMode, Text};
@@ -105,8 +105,9 @@ fn add_new<B: Book>(
     draw: Draw,
     new: &NewVoucher,
 ) -> Result<Verdict, AllocError>
-    ensures done { IfOk result (λ verdict. made_verdict (now draft.old) (voucher_made new.now draw (now draft.old)) ≡ (now draft.new, verdict)) }
-    ensures changes { IfOk result (λ verdict. draft.new.log.changes ≡ draft.old.log.changes ++ import_changes (verdict ∷ [])) }
+    ensures done { IfOk result (λ verdict.
+        new_imported new.now draw (now draft.old) ≡ (now draft.new, verdict)) }
+    ensures changes { IfOk result (λ v. Logs (import_changes (v ∷ [])) draft.old draft.new) }
     ensures extends { Extends draft.old draft.new }
 {
     match make(draft, alloc, draw, new) {
@@ -123,8 +124,9 @@ fn import_row<B: Book>(
     draw: Draw,
     new: &NewVoucher,
 ) -> Result<Verdict, AllocError>
-    ensures done { IfOk result (λ verdict. row_imported new.now draw (now draft.old) ≡ (now draft.new, verdict)) }
-    ensures changes { IfOk result (λ verdict. draft.new.log.changes ≡ draft.old.log.changes ++ import_changes (verdict ∷ [])) }
+    ensures done { IfOk result (λ verdict.
+        row_imported new.now draw (now draft.old) ≡ (now draft.new, verdict)) }
+    ensures changes { IfOk result (λ v. Logs (import_changes (v ∷ [])) draft.old draft.new) }
     ensures extends { Extends draft.old draft.new }
 {
     if let Some(row) = namesake(draft, &new.code) {
@@ -140,8 +142,9 @@ fn import_rows<B: Book>(
     draw: Draw,
     rows: &[NewVoucher],
 ) -> Result<Vec<Verdict>, AllocError>
-    ensures done { IfOk result (λ verdicts. rows_imported rows.now draw (now draft.old) ≡ (now draft.new, verdicts.items)) }
-    ensures changes { IfOk result (λ verdicts. draft.new.log.changes ≡ draft.old.log.changes ++ import_changes verdicts.items) }
+    ensures done { IfOk result (λ verdicts.
+        rows_imported rows.now draw (now draft.old) ≡ (now draft.new, verdicts.items)) }
+    ensures changes { IfOk result (λ v. Logs (import_changes v.items) draft.old draft.new) }
     ensures extends { Extends draft.old draft.new }
 {
     let mut verdicts = Vec::new(alloc);
@@ -160,8 +163,9 @@ pub fn import<B: Book>(
     draw: Draw,
     rows: &[NewVoucher],
 ) -> Result<List<Verdict>, AllocError>
-    ensures done { IfOk result (λ verdicts. rows_imported rows.now draw (now draft.old) ≡ (now draft.new, verdicts)) }
-    ensures changes { IfOk result (λ verdicts. draft.new.log.changes ≡ draft.old.log.changes ++ import_changes verdicts) }
+    ensures done { IfOk result (λ verdicts.
+        rows_imported rows.now draw (now draft.old) ≡ (now draft.new, verdicts)) }
+    ensures changes { IfOk result (λ v. Logs (import_changes v) draft.old draft.new) }
     ensures extends { Extends draft.old draft.new }
     ensures same { OnErr result (draft.new ≡ draft.old) }
 {

@@ -24,20 +24,24 @@ use base_values::Draw;
 /// the quota's size, or no more than was used before.
 pub fn making_takes_no_more()
     ensures none_over { (new : NewVoucher) (draw : Draw) (before after : State) (row : Voucher) →
-        voucher_made new draw before ≡ Ok (after, row) → row.allow_ignore_quota ≡ false →
+        voucher_made new draw before ≡ Ok (after, row) →
+        row.allow_ignore_quota ≡ false →
         first_over before.lists after.lists before.moment [] ≡ None }
     ensures takes { (new : NewVoucher) (draw : Draw) (before after : State) (row : Voucher) →
-        voucher_made new draw before ≡ Ok (after, row) → row.allow_ignore_quota ≡ false → TakesNoMore before after }
+        voucher_made new draw before ≡ Ok (after, row) → row.allow_ignore_quota ≡ false →
+        TakesNoMore before after }
 {}
 
 /// No voucher that is changed, and that afterwards doesn't ignore quotas, leaves a quota over: what is used
 /// afterwards is within the quota's size, or no more than was used before.
 pub fn changing_takes_no_more()
     ensures none_over { (id : ℕ) (patch : VoucherPatch) (before after : State) (row : Voucher) →
-        voucher_changed id patch before ≡ Ok (after, row) → row.allow_ignore_quota ≡ false →
+        voucher_changed id patch before ≡ Ok (after, row) →
+        row.allow_ignore_quota ≡ false →
         first_over before.lists after.lists before.moment [] ≡ None }
     ensures takes { (id : ℕ) (patch : VoucherPatch) (before after : State) (row : Voucher) →
-        voucher_changed id patch before ≡ Ok (after, row) → row.allow_ignore_quota ≡ false → TakesNoMore before after }
+        voucher_changed id patch before ≡ Ok (after, row) → row.allow_ignore_quota ≡ false →
+        TakesNoMore before after }
 {}
 
 /// A voucher that is deleted raises no quota's usage.
@@ -50,9 +54,11 @@ pub fn deleting_lowers()
 /// of each request is: its type keeps it so.
 pub fn vouchers_keep_sound()
     ensures made { (new : NewVoucher) (draw : Draw) (before after : State) (row : Voucher) →
-        IsFitVoucher new → IsDraw draw → IsSound before → voucher_made new draw before ≡ Ok (after, row) → IsSound after }
+        IsFitVoucher new → IsDraw draw → IsSound before →
+        voucher_made new draw before ≡ Ok (after, row) → IsSound after }
     ensures changed { (id : ℕ) (patch : VoucherPatch) (before after : State) (row : Voucher) →
-        IsFitVoucherPatch patch → IsSound before → voucher_changed id patch before ≡ Ok (after, row) → IsSound after }
+        IsFitVoucherPatch patch → IsSound before →
+        voucher_changed id patch before ≡ Ok (after, row) → IsSound after }
     ensures deleted { (id : ℕ) (before after : State) →
         IsSound before → voucher_deleted id before ≡ Ok after → IsSound after }
 {}
@@ -67,5 +73,6 @@ pub fn draws_are_sixteen_bytes(draw: Draw)
 /// In a sound box office no voucher has the code that the next one gets where none is given, whatever the draw.
 pub fn made_codes_are_free()
     ensures { (draw : Draw) (state : State) →
-        IsDraw draw → IsSound state → voucher_of (made_code draw state.next.voucher) state.lists ≡ None }
+        IsDraw draw → IsSound state →
+        voucher_of (made_code draw state.next.voucher) state.lists ≡ None }
 {}

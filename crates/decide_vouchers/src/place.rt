@@ -1,12 +1,12 @@
 //! Whether a voucher's row may stand.
 
-ghost use Rattle.std.specs.Prelude.{◌≡◌, ◌≢◌, [], ◌∷◌, ◌++◌, None, Ok, Err, IfErr, OnOk, OnErr, if◌then◌else◌};
+ghost use Rattle.std.specs.Prelude.{◌≡◌, [], ◌∷◌, None, Ok, OnOk, OnErr, if◌then◌else◌};
 ghost use Rattle.base_values.specs.Deciding.{refuse_some};
-ghost use Rattle.model_commands.specs.declared.vouchers.VoucherRefusal.TheVariants.{SoldOut};
-ghost use Rattle.draft_changes.specs.DraftState.{now, back, Extends, IsMarkOf};
+ghost use Rattle.model_commands.specs.declared.vouchers.VoucherRefusal.TheVariants.{Memory, SoldOut};
+ghost use Rattle.draft_changes.specs.Decides.{first_over_since, Logs, RefusesBy};
+ghost use Rattle.draft_changes.specs.DraftState.{now, Extends, IsMarkOf};
 ghost use Rattle.model_rows.specs.Budgets.{covers};
 ghost use Rattle.model_rows.specs.Change.{changed};
-ghost use Rattle.model_rows.specs.Over.{first_over};
 ghost use Rattle.model_rows.specs.declared.changes.Change.TheVariants.{PutVoucher};
 ghost use Rattle.decide_vouchers.specs.Placed.{has_uses, place_test};
 
@@ -47,8 +47,8 @@ pub fn place<B: Book>(
 ) -> Result<(), VoucherRefusal>
     ensures passed { OnOk result (place_test taken_off row (now draft.old) ≡ Ok tt) }
     ensures put { OnOk result (now draft.new ≡ changed (PutVoucher row) (now draft.old)) }
-    ensures refused { IfErr result (λ e. e ≢ VoucherRefusal.Memory → place_test taken_off row (now draft.old) ≡ Err e) }
-    ensures changes { OnOk result (draft.new.log.changes ≡ draft.old.log.changes ++ PutVoucher row ∷ []) }
+    ensures refused { RefusesBy Memory (place_test taken_off row (now draft.old)) result }
+    ensures changes { OnOk result (Logs (PutVoucher row ∷ []) draft.old draft.new) }
     ensures extends { Extends draft.old draft.new }
     ensures same { OnErr result (draft.new ≡ draft.old) }
 {
@@ -72,7 +72,8 @@ fn test_quotas<B: Book>(
     ignores: bool,
 ) -> Result<(), VoucherRefusal>
     requires { IsMarkOf draft.now mark.now }
-    ensures { result ≡ refuse_some SoldOut (if ignores then None else first_over (now (back mark.now draft.now)).lists (now draft.now).lists (now draft.now).moment []) }
+    ensures { result ≡
+        refuse_some SoldOut (if ignores then None else first_over_since mark.now [] draft.now) }
 {
     if ignores {
         return Ok(());

@@ -1,5 +1,5 @@
 -- Which products can be had, but for those who wait.
-use Rattle.std.specs.Prelude.{ℕ, ◌+◌, ◌-◌, Bool, false, ◌&&◌, not, ◌==◌, is_none, List, [], ◌∷◌, Option, Some, None, find, option_map, if◌then◌else◌}
+use Rattle.std.specs.Prelude.{ℕ, ◌+◌, ◌-◌, Bool, false, ◌&&◌, not, ◌==◌, is_none, List, [], ◌∷◌, Option, Some, None, find, map, option_map, if◌then◌else◌}
 use Rattle.model_catalogue.specs.declared.rows.Product.{Product}
 use Rattle.model_catalogue.specs.declared.rows.Quota.{Quota}
 use Rattle.model_catalogue.specs.CatalogueLists.{is_sold, quota_at}
@@ -42,9 +42,13 @@ is_full_by state (Some quota) = is_full state quota
 abbrev pub is_full_at : State → ℕ → Bool
 is_full_at state id = is_full_by state (quota_at id state.lists.catalogue)
 
--- how many places each quota has left but for those who wait, in their order
+-- how many places a quota has left but for those who wait
 abbrev pub places_left : State → Quota → Option ℕ
 places_left state quota = available_number quota.size (used_unwaited state quota)
+
+-- the places that are left of all quotas
+abbrev pub all_places_left : State → List (Option ℕ)
+all_places_left state = map (places_left state) state.lists.catalogue.quotas
 
 -- there is a limit, and no place is left below it
 abbrev pub has_none_left : Option ℕ → Bool

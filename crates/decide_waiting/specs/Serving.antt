@@ -16,6 +16,7 @@ use Rattle.model_rows.specs.Full.{takes_voucher}
 use Rattle.model_rows.specs.Lists.{Lists, State}
 use Rattle.model_rows.specs.Usage.{has_none}
 use Rattle.model_commands.specs.declared.waiting.WaitingRefusal.{WaitingRefusal}
+use Rattle.draft_changes.specs.DraftState.{DraftState, now}
 use Rattle.decide_waiting.specs.Places.{used_unwaited}
 use Rattle.decide_waiting.specs.Sending.{with_sent, with_its_voucher, sent_changes, voucher_sent}
 
@@ -135,3 +136,21 @@ logged draw state (Err refusal) changes = changes
 -- ids and changes in front of others
 abbrev pub run_after : List ℕ → List Change → Run → Run
 run_after ids changes rest = record { state = rest.state; ids = ids ++ rest.ids; changes = changes ++ rest.changes }
+
+-- what a run has come to in a draft
+abbrev pub run_so_far : List ℕ → DraftState → Run
+run_so_far ids draft = record { state = now draft; ids = ids; changes = draft.log.changes }
+
+-- the run through these ids, over the changes that the draft has
+abbrev pub run_from : Draw → List ℕ → DraftState → Run
+run_from draw queue draft = run_after [] draft.log.changes (each_sent draw queue (now draft))
+
+-- one turn in a draft: the box office after it, the ids so far, and the changes
+abbrev pub turn_state : ℕ → Draw → DraftState → State
+turn_state id draw draft = state_after (now draft) (voucher_sent id draw (now draft))
+
+abbrev pub turn_ids : ℕ → Draw → DraftState → List ℕ → List ℕ
+turn_ids id draw draft ids = noted (voucher_sent id draw (now draft)) ids
+
+abbrev pub turn_changes : ℕ → Draw → DraftState → List Change
+turn_changes id draw draft = logged draw (now draft) (voucher_sent id draw (now draft)) draft.log.changes

@@ -1,7 +1,8 @@
 //! Changing and leaving: what may become of an entry that waits.
 
-ghost use Rattle.std.specs.Prelude.{◌≡◌, ◌≢◌, ◌++◌, ◌∷◌, [], Ok, Err, IfOk, IfErr, OnOk, OnErr};
-ghost use Rattle.draft_changes.specs.DraftState.{now, Extends};
+ghost use Rattle.std.specs.Prelude.{◌∷◌, []};
+ghost use Rattle.model_commands.specs.declared.waiting.WaitingRefusal.TheVariants.{Memory};
+ghost use Rattle.draft_changes.specs.Decides.{DecidesBy, DeletesBy};
 ghost use Rattle.model_rows.specs.Lists.{waiting_at};
 ghost use Rattle.model_rows.specs.declared.changes.Change.TheVariants.{PutWaiting, DropWaiting};
 ghost use Rattle.decide_waiting.specs.Changed.{changed_entry, entry_changed};
@@ -24,11 +25,8 @@ pub fn change<B: Book>(
     id: u64,
     patch: WaitingPatch,
 ) -> Result<Waiting, WaitingRefusal>
-    ensures done { IfOk result (λ row. entry_changed id patch (now draft.old) ≡ Ok (now draft.new, row)) }
-    ensures refused { IfErr result (λ e. e ≢ WaitingRefusal.Memory → entry_changed id patch (now draft.old) ≡ Err e) }
-    ensures extends { Extends draft.old draft.new }
-    ensures same { OnErr result (draft.new ≡ draft.old) }
-    ensures changes { IfOk result (λ row. draft.new.log.changes ≡ draft.old.log.changes ++ PutWaiting row ∷ []) }
+    ensures { DecidesBy Memory (entry_changed id patch) (λ row. PutWaiting row ∷ [])
+        draft.old draft.new result }
 {
     let entry = match draft.rows().entry(id) {
         None => return Err(WaitingRefusal::NoEntry),
@@ -51,11 +49,7 @@ pub fn leave<B: Book>(
     alloc: Global,
     id: u64,
 ) -> Result<(), WaitingRefusal>
-    ensures done { OnOk result (entry_left id (now draft.old) ≡ Ok (now draft.new)) }
-    ensures refused { IfErr result (λ e. e ≢ WaitingRefusal.Memory → entry_left id (now draft.old) ≡ Err e) }
-    ensures extends { Extends draft.old draft.new }
-    ensures same { OnErr result (draft.new ≡ draft.old) }
-    ensures changes { OnOk result (draft.new.log.changes ≡ draft.old.log.changes ++ DropWaiting id ∷ []) }
+    ensures { DeletesBy Memory (entry_left id) (DropWaiting id ∷ []) draft.old draft.new result }
 {
     let is_sent = match draft.rows().entry(id) {
         None => return Err(WaitingRefusal::NoEntry),

@@ -1,6 +1,8 @@
 //! Joining the waiting list.
 
-ghost use Rattle.std.specs.Prelude.{◌≡◌, ◌≢◌, ◌<◌, ◌++◌, ◌∷◌, [], Ok, Err, IfOk, IfErr, OnOk, OnErr};
+ghost use Rattle.std.specs.Prelude.{◌≡◌, ◌<◌, ◌∷◌, [], IfOk, OnOk, OnErr};
+ghost use Rattle.model_commands.specs.declared.waiting.WaitingRefusal.TheVariants.{Memory};
+ghost use Rattle.draft_changes.specs.Decides.{Logs, DecidesBy};
 ghost use Rattle.draft_changes.specs.DraftState.{now, Extends};
 ghost use Rattle.model_rows.specs.declared.changes.Change.TheVariants.{PutWaiting};
 ghost use Rattle.model_rows.specs.Numbered.{with_waiting};
@@ -47,11 +49,8 @@ pub fn join<B: Book>(
     new: &NewWaiting,
 ) -> Result<Waiting, WaitingRefusal>
     requires { (now draft.old).lists.waiting ≡ draft.old.log.base.waiting }
-    ensures done { IfOk result (λ row. entry_joined new.now (now draft.old) ≡ Ok (now draft.new, row)) }
-    ensures refused { IfErr result (λ e. e ≢ WaitingRefusal.Memory → entry_joined new.now (now draft.old) ≡ Err e) }
-    ensures extends { Extends draft.old draft.new }
-    ensures same { OnErr result (draft.new ≡ draft.old) }
-    ensures changes { IfOk result (λ row. draft.new.log.changes ≡ draft.old.log.changes ++ PutWaiting row ∷ []) }
+    ensures { DecidesBy Memory (entry_joined new.now) (λ row. PutWaiting row ∷ [])
+        draft.old draft.new result }
 {
     let product = draft.rows().catalogue().product(new.item, new.variation)?;
     if !draft.rows().catalogue().is_active(product) {
@@ -81,7 +80,7 @@ fn put_new<B: Book>(
     ensures copy { IfOk result (λ copy. copy ≡ row) }
     ensures extends { Extends draft.old draft.new }
     ensures same { OnErr result (draft.new ≡ draft.old) }
-    ensures changes { OnOk result (draft.new.log.changes ≡ draft.old.log.changes ++ PutWaiting row ∷ []) }
+    ensures changes { OnOk result (Logs (PutWaiting row ∷ []) draft.old draft.new) }
 {
     let copy = row.copy(alloc)?;
     draft.put_waiting(alloc, row)?;

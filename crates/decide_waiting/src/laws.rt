@@ -32,17 +32,20 @@ pub fn the_queue_is_in_turn()
 /// Sending a voucher to a waiting entry leaves every quota's usage as it was: one waits less, and one is blocked more,
 /// in exactly the quotas of the product.
 pub fn sending_keeps_usage()
-    ensures trades { (id : ℕ) (draw : Draw) (before after : State) (row : Waiting) → IsSound before →
-        voucher_sent id draw before ≡ Ok (after, row) → (quota : Quota) →
-        TradesPlace quota row.product (usage_of before.lists before.moment quota) (usage_of after.lists after.moment quota) }
-    ensures used { (id : ℕ) (draw : Draw) (before after : State) (row : Waiting) → IsSound before →
-        voucher_sent id draw before ≡ Ok (after, row) → (quota : Quota) → used after quota ≡ used before quota }
+    ensures trades { (id : ℕ) (draw : Draw) (before after : State) (row : Waiting) →
+        IsSound before → voucher_sent id draw before ≡ Ok (after, row) → (quota : Quota) →
+        TradesPlace quota row.product (usage_of before.lists before.moment quota)
+        (usage_of after.lists after.moment quota) }
+    ensures used { (id : ℕ) (draw : Draw) (before after : State) (row : Waiting) →
+        IsSound before → voucher_sent id draw before ≡ Ok (after, row) → (quota : Quota) →
+        used after quota ≡ used before quota }
 {}
 
 /// Serving one after another, each tested in the box office as it then is, sends to those who are chosen at once by the box
 /// office as it is before, in their order, and leads to the same box office.
 pub fn serving_is_at_once()
-    ensures { (draw : Draw) (state : State) → IsSound state → served_in_turn draw state ≡ all_served draw state }
+    ensures { (draw : Draw) (state : State) →
+        IsSound state → served_in_turn draw state ≡ all_served draw state }
 {}
 
 /// Serving leaves every quota's usage as it was.
@@ -53,14 +56,17 @@ pub fn serving_keeps_usage()
 
 /// Joining uses one place more in each quota of the product, and leaves all others as they were.
 pub fn joining_takes_one()
-    ensures { (new : NewWaiting) (before after : State) (row : Waiting) (quota : Quota) → IsSound before →
-        entry_joined new before ≡ Ok (after, row) → used after quota ≡ used before quota + place_in quota row.product }
+    ensures { (new : NewWaiting) (before after : State) (row : Waiting) (quota : Quota) →
+        IsSound before → entry_joined new before ≡ Ok (after, row) →
+        used after quota ≡ used before quota + place_in quota row.product }
 {}
 
 /// Another priority uses as much as the old one, and leaving raises no usage.
 pub fn others_raise_none()
-    ensures changed { (id : ℕ) (patch : WaitingPatch) (before after : State) (row : Waiting) (quota : Quota) →
-        IsSound before → entry_changed id patch before ≡ Ok (after, row) → used after quota ≡ used before quota }
+    ensures changed { (id : ℕ) (patch : WaitingPatch) (before after : State) (row : Waiting)
+        (quota : Quota) →
+        IsSound before → entry_changed id patch before ≡ Ok (after, row) →
+        used after quota ≡ used before quota }
     ensures left { (id : ℕ) (before after : State) (quota : Quota) → IsSound before →
         entry_left id before ≡ Ok after → used after quota ≤ used before quota }
 {}
@@ -70,11 +76,13 @@ pub fn others_raise_none()
 pub fn waiting_keeps_sound()
     ensures joined { (new : NewWaiting) (before after : State) (row : Waiting) → IsFitWaiting new →
         IsSound before → entry_joined new before ≡ Ok (after, row) → IsSound after }
-    ensures changed { (id : ℕ) (patch : WaitingPatch) (before after : State) (row : Waiting) → IsFitWaitingPatch patch →
-        IsSound before → entry_changed id patch before ≡ Ok (after, row) → IsSound after }
+    ensures changed { (id : ℕ) (patch : WaitingPatch) (before after : State) (row : Waiting) →
+        IsFitWaitingPatch patch → IsSound before → entry_changed id patch before ≡ Ok (after, row) →
+        IsSound after }
     ensures left { (id : ℕ) (before after : State) →
         IsSound before → entry_left id before ≡ Ok after → IsSound after }
     ensures sent { (id : ℕ) (draw : Draw) (before after : State) (row : Waiting) → IsDraw draw →
         IsSound before → voucher_sent id draw before ≡ Ok (after, row) → IsSound after }
-    ensures served { (draw : Draw) (before : State) → IsDraw draw → IsSound before → IsSound (all_served draw before).0 }
+    ensures served { (draw : Draw) (before : State) →
+        IsDraw draw → IsSound before → IsSound (all_served draw before).0 }
 {}

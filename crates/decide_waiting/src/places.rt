@@ -1,10 +1,10 @@
 //! The places of quotas that are left but for those who wait.
 
-ghost use Rattle.std.specs.Prelude.{◌≡◌, Some, None, IfOk, OnOk, length, map, ◌&&◌};
+ghost use Rattle.std.specs.Prelude.{◌≡◌, Some, None, IfOk, OnOk, length, ◌&&◌};
 ghost use Rattle.model_catalogue.specs.CatalogueLists.{quota_at};
 ghost use Rattle.model_catalogue.specs.Member.{is_in};
 ghost use Rattle.draft_changes.specs.DraftState.{now};
-ghost use Rattle.decide_waiting.specs.Places.{used_unwaited, is_full, is_full_at, first_closed, is_open, places_left, has_none_left, first_without_place, one_less, after_one, all_after_one};
+ghost use Rattle.decide_waiting.specs.Places.{used_unwaited, is_full, is_full_at, first_closed, is_open, places_left, has_none_left, first_without_place, one_less, after_one, all_after_one, all_places_left};
 
 use book_usage::Book;
 use draft_changes::Draft;
@@ -90,7 +90,7 @@ pub fn places_left<B: Book>(
     alloc: Global,
 ) -> Result<Vec<Option<u128>>, AllocError>
     requires waiting { (now draft.now).lists.waiting ≡ draft.now.log.base.waiting }
-    ensures { IfOk result (λ left. left.items ≡ map (places_left (now draft.now)) (now draft.now).lists.catalogue.quotas) }
+    ensures { IfOk result (λ left. left.items ≡ all_places_left (now draft.now)) }
 {
     let catalogue = draft.rows().catalogue();
     catalogue.known();

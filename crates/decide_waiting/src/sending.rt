@@ -1,6 +1,8 @@
 //! Sending a voucher to an entry of the waiting list.
 
-ghost use Rattle.std.specs.Prelude.{◌≡◌, ◌≢◌, ◌<◌, ◌++◌, Ok, Err, Some, None, IfOk, IfErr, OnErr};
+ghost use Rattle.std.specs.Prelude.{◌≡◌, ◌≢◌, ◌<◌, Ok, Some, None, IfOk, IfErr};
+ghost use Rattle.model_commands.specs.declared.waiting.WaitingRefusal.TheVariants.{Memory};
+ghost use Rattle.draft_changes.specs.Decides.{Logs, RefusesBy, DecidesBy};
 ghost use Rattle.draft_changes.specs.DraftState.{now, Extends};
 ghost use Rattle.model_rows.specs.Lists.{waiting_at};
 ghost use Rattle.model_invariant.specs.Sound.{IsSound};
@@ -34,11 +36,8 @@ pub fn send<B: Book>(
 ) -> Result<Waiting, WaitingRefusal>
     requires sound { IsSound (now draft.old) }
     requires waiting { (now draft.old).lists.waiting ≡ draft.old.log.base.waiting }
-    ensures done { IfOk result (λ row. voucher_sent id draw (now draft.old) ≡ Ok (now draft.new, row)) }
-    ensures refused { IfErr result (λ e. e ≢ WaitingRefusal.Memory → voucher_sent id draw (now draft.old) ≡ Err e) }
-    ensures extends { Extends draft.old draft.new }
-    ensures same { OnErr result (draft.new ≡ draft.old) }
-    ensures changes { IfOk result (λ row. draft.new.log.changes ≡ draft.old.log.changes ++ sent_changes draw (now draft.old) row) }
+    ensures { DecidesBy Memory (voucher_sent id draw) (sent_changes draw (now draft.old))
+        draft.old draft.new result }
 {
     let entry = match draft.rows().entry(id) {
         None => return Err(WaitingRefusal::NoEntry),
@@ -63,11 +62,12 @@ pub(crate) fn send_to<B: Book>(
 ) -> Result<Waiting, WaitingRefusal>
     requires can { CanSend (now draft.old) }
     requires closed { closed ≡ first_closed (now draft.old) entry.product }
-    ensures done { IfOk result (λ row. sent_to draw entry (now draft.old) ≡ Ok (now draft.new, row)) }
-    ensures refused { IfErr result (λ e. e ≢ WaitingRefusal.Memory → sent_to draw entry (now draft.old) ≡ Err e) }
+    ensures done { IfOk result (λ r. sent_to draw entry (now draft.old) ≡ Ok (now draft.new, r)) }
+    ensures refused { RefusesBy Memory (sent_to draw entry (now draft.old)) result }
     ensures extends { Extends draft.old draft.new }
     ensures same { IfErr result (λ e. e ≢ WaitingRefusal.Memory → draft.new ≡ draft.old) }
-    ensures changes { IfOk result (λ row. draft.new.log.changes ≡ draft.old.log.changes ++ sent_changes draw (now draft.old) row) }
+    ensures changes { IfOk result (λ row.
+        Logs (sent_changes draw (now draft.old) row) draft.old draft.new) }
 {
     if entry.voucher.is_some() {
         return Err(WaitingRefusal::AlreadySent);
@@ -99,7 +99,8 @@ fn put_sent<B: Book>(
     ensures after { IfOk result (λ row. now draft.new ≡ with_sent draw entry (now draft.old)) }
     ensures row { IfOk result (λ row. row ≡ with_its_voucher (now draft.old) entry) }
     ensures extends { Extends draft.old draft.new }
-    ensures changes { IfOk result (λ row. draft.new.log.changes ≡ draft.old.log.changes ++ sent_changes draw (now draft.old) row) }
+    ensures changes { IfOk result (λ row.
+        Logs (sent_changes draw (now draft.old) row) draft.old draft.new) }
 {
     let voucher = new_voucher(draft, alloc, draw, entry.product)?;
     let row = with_voucher(entry, voucher.id);

@@ -1,11 +1,12 @@
 //! Serving the waiting list.
 
-ghost use Rattle.std.specs.Prelude.{◌≡◌, ◌++◌, [], IfOk, OnOk, OnErr, map};
+ghost use Rattle.std.specs.Prelude.{◌≡◌, IfOk, OnOk, OnErr};
+ghost use Rattle.draft_changes.specs.Decides.{Logs};
 ghost use Rattle.draft_changes.specs.DraftState.{now, Extends};
 ghost use Rattle.model_invariant.specs.Sound.{IsSound};
-ghost use Rattle.decide_waiting.specs.Places.{places_left};
-ghost use Rattle.decide_waiting.specs.Sending.{CanSend, voucher_sent};
-ghost use Rattle.decide_waiting.specs.Serving.{all_served, served_changes, state_after, each_sent, run_after, noted, logged};
+ghost use Rattle.decide_waiting.specs.Sending.{CanSend};
+ghost use Rattle.decide_waiting.specs.Serving.{all_served, served_changes, noted, logged, run_from, run_so_far, turn_state, turn_ids, turn_changes};
+ghost use Rattle.decide_waiting.specs.Places.{all_places_left};
 
 use crate::places::{all_after_one, first_without_place, places_left};
 use crate::sending::send_to;
@@ -26,10 +27,12 @@ pub fn serve_all<B: Book>(
 ) -> Result<Vec<u64>, AllocError>
     requires sound { IsSound (now draft.old) }
     requires waiting { (now draft.old).lists.waiting ≡ draft.old.log.base.waiting }
-    ensures done { IfOk result (λ ids. all_served draw (now draft.old) ≡ (now draft.new, ids.items)) }
+    ensures done { IfOk result (λ ids.
+        all_served draw (now draft.old) ≡ (now draft.new, ids.items)) }
     ensures extends { Extends draft.old draft.new }
     ensures same { OnErr result (draft.new ≡ draft.old) }
-    ensures changes { OnOk result (draft.new.log.changes ≡ draft.old.log.changes ++ served_changes draw (now draft.old)) }
+    ensures changes { OnOk result (
+        Logs (served_changes draw (now draft.old)) draft.old draft.new) }
 {
     let queue = ids_in_turn(draft, alloc)?;
     if queue.is_empty() {
@@ -51,8 +54,9 @@ fn serve_each<B: Book>(
     left: &mut Vec<Option<u128>>,
 ) -> Result<Vec<u64>, AllocError>
     requires can { CanSend (now draft.old) }
-    requires left { left.old.items ≡ map (places_left (now draft.old)) (now draft.old).lists.catalogue.quotas }
-    ensures done { IfOk result (λ ids. run_after [] draft.old.log.changes (each_sent draw queue.now (now draft.old)) ≡ record { state = now draft.new; ids = ids.items; changes = draft.new.log.changes }) }
+    requires left { left.old.items ≡ all_places_left (now draft.old) }
+    ensures done { IfOk result (λ ids.
+        run_from draw queue.now draft.old ≡ run_so_far ids.items draft.new) }
     ensures extends { Extends draft.old draft.new }
 {
     let mut ids = Vec::new(alloc);
@@ -76,11 +80,11 @@ fn serve_one<B: Book>(
     ids: &mut Vec<u64>,
 ) -> Result<(), AllocError>
     requires can { CanSend (now draft.old) }
-    requires left { left.old.items ≡ map (places_left (now draft.old)) (now draft.old).lists.catalogue.quotas }
-    ensures done { OnOk result (now draft.new ≡ state_after (now draft.old) (voucher_sent id draw (now draft.old))) }
-    ensures noted { OnOk result (ids.new.items ≡ noted (voucher_sent id draw (now draft.old)) ids.old.items) }
-    ensures logged { OnOk result (draft.new.log.changes ≡ logged draw (now draft.old) (voucher_sent id draw (now draft.old)) draft.old.log.changes) }
-    ensures left { OnOk result (left.new.items ≡ map (places_left (now draft.new)) (now draft.new).lists.catalogue.quotas) }
+    requires left { left.old.items ≡ all_places_left (now draft.old) }
+    ensures done { OnOk result (now draft.new ≡ turn_state id draw draft.old) }
+    ensures noted { OnOk result (ids.new.items ≡ turn_ids id draw draft.old ids.old.items) }
+    ensures logged { OnOk result (draft.new.log.changes ≡ turn_changes id draw draft.old) }
+    ensures left { OnOk result (left.new.items ≡ all_places_left (now draft.new)) }
     ensures extends { Extends draft.old draft.new }
 {
     let entry = match draft.rows().entry(id) {

@@ -1,5 +1,5 @@
 -- A draft: a box office in a book, and changes that aren't applied yet. A mark is a place among them. Its vouchers have headroom after each change.
-use Rattle.std.specs.Prelude.{◌≡◌, ℕ, ◌≤◌, ◌<◌, ◌+◌, List, [], ◌∷◌, ◌++◌, length, take}
+use Rattle.std.specs.Prelude.{◌≡◌, ℕ, ◌≤◌, ◌<◌, ◌+◌, List, length, take}
 use Rattle.base_sorted.specs.Tables.{AreInOrder}
 use Rattle.model_rows.specs.declared.rows.NextIds.{NextIds}
 use Rattle.model_rows.specs.declared.changes.Change.{Change}
@@ -7,7 +7,7 @@ use Rattle.model_rows.specs.declared.rows.Usage.{Usage}
 use Rattle.model_rows.specs.Lists.{State}
 use Rattle.model_rows.specs.Headroom.{AllHaveHeadroom}
 use Rattle.model_rows.specs.Usage.{usage_of}
-use Rattle.draft_deltas.specs.Logs.{Log, rows_of}
+use Rattle.draft_deltas.specs.Logs.{Log, rows_of, log_with}
 use Rattle.book_tally.specs.declared.amount.Uses.{Uses}
 use Rattle.book_tally.specs.declared.tally.Count.{Count}
 use Rattle.book_tally.specs.Amounts.{nothing, plus, no_uses, plus_uses}
@@ -32,7 +32,7 @@ now draft = record { lists = rows_of draft.log; next = draft.next; moment = draf
 
 -- the draft with one more change
 abbrev pub with_change : Change → DraftState → DraftState
-with_change change draft = record draft { log = record draft.log { changes = draft.log.changes ++ change ∷ [] } }
+with_change change draft = record draft { log = log_with change draft.log }
 
 -- the log as it was after so many changes
 abbrev pub log_at : ℕ → Log → Log

@@ -3,3 +3,4 @@ pub mod CanCome
 pub mod Least
 pub mod Handed
 pub mod DraftState
+pub mod Decides

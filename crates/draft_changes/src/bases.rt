@@ -97,7 +97,8 @@ pub fn base_of<B: Book>(
     requires order { AreInOrder (λ r. r.place) bases.now }
     requires known { AreBases (B.state book.now).lists at quotas.now bases.now }
     requires past { (B.state book.now).moment ≤ at }
-    ensures value { (d : Quota) → result ≡ used (B.state book.now).lists at (slice_index_or quotas.now place d) }
+    ensures value { (d : Quota) → result
+        ≡ used (B.state book.now).lists at (slice_index_or quotas.now place d) }
     ensures few { result ≤ 92233720368547758080 }
 {
     book.catalogue().known();

@@ -68,7 +68,8 @@ impl<'a, B: Book> Model for Draft<'a, B> {
 
     // What is counted, now and before each change, is what counting afresh gives, and no voucher is used more often than it may
     // be.
-    ghost invariant = { λ d. IsDraft (B.state d.book.now) d.overlay d.moment d.tallies d.bases.items d.noted.items };
+    ghost invariant = { λ d. IsDraft
+        (B.state d.book.now) d.overlay d.moment d.tallies d.bases.items d.noted.items };
 }
 
 impl<'a, B: Book> Draft<'a, B> {
@@ -130,7 +131,8 @@ impl<'a, B: Book> Draft<'a, B> {
 
     /// How often the voucher is used: by the positions of pending and paid orders, and by live cart positions.
     pub fn uses(&self, voucher: u64) -> u128
-        ensures value { result ≡ redeemed voucher (now self.now).lists + held (now self.now).moment voucher (now self.now).lists }
+        ensures value { result ≡ redeemed voucher (now self.now).lists
+            + held (now self.now).moment voucher (now self.now).lists }
         ensures few { result ≤ 17179869184 }
     {
         self.overlay.known();
@@ -223,7 +225,8 @@ impl<'a, B: Book> Draft<'a, B> {
     /// `Err` where there is no memory or 2^32 changes stand; the draft is then as it was.
     #[tactic(auto, using(crate::proofs::CanCome::can_put_cart))]
     pub fn put_cart(&mut self, alloc: Global, row: CartPos) -> Result<(), AllocError>
-        requires { (not (is_live_cart (now self.old).moment row) || has_use (now self.old).moment (now self.old).lists row.voucher) ≡ true }
+        requires { (not (is_live_cart (now self.old).moment row)
+            || has_use (now self.old).moment (now self.old).lists row.voucher) ≡ true }
         ensures ok { OnOk result (now self.new ≡ changed (Change.PutCart row) (now self.old)) }
         ensures extends { Extends self.old self.new }
         ensures err { OnErr result (self.new ≡ self.old) }
@@ -275,7 +278,8 @@ impl<'a, B: Book> Draft<'a, B> {
     /// `Err` where there is no memory or 2^32 changes stand; the draft is then as it was.
     #[tactic(auto, using(crate::proofs::CanCome::can_put_checkin_list))]
     pub fn put_checkin_list(&mut self, alloc: Global, row: CheckinList) -> Result<(), AllocError>
-        ensures ok { OnOk result (now self.new ≡ changed (Change.PutCheckinList row) (now self.old)) }
+        ensures ok { OnOk result
+            (now self.new ≡ changed (Change.PutCheckinList row) (now self.old)) }
         ensures extends { Extends self.old self.new }
         ensures err { OnErr result (self.new ≡ self.old) }
         ensures log { OnOk result (self.new ≡ with_change (Change.PutCheckinList row) self.old) }
@@ -303,7 +307,8 @@ impl<'a, B: Book> Draft<'a, B> {
     /// `Err` where there is no memory or 2^32 changes stand; the draft is then as it was.
     #[tactic(auto, using(crate::proofs::CanCome::can_put_order))]
     pub fn put_order(&mut self, alloc: Global, row: Order) -> Result<(), AllocError>
-        requires { AllHaveHeadroom (now self.old).moment (changed (Change.PutOrder row) (now self.old)).lists }
+        requires { AllHaveHeadroom (now self.old).moment
+            (changed (Change.PutOrder row) (now self.old)).lists }
         ensures ok { OnOk result (now self.new ≡ changed (Change.PutOrder row) (now self.old)) }
         ensures extends { Extends self.old self.new }
         ensures err { OnErr result (self.new ≡ self.old) }
@@ -319,7 +324,8 @@ impl<'a, B: Book> Draft<'a, B> {
     #[tactic(auto, using(crate::proofs::CanCome::can_put_position))]
     pub fn put_position(&mut self, alloc: Global, row: OrderPos) -> Result<(), AllocError>
         requires new { position_at row.id (now self.old).lists ≡ None }
-        requires headroom { AllHaveHeadroom (now self.old).moment (changed (Change.PutPosition row) (now self.old)).lists }
+        requires headroom { AllHaveHeadroom (now self.old).moment
+            (changed (Change.PutPosition row) (now self.old)).lists }
         ensures ok { OnOk result (now self.new ≡ changed (Change.PutPosition row) (now self.old)) }
         ensures extends { Extends self.old self.new }
         ensures err { OnErr result (self.new ≡ self.old) }
@@ -377,7 +383,8 @@ impl<'a, B: Book> Draft<'a, B> {
     /// The own rows are those that the request adds or revives: they don't weigh where their vouchers ignore quotas.
     pub fn first_over(&self, mark: &Mark, own: &[Own]) -> Option<u64>
         requires { IsMarkOf self.now mark.now }
-        ensures { result ≡ first_over (now (back mark.now self.now)).lists (now self.now).lists (now self.now).moment own.now }
+        ensures { result ≡ first_over (now (back mark.now self.now)).lists (now self.now).lists
+            (now self.now).moment own.now }
     {
         first_over(
             self.book,
@@ -419,7 +426,8 @@ impl<'a, B: Book> Draft<'a, B> {
     pub fn finish(self, alloc: Global) -> Result<Drafted, AllocError>
         ensures list { IfOk result (λ d. d.changes.list ≡ self.entry.log.changes) }
         ensures next { IfOk result (λ d. d.changes.next ≡ self.entry.next) }
-        ensures shifts { IfOk result (λ d. AreShifts self.entry.log.base (rows_of self.entry.log) self.entry.moment d.shifts) }
+        ensures shifts { IfOk result (λ d.
+            AreShifts self.entry.log.base (rows_of self.entry.log) self.entry.moment d.shifts) }
     {
         let Draft {
             book,

@@ -91,7 +91,8 @@ fn quota_shifts(
     counts: &Tally<Usage>,
     places: &[u64],
 ) -> Result<Vec<QuotaShift>, AllocError>
-    ensures { IfOk result (λ rows. rows.items ≡ flat_map (quota_shift quotas.now counts.now) places.now) }
+    ensures { IfOk result (λ rows. rows.items
+        ≡ flat_map (quota_shift quotas.now counts.now) places.now) }
 {
     let mut rows = Vec::new(alloc);
     for place in places {
@@ -107,7 +108,8 @@ fn add_quota(
     place: u64,
     rows: &mut Vec<QuotaShift>,
 ) -> Result<(), AllocError>
-    ensures { OnOk result (rows.new.items ≡ rows.old.items ++ quota_shift quotas.now counts.now place) }
+    ensures { OnOk result (rows.new.items
+        ≡ rows.old.items ++ quota_shift quotas.now counts.now place) }
 {
     let index = place as usize;
     if quotas.len() <= index {
@@ -128,7 +130,8 @@ fn voucher_shifts<B: Book>(
     uses: &Tally<Uses>,
     ids: &[u64],
 ) -> Result<Vec<VoucherShift>, AllocError>
-    ensures { IfOk result (λ rows. rows.items ≡ flat_map (voucher_shift (rows_of overlay.now) uses.now) ids.now) }
+    ensures { IfOk result (λ rows. rows.items
+        ≡ flat_map (voucher_shift (rows_of overlay.now) uses.now) ids.now) }
 {
     let mut rows = Vec::new(alloc);
     for id in ids {
@@ -144,7 +147,8 @@ fn add_voucher<B: Book>(
     id: u64,
     rows: &mut Vec<VoucherShift>,
 ) -> Result<(), AllocError>
-    ensures { OnOk result (rows.new.items ≡ rows.old.items ++ voucher_shift (rows_of overlay.now) uses.now id) }
+    ensures { OnOk result (rows.new.items
+        ≡ rows.old.items ++ voucher_shift (rows_of overlay.now) uses.now id) }
 {
     let count = uses.of(id);
     Ok(rows.push(VoucherShift {

@@ -28,7 +28,9 @@ impl<'a, B: Book> Draft<'a, B> {
     /// Counts the id of a cart position as used.
     pub fn use_cart_id(&mut self)
         requires { (now self.old).next.cart < 9007199254740992 }
-        ensures now { now self.new ≡ record (now self.old) { next = record (now self.old).next { cart = (now self.old).next.cart + 1 } } }
+        ensures now { now self.new ≡ record (now self.old) {
+          next = record (now self.old).next { cart = (now self.old).next.cart + 1 };
+        } }
         ensures extends { Extends self.old self.new }
         ensures log { self.new.log ≡ self.old.log }
     {
@@ -54,7 +56,9 @@ impl<'a, B: Book> Draft<'a, B> {
     /// Counts the id of an order as used.
     pub fn use_order_id(&mut self)
         requires { (now self.old).next.order < 9007199254740992 }
-        ensures now { now self.new ≡ record (now self.old) { next = record (now self.old).next { order = (now self.old).next.order + 1 } } }
+        ensures now { now self.new ≡ record (now self.old) {
+          next = record (now self.old).next { order = (now self.old).next.order + 1 };
+        } }
         ensures extends { Extends self.old self.new }
         ensures log { self.new.log ≡ self.old.log }
     {
@@ -80,7 +84,11 @@ impl<'a, B: Book> Draft<'a, B> {
     /// Counts the ids of so many order positions as used.
     pub fn use_position_ids(&mut self, count: usize)
         requires { (now self.old).next.position + count ≤ 9007199254740992 }
-        ensures now { now self.new ≡ record (now self.old) { next = record (now self.old).next { position = (now self.old).next.position + count } } }
+        ensures now { now self.new ≡ record (now self.old) {
+          next = record (now self.old).next {
+            position = (now self.old).next.position + count;
+          };
+        } }
         ensures extends { Extends self.old self.new }
         ensures log { self.new.log ≡ self.old.log }
     {
@@ -105,7 +113,9 @@ impl<'a, B: Book> Draft<'a, B> {
     /// Counts the id of a voucher as used.
     pub fn use_voucher_id(&mut self)
         requires { (now self.old).next.voucher < 9007199254740992 }
-        ensures now { now self.new ≡ record (now self.old) { next = record (now self.old).next { voucher = (now self.old).next.voucher + 1 } } }
+        ensures now { now self.new ≡ record (now self.old) {
+          next = record (now self.old).next { voucher = (now self.old).next.voucher + 1 };
+        } }
         ensures extends { Extends self.old self.new }
         ensures log { self.new.log ≡ self.old.log }
     {
@@ -132,7 +142,9 @@ impl<'a, B: Book> Draft<'a, B> {
     /// Counts the id of a waiting entry as used.
     pub fn use_waiting_id(&mut self)
         requires { (now self.old).next.waiting < 9007199254740992 }
-        ensures now { now self.new ≡ record (now self.old) { next = record (now self.old).next { waiting = (now self.old).next.waiting + 1 } } }
+        ensures now { now self.new ≡ record (now self.old) {
+          next = record (now self.old).next { waiting = (now self.old).next.waiting + 1 };
+        } }
         ensures extends { Extends self.old self.new }
         ensures log { self.new.log ≡ self.old.log }
     {
@@ -158,7 +170,9 @@ impl<'a, B: Book> Draft<'a, B> {
     /// Counts the id of a check-in list as used.
     pub fn use_checkin_list_id(&mut self)
         requires { (now self.old).next.list < 9007199254740992 }
-        ensures now { now self.new ≡ record (now self.old) { next = record (now self.old).next { list = (now self.old).next.list + 1 } } }
+        ensures now { now self.new ≡ record (now self.old) {
+          next = record (now self.old).next { list = (now self.old).next.list + 1 };
+        } }
         ensures extends { Extends self.old self.new }
         ensures log { self.new.log ≡ self.old.log }
     {
@@ -184,7 +198,9 @@ impl<'a, B: Book> Draft<'a, B> {
     /// Counts the id of a check-in as used.
     pub fn use_checkin_id(&mut self)
         requires { (now self.old).next.checkin < 9007199254740992 }
-        ensures now { now self.new ≡ record (now self.old) { next = record (now self.old).next { checkin = (now self.old).next.checkin + 1 } } }
+        ensures now { now self.new ≡ record (now self.old) {
+          next = record (now self.old).next { checkin = (now self.old).next.checkin + 1 };
+        } }
         ensures extends { Extends self.old self.new }
         ensures log { self.new.log ≡ self.old.log }
     {

@@ -7,7 +7,7 @@ ghost use Rattle.base_sorted.specs.Tables.{AreInOrder};
 ghost use Rattle.model_rows.specs.Over.{first_over, is_over};
 ghost use Rattle.draft_deltas.specs.Logs.{rows_of, rows_at};
 ghost use Rattle.draft_deltas.specs.Counts.{value_at};
-ghost use Rattle.draft_changes.specs.Least.{found_at, IsLeast};
+ghost use Rattle.draft_changes.specs.Least.{over_at, IsLeast};
 ghost use Rattle.draft_changes.specs.DraftState.{log_at, IsTotalled};
 ghost use Rattle.model_catalogue.specs.declared.rows.Quota.{Quota};
 ghost use Rattle.draft_changes.specs.Used.{used, raised, AreBases};
@@ -36,7 +36,8 @@ pub fn first_over<B: Book>(
     mark: usize,
 ) -> Option<u64>
     requires order_bases { AreInOrder (λ r. r.place) bases.now }
-    requires bases { AreBases (B.state book.now).lists at (B.state book.now).lists.catalogue.quotas bases.now }
+    requires bases { AreBases (B.state book.now).lists at
+        (B.state book.now).lists.catalogue.quotas bases.now }
     requires base { overlay.now.base ≡ (B.state book.now).lists }
     requires past { (B.state book.now).moment ≤ at }
     requires within { mark ≤ length counts.now }
@@ -72,7 +73,8 @@ fn least_over<B: Book>(
     requires within { mark ≤ length counts.now }
     requires counted { IsTotalled at overlay.now counts.now }
     requires counted_before { IsTotalled at (log_at count overlay.now) (take mark counts.now) }
-    ensures least { IsLeast (found_at (λ q. q.id) (is_over (rows_at count overlay.now) (rows_of overlay.now) at own.now) quotas.now) counts.now (length counts.now) result }
+    ensures least { IsLeast (over_at count overlay.now at own.now quotas.now)
+        counts.now (length counts.now) result }
     ensures within { IfSome result (λ place. place < length quotas.now) }
 {
     let mut least = None;
@@ -108,8 +110,10 @@ fn lesser_over<B: Book>(
     requires place { place < length counts.now }
     requires counted { IsTotalled at overlay.now counts.now }
     requires counted_before { IsTotalled at (log_at count overlay.now) (take mark counts.now) }
-    requires least { IsLeast (found_at (λ q. q.id) (is_over (rows_at count overlay.now) (rows_of overlay.now) at own.now) quotas.now) counts.now place least }
-    ensures { IsLeast (found_at (λ q. q.id) (is_over (rows_at count overlay.now) (rows_of overlay.now) at own.now) quotas.now) counts.now (place + 1) result }
+    requires least { IsLeast (over_at count overlay.now at own.now quotas.now)
+        counts.now place least }
+    ensures { IsLeast (over_at count overlay.now at own.now quotas.now)
+        counts.now (place + 1) result }
 {
     let key = counts.key(place);
     if !is_next(counts, key, place, least) {
@@ -126,7 +130,8 @@ fn lesser_over<B: Book>(
 // Whether the addition at a place is to be looked at: it is the newest one to its key, which is less than what was found.
 fn is_next(counts: &Tally<Usage>, key: u64, place: usize, least: Option<u64>) -> bool
     ensures yes { result ≡ true → IfSome least (λ l. key < l) }
-    ensures no { result ≡ false → newest key counts.now ≡ Some place → IfSome least (λ l. key < l) → ⊥ }
+    ensures no { result ≡ false → newest key counts.now ≡ Some place
+        → IfSome least (λ l. key < l) → ⊥ }
 {
     is_newest(counts, key, place) && is_less(key, least)
 }
@@ -162,7 +167,8 @@ pub fn used_now<B: Book>(
     counts: &Tally<Usage>,
 ) -> u128
     requires order_bases { AreInOrder (λ r. r.place) bases.now }
-    requires bases { AreBases (B.state book.now).lists at (B.state book.now).lists.catalogue.quotas bases.now }
+    requires bases { AreBases (B.state book.now).lists at
+        (B.state book.now).lists.catalogue.quotas bases.now }
     requires base { overlay.now.base ≡ (B.state book.now).lists }
     requires past { (B.state book.now).moment ≤ at }
     requires counted { IsTotalled at overlay.now counts.now }
@@ -200,9 +206,15 @@ fn over_at<B: Book>(
     requires bases { AreBases (B.state book.now).lists at quotas.now bases.now }
     requires base { overlay.now.base ≡ (B.state book.now).lists }
     requires past { (B.state book.now).moment ≤ at }
-    requires counted { value_at 0 (used (rows_of overlay.now) at) quotas.now after.id + raised after.gone after.come ≡ value_at 0 (used overlay.now.base at) quotas.now after.id + raised after.come after.gone }
-    requires counted_before { value_at 0 (used (rows_at count overlay.now) at) quotas.now after.id + raised before.gone before.come ≡ value_at 0 (used overlay.now.base at) quotas.now after.id + raised before.come before.gone }
-    ensures { result ≡ found_at (λ q. q.id) (is_over (rows_at count overlay.now) (rows_of overlay.now) at own.now) quotas.now after.id }
+    requires counted { value_at 0 (used (rows_of overlay.now) at) quotas.now after.id
+        + raised after.gone after.come
+        ≡ value_at 0 (used overlay.now.base at) quotas.now after.id
+        + raised after.come after.gone }
+    requires counted_before { value_at 0 (used (rows_at count overlay.now) at) quotas.now after.id
+        + raised before.gone before.come
+        ≡ value_at 0 (used overlay.now.base at) quotas.now after.id
+        + raised before.come before.gone }
+    ensures { result ≡ over_at count overlay.now at own.now quotas.now after.id }
 {
     let place = after.id as usize;
     if quotas.len() <= place {
@@ -237,9 +249,19 @@ fn is_over<B: Book>(
     requires bases { AreBases (B.state book.now).lists at quotas.now bases.now }
     requires base { overlay.now.base ≡ (B.state book.now).lists }
     requires past { (B.state book.now).moment ≤ at }
-    requires counted { (d : Quota) → used (rows_of overlay.now) at (slice_index_or quotas.now place d) + raised after.gone after.come ≡ used overlay.now.base at (slice_index_or quotas.now place d) + raised after.come after.gone }
-    requires counted_before { (d : Quota) → used (rows_at count overlay.now) at (slice_index_or quotas.now place d) + raised before.gone before.come ≡ used overlay.now.base at (slice_index_or quotas.now place d) + raised before.come before.gone }
-    ensures { (d : Quota) → result ≡ is_over (rows_at count overlay.now) (rows_of overlay.now) at own.now (slice_index_or quotas.now place d) }
+    requires counted { (d : Quota)
+        → used (rows_of overlay.now) at (slice_index_or quotas.now place d)
+        + raised after.gone after.come
+        ≡ used overlay.now.base at (slice_index_or quotas.now place d)
+        + raised after.come after.gone }
+    requires counted_before { (d : Quota)
+        → used (rows_at count overlay.now) at (slice_index_or quotas.now place d)
+        + raised before.gone before.come
+        ≡ used overlay.now.base at (slice_index_or quotas.now place d)
+        + raised before.come before.gone }
+    ensures { (d : Quota) → result
+        ≡ is_over (rows_at count overlay.now) (rows_of overlay.now) at own.now
+        (slice_index_or quotas.now place d) }
 {
     let _ = count;
     let quota = &quotas[place];

@@ -59,7 +59,8 @@ pub fn is_too_much<R: Exits>(
     after: u128,
 ) -> bool
     requires { after ≡ total (usage_of (R.rows rows.now) at quota.now) }
-    ensures { result ≡ is_over_size quota.now.size before (weighed (R.rows rows.now) at quota.now own.now) }
+    ensures { result ≡ is_over_size quota.now.size before
+        (weighed (R.rows rows.now) at quota.now own.now) }
 {
     let Some(size) = quota.size else {
         return false;

@@ -3,8 +3,10 @@ use Rattle.std.specs.Prelude.{◌≡◌, ℕ, List, [], ◌∷◌, ◌++◌, len
 use Rattle.model_catalogue.specs.declared.rows.Quota.{Quota}
 use Rattle.model_rows.specs.declared.changes.Change.{Change}
 use Rattle.model_rows.specs.declared.rows.Usage.{Usage}
+use Rattle.model_catalogue.specs.CatalogueLists.{CatalogueTables}
 use Rattle.model_rows.specs.Lists.{Lists}
 use Rattle.model_rows.specs.Change.{after_change}
+use Rattle.draft_overlay.specs.Logs.{Log, rows_of}
 use Rattle.draft_deltas.specs.declared.tallies.Reach.{Reach}
 use Rattle.draft_deltas.specs.declared.tallies.Standing.{Standing}
 use Rattle.draft_deltas.specs.Counts.{IsMore, AreMoreUses}
@@ -36,6 +38,14 @@ tallied_at count tallied = record {
   here = (reach_at count tallied).here;
   reached = take count tallied.reached;
 }
+
+-- the new counts have what a change of the log's rows brings to each quota and takes from it, beside the old ones
+abbrev pub CountsChange : Change → Log → ℕ → CatalogueTables → List (Count Usage) → List (Count Usage) → Type 0
+CountsChange change log at catalogue old new = IsMore (come_of (rows_of log) at change) (gone_of (rows_of log) at change) catalogue.lists.quotas old new
+
+-- and the new uses have what it brings to each voucher and takes from it
+abbrev pub CountsUses : Change → Log → ℕ → List (Count Uses) → List (Count Uses) → Type 0
+CountsUses change log at old new = AreMoreUses (use_come (rows_of log) at change) (use_gone (rows_of log) at change) old new
 
 -- one more change is counted
 pub record IsNext (at : ℕ) (change : Change) (lists : Lists) (quotas : List Quota) (old new : Tallied) : Type 0 where

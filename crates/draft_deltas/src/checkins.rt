@@ -8,11 +8,10 @@ ghost use Rattle.model_rows.specs.Passages.{is_out};
 ghost use Rattle.draft_overlay.specs.Logs.{rows_of};
 ghost use Rattle.book_tally.specs.Amounts.{nothing};
 ghost use Rattle.draft_deltas.specs.Counts.{IsMore};
-ghost use Rattle.draft_deltas.specs.Shift.{come_of, gone_of, once, is_free_in};
+ghost use Rattle.draft_deltas.specs.Shift.{once, is_free_in, checkin_come, checkin_gone};
 
 use crate::share::{Share, Shares, count_each};
 use crate::touched::touch_product;
-use base_values::Moment;
 use book_tally::{Amount, Tally};
 use book_usage::rules::is_paid;
 use book_usage::{Book, Catalogue, Exits, LookUps};
@@ -73,16 +72,17 @@ fn exited(is: bool) -> Usage
 pub fn with_checkin<B: Book>(
     overlay: &Overlay<'_, B>,
     alloc: Global,
-    at: Moment,
     catalogue: &Catalogue,
     counts: &mut Tally<Usage>,
     row: &Checkin,
 ) -> Result<(), AllocError>
     requires new { checkin_at row.now.id (rows_of overlay.now) ≡ None }
-    ensures more { OnOk result (IsMore (come_of (rows_of overlay.now) at (PutCheckin row.now)) (gone_of (rows_of overlay.now) at (PutCheckin row.now)) catalogue.now.lists.quotas counts.old counts.new) }
+    ensures more { OnOk result (IsMore
+        (checkin_come (rows_of overlay.now) row.now)
+        (checkin_gone (rows_of overlay.now) row.now)
+        catalogue.now.lists.quotas counts.old counts.new) }
     ensures err { OnErr result (counts.new ≡ counts.old) }
 {
-    let _ = at;
     let Some(position) = overlay.position(row.position) else {
         return Ok(());
     };
@@ -109,7 +109,8 @@ pub fn with_checkin<B: Book>(
 // Whether the position of a new check-in has gone out with it.
 fn is_out_after<B: Book>(overlay: &Overlay<'_, B>, row: &Checkin) -> bool
     requires { checkin_at row.now.id (rows_of overlay.now) ≡ None }
-    ensures { result ≡ is_out row.now.position (after_change (PutCheckin row.now) (rows_of overlay.now)).checkins }
+    ensures { result ≡ is_out row.now.position
+        (after_change (PutCheckin row.now) (rows_of overlay.now)).checkins }
 {
     let last = overlay.last_at(row.position);
     is_exit_if(Some(later(last, Passage::of(row))))

@@ -7,9 +7,9 @@ ghost use Rattle.model_catalogue.specs.Member.{is_in};
 ghost use Rattle.model_rows.specs.declared.changes.Change.TheVariants.{PutOrder};
 ghost use Rattle.model_rows.specs.Usage.{is_covered_by, blocks_if};
 ghost use Rattle.draft_overlay.specs.Logs.{rows_of};
-ghost use Rattle.draft_deltas.specs.Counts.{IsMore};
+ghost use Rattle.draft_deltas.specs.Tallied.{CountsChange};
 ghost use Rattle.draft_deltas.specs.Touched.{NoOther, NoneElse, Keeps};
-ghost use Rattle.draft_deltas.specs.Shift.{come_of, gone_of, is_free_in, order_counts, keeps_status, AreTurned};
+ghost use Rattle.draft_deltas.specs.Shift.{count_here, count_covered, count_released, is_free_in, order_counts, keeps_status, AreTurned};
 
 use crate::checkins::is_free_in;
 use crate::share::{Share, Shares, count_each};
@@ -34,9 +34,13 @@ struct OrderTurn<'o> {
 }
 
 impl<'o> Share for OrderTurn<'o> {
-    ghost come = { λ t q. order_counts (Some t.come.now) (option_copied t.gone) (count_by (λ s. is_in q s.product) t.spots.items) (count_by (λ s. blocks_if t.at q (option_copied s.voucher)) t.spots.items) (count_by (λ s. is_free_in q s.product s.out) t.spots.items) };
+    ghost come = { λ t q. order_counts (Some t.come.now) (option_copied t.gone)
+        (count_here q t.spots.items) (count_covered t.at q t.spots.items)
+        (count_released q t.spots.items) };
 
-    ghost gone = { λ t q. order_counts (option_copied t.gone) (Some t.come.now) (count_by (λ s. is_in q s.product) t.spots.items) (count_by (λ s. blocks_if t.at q (option_copied s.voucher)) t.spots.items) (count_by (λ s. is_free_in q s.product s.out) t.spots.items) };
+    ghost gone = { λ t q. order_counts (option_copied t.gone) (Some t.come.now)
+        (count_here q t.spots.items) (count_covered t.at q t.spots.items)
+        (count_released q t.spots.items) };
 
     fn shares(&self, quota: &Quota) -> Shares {
         let here = count_here(quota, &self.spots);
@@ -68,7 +72,8 @@ fn order_counts(
     covered: u64,
     released: u64,
 ) -> Usage
-    ensures { result ≡ order_counts (option_copied order.entry) (option_copied other.entry) here covered released }
+    ensures { result ≡ order_counts (option_copied order.entry) (option_copied other.entry)
+        here covered released }
 {
     Usage {
         paid: count_if(is_paid(order), here),
@@ -86,8 +91,10 @@ fn touch_spots(
     spots: &[Spot<'_>],
     ids: &mut Vec<u64>,
 ) -> Result<(), AllocError>
-    ensures here { OnOk result (NoneElse 0 ids.new.items catalogue.now.lists (λ q. count_by (λ s. is_in q s.product) spots.now)) }
-    ensures covered { OnOk result ((at : ℕ) → NoneElse 0 ids.new.items catalogue.now.lists (λ q. count_by (λ s. blocks_if at q (option_copied s.voucher)) spots.now)) }
+    ensures here { OnOk result
+        (NoneElse 0 ids.new.items catalogue.now.lists (λ q. count_here q spots.now)) }
+    ensures covered { OnOk result ((at : ℕ)
+        → NoneElse 0 ids.new.items catalogue.now.lists (λ q. count_covered at q spots.now)) }
 {
     for spot in spots {
         touch_both(alloc, catalogue, spot, ids)?;
@@ -102,8 +109,10 @@ fn touch_both(
     spot: &Spot<'_>,
     ids: &mut Vec<u64>,
 ) -> Result<(), AllocError>
-    ensures here { OnOk result (NoOther ids.new.items catalogue.now.lists (λ q. is_in q spot.now.product)) }
-    ensures covered { OnOk result ((at : ℕ) → NoOther ids.new.items catalogue.now.lists (λ q. blocks_if at q (option_copied spot.now.voucher))) }
+    ensures here { OnOk result
+        (NoOther ids.new.items catalogue.now.lists (λ q. is_in q spot.now.product)) }
+    ensures covered { OnOk result ((at : ℕ) → NoOther ids.new.items catalogue.now.lists
+        (λ q. blocks_if at q (option_copied spot.now.voucher))) }
     ensures keeps { OnOk result (Keeps ids.old.items ids.new.items) }
 {
     touch_product(alloc, catalogue, spot.product, ids)?;
@@ -113,14 +122,14 @@ fn touch_both(
 
 // How many of the places are for products of the quota.
 fn count_here(quota: &Quota, spots: &[Spot<'_>]) -> u64
-    ensures { result ≡ count_by (λ s. is_in quota.now s.product) spots.now }
+    ensures { result ≡ count_here quota.now spots.now }
 {
     spots.iter().filter(|s| quota.has(s.product)).count() as u64
 }
 
 // How many of them have vouchers that block places of the quota.
 fn count_covered(at: Moment, quota: &Quota, spots: &[Spot<'_>]) -> u64
-    ensures { result ≡ count_by (λ s. blocks_if at quota.now (option_copied s.voucher)) spots.now }
+    ensures { result ≡ count_covered at quota.now spots.now }
 {
     spots
         .iter()
@@ -130,7 +139,7 @@ fn count_covered(at: Moment, quota: &Quota, spots: &[Spot<'_>]) -> u64
 
 // How many of them are for products of the quota, and released there.
 fn count_released(quota: &Quota, spots: &[Spot<'_>]) -> u64
-    ensures { result ≡ count_by (λ s. is_free_in quota.now s.product s.out) spots.now }
+    ensures { result ≡ count_released quota.now spots.now }
 {
     spots
         .iter()
@@ -142,7 +151,8 @@ fn count_released(quota: &Quota, spots: &[Spot<'_>]) -> u64
 fn spot_of<'o, B: Book>(overlay: &'o Overlay<'_, B>, purchase: &Purchase) -> Spot<'o>
     ensures product { result.product ≡ purchase.now.product }
     ensures out { result.out ≡ purchase.now.out }
-    ensures covered { (q : Quota) → (at : ℕ) → blocks_if at q (option_copied result.voucher) ≡ is_covered_by (rows_of overlay.now) at q purchase.now.voucher }
+    ensures covered { (q : Quota) → (at : ℕ) → blocks_if at q (option_copied result.voucher)
+        ≡ is_covered_by (rows_of overlay.now) at q purchase.now.voucher }
 {
     Spot {
         product: purchase.product,
@@ -157,9 +167,13 @@ fn spots_of<'o, B: Book>(
     alloc: Global,
     purchases: &[Purchase],
 ) -> Result<Vec<Spot<'o>>, AllocError>
-    ensures here { IfOk result (λ spots. (q : Quota) → count_by (λ s. is_in q s.product) spots.items ≡ count_by (λ t. is_in q t.product) purchases.now) }
-    ensures covered { IfOk result (λ spots. (q : Quota) → (at : ℕ) → count_by (λ s. blocks_if at q (option_copied s.voucher)) spots.items ≡ count_by (λ t. is_covered_by (rows_of overlay.now) at q t.voucher) purchases.now) }
-    ensures released { IfOk result (λ spots. (q : Quota) → count_by (λ s. is_free_in q s.product s.out) spots.items ≡ count_by (λ t. is_free_in q t.product t.out) purchases.now) }
+    ensures here { IfOk result (λ spots. (q : Quota) → count_here q spots.items
+        ≡ count_by (λ t. is_in q t.product) purchases.now) }
+    ensures covered { IfOk result (λ spots. (q : Quota) → (at : ℕ)
+        → count_covered at q spots.items
+        ≡ count_by (λ t. is_covered_by (rows_of overlay.now) at q t.voucher) purchases.now) }
+    ensures released { IfOk result (λ spots. (q : Quota) → count_released q spots.items
+        ≡ count_by (λ t. is_free_in q t.product t.out) purchases.now) }
 {
     let mut spots = Vec::new(alloc);
     for purchase in purchases {
@@ -179,7 +193,8 @@ pub fn with_order<B: Book>(
     purchases: &[Purchase],
 ) -> Result<(), AllocError>
     requires turned { AreTurned (PutOrder row.now) (rows_of overlay.now) purchases.now }
-    ensures more { OnOk result (IsMore (come_of (rows_of overlay.now) at (PutOrder row.now)) (gone_of (rows_of overlay.now) at (PutOrder row.now)) catalogue.now.lists.quotas counts.old counts.new) }
+    ensures more { OnOk result
+        (CountsChange (PutOrder row.now) overlay.now at catalogue.now counts.old counts.new) }
     ensures err { OnErr result (counts.new ≡ counts.old) }
 {
     let gone = overlay.order(row.id);
@@ -222,7 +237,7 @@ pub fn turned_purchases<B: Book>(
     alloc: Global,
     change: &Change,
 ) -> Result<Vec<Purchase>, AllocError>
-    ensures { IfOk result (λ purchases. AreTurned change.now (rows_of overlay.now) purchases.items) }
+    ensures { IfOk result (λ list. AreTurned change.now (rows_of overlay.now) list.items) }
 {
     match change {
         Change::PutOrder(row) => order_purchases(overlay, alloc, row),
@@ -236,7 +251,7 @@ fn order_purchases<B: Book>(
     alloc: Global,
     row: &Order,
 ) -> Result<Vec<Purchase>, AllocError>
-    ensures { IfOk result (λ purchases. AreTurned (PutOrder row.now) (rows_of overlay.now) purchases.items) }
+    ensures { IfOk result (λ list. AreTurned (PutOrder row.now) (rows_of overlay.now) list.items) }
 {
     if keeps_status(row, overlay.order(row.id)) {
         return Ok(Vec::new(alloc));

@@ -43,8 +43,10 @@ pub trait Share {
         catalogue: &Catalogue,
         ids: &mut Vec<u64>,
     ) -> Result<(), AllocError>
-        ensures come { OnOk result (NoneElse nothing ids.new.items catalogue.now.lists (come self.now)) }
-        ensures gone { OnOk result (NoneElse nothing ids.new.items catalogue.now.lists (gone self.now)) };
+        ensures come { OnOk result
+            (NoneElse nothing ids.new.items catalogue.now.lists (come self.now)) }
+        ensures gone { OnOk result
+            (NoneElse nothing ids.new.items catalogue.now.lists (gone self.now)) };
 }
 
 /// Adds what a change brings to the quotas and takes from them to the counts by their places. Where there is no memory
@@ -55,7 +57,8 @@ pub fn count_each<S: Share>(
     catalogue: &Catalogue,
     share: &S,
 ) -> Result<(), AllocError>
-    ensures more { OnOk result (IsMore (S.come share.now) (S.gone share.now) catalogue.now.lists.quotas counts.old counts.new) }
+    ensures more { OnOk result (IsMore (S.come share.now) (S.gone share.now)
+        catalogue.now.lists.quotas counts.old counts.new) }
     ensures err { OnErr result (counts.new ≡ counts.old) }
 {
     let mut ids = Vec::new(alloc);
@@ -74,7 +77,9 @@ fn count_touched<S: Share>(
 ) -> Result<(), AllocError>
     requires quotas { AreInOrder (λ r. r.id) quotas.now }
     requires ids { AreInOrder (λ n. n) ids.now }
-    ensures more { OnOk result (IsMore (among ids.now (S.come share.now)) (among ids.now (S.gone share.now)) quotas.now counts.old counts.new) }
+    ensures more { OnOk result (IsMore
+        (among ids.now (S.come share.now)) (among ids.now (S.gone share.now))
+        quotas.now counts.old counts.new) }
     ensures err { OnErr result (counts.new ≡ counts.old) }
 {
     let start = counts.len();
@@ -95,7 +100,9 @@ fn count_id<S: Share>(
     share: &S,
 ) -> Result<(), AllocError>
     requires quotas { AreInOrder (λ r. r.id) quotas.now }
-    ensures more { OnOk result (IsMore (at_id id (S.come share.now)) (at_id id (S.gone share.now)) quotas.now counts.old counts.new) }
+    ensures more { OnOk result (IsMore
+        (at_id id (S.come share.now)) (at_id id (S.gone share.now))
+        quotas.now counts.old counts.new) }
     ensures err { OnErr result (counts.new ≡ counts.old) }
 {
     match place_of(quotas, id) {
@@ -106,8 +113,10 @@ fn count_id<S: Share>(
 
 // Adds what comes and goes at one place, if it is anything.
 fn count_one(counts: &mut Tally<Usage>, place: u64, shares: Shares) -> Result<(), AllocError>
-    ensures comes { OnOk result ((key : ℕ) → came nothing key counts.new ≡ plus (came nothing key counts.old) (if place == key then shares.come else nothing)) }
-    ensures goes { OnOk result ((key : ℕ) → went nothing key counts.new ≡ plus (went nothing key counts.old) (if place == key then shares.gone else nothing)) }
+    ensures comes { OnOk result ((key : ℕ) → came nothing key counts.new
+        ≡ plus (came nothing key counts.old) (if place == key then shares.come else nothing)) }
+    ensures goes { OnOk result ((key : ℕ) → went nothing key counts.new
+        ≡ plus (went nothing key counts.old) (if place == key then shares.gone else nothing)) }
     ensures on { OnOk result (GoesOn counts.old counts.new) }
     ensures err { OnErr result (counts.new ≡ counts.old) }
 {

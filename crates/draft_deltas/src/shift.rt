@@ -8,14 +8,15 @@ ghost use Rattle.model_catalogue.specs.Member.{is_in};
 ghost use Rattle.model_rows.specs.declared.changes.Change.TheVariants.{PutOrder};
 ghost use Rattle.model_rows.specs.Change.{after_change};
 ghost use Rattle.model_rows.specs.Headroom.{held_in};
-ghost use Rattle.model_rows.specs.Lists.{voucher_at, cart_at, order_at, waiting_at};
+ghost use Rattle.model_rows.specs.Lists.{order_at};
 ghost use Rattle.model_rows.specs.Usage.{redeemed, is_covered_by, blocks_if};
 ghost use Rattle.draft_overlay.specs.Logs.{rows_of, IsSale};
 ghost use Rattle.book_usage.specs.Shares.{cart_share, waiting_share};
 ghost use Rattle.book_tally.specs.Amounts.{nothing};
-ghost use Rattle.draft_deltas.specs.Counts.{IsMore, if_any};
+ghost use Rattle.draft_deltas.specs.Counts.{IsMore};
+ghost use Rattle.draft_deltas.specs.Tallied.{CountsChange};
 ghost use Rattle.draft_deltas.specs.Touched.{NoOther, NoneElse, Keeps};
-ghost use Rattle.draft_deltas.specs.Shift.{come_of, gone_of, once, spot_share, placed, sold_as, sale_come, sale_gone, left_of, voucher_counts, voucher_side, order_counts, keeps_status, AreTurned};
+ghost use Rattle.draft_deltas.specs.Shift.{once, spot_share, spot_counts, placed, cart_come, cart_gone, waiting_come, waiting_gone, sold_as, sale_come, sale_gone, left_of, voucher_counts, voucher_come, voucher_gone, AreTurned};
 
 use crate::checkins::with_checkin;
 use crate::orders::with_order;
@@ -44,7 +45,8 @@ pub fn count_change<B: Book>(
 ) -> Result<(), AllocError>
     requires sale { IsSale change.now (rows_of overlay.now) }
     requires turned { AreTurned change.now (rows_of overlay.now) purchases.now }
-    ensures more { OnOk result (IsMore (come_of (rows_of overlay.now) at change.now) (gone_of (rows_of overlay.now) at change.now) catalogue.now.lists.quotas counts.old counts.new) }
+    ensures more { OnOk result
+        (CountsChange change.now overlay.now at catalogue.now counts.old counts.new) }
     ensures err { OnErr result (counts.new ≡ counts.old) }
 {
     match change {
@@ -72,7 +74,7 @@ pub fn count_change<B: Book>(
         Change::DropWaiting(id) => with_waiting(overlay, alloc, at, catalogue, counts, *id, None),
         Change::PutOrder(row) => with_order(overlay, alloc, at, catalogue, counts, row, purchases),
         Change::PutPosition(row) => with_position(overlay, alloc, at, catalogue, counts, row),
-        Change::PutCheckin(row) => with_checkin(overlay, alloc, at, catalogue, counts, row),
+        Change::PutCheckin(row) => with_checkin(overlay, alloc, catalogue, counts, row),
         _ => Ok(()),
     }
 }
@@ -88,7 +90,8 @@ pub struct Spot<'s> {
 impl<'s> Spot<'s> {
     // Whether it counts in the quota.
     fn counts(&self, at: Moment, quota: &Quota) -> u64
-        ensures { result ≡ spot_share at quota.now self.now.product (option_copied self.now.voucher) }
+        ensures { result
+            ≡ spot_share at quota.now self.now.product (option_copied self.now.voucher) }
     {
         u64::from(quota.has(self.product) && !blocks(at, quota, self.voucher))
     }
@@ -104,9 +107,9 @@ struct Spots<'s> {
 }
 
 impl<'s> Share for Spots<'s> {
-    ghost come = { λ s q. placed s.waits (if_any s.come (λ p. spot_share s.at q p.product (option_copied p.voucher))) };
+    ghost come = { λ s q. placed s.waits (spot_counts s.at q s.come) };
 
-    ghost gone = { λ s q. placed s.waits (if_any s.gone (λ p. spot_share s.at q p.product (option_copied p.voucher))) };
+    ghost gone = { λ s q. placed s.waits (spot_counts s.at q s.gone) };
 
     fn shares(&self, quota: &Quota) -> Shares {
         Shares {
@@ -151,7 +154,8 @@ fn touch_spot(
     spot: &Option<Spot<'_>>,
     ids: &mut Vec<u64>,
 ) -> Result<(), AllocError>
-    ensures more { OnOk result ((at : ℕ) → NoneElse 0 ids.new.items catalogue.now.lists (λ q. if_any spot.now (λ p. spot_share at q p.product (option_copied p.voucher)))) }
+    ensures more { OnOk result ((at : ℕ)
+        → NoneElse 0 ids.new.items catalogue.now.lists (λ q. spot_counts at q spot.now)) }
     ensures keeps { OnOk result (Keeps ids.old.items ids.new.items) }
 {
     match spot {
@@ -162,7 +166,7 @@ fn touch_spot(
 
 // How much a place counts in the quota, if there is one.
 fn spot_counts(at: Moment, quota: &Quota, spot: &Option<Spot<'_>>) -> u64
-    ensures { result ≡ if_any spot.now (λ p. spot_share at quota.now p.product (option_copied p.voucher)) }
+    ensures { result ≡ spot_counts at quota.now spot.now }
 {
     match spot {
         None => 0,
@@ -175,7 +179,8 @@ pub fn voucher_of<'o, B: Book>(
     overlay: &'o Overlay<'_, B>,
     voucher: Option<u64>,
 ) -> Option<&'o Voucher>
-    ensures { (q : Quota) → (at : ℕ) → blocks_if at q (option_copied result) ≡ is_covered_by (rows_of overlay.now) at q voucher }
+    ensures { (q : Quota) → (at : ℕ)
+        → blocks_if at q (option_copied result) ≡ is_covered_by (rows_of overlay.now) at q voucher }
 {
     match voucher {
         None => None,
@@ -190,7 +195,8 @@ fn cart_spot<'o, B: Book>(
     at: Moment,
     cart: Option<&CartPos>,
 ) -> Option<Spot<'o>>
-    ensures { (q : Quota) → if_any result (λ p. spot_share at q p.product (option_copied p.voucher)) ≡ cart_share (rows_of overlay.now) at q (option_copied cart.entry) }
+    ensures { (q : Quota) → spot_counts at q result
+        ≡ cart_share (rows_of overlay.now) at q (option_copied cart.entry) }
 {
     match cart {
         None => None,
@@ -218,7 +224,10 @@ fn with_cart<B: Book>(
     id: u64,
     come: Option<&CartPos>,
 ) -> Result<(), AllocError>
-    ensures more { OnOk result (IsMore (λ q. placed false (cart_share (rows_of overlay.now) at q (option_copied come.entry))) (λ q. placed false (cart_share (rows_of overlay.now) at q (cart_at id (rows_of overlay.now)))) catalogue.now.lists.quotas counts.old counts.new) }
+    ensures more { OnOk result (IsMore
+        (cart_come (rows_of overlay.now) at (option_copied come.entry))
+        (cart_gone (rows_of overlay.now) at id)
+        catalogue.now.lists.quotas counts.old counts.new) }
     ensures err { OnErr result (counts.new ≡ counts.old) }
 {
     let come = cart_spot(overlay, at, come);
@@ -240,7 +249,7 @@ fn with_cart<B: Book>(
 // The place for which a waiting entry waits, where it has no voucher.
 #[tactic(auto, unfolding(book_usage::specs::Shares::waiting_share))]
 fn waiting_spot<'s>(at: Moment, entry: Option<&Waiting>) -> Option<Spot<'s>>
-    ensures { (q : Quota) → if_any result (λ p. spot_share at q p.product (option_copied p.voucher)) ≡ waiting_share q (option_copied entry.entry) }
+    ensures { (q : Quota) → spot_counts at q result ≡ waiting_share q (option_copied entry.entry) }
 {
     match entry {
         None => None,
@@ -265,7 +274,10 @@ fn with_waiting<B: Book>(
     id: u64,
     come: Option<&Waiting>,
 ) -> Result<(), AllocError>
-    ensures more { OnOk result (IsMore (λ q. placed true (waiting_share q (option_copied come.entry))) (λ q. placed true (waiting_share q (waiting_at id (rows_of overlay.now)))) catalogue.now.lists.quotas counts.old counts.new) }
+    ensures more { OnOk result (IsMore
+        (waiting_come (option_copied come.entry))
+        (waiting_gone (rows_of overlay.now) id)
+        catalogue.now.lists.quotas counts.old counts.new) }
     ensures err { OnErr result (counts.new ≡ counts.old) }
 {
     let come = waiting_spot(at, come);
@@ -296,9 +308,11 @@ struct Sale<'s> {
 }
 
 impl<'s> Share for Sale<'s> {
-    ghost come = { λ s q. sold_as s.paid s.pending (is_in q s.product) (q.release_after_exit && s.out) };
+    ghost come = { λ s q. sold_as s.paid s.pending (is_in q s.product)
+        (q.release_after_exit && s.out) };
 
-    ghost gone = { λ s q. record nothing { blocked = once (blocks_if s.at q (option_copied s.voucher)) } };
+    ghost gone = { λ s q. record
+        nothing { blocked = once (blocks_if s.at q (option_copied s.voucher)) } };
 
     fn shares(&self, quota: &Quota) -> Shares {
         let here = quota.has(self.product);
@@ -349,7 +363,10 @@ fn with_position<B: Book>(
     counts: &mut Tally<Usage>,
     row: &OrderPos,
 ) -> Result<(), AllocError>
-    ensures more { OnOk result (IsMore (sale_come (rows_of overlay.now) row.now) (sale_gone (rows_of overlay.now) at row.now) catalogue.now.lists.quotas counts.old counts.new) }
+    ensures more { OnOk result (IsMore
+        (sale_come (rows_of overlay.now) row.now)
+        (sale_gone (rows_of overlay.now) at row.now)
+        catalogue.now.lists.quotas counts.old counts.new) }
     ensures err { OnErr result (counts.new ≡ counts.old) }
 {
     let order = overlay.order(row.order);
@@ -384,9 +401,13 @@ struct VoucherTurn<'o, 'a, B: Book> {
 }
 
 impl<'o, 'a, B: Book> Share for VoucherTurn<'o, 'a, B> {
-    ghost come = { λ t q. voucher_counts (blocks_if t.at q (option_copied t.come)) (blocks_if t.at q (option_copied t.gone)) (left_of t.redeemed (option_copied t.come)) (held_in t.at q t.id (rows_of t.overlay.now)) };
+    ghost come = { λ t q. voucher_counts (blocks_if t.at q (option_copied t.come))
+        (blocks_if t.at q (option_copied t.gone)) (left_of t.redeemed (option_copied t.come))
+        (held_in t.at q t.id (rows_of t.overlay.now)) };
 
-    ghost gone = { λ t q. voucher_counts (blocks_if t.at q (option_copied t.gone)) (blocks_if t.at q (option_copied t.come)) (left_of t.redeemed (option_copied t.gone)) (held_in t.at q t.id (rows_of t.overlay.now)) };
+    ghost gone = { λ t q. voucher_counts (blocks_if t.at q (option_copied t.gone))
+        (blocks_if t.at q (option_copied t.come)) (left_of t.redeemed (option_copied t.gone))
+        (held_in t.at q t.id (rows_of t.overlay.now)) };
 
     fn shares(&self, quota: &Quota) -> Shares {
         let comes = blocks(self.at, quota, self.come);
@@ -456,7 +477,10 @@ fn with_voucher<B: Book>(
     id: u64,
     come: Option<&Voucher>,
 ) -> Result<(), AllocError>
-    ensures more { OnOk result (IsMore (λ q. voucher_side (rows_of overlay.now) at q id (option_copied come.entry) (voucher_at id (rows_of overlay.now))) (λ q. voucher_side (rows_of overlay.now) at q id (voucher_at id (rows_of overlay.now)) (option_copied come.entry)) catalogue.now.lists.quotas counts.old counts.new) }
+    ensures more { OnOk result (IsMore
+        (voucher_come (rows_of overlay.now) at id (option_copied come.entry))
+        (voucher_gone (rows_of overlay.now) at id (option_copied come.entry))
+        catalogue.now.lists.quotas counts.old counts.new) }
     ensures err { OnErr result (counts.new ≡ counts.old) }
 {
     let gone = overlay.voucher(id);

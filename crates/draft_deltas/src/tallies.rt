@@ -4,10 +4,8 @@
 ghost use Rattle.std.specs.Prelude.{◌≡◌, [], length, OnOk, OnErr};
 ghost use Rattle.model_rows.specs.Change.{after_change};
 ghost use Rattle.draft_overlay.specs.Logs.{rows_of, IsSale};
-ghost use Rattle.draft_deltas.specs.Counts.{IsMore, AreMoreUses};
-ghost use Rattle.draft_deltas.specs.Shift.{come_of, gone_of, AreTurned};
-ghost use Rattle.draft_deltas.specs.Tallied.{IsNext, reach_now, reach_at, tallied_at};
-ghost use Rattle.draft_deltas.specs.Uses.{use_come, use_gone};
+ghost use Rattle.draft_deltas.specs.Shift.{AreTurned};
+ghost use Rattle.draft_deltas.specs.Tallied.{CountsChange, CountsUses, IsNext, reach_now, reach_at, tallied_at};
 
 use crate::numbers::{carts_after, vouchers_after};
 use crate::orders::turned_purchases;
@@ -50,13 +48,19 @@ impl Model for Tallies {
 
     ghost Value = { Tallied };
 
-    ghost view = { λ t. record { counts = t.counts; uses = t.uses; here = t.here; reached = t.reached.items } };
+    ghost view = { λ t.
+        record { counts = t.counts; uses = t.uses; here = t.here; reached = t.reached.items } };
 }
 
 impl Tallies {
     /// Nothing has changed, where so many cart positions and vouchers stand.
     pub fn new(alloc: Global, carts: usize, vouchers: usize) -> Self
-        ensures { result ≡ record { counts = []; uses = []; here = record { carts = carts; vouchers = vouchers }; reached = [] } }
+        ensures { result ≡ record {
+          counts = [];
+          uses = [];
+          here = record { carts = carts; vouchers = vouchers };
+          reached = [];
+        } }
     {
         Tallies {
             counts: Tally::new(alloc),
@@ -120,7 +124,8 @@ impl Tallies {
         requires sale { IsSale change.now (rows_of overlay.now) }
         requires carts { self.old.here.carts ≡ length (rows_of overlay.now).carts }
         requires vouchers { self.old.here.vouchers ≡ length (rows_of overlay.now).vouchers }
-        ensures ok { OnOk result (IsNext at change.now (rows_of overlay.now) catalogue.now.lists.quotas self.old self.new) }
+        ensures ok { OnOk result (IsNext at change.now (rows_of overlay.now)
+            catalogue.now.lists.quotas self.old self.new) }
         ensures err { OnErr result (self.new ≡ self.old) }
     {
         let here = self.here;
@@ -169,8 +174,9 @@ fn count_both<B: Book>(
 ) -> Result<(), AllocError>
     requires sale { IsSale change.now (rows_of overlay.now) }
     requires turned { AreTurned change.now (rows_of overlay.now) purchases.now }
-    ensures more { OnOk result (IsMore (come_of (rows_of overlay.now) at change.now) (gone_of (rows_of overlay.now) at change.now) catalogue.now.lists.quotas counts.old counts.new) }
-    ensures uses { OnOk result (AreMoreUses (use_come (rows_of overlay.now) at change.now) (use_gone (rows_of overlay.now) at change.now) uses.old uses.new) }
+    ensures more { OnOk result
+        (CountsChange change.now overlay.now at catalogue.now counts.old counts.new) }
+    ensures uses { OnOk result (CountsUses change.now overlay.now at uses.old uses.new) }
     ensures err { OnErr result (counts.new ≡ counts.old) }
     ensures err_uses { OnErr result (uses.new ≡ uses.old) }
 {

@@ -34,7 +34,8 @@ pub fn touch_voucher(
     voucher: Option<&Voucher>,
     ids: &mut Vec<u64>,
 ) -> Result<(), AllocError>
-    ensures more { OnOk result ((at : ℕ) → NoOther ids.new.items catalogue.now.lists (λ q. blocks_if at q (option_copied voucher.entry))) }
+    ensures more { OnOk result ((at : ℕ) → NoOther ids.new.items catalogue.now.lists
+        (λ q. blocks_if at q (option_copied voucher.entry))) }
     ensures keeps { OnOk result (Keeps ids.old.items ids.new.items) }
 {
     match voucher {
@@ -50,7 +51,8 @@ fn touch_target(
     voucher: &Voucher,
     ids: &mut Vec<u64>,
 ) -> Result<(), AllocError>
-    ensures more { OnOk result (NoOther ids.new.items catalogue.now.lists (λ q. hits q voucher.now)) }
+    ensures more { OnOk result
+        (NoOther ids.new.items catalogue.now.lists (λ q. hits q voucher.now)) }
     ensures keeps { OnOk result (Keeps ids.old.items ids.new.items) }
 {
     match voucher.quota {

@@ -4,9 +4,10 @@ ghost use Rattle.std.specs.Prelude.{◌≡◌, OnOk, OnErr};
 ghost use Rattle.model_rows.specs.declared.changes.Change.TheVariants.{PutOrder};
 ghost use Rattle.draft_overlay.specs.Logs.{rows_of};
 ghost use Rattle.draft_deltas.specs.Counts.{AreMoreUses};
+ghost use Rattle.draft_deltas.specs.Tallied.{CountsUses};
 ghost use Rattle.draft_deltas.specs.Shift.{AreTurned};
 ghost use Rattle.book_tally.specs.Amounts.{no_uses};
-ghost use Rattle.draft_deltas.specs.Uses.{use_come, use_gone, held_by, purchase_uses, used_by, used_since};
+ghost use Rattle.draft_deltas.specs.Uses.{held_by, purchase_uses, used_by, used_since};
 
 use base_values::{Cents, Moment};
 use book_tally::{Amount, Tally, Uses};
@@ -25,7 +26,7 @@ pub fn count_uses<B: Book>(
     purchases: &[Purchase],
 ) -> Result<(), AllocError>
     requires turned { AreTurned change.now (rows_of overlay.now) purchases.now }
-    ensures more { OnOk result (AreMoreUses (use_come (rows_of overlay.now) at change.now) (use_gone (rows_of overlay.now) at change.now) uses.old uses.new) }
+    ensures more { OnOk result (CountsUses change.now overlay.now at uses.old uses.new) }
     ensures err { OnErr result (uses.new ≡ uses.old) }
 {
     match change {
@@ -48,7 +49,8 @@ fn count_held(
     come: Option<u64>,
     gone: Option<u64>,
 ) -> Result<(), AllocError>
-    ensures more { OnOk result (AreMoreUses (λ v. held_by v come) (λ v. held_by v gone) uses.old uses.new) }
+    ensures more { OnOk result
+        (AreMoreUses (λ v. held_by v come) (λ v. held_by v gone) uses.old uses.new) }
     ensures err { OnErr result (uses.new ≡ uses.old) }
 {
     let one = Uses {
@@ -67,7 +69,8 @@ fn count_held(
 
 // Counts a use in orders that comes, with its discount.
 fn count_used(uses: &mut Tally<Uses>, come: Option<u64>, discount: Cents) -> Result<(), AllocError>
-    ensures more { OnOk result (AreMoreUses (λ v. used_by v come discount) (λ v. no_uses) uses.old uses.new) }
+    ensures more { OnOk result
+        (AreMoreUses (λ v. used_by v come discount) (λ v. no_uses) uses.old uses.new) }
     ensures err { OnErr result (uses.new ≡ uses.old) }
 {
     uses.add_named(come, one_use(discount), Uses::none())
@@ -82,7 +85,7 @@ fn count_turned<B: Book>(
     purchases: &[Purchase],
 ) -> Result<(), AllocError>
     requires turned { AreTurned (PutOrder row.now) (rows_of overlay.now) purchases.now }
-    ensures more { OnOk result (AreMoreUses (use_come (rows_of overlay.now) at (PutOrder row.now)) (use_gone (rows_of overlay.now) at (PutOrder row.now)) uses.old uses.new) }
+    ensures more { OnOk result (CountsUses (PutOrder row.now) overlay.now at uses.old uses.new) }
     ensures err { OnErr result (uses.new ≡ uses.old) }
 {
     let _ = at;
@@ -102,7 +105,10 @@ fn count_names(
     stood: bool,
     purchases: &[Purchase],
 ) -> Result<(), AllocError>
-    ensures more { OnOk result (AreMoreUses (purchase_uses force stood purchases.now) (purchase_uses stood force purchases.now) uses.old uses.new) }
+    ensures more { OnOk result (AreMoreUses
+        (purchase_uses force stood purchases.now)
+        (purchase_uses stood force purchases.now)
+        uses.old uses.new) }
     ensures err { OnErr result (uses.new ≡ uses.old) }
 {
     let start = uses.len();

@@ -1,8 +1,9 @@
 -- The vouchers of a code: those that changes put, and those of the book that no change touches. The first is that of the least id.
-use Rattle.std.specs.Prelude.{◌≡◌, ℕ, ◌<◌, ◌≤◌, Bool, true, false, ◌&&◌, ◌==◌, List, Option, Some, None, min, if◌then◌else◌}
+use Rattle.std.specs.Prelude.{◌≡◌, ℕ, ◌<◌, ◌≤◌, Bool, true, false, ◌&&◌, ◌==◌, List, Option, Some, None, is_none, option_map, find, min, if◌then◌else◌}
 use Rattle.base_values.specs.Texts.{same_text}
 use Rattle.model_rows.specs.declared.changes.Change.{Change}
 use Rattle.model_rows.specs.declared.changes.Change.TheVariants.{PutVoucher}
+use Rattle.model_rows.specs.declared.rows.Voucher.{Voucher}
 use Rattle.model_rows.specs.Lists.{voucher_at}
 use Rattle.draft_overlay.specs.Logs.{Log, rows_of}
 use Rattle.book_log.specs.Places.{touches, last_place}
@@ -53,6 +54,14 @@ is_place place (Some other) = other == place
 abbrev pub put_if : List ℕ → ℕ → Log → Change → Option ℕ
 put_if code place log (PutVoucher row) = if same_text row.code code && is_place place (last_place (touches 3 row.id) log.changes) then Some row.id else None
 put_if code place log _ = None
+
+-- the book's voucher has the code, and no change touches it
+abbrev pub is_unchanged_with : List ℕ → Log → Voucher → Bool
+is_unchanged_with code log v = same_text v.code code && is_none (last_place (touches 3 v.id) log.changes)
+
+-- the id of the book's first one
+abbrev pub first_unchanged : List ℕ → Log → Option ℕ
+first_unchanged code log = option_map (λ v. v.id) (find (is_unchanged_with code log) log.base.vouchers)
 
 -- a place that is at the front or behind it
 abbrev pub IsFrom : ℕ → Option ℕ → Type 0

@@ -1,5 +1,5 @@
 -- A log of changes over the rows of a book, and which changes a sale makes.
-use Rattle.std.specs.Prelude.{◌≡◌, ℕ, List, [], ◌∷◌, take, None}
+use Rattle.std.specs.Prelude.{◌≡◌, ℕ, List, [], ◌∷◌, ◌++◌, take, None}
 use Rattle.model_rows.specs.declared.changes.Change.{Change}
 use Rattle.model_rows.specs.declared.changes.Change.TheVariants.{PutItem, PutVariation, PutQuota, PutPosition, PutCheckin}
 use Rattle.model_rows.specs.Lists.{Lists, position_at, checkin_at}
@@ -13,6 +13,10 @@ pub record Log : Type 0 where
 -- the rows with the changes
 abbrev pub rows_of : Log → Lists
 rows_of log = after_all log.changes log.base
+
+-- the log with one more change
+abbrev pub log_with : Change → Log → Log
+log_with change log = record log { changes = log.changes ++ change ∷ [] }
 
 -- the rows after the first changes
 abbrev pub rows_at : ℕ → Log → Lists

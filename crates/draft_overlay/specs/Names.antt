@@ -1,10 +1,11 @@
 -- The voucher that a put row names, and the one that the row before it named.
-use Rattle.std.specs.Prelude.{ℕ, Option, Some, None}
+use Rattle.std.specs.Prelude.{ℕ, Bool, ◌||◌, List, Option, Some, None}
 use Rattle.model_rows.specs.declared.rows.CartPos.{CartPos}
 use Rattle.model_rows.specs.declared.rows.Waiting.{Waiting}
 use Rattle.model_rows.specs.declared.changes.Change.{Change}
 use Rattle.model_rows.specs.declared.changes.Change.TheVariants.{PutCart, PutPosition, PutWaiting, DropCart, DropWaiting}
 use Rattle.model_rows.specs.Lists.{Lists, cart_at, waiting_at}
+use Rattle.book_log.specs.Places.{touches_table}
 
 -- the voucher that a cart position names, if there is one that does
 abbrev pub cart_name : Option CartPos → Option ℕ
@@ -22,6 +23,10 @@ name_put (PutCart row) = row.voucher
 name_put (PutPosition row) = row.voucher
 name_put (PutWaiting row) = row.voucher
 name_put _ = None
+
+-- a change touches a row that may name a voucher: a cart position, an order position, or a waiting entry
+abbrev pub touches_names : List Change → Bool
+touches_names changes = (touches_table 4 changes || touches_table 6 changes) || touches_table 7 changes
 
 -- the voucher that the row named which a change replaces or drops
 abbrev pub name_gone : Lists → Change → Option ℕ

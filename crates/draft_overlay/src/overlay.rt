@@ -1,24 +1,22 @@
 //! The rows of a book, with changes.
 
-ghost use Rattle.std.specs.Prelude.{◌≡◌, ◌++◌, [], ◌∷◌, IfOk, OnOk, OnErr, length, take, ◌≤◌, ◌<◌, ◌+◌, ◌-◌, ◌^◌, ◌==◌, ◌&&◌, ◌||◌, count_by, if◌then◌else◌, find, option_map, is_none, false};
+ghost use Rattle.std.specs.Prelude.{◌≡◌, [], IfOk, OnOk, OnErr, length, take, ◌≤◌, ◌<◌, ◌+◌, ◌-◌, ◌^◌, ◌||◌, count_by, if◌then◌else◌, is_none, false};
 ghost use Rattle.std.specs.Option.{option_copied};
 ghost use Rattle.model_rows.specs.Lists.{cart_at, order_at, waiting_at, checkin_list_at, checkin_at};
 ghost use Rattle.model_rows.specs.Named.{voucher_of, is_used};
 ghost use Rattle.model_rows.specs.Passages.{last_at};
 ghost use Rattle.book_usage.specs.Naming.{naming};
-ghost use Rattle.draft_overlay.specs.Names.{name_gone};
-ghost use Rattle.draft_overlay.specs.Coded.{IsLeast, lesser, IsPutBelow, IsUnchanged, is_place, put_if};
+ghost use Rattle.draft_overlay.specs.Names.{name_gone, touches_names};
+ghost use Rattle.draft_overlay.specs.Coded.{IsLeast, lesser, IsPutBelow, IsUnchanged, is_place, put_if, first_unchanged};
 ghost use Rattle.book_log.specs.Places.{touches, touches_table, last_place};
-ghost use Rattle.base_values.specs.Texts.{same_text};
 ghost use Rattle.model_rows.specs.Kept.{IsKept};
 ghost use Rattle.base_sorted.specs.Tables.{sum_at};
 ghost use Rattle.model_rows.specs.Headroom.{held, held_in};
-ghost use Rattle.draft_overlay.specs.Logs.{Log, rows_of, rows_at, IsSale, AreSales};
+ghost use Rattle.draft_overlay.specs.Logs.{Log, rows_of, rows_at, log_with, IsSale, AreSales};
 ghost use Rattle.model_rows.specs.Conditions.{is_in_force, names};
 ghost use Rattle.book_usage.specs.OfOrder.{count_ordered};
-ghost use Rattle.draft_overlay.specs.Purchases.{ArePurchasesOf};
+ghost use Rattle.draft_overlay.specs.Purchases.{ArePurchasesOf, puts_ordered};
 ghost use Rattle.model_rows.specs.Usage.{stands_as, uses, redeemed, spent};
-ghost use Rattle.book_log.specs.Puts.{puts};
 
 use crate::cart_conditions::{CartCondition, Holds, HoldsIn};
 use crate::purchases::{Purchase, copy_purchases, put_purchases};
@@ -104,7 +102,7 @@ impl<'a, B: Book> Overlay<'a, B> {
 
     // The same, where a change touches the book's first one.
     fn first_unchanged(&self, code: &str) -> Option<u64>
-        ensures { result ≡ option_map (λ v. v.id) (find (λ v. same_text v.code code.now && is_none (last_place (touches 3 v.id) self.now.changes)) self.now.base.vouchers) }
+        ensures { result ≡ first_unchanged code.now self.now }
     {
         let vouchers = self.book.vouchers();
         let first = vouchers
@@ -217,7 +215,7 @@ impl<'a, B: Book> Overlay<'a, B> {
 
     // Whether a change touches a row that may name a voucher.
     fn touches_names(&self) -> bool
-        ensures { result ≡ ((touches_table 4 self.now.changes || touches_table 6 self.now.changes) || touches_table 7 self.now.changes) }
+        ensures { result ≡ touches_names self.now.changes }
     {
         self.touches_carts() || self.puts_positions() || self.log.touches(Table::Waiting)
     }
@@ -239,7 +237,7 @@ impl<'a, B: Book> Overlay<'a, B> {
     /// One more change, or a refusal where 2^32 stand or there is no memory: then the changes are as they were.
     pub fn push(&mut self, change: Change) -> Result<(), AllocError>
         requires { IsSale change (rows_of self.old) }
-        ensures ok { OnOk result (self.new ≡ record self.old { changes = self.old.changes ++ change ∷ [] }) }
+        ensures ok { OnOk result (self.new ≡ log_with change self.old) }
         ensures err { OnErr result (self.new ≡ self.old) }
     {
         let count = self.log.len();
@@ -269,7 +267,8 @@ impl<'a, B: Book> Overlay<'a, B> {
 
     // Whether changes may turn uses of the voucher: they put an order whose positions may name it, or an order position.
     fn may_turn(&self, voucher: u64) -> bool
-        ensures { result ≡ false → redeemed voucher (rows_of self.now) ≡ redeemed voucher self.now.base }
+        ensures { result ≡ false
+            → redeemed voucher (rows_of self.now) ≡ redeemed voucher self.now.base }
     {
         if !self.puts_orders() {
             return false;
@@ -361,7 +360,7 @@ impl<'a, B: Book> Overlay<'a, B> {
 
     /// The purchases of an order, one for each of its positions, in whatever order.
     pub fn purchases_of(&self, alloc: Global, order: u64) -> Result<Vec<Purchase>, AllocError>
-        ensures { IfOk result (λ purchases. ArePurchasesOf order (rows_of self.now) purchases.items) }
+        ensures { IfOk result (λ list. ArePurchasesOf order (rows_of self.now) list.items) }
     {
         self.book.known();
         let rows = self.book.positions_of(alloc, order)?;
@@ -376,7 +375,8 @@ impl<'a, B: Book> Overlay<'a, B> {
     // How many positions of the order that pass the test the first `i` changes put.
     fn count_put<T: PositionTest>(&self, i: usize, order: u64, test: &T) -> u64
         requires { i ≤ length self.now.changes }
-        ensures value { result ≡ count_by (puts (λ p. order == p.order && T.passes test.now p)) (take i self.now.changes) }
+        ensures value { result
+            ≡ count_by (puts_ordered order (T.passes test.now)) (take i self.now.changes) }
         ensures few { result ≤ 4294967296 }
     {
         if !self.puts_positions() {
@@ -446,7 +446,8 @@ impl<'a, B: Book> Overlay<'a, B> {
     // Whether the row that a cart position had before a change passes the test.
     fn count_at<T: CartCondition>(&self, i: usize, id: u64, test: &T) -> u64
         requires { i ≤ length self.now.changes }
-        ensures { result ≡ sum_at (λ c. if T.passes test.now c then 1 else 0) (cart_at id (rows_at i self.now)) }
+        ensures { result ≡ sum_at (λ c. if T.passes test.now c then 1 else 0)
+            (cart_at id (rows_at i self.now)) }
     {
         match self.cart_at(i, id) {
             None => 0,
@@ -573,7 +574,7 @@ pub fn count_if(test: bool, count: u64) -> u64
 
 // Whether the change puts a position of the order that passes the test.
 fn puts_ordered<T: PositionTest>(change: &Change, order: u64, test: &T) -> bool
-    ensures { result ≡ puts (λ p. order == p.order && T.passes test.now p) change.now }
+    ensures { result ≡ puts_ordered order (T.passes test.now) change.now }
 {
     match change {
         Change::PutPosition(row) => row.order == order && test.passes(row),

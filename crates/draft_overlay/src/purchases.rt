@@ -1,8 +1,7 @@
 //! The purchases of an order.
 
-ghost use Rattle.std.specs.Prelude.{◌≡◌, ◌+◌, ◌==◌, ℕ, IfOk, OnOk, map, sum_by, if◌then◌else◌};
-ghost use Rattle.draft_overlay.specs.declared.purchases.Purchase.{Purchase};
-ghost use Rattle.draft_overlay.specs.Purchases.{purchase, weighs};
+ghost use Rattle.std.specs.Prelude.{◌≡◌, IfOk, OnOk, map, sum_by};
+ghost use Rattle.draft_overlay.specs.Purchases.{purchase, weight_put, WeighMore};
 
 use base_values::Cents;
 use book_usage::Exits;
@@ -37,7 +36,7 @@ pub fn copy_purchases<R: Exits>(
     rows: &R,
     positions: &[OrderPos],
 ) -> Result<Vec<Purchase>, AllocError>
-    ensures { IfOk result (λ purchases. purchases.items ≡ map (purchase (R.rows rows.now)) positions.now) }
+    ensures { IfOk result (λ list. list.items ≡ map (purchase (R.rows rows.now)) positions.now) }
 {
     positions
         .iter()
@@ -52,7 +51,9 @@ pub fn put_purchases<R: Exits>(
     order: u64,
     changes: &[Change],
 ) -> Result<(), AllocError>
-    ensures { OnOk result ((weight : Purchase → ℕ) → sum_by weight purchases.new.items ≡ sum_by weight purchases.old.items + sum_by (weighs (λ p. if order == p.order then weight (purchase (R.rows rows.now) p) else 0)) changes.now) }
+    ensures { OnOk result (WeighMore
+        (λ w. sum_by (weight_put order (R.rows rows.now) w) changes.now)
+        purchases.old.items purchases.new.items) }
 {
     for i in 0..changes.len() {
         put_purchase(purchases, rows, order, &changes[i])?;
@@ -67,7 +68,9 @@ fn put_purchase<R: Exits>(
     order: u64,
     change: &Change,
 ) -> Result<(), AllocError>
-    ensures { OnOk result ((weight : Purchase → ℕ) → sum_by weight purchases.new.items ≡ sum_by weight purchases.old.items + weighs (λ p. if order == p.order then weight (purchase (R.rows rows.now) p) else 0) change.now) }
+    ensures { OnOk result (WeighMore
+        (λ w. weight_put order (R.rows rows.now) w change.now)
+        purchases.old.items purchases.new.items) }
 {
     match change {
         Change::PutPosition(row) => {

@@ -4,3 +4,4 @@ pub mod Counted
 pub mod Last
 pub mod Firsts
 pub mod Keys
+pub mod Tested

@@ -2,11 +2,11 @@
 
 ghost use Rattle.std.specs.Prelude.{◌≡◌, ◌↔◌, IsTrue, IfOk, true, nat_eq};
 ghost use Rattle.std.specs.List.{ends_with, AllByRecursion};
-ghost use Rattle.base_values.specs.Texts.{same_text};
 ghost use Rattle.model_rows.specs.Named.{AreUnlike};
 ghost use Rattle.model_invariant.specs.OwnCodes.{code_ending, has_own_code, HaveCodes};
 ghost use Rattle.model_invariant.specs.Secrets.{has_own_secret, AllHaveOwnSecrets};
-ghost use Rattle.file_check.specs.Firsts.{is_first};
+ghost use Rattle.file_check.specs.Tested.{has_new_code, AllHaveNewCodes};
+ghost use Rattle.model_rules.specs.Tests.{TellsWhether};
 
 use base_values::Text;
 use book_usage::Book;
@@ -34,7 +34,7 @@ fn has_own_code(alloc: Global, row: &Voucher) -> Result<bool, AllocError>
 
 // Whether it is so of the code of each voucher.
 fn all_have_own_codes(alloc: Global, rows: &[Voucher]) -> Result<bool, AllocError>
-    ensures { IfOk result (λ kept. IsTrue kept ↔ AllByRecursion (λ v. has_own_code v ≡ true) rows.now) }
+    ensures { TellsWhether result (AllByRecursion (λ v. has_own_code v ≡ true) rows.now) }
 {
     for row in rows {
         if !has_own_code(alloc, row)? {
@@ -46,7 +46,7 @@ fn all_have_own_codes(alloc: Global, rows: &[Voucher]) -> Result<bool, AllocErro
 
 // Whether no voucher before it has its code.
 fn has_new_code<B: Book>(book: &B, row: &Voucher) -> bool
-    ensures { result ≡ is_first (λ v. v.id) (λ a b. same_text a.code b.code) (B.state book.now).lists.vouchers row.now }
+    ensures { result ≡ has_new_code (B.state book.now).lists.vouchers row.now }
 {
     match book.voucher_of(row.code.as_str()) {
         None => true,
@@ -56,7 +56,7 @@ fn has_new_code<B: Book>(book: &B, row: &Voucher) -> bool
 
 // Whether it is so of each voucher.
 fn all_have_new_codes<B: Book>(book: &B) -> bool
-    ensures { IsTrue result ↔ AllByRecursion (λ v. is_first (λ w. w.id) (λ a b. same_text a.code b.code) (B.state book.now).lists.vouchers v ≡ true) (B.state book.now).lists.vouchers }
+    ensures { IsTrue result ↔ AllHaveNewCodes (B.state book.now).lists.vouchers }
 {
     book.vouchers().iter().all(|row| has_new_code(book, row))
 }
@@ -71,7 +71,7 @@ fn are_unlike<B: Book>(book: &B) -> bool
 
 /// Whether no two vouchers have one code, and each code of the form that the shop makes ends in its voucher's id.
 pub fn have_codes<B: Book>(alloc: Global, book: &B) -> Result<bool, AllocError>
-    ensures { IfOk result (λ kept. IsTrue kept ↔ HaveCodes (B.state book.now).lists.vouchers) }
+    ensures { TellsWhether result (HaveCodes (B.state book.now).lists.vouchers) }
 {
     let own = all_have_own_codes(alloc, book.vouchers())?;
     Ok(are_unlike(book) && own)
@@ -89,7 +89,7 @@ fn has_own_secret(alloc: Global, row: &OrderPos) -> Result<bool, AllocError>
 
 /// Whether the secret of each order position ends in its order's number and its own there.
 pub fn all_have_own_secrets(alloc: Global, rows: &[OrderPos]) -> Result<bool, AllocError>
-    ensures { IfOk result (λ kept. IsTrue kept ↔ AllHaveOwnSecrets rows.now) }
+    ensures { TellsWhether result (AllHaveOwnSecrets rows.now) }
 {
     for row in rows {
         if !has_own_secret(alloc, row)? {

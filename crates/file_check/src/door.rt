@@ -1,8 +1,9 @@
 //! The tests of check-in lists and check-ins.
 
-ghost use Rattle.std.specs.Prelude.{◌≡◌, ◌↔◌, IsTrue, IfOk, true};
-ghost use Rattle.std.specs.List.{AllByRecursion};
-ghost use Rattle.model_invariant.specs.Checkins.{has_item, HasItems, IsCheckedIn, IsDoorOf};
+ghost use Rattle.std.specs.Prelude.{◌↔◌, IsTrue};
+ghost use Rattle.model_invariant.specs.Checkins.{HasItems, IsDoorOf};
+ghost use Rattle.file_check.specs.Tested.{ItemsStand, ListsHaveItems, CheckinStands, CheckinsStand};
+ghost use Rattle.model_rules.specs.Tests.{TellsWhether};
 
 use crate::are_once;
 use base_sorted::are_rising;
@@ -12,7 +13,7 @@ use std::alloc::{AllocError, Global};
 
 // Whether the item of each id stands.
 fn are_items(catalogue: &Catalogue, ids: &[u64]) -> bool
-    ensures { IsTrue result ↔ AllByRecursion (λ id. has_item catalogue.now.lists.items id ≡ true) ids.now }
+    ensures { IsTrue result ↔ ItemsStand catalogue.now.lists.items ids.now }
 {
     ids.iter().all(|id| catalogue.item(*id).is_some())
 }
@@ -26,7 +27,7 @@ fn has_items(catalogue: &Catalogue, row: &CheckinList) -> bool
 
 // Whether it is so of each list.
 fn all_have_items<B: Book>(book: &B) -> bool
-    ensures { IsTrue result ↔ AllByRecursion (HasItems (B.state book.now).lists.catalogue.items) (B.state book.now).lists.checkin_lists }
+    ensures { IsTrue result ↔ ListsHaveItems (B.state book.now).lists }
 {
     let catalogue = book.catalogue();
     let lists = book.checkin_lists();
@@ -40,14 +41,14 @@ fn all_have_items<B: Book>(book: &B) -> bool
 
 // Whether the list and the order position of a check-in stand.
 fn is_checked_in<B: Book>(book: &B, row: &Checkin) -> bool
-    ensures { IsTrue result ↔ IsCheckedIn (B.state book.now).lists.checkin_lists (B.state book.now).lists.positions row.now }
+    ensures { IsTrue result ↔ CheckinStands (B.state book.now).lists row.now }
 {
     book.checkin_list(row.list).is_some() && book.position(row.position).is_some()
 }
 
 // Whether it is so of each check-in.
 fn all_checked_in<B: Book>(book: &B) -> bool
-    ensures { IsTrue result ↔ AllByRecursion (IsCheckedIn (B.state book.now).lists.checkin_lists (B.state book.now).lists.positions) (B.state book.now).lists.checkins }
+    ensures { IsTrue result ↔ CheckinsStand (B.state book.now).lists }
 {
     let checkins = book.checkins();
     for row in checkins {
@@ -61,7 +62,7 @@ fn all_checked_in<B: Book>(book: &B) -> bool
 /// Whether the items of each check-in list rise and stand, the list and the order position of each check-in stand, and no
 /// list has a nonce twice for a position.
 pub fn is_door<B: Book>(alloc: Global, book: &B) -> Result<bool, AllocError>
-    ensures { IfOk result (λ kept. IsTrue kept ↔ IsDoorOf (B.state book.now).lists) }
+    ensures { TellsWhether result (IsDoorOf (B.state book.now).lists) }
 {
     let once = are_once(alloc, book)?;
     Ok(all_have_items(book) && all_checked_in(book) && once)

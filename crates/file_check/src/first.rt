@@ -1,10 +1,10 @@
 //! The least rule that rows break, of those that are tested before a book is built of them.
 
 ghost use Rattle.std.specs.Prelude.{◌≤◌, IfNone, IfSome};
-ghost use Rattle.model_rules.specs.declared.rule.Rule.{Rule};
 ghost use Rattle.model_rules.specs.Numbers.{number};
-ghost use Rattle.model_rules.specs.Rules.{Keeps, IsLeastBroken};
+ghost use Rattle.model_rules.specs.Rules.{IsLeastBroken};
 ghost use Rattle.model_rules.specs.Told.{file_of};
+ghost use Rattle.file_check.specs.Last.{KeepsFirstThree};
 
 use crate::head::keeps_head;
 use crate::ids::keeps_ids;
@@ -13,7 +13,7 @@ use model_rules::{FileRows, Rule};
 
 /// The least rule that is broken of the first three: 1 the shop's row, 2 limits, 3 ids. None where the rows keep these three.
 pub fn first_broken(rows: &FileRows) -> Option<Rule>
-    ensures kept { IfNone result (Keeps Rule.Shop (file_of rows.now) × Keeps Rule.Limits (file_of rows.now) × Keeps Rule.Ids (file_of rows.now)) }
+    ensures kept { IfNone result (KeepsFirstThree (file_of rows.now)) }
     ensures broken { IfSome result (λ rule. IsLeastBroken rule (file_of rows.now)) }
     ensures first { IfSome result (λ rule. number rule ≤ 3) }
 {

@@ -1,9 +1,9 @@
 //! The test of headroom.
 
 ghost use Rattle.std.specs.Prelude.{◌↔◌, IsTrue};
-ghost use Rattle.std.specs.List.{AllByRecursion};
 ghost use Rattle.model_rows.specs.Headroom.{AllHaveHeadroom};
 ghost use Rattle.file_check.specs.Room.{HasRoom};
+ghost use Rattle.file_check.specs.Tested.{AllHaveRoom};
 
 use book_usage::Book;
 use model_rows::Voucher;
@@ -19,7 +19,7 @@ fn has_room<B: Book>(book: &B, row: &Voucher) -> bool
 
 // Whether it is so of each voucher.
 fn all_have_room<B: Book>(book: &B) -> bool
-    ensures { IsTrue result ↔ AllByRecursion (HasRoom (B.state book.now).moment (B.state book.now).lists) (B.state book.now).lists.vouchers }
+    ensures { IsTrue result ↔ AllHaveRoom (B.state book.now) }
 {
     let vouchers = book.vouchers();
     for row in vouchers {

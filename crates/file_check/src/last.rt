@@ -21,8 +21,10 @@ pub fn last_broken<B: Book>(
     used: &[QuotaCount],
     redeemed: &[VoucherCount],
 ) -> Result<Option<Rule>, AllocError>
-    ensures kept { IfOk result (λ told. IfNone told (KeepsAll (file_with (B.state book.now) used.now redeemed.now))) }
-    ensures broken { IfOk result (λ told. IfSome told (IsLeastOf (file_with (B.state book.now) used.now redeemed.now))) }
+    ensures kept { IfOk result (λ told. IfNone told
+        (KeepsAll (file_with (B.state book.now) used.now redeemed.now))) }
+    ensures broken { IfOk result (λ told. IfSome told
+        (IsLeastOf (file_with (B.state book.now) used.now redeemed.now))) }
 {
     if !keeps_names(alloc, book)? {
         return Ok(Some(Rule::Names));

@@ -1,7 +1,7 @@
 //! The tests of what quotas list.
 
-ghost use Rattle.std.specs.Prelude.{◌↔◌, IsTrue, IfOk};
 ghost use Rattle.model_invariant.specs.Members.{HasMembers, AllHaveMembers};
+ghost use Rattle.model_rules.specs.Tests.{TellsWhether};
 
 use base_sorted::are_rising;
 use book_usage::{Book, Catalogue};
@@ -11,7 +11,7 @@ use std::alloc::{AllocError, Global};
 
 // Whether the items and the variations of a quota rise, stand and fit together.
 fn has_members(alloc: Global, catalogue: &Catalogue, quota: &Quota) -> Result<bool, AllocError>
-    ensures { IfOk result (λ kept. IsTrue kept ↔ HasMembers catalogue.now.lists quota.now) }
+    ensures { TellsWhether result (HasMembers catalogue.now.lists quota.now) }
 {
     let fit = items_fit(catalogue, alloc, quota)?;
     Ok(
@@ -27,7 +27,7 @@ fn has_members(alloc: Global, catalogue: &Catalogue, quota: &Quota) -> Result<bo
 /// Whether the items and the variations of each quota rise, stand and fit together: a variation's item is listed, and of
 /// an item that is sold by variations one is listed.
 pub fn all_have_members<B: Book>(alloc: Global, book: &B) -> Result<bool, AllocError>
-    ensures { IfOk result (λ kept. IsTrue kept ↔ AllHaveMembers (B.state book.now).lists.catalogue) }
+    ensures { TellsWhether result (AllHaveMembers (B.state book.now).lists.catalogue) }
 {
     let catalogue = book.catalogue();
     let quotas = catalogue.quotas();

@@ -1,11 +1,9 @@
 //! The test of what rows name, and of codes and secrets.
 
-ghost use Rattle.std.specs.Prelude.{◌↔◌, IsTrue, IfOk};
-ghost use Rattle.model_rows.specs.Fits.{AllFit};
-ghost use Rattle.model_invariant.specs.Sent.{AllSent};
-ghost use Rattle.model_invariant.specs.Targets.{AllHaveTargets};
-ghost use Rattle.model_invariant.specs.Varied.{AllVaried, AllProducts, AllWhole};
+ghost use Rattle.std.specs.Prelude.{◌↔◌, IsTrue};
 ghost use Rattle.model_rules.specs.Rules.{NamesWell};
+ghost use Rattle.file_check.specs.Tested.{SellsWell};
+ghost use Rattle.model_rules.specs.Tests.{TellsWhether};
 
 use crate::door::is_door;
 use crate::have_codes;
@@ -18,7 +16,7 @@ use std::alloc::{AllocError, Global};
 
 // Whether what vouchers name, and the products of rows and their vouchers are well.
 fn sells_well<B: Book>(book: &B) -> bool
-    ensures { IsTrue result ↔ (AllHaveTargets (B.state book.now).lists × AllWhole (B.state book.now).lists × AllVaried (B.state book.now).lists × AllProducts (B.state book.now).lists × AllSent (B.state book.now).lists × AllFit (B.state book.now).lists) }
+    ensures { IsTrue result ↔ SellsWell (B.state book.now).lists }
 {
     all_have_targets(book)
         && all_whole(book)
@@ -30,7 +28,7 @@ fn sells_well<B: Book>(book: &B) -> bool
 
 /// Whether what each row names stands and fits it, and codes and secrets are as the shop makes them.
 pub fn keeps_names<B: Book>(alloc: Global, book: &B) -> Result<bool, AllocError>
-    ensures { IfOk result (λ kept. IsTrue kept ↔ NamesWell (B.state book.now).lists) }
+    ensures { TellsWhether result (NamesWell (B.state book.now).lists) }
 {
     let members = all_have_members(alloc, book)?;
     let codes = have_codes(alloc, book)?;

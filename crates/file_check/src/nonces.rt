@@ -1,10 +1,10 @@
 //! The test of the nonces of check-ins.
 
-ghost use Rattle.std.specs.Prelude.{◌≡◌, ◌↔◌, IsTrue, IfOk, true, find};
-ghost use Rattle.std.specs.List.{AllByRecursion};
+ghost use Rattle.std.specs.Prelude.{◌≡◌, IfOk, find};
 ghost use Rattle.std.specs.Option.{option_copied};
 ghost use Rattle.model_invariant.specs.Checkins.{same_nonce, repeats, AreOnce};
-ghost use Rattle.file_check.specs.Firsts.{is_first};
+ghost use Rattle.file_check.specs.Tested.{is_new, AllAreNew};
+ghost use Rattle.model_rules.specs.Tests.{TellsWhether};
 
 use crate::keys::have_own_keys;
 use base_values::Text;
@@ -38,7 +38,7 @@ fn first_like<'r>(rows: &'r [Checkin], row: &Checkin) -> Option<&'r Checkin>
 
 // Whether none of these before a check-in repeats it.
 fn is_new_among(rows: &[Checkin], row: &Checkin) -> bool
-    ensures { result ≡ is_first (λ c. c.id) repeats rows.now row.now }
+    ensures { result ≡ is_new rows.now row.now }
 {
     match first_like(rows, row) {
         None => true,
@@ -48,7 +48,7 @@ fn is_new_among(rows: &[Checkin], row: &Checkin) -> bool
 
 // Whether no check-in before it repeats it.
 fn is_new<B: Book>(alloc: Global, book: &B, row: &Checkin) -> Result<bool, AllocError>
-    ensures { IfOk result (λ new. new ≡ is_first (λ c. c.id) repeats (B.state book.now).lists.checkins row.now) }
+    ensures { IfOk result (λ new. new ≡ is_new (B.state book.now).lists.checkins row.now) }
 {
     let rows = book.checkins_of(alloc, row.list, row.position)?;
     let new = is_new_among(rows.as_slice(), row);
@@ -57,7 +57,7 @@ fn is_new<B: Book>(alloc: Global, book: &B, row: &Checkin) -> Result<bool, Alloc
 
 // Whether it is so of each check-in.
 fn all_are_new<B: Book>(alloc: Global, book: &B) -> Result<bool, AllocError>
-    ensures { IfOk result (λ kept. IsTrue kept ↔ AllByRecursion (λ c. is_first (λ d. d.id) repeats (B.state book.now).lists.checkins c ≡ true) (B.state book.now).lists.checkins) }
+    ensures { TellsWhether result (AllAreNew (B.state book.now).lists.checkins) }
 {
     let checkins = book.checkins();
     for row in checkins {
@@ -71,7 +71,7 @@ fn all_are_new<B: Book>(alloc: Global, book: &B) -> Result<bool, AllocError>
 /// Whether no list has a nonce twice for a position. Where no two digests of list, position and nonce are one, that is
 /// known at once; else each check-in is looked for among those of its position by its list.
 pub fn are_once<B: Book>(alloc: Global, book: &B) -> Result<bool, AllocError>
-    ensures { IfOk result (λ kept. IsTrue kept ↔ AreOnce (B.state book.now).lists.checkins) }
+    ensures { TellsWhether result (AreOnce (B.state book.now).lists.checkins) }
 {
     if have_own_keys(alloc, book.checkins())? {
         return Ok(true);

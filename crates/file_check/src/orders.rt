@@ -1,8 +1,10 @@
 //! The tests of orders and their positions.
 
-ghost use Rattle.std.specs.Prelude.{◌↔◌, IsTrue, IfOk};
+ghost use Rattle.std.specs.Prelude.{◌↔◌, IsTrue};
 ghost use Rattle.model_rows.specs.Ordered.{AllOrdered};
-ghost use Rattle.model_invariant.specs.Positions.{AreWhole, AllHavePositions, AreOfOrders, of_order};
+ghost use Rattle.model_invariant.specs.Positions.{AreWhole, of_order};
+ghost use Rattle.file_check.specs.Tested.{OrdersHavePositions, PositionsHaveOrders};
+ghost use Rattle.model_rules.specs.Tests.{TellsWhether};
 
 use crate::all_have_own_secrets;
 use base_values::List;
@@ -16,7 +18,7 @@ const MOST_POSITIONS: usize = 500;
 
 // Whether these are 1 to 500 positions, numbered from 1 to their count. More of them aren't sorted.
 fn are_whole(alloc: Global, rows: List<OrderPos>) -> Result<bool, AllocError>
-    ensures { IfOk result (λ whole. IsTrue whole ↔ AreWhole rows) }
+    ensures { TellsWhether result (AreWhole rows) }
 {
     let count = rows.as_slice().len();
     if count == 0 || MOST_POSITIONS < count {
@@ -29,7 +31,8 @@ fn are_whole(alloc: Global, rows: List<OrderPos>) -> Result<bool, AllocError>
 
 // Whether an order has such positions.
 fn has_positions<B: Book>(alloc: Global, book: &B, order: &Order) -> Result<bool, AllocError>
-    ensures { IfOk result (λ kept. IsTrue kept ↔ AreWhole (of_order order.now.id (B.state book.now).lists.positions)) }
+    ensures { TellsWhether result
+        (AreWhole (of_order order.now.id (B.state book.now).lists.positions)) }
 {
     let rows = book.positions_of(alloc, order.id)?;
     are_whole(alloc, rows)
@@ -37,7 +40,7 @@ fn has_positions<B: Book>(alloc: Global, book: &B, order: &Order) -> Result<bool
 
 /// Whether each order has 1 to 500 positions, numbered from 1 to their count, in whatever order of their ids.
 pub fn keeps_positions<B: Book>(alloc: Global, book: &B) -> Result<bool, AllocError>
-    ensures { IfOk result (λ kept. IsTrue kept ↔ AllHavePositions (B.state book.now).lists.orders (B.state book.now).lists.positions) }
+    ensures { TellsWhether result (OrdersHavePositions (B.state book.now).lists) }
 {
     let orders = book.orders();
     for order in orders {
@@ -59,7 +62,7 @@ pub fn all_ordered<B: Book>(book: &B) -> bool
 
 /// Whether the order of each order position stands, and its secret ends in the order's number and its own there.
 pub fn are_of_orders<B: Book>(alloc: Global, book: &B) -> Result<bool, AllocError>
-    ensures { IfOk result (λ kept. IsTrue kept ↔ AreOfOrders (B.state book.now).lists.orders (B.state book.now).lists.positions) }
+    ensures { TellsWhether result (PositionsHaveOrders (B.state book.now).lists) }
 {
     let own = all_have_own_secrets(alloc, book.positions())?;
     Ok(all_ordered(book) && own)

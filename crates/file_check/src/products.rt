@@ -1,10 +1,10 @@
 //! The tests of what rows name in the catalogue.
 
-ghost use Rattle.std.specs.Prelude.{◌≡◌, ◌↔◌, true, IsTrue};
-ghost use Rattle.std.specs.List.{AllByRecursion};
+ghost use Rattle.std.specs.Prelude.{◌≡◌, ◌↔◌, IsTrue};
 ghost use Rattle.model_invariant.specs.Sent.{voucher_stands, AllSent};
 ghost use Rattle.model_invariant.specs.Varied.{is_of_varied, is_named_as_sold, IsProduct, AllVaried, AllProducts};
 ghost use Rattle.model_rows.specs.Fits.{is_fit, AllFit};
+ghost use Rattle.file_check.specs.Tested.{CartsHaveProducts, PositionsHaveProducts, EntriesHaveProducts, CartsFit};
 
 use book_usage::rules::fits;
 use book_usage::{Book, Catalogue};
@@ -51,7 +51,7 @@ fn is_product(catalogue: &Catalogue, product: Product) -> bool
 
 // Whether it is so of the product of each cart position.
 fn carts_have_products<B: Book>(book: &B) -> bool
-    ensures { IsTrue result ↔ AllByRecursion (λ c. IsProduct (B.state book.now).lists.catalogue c.product) (B.state book.now).lists.carts }
+    ensures { IsTrue result ↔ CartsHaveProducts (B.state book.now).lists }
 {
     for row in book.carts().iter() {
         if !is_product(book.catalogue(), row.product) {
@@ -63,7 +63,7 @@ fn carts_have_products<B: Book>(book: &B) -> bool
 
 // Whether it is so of the product of each order position.
 fn positions_have_products<B: Book>(book: &B) -> bool
-    ensures { IsTrue result ↔ AllByRecursion (λ p. IsProduct (B.state book.now).lists.catalogue p.product) (B.state book.now).lists.positions }
+    ensures { IsTrue result ↔ PositionsHaveProducts (B.state book.now).lists }
 {
     let catalogue = book.catalogue();
     book.positions()
@@ -73,7 +73,7 @@ fn positions_have_products<B: Book>(book: &B) -> bool
 
 // Whether it is so of the product of each waiting entry.
 fn entries_have_products<B: Book>(book: &B) -> bool
-    ensures { IsTrue result ↔ AllByRecursion (λ w. IsProduct (B.state book.now).lists.catalogue w.product) (B.state book.now).lists.waiting }
+    ensures { IsTrue result ↔ EntriesHaveProducts (B.state book.now).lists }
 {
     for row in book.waiting().iter() {
         if !is_product(book.catalogue(), row.product) {
@@ -128,7 +128,7 @@ fn is_fit<B: Book>(book: &B, product: Product, voucher: Option<u64>) -> bool
 
 // Whether it is so of each cart position.
 fn carts_fit<B: Book>(book: &B) -> bool
-    ensures { IsTrue result ↔ AllByRecursion (λ c. is_fit (B.state book.now).lists c.product c.voucher ≡ true) (B.state book.now).lists.carts }
+    ensures { IsTrue result ↔ CartsFit (B.state book.now).lists }
 {
     for row in book.carts().iter() {
         if !is_fit(book, row.product, row.voucher) {

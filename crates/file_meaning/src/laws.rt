@@ -18,20 +18,28 @@ ghost use Rattle.file_meaning.specs.Stands.{AreRowsOf, AreSameRows, AreOrdered, 
 
 /// Rows in whatever order are those of one office only.
 pub fn rows_tell_one_office()
-    ensures { (a b : Lists) (xs ys : OfficeRows) → AreOrdered a → AreOrdered b → AreRowsOf a xs → AreRowsOf b ys → AreSameRows xs ys → a ≡ b }
+    ensures { (a b : Lists) (xs ys : OfficeRows) → AreOrdered a → AreOrdered b
+        → AreRowsOf a xs → AreRowsOf b ys → AreSameRows xs ys → a ≡ b }
 {}
 
 /// Where tables hold an office and kept answers, and the counts that are handed in are those that the changes change, what a
 /// commit makes of the tables holds the office after its changes, at the moment of the shop's new row, with the answer that is
 /// kept, and without those that are past. The changes have to be such as a file takes.
 pub fn a_commit_carries()
-    ensures { (old shop : ShopRow) (changes : Changed) (counts : CountRows) (from : ℕ) (answer : Option (Bor Kept)) (t : Tables) (state : State) (answers : List Kept) → shop.next ≡ changes.next →
-        AllByRecursion IsRising changes.list → puts_come_first false changes.list ≡ true → counts ≡ counts_after state (applied changes shop.moment state) → Stand old t state answers → IsFree from t →
-        Stand shop (done shop changes.list counts from (listed answer) shop.moment t) (applied changes shop.moment state) (with_kept shop.moment answers (listed answer)) }
+    ensures { (old shop : ShopRow) (changes : Changed) (counts : CountRows) (from : ℕ)
+        (answer : Option (Bor Kept)) (t : Tables) (state : State) (answers : List Kept)
+        → shop.next ≡ changes.next
+        → AllByRecursion IsRising changes.list → puts_come_first false changes.list ≡ true
+        → counts ≡ counts_after state (applied changes shop.moment state)
+        → Stand old t state answers → IsFree from t
+        → Stand shop (done shop changes.list counts from (listed answer) shop.moment t)
+        (applied changes shop.moment state) (with_kept shop.moment answers (listed answer)) }
 {}
 
 /// After a commit the row number that follows on those that it gave is free.
 pub fn row_numbers_stay_free()
-    ensures { (shop : ShopRow) (changes : Changed) (counts : CountRows) (from at : ℕ) (answers : List Kept) (t : Tables) → IsFree from t →
-        IsFree (next_after changes.list from + 1) (done shop changes.list counts from answers at t) }
+    ensures { (shop : ShopRow) (changes : Changed) (counts : CountRows) (from at : ℕ)
+        (answers : List Kept) (t : Tables) → IsFree from t
+        → IsFree (next_after changes.list from + 1)
+        (done shop changes.list counts from answers at t) }
 {}

@@ -39,7 +39,8 @@ pub struct Reopened<B: Book + Drop> {
 // The least rule that is broken, where that of counters is too if they aren't paired. That of budgets comes behind it.
 fn with_pairs(broken: Option<Rule>, paired: bool) -> Option<Rule>
     ensures kept { IfNone result ((broken ≡ None) × IsTrue paired) }
-    ensures told { IfSome result (λ rule. ((broken ≡ Some rule) × (rule ≡ Budgets → IsTrue paired)) ⊎ ((rule ≡ Counters) × (¬ IsTrue paired) × ((broken ≡ None) ⊎ (broken ≡ Some Budgets)))) }
+    ensures told { IfSome result (λ rule. ((broken ≡ Some rule) × (rule ≡ Budgets → IsTrue paired))
+        ⊎ ((rule ≡ Counters) × (¬ IsTrue paired) × ((broken ≡ None) ⊎ (broken ≡ Some Budgets)))) }
 {
     if paired {
         return broken;
@@ -96,10 +97,13 @@ pub(crate) fn open_rows<B: Book + Drop>(
 ) -> Result<Reopened<B>, OpenError>
     requires { B.state book ≡ empty }
     ensures head { IfOk result (λ it. it.head ≡ file.shop) }
-    ensures names { IfOk result (λ it. (it.organizer ≡ it.head.organizer) × (it.event ≡ it.head.event)) }
+    ensures names { IfOk result
+        (λ it. (it.organizer ≡ it.head.organizer) × (it.event ≡ it.head.event)) }
     ensures sound { IfOk result (λ it. IsSound (B.state it.book)) }
     ensures numbered { OnOk result (AreBelowNext file.shop file.tables.others.tokens.items) }
-    ensures held { IfOk result (λ it. (t : Tables) → IsFileOf t file → Stand it.head t (B.state it.book) (map (λ r. r.kept) t.kept) × IsFree it.next_row t × ((number : ℕ) → IsFree number t → it.next_row ≤ number)) }
+    ensures held { IfOk result (λ it. (t : Tables) → IsFileOf t file
+        → Stand it.head t (B.state it.book) (map (λ r. r.kept) t.kept) × IsFree it.next_row t
+        × ((number : ℕ) → IsFree number t → it.next_row ≤ number)) }
     ensures refused { IfErr result (IsWhy file) }
 {
     let FileTables { shop, tables } = file;

@@ -37,8 +37,11 @@ use sqlite::{Alter, Connection};
 
 /// A shop's file that was just made runs from the opening without rows and answers.
 pub fn a_made_shop_runs<S: Alter>(blank: &Connection<S>, made: &SqlTables<S>)
-    ensures { (words : Reply → Response) (first : ShopRow) → IsMade first (state S.Store blank.now) made.now.head made.now.next_row (state S.Store made.now.connection)
-        → IsRunning words ⟦<SqlTables<S> as Tables>⟧.holds ⟦<SqlTables<S> as Tables>⟧.may_leave made.now empty (opened words (stood words (record { state = empty; kept = [] }) [])) }
+    ensures { (words : Reply → Response) (first : ShopRow)
+        → IsMade first (state S.Store blank.now) made.now.head made.now.next_row
+        (state S.Store made.now.connection)
+        → IsRunning words ⟦<SqlTables<S> as Tables>⟧.holds ⟦<SqlTables<S> as Tables>⟧.may_leave
+        made.now empty (opened words (stood words (record { state = empty; kept = [] }) [])) }
 {
     let _ = blank;
     let _ = made;
@@ -54,21 +57,43 @@ pub fn a_shop_runs_on_after_a_crash<S: Alter>(
     fresh: &Connection<S>,
     after: &SqlTables<S>,
 )
-    ensures reopened { IsFound (state S.Store before.now.connection) (state S.Store fresh.now) → (z : State) (o : IsOpened (state S.Store fresh.now).now.trees after.now.head after.now.next_row z (state S.Store after.now.connection))
-        → Reopened ⟦<SqlTables<S> as Tables>⟧.holds ⟦<SqlTables<S> as Tables>⟧.may_leave before.now after.now (record { state = z; kept = map (λ r. r.kept) o.tables.kept }) }
-    ensures known { (house : House) → ⟦<SqlTables<S> as Tables>⟧.knows before.now house → IsFound (state S.Store before.now.connection) (state S.Store fresh.now) → (state S.Store fresh.now).now.schema ≡ schema }
-    ensures house { (house : House) → ⟦<SqlTables<S> as Tables>⟧.knows before.now house → IsFound (state S.Store before.now.connection) (state S.Store fresh.now)
-        → (z : State) → IsOpened (state S.Store fresh.now).now.trees after.now.head after.now.next_row z (state S.Store after.now.connection)
-        → ⟦<SqlTables<S> as Tables>⟧.knows after.now house × (after.now.head.organizer ≡ house.organizer) × (after.now.head.event ≡ house.event) }
-    ensures runs { (words : Reply → Response) (s : State) (r : Running) → IsRunning words ⟦<SqlTables<S> as Tables>⟧.holds ⟦<SqlTables<S> as Tables>⟧.may_leave before.now s r
-        → IsFound (state S.Store before.now.connection) (state S.Store fresh.now) → (z : State) → IsOpened (state S.Store fresh.now).now.trees after.now.head after.now.next_row z (state S.Store after.now.connection)
-        → (x : ShopView) × MayLeave words r x × IsRunning words ⟦<SqlTables<S> as Tables>⟧.holds ⟦<SqlTables<S> as Tables>⟧.may_leave after.now z (opened words x) }
-    ensures stands { (words : Reply → Response) (p : Opening) (events : List Event) (s : State) (r : Running) → Happens words (opened words (stood words p [])) events r
-        → IsRunning words ⟦<SqlTables<S> as Tables>⟧.holds ⟦<SqlTables<S> as Tables>⟧.may_leave before.now s r
-        → IsFound (state S.Store before.now.connection) (state S.Store fresh.now) → (z : State) → IsOpened (state S.Store fresh.now).now.trees after.now.head after.now.next_row z (state S.Store after.now.connection)
-        → (x : ShopView) × Happens words (opened words (stood words p [])) (events ++ Crashed ∷ []) (opened words x)
-        × IsRunning words ⟦<SqlTables<S> as Tables>⟧.holds ⟦<SqlTables<S> as Tables>⟧.may_leave after.now z (opened words x)
-        × ((whole : List Delivery) × ComesTo words p [] [] (events ++ Crashed ∷ []) whole × Stands words p whole x) }
+    ensures reopened { IsFound (state S.Store before.now.connection) (state S.Store fresh.now)
+        → (z : State) (o : IsOpened
+        (state S.Store fresh.now).now.trees after.now.head after.now.next_row z
+        (state S.Store after.now.connection))
+        → Reopened ⟦<SqlTables<S> as Tables>⟧.holds ⟦<SqlTables<S> as Tables>⟧.may_leave before.now
+        after.now (record { state = z; kept = map (λ r. r.kept) o.tables.kept }) }
+    ensures known { (house : House) → ⟦<SqlTables<S> as Tables>⟧.knows before.now house
+        → IsFound (state S.Store before.now.connection) (state S.Store fresh.now)
+        → (state S.Store fresh.now).now.schema ≡ schema }
+    ensures house { (house : House) → ⟦<SqlTables<S> as Tables>⟧.knows before.now house
+        → IsFound (state S.Store before.now.connection) (state S.Store fresh.now) → (z : State)
+        → IsOpened (state S.Store fresh.now).now.trees after.now.head after.now.next_row z
+        (state S.Store after.now.connection)
+        → ⟦<SqlTables<S> as Tables>⟧.knows after.now house
+        × (after.now.head.organizer ≡ house.organizer) × (after.now.head.event ≡ house.event) }
+    ensures runs { (words : Reply → Response) (s : State) (r : Running)
+        → IsRunning words ⟦<SqlTables<S> as Tables>⟧.holds ⟦<SqlTables<S> as Tables>⟧.may_leave
+        before.now s r → IsFound (state S.Store before.now.connection) (state S.Store fresh.now)
+        → (z : State) → IsOpened
+        (state S.Store fresh.now).now.trees after.now.head after.now.next_row z
+        (state S.Store after.now.connection)
+        → (x : ShopView) × MayLeave words r x
+        × IsRunning words ⟦<SqlTables<S> as Tables>⟧.holds ⟦<SqlTables<S> as Tables>⟧.may_leave
+        after.now z (opened words x) }
+    ensures stands { (words : Reply → Response) (p : Opening) (events : List Event) (s : State)
+        (r : Running) → Happens words (opened words (stood words p [])) events r
+        → IsRunning words ⟦<SqlTables<S> as Tables>⟧.holds ⟦<SqlTables<S> as Tables>⟧.may_leave
+        before.now s r → IsFound (state S.Store before.now.connection) (state S.Store fresh.now)
+        → (z : State) → IsOpened
+        (state S.Store fresh.now).now.trees after.now.head after.now.next_row z
+        (state S.Store after.now.connection)
+        → (x : ShopView)
+        × Happens words (opened words (stood words p [])) (events ++ Crashed ∷ []) (opened words x)
+        × IsRunning words ⟦<SqlTables<S> as Tables>⟧.holds ⟦<SqlTables<S> as Tables>⟧.may_leave
+        after.now z (opened words x)
+        × ((whole : List Delivery) × ComesTo words p [] [] (events ++ Crashed ∷ []) whole
+        × Stands words p whole x) }
 {
     let _ = before;
     schema_known(fresh);
@@ -86,16 +111,27 @@ pub fn a_crash_while_opening_loses_nothing<S: Alter>(
     again: &Connection<S>,
     after: &SqlTables<S>,
 )
-    ensures found { IsFound (state S.Store before.now.connection) (state S.Store fresh.now) → Survives (state S.Store fresh.now) (state S.Store tried.now) (λ _. ⊥)
-        → IsFound (state S.Store tried.now) (state S.Store again.now) → IsFound (state S.Store before.now.connection) (state S.Store again.now) × ((state S.Store again.now).now ≡ (state S.Store fresh.now).now) }
+    ensures found { IsFound (state S.Store before.now.connection) (state S.Store fresh.now)
+        → Survives (state S.Store fresh.now) (state S.Store tried.now) (λ _. ⊥)
+        → IsFound (state S.Store tried.now) (state S.Store again.now)
+        → IsFound (state S.Store before.now.connection) (state S.Store again.now)
+        × ((state S.Store again.now).now ≡ (state S.Store fresh.now).now) }
     ensures house { (house : House) → ⟦<SqlTables<S> as Tables>⟧.knows before.now house
-        → IsFound (state S.Store before.now.connection) (state S.Store fresh.now) → Survives (state S.Store fresh.now) (state S.Store tried.now) (λ _. ⊥)
-        → IsFound (state S.Store tried.now) (state S.Store again.now) → (z : State) → IsOpened (state S.Store again.now).now.trees after.now.head after.now.next_row z (state S.Store after.now.connection)
-        → ⟦<SqlTables<S> as Tables>⟧.knows after.now house }
-    ensures runs { (words : Reply → Response) (s : State) (r : Running) → IsRunning words ⟦<SqlTables<S> as Tables>⟧.holds ⟦<SqlTables<S> as Tables>⟧.may_leave before.now s r
-        → IsFound (state S.Store before.now.connection) (state S.Store fresh.now) → Survives (state S.Store fresh.now) (state S.Store tried.now) (λ _. ⊥)
-        → IsFound (state S.Store tried.now) (state S.Store again.now) → (z : State) → IsOpened (state S.Store again.now).now.trees after.now.head after.now.next_row z (state S.Store after.now.connection)
-        → (x : ShopView) × MayLeave words r x × IsRunning words ⟦<SqlTables<S> as Tables>⟧.holds ⟦<SqlTables<S> as Tables>⟧.may_leave after.now z (opened words x) }
+        → IsFound (state S.Store before.now.connection) (state S.Store fresh.now)
+        → Survives (state S.Store fresh.now) (state S.Store tried.now) (λ _. ⊥)
+        → IsFound (state S.Store tried.now) (state S.Store again.now) → (z : State)
+        → IsOpened (state S.Store again.now).now.trees after.now.head after.now.next_row z
+        (state S.Store after.now.connection) → ⟦<SqlTables<S> as Tables>⟧.knows after.now house }
+    ensures runs { (words : Reply → Response) (s : State) (r : Running)
+        → IsRunning words ⟦<SqlTables<S> as Tables>⟧.holds ⟦<SqlTables<S> as Tables>⟧.may_leave
+        before.now s r → IsFound (state S.Store before.now.connection) (state S.Store fresh.now)
+        → Survives (state S.Store fresh.now) (state S.Store tried.now) (λ _. ⊥)
+        → IsFound (state S.Store tried.now) (state S.Store again.now) → (z : State)
+        → IsOpened (state S.Store again.now).now.trees after.now.head after.now.next_row z
+        (state S.Store after.now.connection)
+        → (x : ShopView) × MayLeave words r x
+        × IsRunning words ⟦<SqlTables<S> as Tables>⟧.holds ⟦<SqlTables<S> as Tables>⟧.may_leave
+        after.now z (opened words x) }
 {
     schema_known(fresh);
     let _ = tried;
@@ -107,8 +143,9 @@ pub fn a_crash_while_opening_loses_nothing<S: Alter>(
 /// because the store fails, and never with 60, 61 or 62.
 pub fn a_crash_damages_nothing<S: Alter>(before: &SqlTables<S>, fresh: &Connection<S>)
     ensures { (house : House) → ⟦<SqlTables<S> as Tables>⟧.knows before.now house
-        → (words : Reply → Response) (s : State) (r : Running) → IsRunning words ⟦<SqlTables<S> as Tables>⟧.holds ⟦<SqlTables<S> as Tables>⟧.may_leave before.now s r
-        → IsFound (state S.Store before.now.connection) (state S.Store fresh.now)
+        → (words : Reply → Response) (s : State) (r : Running)
+        → IsRunning words ⟦<SqlTables<S> as Tables>⟧.holds ⟦<SqlTables<S> as Tables>⟧.may_leave
+        before.now s r → IsFound (state S.Store before.now.connection) (state S.Store fresh.now)
         → (error : OpenError) → IsReason (state S.Store fresh.now).now error → IsOfMachine error }
 {
     let _ = before;
@@ -118,11 +155,18 @@ pub fn a_crash_damages_nothing<S: Alter>(before: &SqlTables<S>, fresh: &Connecti
 /// A token that is added changes nothing of a running shop: what `add_token` promises of the office and the answers, and of what a crash in
 /// it may leave, keeps it running.
 pub fn a_token_leaves_a_shop_running<S: Alter>(old: &SqlTables<S>, new: &SqlTables<S>)
-    ensures { (words : Reply → Response) (s : State) (r : Running) → IsRunning words ⟦<SqlTables<S> as Tables>⟧.holds ⟦<SqlTables<S> as Tables>⟧.may_leave old.now s r
-        → ((z : State) (ks : List Kept) → HoldsWhileOpen old.now.head old.now.next_row (state S.Store old.now.connection) z ks → HoldsWhileOpen new.now.head new.now.next_row (state S.Store new.now.connection) z ks)
-        → ((left : ShopView) → Leaves (state S.Store new.now.connection) left → Leaves (state S.Store old.now.connection) left
-        ⊎ ((z : State) (ks : List Kept) → HoldsWhileOpen old.now.head old.now.next_row (state S.Store old.now.connection) z ks → IsSame left (record { state = z; kept = ks })))
-        → IsRunning words ⟦<SqlTables<S> as Tables>⟧.holds ⟦<SqlTables<S> as Tables>⟧.may_leave new.now s r }
+    ensures { (words : Reply → Response) (s : State) (r : Running)
+        → IsRunning words ⟦<SqlTables<S> as Tables>⟧.holds ⟦<SqlTables<S> as Tables>⟧.may_leave
+        old.now s r → ((z : State) (ks : List Kept)
+        → HoldsWhileOpen old.now.head old.now.next_row (state S.Store old.now.connection) z ks
+        → HoldsWhileOpen new.now.head new.now.next_row (state S.Store new.now.connection) z ks)
+        → ((left : ShopView) → Leaves (state S.Store new.now.connection) left
+        → Leaves (state S.Store old.now.connection) left
+        ⊎ ((z : State) (ks : List Kept)
+        → HoldsWhileOpen old.now.head old.now.next_row (state S.Store old.now.connection) z ks
+        → IsSame left (record { state = z; kept = ks })))
+        → IsRunning words ⟦<SqlTables<S> as Tables>⟧.holds ⟦<SqlTables<S> as Tables>⟧.may_leave
+        new.now s r }
 {
     let _ = old;
     let _ = new;
@@ -136,11 +180,20 @@ pub fn a_token_is_in_or_out<S: Alter>(
     fresh: &Connection<S>,
     after: &SqlTables<S>,
 )
-    ensures { (digest : List ℕ) (house : House) (s : State) (ks : List Kept) → IsTrue (state S.Store old.now.connection).is_open
-        → HoldsWhileOpen old.now.head old.now.next_row (state S.Store old.now.connection) s ks → KnowsWhileOpen old.now.head old.now.next_row (state S.Store old.now.connection) house
-        → Survives (state S.Store old.now.connection) (state S.Store new.now.connection) (MayBeWritten schema (λ (_ : Unit {0}). HasToken (raised old.now.head) (next_one old.now.head digest)) (state S.Store old.now.connection))
-        → IsFound (state S.Store new.now.connection) (state S.Store fresh.now) → (z : State) → IsOpened (state S.Store fresh.now).now.trees after.now.head after.now.next_row z (state S.Store after.now.connection)
-        → ⟦<SqlTables<S> as Tables>⟧.knows after.now house ⊎ ⟦<SqlTables<S> as Tables>⟧.knows after.now (house_with digest old.now.head.next_token (old.now.head.next_token + 1) house) }
+    ensures { (digest : List ℕ) (house : House) (s : State) (ks : List Kept)
+        → IsTrue (state S.Store old.now.connection).is_open
+        → HoldsWhileOpen old.now.head old.now.next_row (state S.Store old.now.connection) s ks
+        → KnowsWhileOpen old.now.head old.now.next_row (state S.Store old.now.connection) house
+        → Survives (state S.Store old.now.connection) (state S.Store new.now.connection)
+        (MayBeWritten schema
+        (λ (_ : Unit {0}). HasToken (raised old.now.head) (next_one old.now.head digest))
+        (state S.Store old.now.connection))
+        → IsFound (state S.Store new.now.connection) (state S.Store fresh.now) → (z : State)
+        → IsOpened (state S.Store fresh.now).now.trees after.now.head after.now.next_row z
+        (state S.Store after.now.connection)
+        → ⟦<SqlTables<S> as Tables>⟧.knows after.now house
+        ⊎ ⟦<SqlTables<S> as Tables>⟧.knows after.now
+        (house_with digest old.now.head.next_token (old.now.head.next_token + 1) house) }
 {
     let _ = old;
     let _ = new;
@@ -156,12 +209,19 @@ pub fn an_upgrade_is_in_or_out<S: Alter>(
     fresh: &Connection<S>,
     opened: &Connection<S>,
 )
-    ensures done { (from : ℕ) (head : ShopRow) (t : Held) (s : State) (ks : List Kept) → HoldsShopAt from head t s ks (state S.Store old.now)
-        → IsWritten (IsUpgraded (of_this_version head) (lacking_exits from t.counts) (lacking_spents from t.vouchers) from) (state S.Store old.now) (state S.Store new.now) → IsOpenedAsBefore head t s ks (state S.Store new.now).now (state S.Store opened.now) }
-    ensures crash { (from : ℕ) (head : ShopRow) (t : Held) (s : State) (ks : List Kept) → HoldsShopAt from head t s ks (state S.Store old.now)
-        → Survives (state S.Store old.now) (state S.Store new.now) (MayBeWritten (schema_of_version from) (λ (_ : Unit {0}). IsUpgraded (of_this_version head) (lacking_exits from t.counts) (lacking_spents from t.vouchers) from) (state S.Store old.now))
-        → IsFound (state S.Store new.now) (state S.Store fresh.now)
-        → ((state S.Store fresh.now).now ≡ (state S.Store old.now).now) ⊎ IsOpenedAsBefore head t s ks (state S.Store fresh.now).now (state S.Store opened.now) }
+    ensures done { (from : ℕ) (head : ShopRow) (t : Held) (s : State) (ks : List Kept)
+        → HoldsShopAt from head t s ks (state S.Store old.now)
+        → IsWritten (IsUpgraded (of_this_version head) (lacking_exits from t.counts)
+        (lacking_spents from t.vouchers) from) (state S.Store old.now) (state S.Store new.now)
+        → IsOpenedAsBefore head t s ks (state S.Store new.now).now (state S.Store opened.now) }
+    ensures crash { (from : ℕ) (head : ShopRow) (t : Held) (s : State) (ks : List Kept)
+        → HoldsShopAt from head t s ks (state S.Store old.now)
+        → Survives (state S.Store old.now) (state S.Store new.now)
+        (MayBeWritten (schema_of_version from) (λ (_ : Unit {0}). IsUpgraded (of_this_version head)
+        (lacking_exits from t.counts) (lacking_spents from t.vouchers) from)
+        (state S.Store old.now)) → IsFound (state S.Store new.now) (state S.Store fresh.now)
+        → ((state S.Store fresh.now).now ≡ (state S.Store old.now).now)
+        ⊎ IsOpenedAsBefore head t s ks (state S.Store fresh.now).now (state S.Store opened.now) }
 {
     schema_known(old);
     let _ = new;
@@ -177,11 +237,19 @@ pub fn a_migration_is_in_or_out<S: Alter>(
     fresh: &Connection<S>,
     opened: &Connection<S>,
 )
-    ensures done { (from : ℕ) (it : IsMigrated from (state S.Store old.now) (state S.Store new.now)) → IsOpenedAsBefore it.head it.tables it.office (map (λ r. r.kept) it.tables.kept) (state S.Store new.now).now (state S.Store opened.now) }
-    ensures crash { (from : ℕ) → IsOpenAt (state S.Store old.now).now (state S.Store old.now) → IsOfVersion from (state S.Store old.now).now
-        → Survives (state S.Store old.now) (state S.Store new.now) (MayBeMigrated (state S.Store old.now)) → IsFound (state S.Store new.now) (state S.Store fresh.now)
+    ensures done { (from : ℕ) (it : IsMigrated from (state S.Store old.now) (state S.Store new.now))
+        → IsOpenedAsBefore it.head it.tables it.office (map (λ r. r.kept) it.tables.kept)
+        (state S.Store new.now).now (state S.Store opened.now) }
+    ensures crash { (from : ℕ) → IsOpenAt (state S.Store old.now).now (state S.Store old.now)
+        → IsOfVersion from (state S.Store old.now).now
+        → Survives (state S.Store old.now) (state S.Store new.now)
+        (MayBeMigrated (state S.Store old.now))
+        → IsFound (state S.Store new.now) (state S.Store fresh.now)
         → ((state S.Store fresh.now).now ≡ (state S.Store old.now).now)
-        ⊎ ((head : ShopRow) × (t : Held) × (s : State) × HoldsShopAt from head t s (map (λ r. r.kept) t.kept) (state S.Store old.now) × IsOpenedAsBefore head t s (map (λ r. r.kept) t.kept) (state S.Store fresh.now).now (state S.Store opened.now)) }
+        ⊎ ((head : ShopRow) × (t : Held) × (s : State)
+        × HoldsShopAt from head t s (map (λ r. r.kept) t.kept) (state S.Store old.now)
+        × IsOpenedAsBefore head t s (map (λ r. r.kept) t.kept) (state S.Store fresh.now).now
+        (state S.Store opened.now)) }
 {
     schema_known(old);
     let _ = new;

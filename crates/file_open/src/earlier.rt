@@ -3,7 +3,7 @@
 ghost use Rattle.std.specs.Prelude.{◌≡◌, ◌≤◌, false, map, IfOk, IfErr, OnOk};
 ghost use Rattle.sqlite.specs.Effect.{Database};
 ghost use Rattle.sqlite.specs.Held.{state};
-ghost use Rattle.sqlite.specs.State.{HasCleanDisk, Survives, IsUnchanged};
+ghost use Rattle.sqlite.specs.State.{HasCleanDisk};
 ghost use Rattle.file_schema.specs.Tables.{this_version};
 ghost use Rattle.file_schema.specs.Versions.{schema_of_version};
 ghost use Rattle.model_rows.specs.Lists.{empty};
@@ -15,6 +15,8 @@ ghost use Rattle.file_scan.specs.Read.{tables_of};
 ghost use Rattle.file_open.specs.Refusals.{IsReasonAs, IsWhyAs};
 ghost use Rattle.file_open.specs.Supplied.{supplied, AreLacking};
 ghost use Rattle.file_open.specs.Upgraded.{HoldsShopAt, StandTyped};
+ghost use Rattle.file_scan.specs.Reading.{OfOpen, IsUnchangedWhere};
+ghost use Rattle.file_schema.specs.Clean.{LeavesNoMore};
 
 use crate::book::{Reopened, open_rows};
 use crate::supply::{Lacking, supply};
@@ -40,9 +42,11 @@ fn open_supplied<B: Book + Drop>(
 ) -> Result<Earlier<B>, OpenError>
     requires { B.state book ≡ empty }
     ensures head { IfOk result (λ it. it.reopened.head ≡ file.shop) }
-    ensures lacking { IfOk result (λ it. AreLacking own (tables_of file) it.lacking.exits.items it.lacking.spents.items) }
+    ensures lacking { IfOk result
+        (λ it. AreLacking own (tables_of file) it.lacking.exits.items it.lacking.spents.items) }
     ensures sound { IfOk result (λ it. IsSound (B.state it.reopened.book)) }
-    ensures held { IsFitFile file → IfOk result (λ it. StandTyped it.reopened.head (B.state it.reopened.book) (supplied own (tables_of file))) }
+    ensures held { IsFitFile file → IfOk result (λ it. StandTyped it.reopened.head
+        (B.state it.reopened.book) (supplied own (tables_of file))) }
     ensures refused { IfErr result (IsWhyAs own file) }
 {
     match supply(alloc, own, file) {
@@ -69,13 +73,20 @@ pub(crate) fn reopen_of<S: Alter, B: Book + Drop, P: Progress>(
     requires outside { connection.old.in_transaction ≡ false }
     requires first { 1 ≤ own }
     requires version { own ≤ this_version }
-    ensures held { IfOk result (λ it. (t : Tables) × AreLacking own t it.lacking.exits.items it.lacking.spents.items × (HasCleanDisk (state S.Store connection.new) → (db : Database) → IsOpenAt db (state S.Store connection.old) → db.schema ≡ schema_of_version own → HoldsShopAt own it.reopened.head t (B.state it.reopened.book) (map (λ r. r.kept) t.kept) (state S.Store connection.new))) }
-    ensures found { HasCleanDisk (state S.Store connection.new) → (db : Database) → IsOpenAt db (state S.Store connection.old) → OnOk result (IsReadableAs own db) }
-    ensures cause { HasCleanDisk (state S.Store connection.new) → (db : Database) → IsOpenAt db (state S.Store connection.old) → IfErr result (IsReasonAs own db) }
-    ensures same { HasCleanDisk (state S.Store connection.new) → OnOk result (IsUnchanged (state S.Store connection.old) (state S.Store connection.new)) }
+    ensures held { IfOk result (λ it. (t : Tables)
+        × AreLacking own t it.lacking.exits.items it.lacking.spents.items
+        × (HasCleanDisk (state S.Store connection.new) → (db : Database)
+        → IsOpenAt db (state S.Store connection.old) → db.schema ≡ schema_of_version own
+        → HoldsShopAt own it.reopened.head t (B.state it.reopened.book) (map (λ r. r.kept) t.kept)
+        (state S.Store connection.new))) }
+    ensures found { OfOpen S.Store connection.old connection.new
+        (λ db. OnOk result (IsReadableAs own db)) }
+    ensures cause { OfOpen S.Store connection.old connection.new
+        (λ db. IfErr result (IsReasonAs own db)) }
+    ensures same { IsUnchangedWhere (OnOk result) S.Store connection.old connection.new }
     ensures rests { Rests (state S.Store connection.old) (state S.Store connection.new) }
     ensures mode { connection.new.in_transaction ≡ false }
-    ensures crash { Survives (state S.Store connection.old) (state S.Store connection.new) (λ _. ⊥) }
+    ensures crash { LeavesNoMore S.Store connection.old connection.new }
 {
     match read_file_of(alloc, connection, own, progress) {
         Ok(file) => open_supplied(alloc, book, own, file),

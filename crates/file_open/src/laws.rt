@@ -26,11 +26,22 @@ use sqlite::{Alter, Connection};
 /// no rule, and it is refused for want of memory or because the store fails, and never with 60, 61 or 62. What it is opened as is that shop:
 /// its row, its box office and its answers.
 pub fn what_is_held_is_opened<S: Alter>(held: &Connection<S>, opened: &Connection<S>)
-    ensures shows { (head : ShopRow) (next : ℕ) (s : State) (ks : List Kept) → Keeps head next (state S.Store held.now) s ks → IsAt (state S.Store held.now).now (state S.Store held.now) × ((state S.Store held.now).now.schema ≡ schema) }
-    ensures whole { (head : ShopRow) (next : ℕ) (s : State) (ks : List Kept) → Keeps head next (state S.Store held.now) s ks → IsSound s → (rule : Rule) → ¬ IsDamagedBy rule (state S.Store held.now).now.trees }
-    ensures no_fault { (head : ShopRow) (next : ℕ) (s : State) (ks : List Kept) → Keeps head next (state S.Store held.now) s ks → IsSound s → (error : OpenError) → IsReason (state S.Store held.now).now error → IsOfMachine error }
-    ensures same { (head : ShopRow) (next : ℕ) (s : State) (ks : List Kept) → Keeps head next (state S.Store held.now) s ks → (shop : ShopRow) (number : ℕ) (z : State) (o : IsOpened (state S.Store held.now).now.trees shop number z (state S.Store opened.now))
-        → (shop ≡ head) × IsSame (record { state = z; kept = map (λ r. r.kept) o.tables.kept }) (record { state = s; kept = ks }) }
+    ensures shows { (head : ShopRow) (next : ℕ) (s : State) (ks : List Kept)
+        → Keeps head next (state S.Store held.now) s ks
+        → IsAt (state S.Store held.now).now (state S.Store held.now)
+        × ((state S.Store held.now).now.schema ≡ schema) }
+    ensures whole { (head : ShopRow) (next : ℕ) (s : State) (ks : List Kept)
+        → Keeps head next (state S.Store held.now) s ks → IsSound s → (rule : Rule)
+        → ¬ IsDamagedBy rule (state S.Store held.now).now.trees }
+    ensures no_fault { (head : ShopRow) (next : ℕ) (s : State) (ks : List Kept)
+        → Keeps head next (state S.Store held.now) s ks → IsSound s → (error : OpenError)
+        → IsReason (state S.Store held.now).now error → IsOfMachine error }
+    ensures same { (head : ShopRow) (next : ℕ) (s : State) (ks : List Kept)
+        → Keeps head next (state S.Store held.now) s ks
+        → (shop : ShopRow) (number : ℕ) (z : State)
+        (o : IsOpened (state S.Store held.now).now.trees shop number z (state S.Store opened.now))
+        → (shop ≡ head) × IsSame (record { state = z; kept = map (λ r. r.kept) o.tables.kept })
+        (record { state = s; kept = ks }) }
 {
     let _ = held;
     let _ = opened;
@@ -43,9 +54,14 @@ pub fn what_is_made_is_opened<S: Alter>(
     made: &Connection<S>,
     opened: &Connection<S>,
 )
-    ensures { (organizer event : List ℕ) (head : ShopRow) (next : ℕ) → IsMade (first_shop organizer event) (state S.Store blank.now) head next (state S.Store made.now)
-        → IsAt (state S.Store made.now).now (state S.Store made.now) × ((state S.Store made.now).now.schema ≡ schema) × ((error : OpenError) → IsReason (state S.Store made.now).now error → IsOfMachine error)
-        × ((shop : ShopRow) (number : ℕ) (z : State) → IsOpened (state S.Store made.now).now.trees shop number z (state S.Store opened.now) → (shop ≡ first_shop organizer event) × (z ≡ empty)) }
+    ensures { (organizer event : List ℕ) (head : ShopRow) (next : ℕ)
+        → IsMade (first_shop organizer event) (state S.Store blank.now) head next
+        (state S.Store made.now) → IsAt (state S.Store made.now).now (state S.Store made.now)
+        × ((state S.Store made.now).now.schema ≡ schema)
+        × ((error : OpenError) → IsReason (state S.Store made.now).now error → IsOfMachine error)
+        × ((shop : ShopRow) (number : ℕ) (z : State)
+        → IsOpened (state S.Store made.now).now.trees shop number z (state S.Store opened.now)
+        → (shop ≡ first_shop organizer event) × (z ≡ empty)) }
 {
     let _ = blank;
     let _ = made;
@@ -55,8 +71,10 @@ pub fn what_is_made_is_opened<S: Alter>(
 /// A file of whatever version that holds a shop of another version than this program's is refused with 61, which tells the shop's version,
 /// or for want of memory or because the store fails, and never with 60 or 62. So it is of one that wasn't upgraded yet.
 pub fn another_version_is_told<S: Alter>(held: &Connection<S>)
-    ensures { (from : ℕ) (head : ShopRow) (t : Tables) (s : State) (ks : List Kept) → HoldsShopAt from head t s ks (state S.Store held.now) → head.version ≢ this_version
-        → (error : OpenError) → IsReason (state S.Store held.now).now error → (error ≡ Version (pos head.version)) ⊎ IsOfMachine error }
+    ensures { (from : ℕ) (head : ShopRow) (t : Tables) (s : State) (ks : List Kept)
+        → HoldsShopAt from head t s ks (state S.Store held.now) → head.version ≢ this_version
+        → (error : OpenError) → IsReason (state S.Store held.now).now error
+        → (error ≡ Version (pos head.version)) ⊎ IsOfMachine error }
 {
     let _ = held;
 }
@@ -64,8 +82,10 @@ pub fn another_version_is_told<S: Alter>(held: &Connection<S>)
 /// A file that holds a shop of a version of ours, which the shop's row tells, is brought to this program's, or refused for want of memory or
 /// because the store fails, and never with 60, 61 or 62.
 pub fn what_is_whole_is_migrated<S: Alter>(held: &Connection<S>)
-    ensures { (from : ℕ) (head : ShopRow) (t : Tables) (s : State) (ks : List Kept) → HoldsShopAt from head t s ks (state S.Store held.now) → head.version ≡ from → 1 ≤ from → from ≤ this_version
-        → (error : OpenError) → IsUnmigrated (state S.Store held.now).now error → IsOfMachine error }
+    ensures { (from : ℕ) (head : ShopRow) (t : Tables) (s : State) (ks : List Kept)
+        → HoldsShopAt from head t s ks (state S.Store held.now) → head.version ≡ from → 1 ≤ from
+        → from ≤ this_version → (error : OpenError)
+        → IsUnmigrated (state S.Store held.now).now error → IsOfMachine error }
 {
     let _ = held;
 }

@@ -3,7 +3,7 @@
 ghost use Rattle.std.specs.Prelude.{◌≡◌, ◌≤◌, ◌<◌, ℕ, pos, false, map, IfOk, IfErr, IfNone, IfSome, OnOk, OnErr, IsTrue};
 ghost use Rattle.sqlite.specs.Effect.{Database};
 ghost use Rattle.sqlite.specs.Held.{state};
-ghost use Rattle.sqlite.specs.State.{HasCleanDisk, Survives, IsUnchanged};
+ghost use Rattle.sqlite.specs.State.{HasCleanDisk, Survives};
 ghost use Rattle.file_schema.specs.Tables.{schema, this_version};
 ghost use Rattle.file_schema.specs.Versions.{schema_of_version};
 ghost use Rattle.file_schema.specs.Whole.{IsOver, IsStill, IsWritten, MayBeWritten};
@@ -19,6 +19,8 @@ ghost use Rattle.file_open.specs.Opened.{IsReason};
 ghost use Rattle.file_open.specs.Refusals.{IsDeclaredByVersion, IsReasonAs, IsUnmigrated, TellsEarlier};
 ghost use Rattle.file_open.specs.Supplied.{AreLacking};
 ghost use Rattle.file_open.specs.Upgraded.{HoldsShopAt};
+ghost use Rattle.file_scan.specs.Reading.{OfOpen, IsUnchangedWhere};
+ghost use Rattle.file_schema.specs.Clean.{LeavesNoMore};
 
 use crate::book::Reopened;
 use crate::earlier::{Earlier, reopen_of};
@@ -35,7 +37,8 @@ use std::alloc::Global;
 
 // The earlier version of ours that a refusal tells, if it tells one.
 fn earlier_in(error: OpenError) -> Option<u64>
-    ensures found { IfSome result (λ from. (1 ≤ from) × (from < this_version) × (error ≡ Version (pos from))) }
+    ensures found { IfSome result
+        (λ from. (1 ≤ from) × (from < this_version) × (error ≡ Version (pos from))) }
     ensures none { IfNone result (¬ TellsEarlier error) }
 {
     let OpenError::Version(version) = error else {
@@ -55,11 +58,17 @@ fn look<S: Alter, B: Book + Drop, P: Progress>(
     progress: &mut P,
 ) -> Result<(), OpenError>
     requires { B.state book ≡ empty }
-    ensures found { HasCleanDisk (state S.Store connection.new) → (db : Database) → IsOpenAt db (state S.Store connection.old) → OnOk result (IsReadable db) }
-    ensures migrated { HasCleanDisk (state S.Store connection.new) → IsOpenAt (state S.Store connection.old).now (state S.Store connection.old) → (state S.Store connection.old).now.schema ≡ schema → OnOk result (IsMigrated this_version (state S.Store connection.old) (state S.Store connection.new)) }
-    ensures cause { HasCleanDisk (state S.Store connection.new) → (db : Database) → IsOpenAt db (state S.Store connection.old) → IfErr result (IsReason db) }
+    ensures found { OfOpen S.Store connection.old connection.new
+        (λ db. OnOk result (IsReadable db)) }
+    ensures migrated { HasCleanDisk (state S.Store connection.new)
+        → IsOpenAt (state S.Store connection.old).now (state S.Store connection.old)
+        → (state S.Store connection.old).now.schema ≡ schema
+        → OnOk result
+        (IsMigrated this_version (state S.Store connection.old) (state S.Store connection.new)) }
+    ensures cause { OfOpen S.Store connection.old connection.new
+        (λ db. IfErr result (IsReason db)) }
     ensures rests { Rests (state S.Store connection.old) (state S.Store connection.new) }
-    ensures crash { Survives (state S.Store connection.old) (state S.Store connection.new) (λ _. ⊥) }
+    ensures crash { LeavesNoMore S.Store connection.old connection.new }
 {
     match reopen(alloc, connection, book, progress) {
         Ok(_) => Ok(()),
@@ -80,12 +89,18 @@ fn read_earlier<S: Alter, B: Book + Drop, P: Progress>(
     requires outside { connection.old.in_transaction ≡ false }
     requires first { 1 ≤ from }
     requires version { from < this_version }
-    ensures held { IfOk result (λ it. (t : Tables) × (s : State) × AreLacking from t it.1.exits.items it.1.spents.items × (HasCleanDisk (state S.Store connection.new) → (db : Database) → IsOpenAt db (state S.Store connection.old) → db.schema ≡ schema_of_version from → HoldsShopAt from it.0 t s (map (λ r. r.kept) t.kept) (state S.Store connection.new))) }
-    ensures found { HasCleanDisk (state S.Store connection.new) → (db : Database) → IsOpenAt db (state S.Store connection.old) → OnOk result (IsReadableAs from db) }
-    ensures cause { HasCleanDisk (state S.Store connection.new) → (db : Database) → IsOpenAt db (state S.Store connection.old) → IfErr result (IsReasonAs from db) }
-    ensures same { HasCleanDisk (state S.Store connection.new) → OnOk result (IsUnchanged (state S.Store connection.old) (state S.Store connection.new)) }
+    ensures held { IfOk result (λ it. (t : Tables) × (s : State)
+        × AreLacking from t it.1.exits.items it.1.spents.items
+        × (HasCleanDisk (state S.Store connection.new) → (db : Database)
+        → IsOpenAt db (state S.Store connection.old) → db.schema ≡ schema_of_version from
+        → HoldsShopAt from it.0 t s (map (λ r. r.kept) t.kept) (state S.Store connection.new))) }
+    ensures found { OfOpen S.Store connection.old connection.new
+        (λ db. OnOk result (IsReadableAs from db)) }
+    ensures cause { OfOpen S.Store connection.old connection.new
+        (λ db. IfErr result (IsReasonAs from db)) }
+    ensures same { IsUnchangedWhere (OnOk result) S.Store connection.old connection.new }
     ensures rests { Rests (state S.Store connection.old) (state S.Store connection.new) }
-    ensures crash { Survives (state S.Store connection.old) (state S.Store connection.new) (λ _. ⊥) }
+    ensures crash { LeavesNoMore S.Store connection.old connection.new }
 {
     match reopen_of(alloc, connection, book, from, progress) {
         Ok(Earlier { reopened, lacking }) => {
@@ -105,10 +120,18 @@ fn write_version<S: Alter>(
     spents: &[SpentRow],
     from: u64,
 ) -> Result<(), OpenError>
-    ensures all { HasCleanDisk (state S.Store connection.new) → IsOver (schema_of_version from) (state S.Store connection.old) → OnOk result (IsWritten (IsUpgraded (of_this_version head) exits.now spents.now from) (state S.Store connection.old) (state S.Store connection.new)) }
-    ensures none { HasCleanDisk (state S.Store connection.new) → IsOver (schema_of_version from) (state S.Store connection.old) → OnErr result (IsStill (state S.Store connection.old) (state S.Store connection.new)) }
+    ensures all { HasCleanDisk (state S.Store connection.new)
+        → IsOver (schema_of_version from) (state S.Store connection.old)
+        → OnOk result (IsWritten (IsUpgraded (of_this_version head) exits.now spents.now from)
+        (state S.Store connection.old) (state S.Store connection.new)) }
+    ensures none { HasCleanDisk (state S.Store connection.new)
+        → IsOver (schema_of_version from) (state S.Store connection.old)
+        → OnErr result (IsStill (state S.Store connection.old) (state S.Store connection.new)) }
     ensures machine { IfErr result IsOfMachine }
-    ensures crash { Survives (state S.Store connection.old) (state S.Store connection.new) (MayBeWritten (schema_of_version from) (λ (_ : Unit {0}). IsUpgraded (of_this_version head) exits.now spents.now from) (state S.Store connection.old)) }
+    ensures crash { Survives (state S.Store connection.old) (state S.Store connection.new)
+        (MayBeWritten (schema_of_version from)
+        (λ (_ : Unit {0}). IsUpgraded (of_this_version head) exits.now spents.now from)
+        (state S.Store connection.old)) }
 {
     let mut shop = head;
     shop.version = VERSION;
@@ -129,11 +152,22 @@ fn raise<S: Alter, P: Progress>(
 ) -> Result<(), OpenError>
     requires first { 1 ≤ from }
     requires version { from < this_version }
-    ensures opened { HasCleanDisk (state S.Store connection.new) → OnOk result (IsTrue (state S.Store connection.old).is_open) }
-    ensures migrated { HasCleanDisk (state S.Store connection.new) → IsOpenAt (state S.Store connection.old).now (state S.Store connection.old) → (state S.Store connection.old).now.schema ≡ schema_of_version from → OnOk result (IsMigrated from (state S.Store connection.old) (state S.Store connection.new)) }
-    ensures none { HasCleanDisk (state S.Store connection.new) → IsTrue (state S.Store connection.new).is_open → OnErr result (IsTrue (state S.Store connection.old).is_open × ((db : Database) → IsAt db (state S.Store connection.old) → db.schema ≡ schema_of_version from → IsAt db (state S.Store connection.new))) }
-    ensures cause { HasCleanDisk (state S.Store connection.new) → (db : Database) → IsOpenAt db (state S.Store connection.old) → IfErr result (IsReasonAs from db) }
-    ensures crash { Survives (state S.Store connection.old) (state S.Store connection.new) (MayBeMigrated (state S.Store connection.old)) }
+    ensures opened { HasCleanDisk (state S.Store connection.new)
+        → OnOk result (IsTrue (state S.Store connection.old).is_open) }
+    ensures migrated { HasCleanDisk (state S.Store connection.new)
+        → IsOpenAt (state S.Store connection.old).now (state S.Store connection.old)
+        → (state S.Store connection.old).now.schema ≡ schema_of_version from
+        → OnOk result
+        (IsMigrated from (state S.Store connection.old) (state S.Store connection.new)) }
+    ensures none { HasCleanDisk (state S.Store connection.new)
+        → IsTrue (state S.Store connection.new).is_open
+        → OnErr result (IsTrue (state S.Store connection.old).is_open
+        × ((db : Database) → IsAt db (state S.Store connection.old)
+        → db.schema ≡ schema_of_version from → IsAt db (state S.Store connection.new))) }
+    ensures cause { OfOpen S.Store connection.old connection.new
+        (λ db. IfErr result (IsReasonAs from db)) }
+    ensures crash { Survives (state S.Store connection.old) (state S.Store connection.new)
+        (MayBeMigrated (state S.Store connection.old)) }
 {
     if !connection.is_autocommit() {
         return Err(OpenError::Store);
@@ -162,12 +196,24 @@ pub fn migrate<S: Alter, P: Progress>(
     progress: &mut P,
 ) -> Result<(Connection<S>, u64), HandedBack<S, OpenError>>
     ensures from { IfOk result (λ it. (1 ≤ it.1) × (it.1 ≤ this_version)) }
-    ensures version { IfOk result (λ it. HasCleanDisk (state S.Store it.0) → IsOpenAt (state S.Store connection).now (state S.Store connection) → (version : ℕ) → IsOfVersion version (state S.Store connection).now → version ≡ it.1) }
-    ensures migrated { IfOk result (λ it. HasCleanDisk (state S.Store it.0) → IsOpenAt (state S.Store connection).now (state S.Store connection) → (state S.Store connection).now.schema ≡ schema_of_version it.1 → IsMigrated it.1 (state S.Store connection) (state S.Store it.0)) }
-    ensures none { IfErr result (λ it. HasCleanDisk (state S.Store it.connection) → IsTrue (state S.Store it.connection).is_open → (db : Database) → IsAt db (state S.Store connection) → IsDeclaredByVersion db → IsAt db (state S.Store it.connection)) }
-    ensures cause { IfErr result (λ it. HasCleanDisk (state S.Store it.connection) → IsTrue (state S.Store it.connection).is_open → (db : Database) → IsOpenAt db (state S.Store connection) → IsUnmigrated db it.error) }
-    ensures crash { IfOk result (λ it. Survives (state S.Store connection) (state S.Store it.0) (MayBeMigrated (state S.Store connection))) }
-    ensures crash_none { IfErr result (λ it. Survives (state S.Store connection) (state S.Store it.connection) (MayBeMigrated (state S.Store connection))) }
+    ensures version { IfOk result (λ it. HasCleanDisk (state S.Store it.0)
+        → IsOpenAt (state S.Store connection).now (state S.Store connection) → (version : ℕ)
+        → IsOfVersion version (state S.Store connection).now → version ≡ it.1) }
+    ensures migrated { IfOk result (λ it. HasCleanDisk (state S.Store it.0)
+        → IsOpenAt (state S.Store connection).now (state S.Store connection)
+        → (state S.Store connection).now.schema ≡ schema_of_version it.1
+        → IsMigrated it.1 (state S.Store connection) (state S.Store it.0)) }
+    ensures none { IfErr result (λ it. HasCleanDisk (state S.Store it.connection)
+        → IsTrue (state S.Store it.connection).is_open → (db : Database)
+        → IsAt db (state S.Store connection) → IsDeclaredByVersion db
+        → IsAt db (state S.Store it.connection)) }
+    ensures cause { IfErr result (λ it. HasCleanDisk (state S.Store it.connection)
+        → IsTrue (state S.Store it.connection).is_open → (db : Database)
+        → IsOpenAt db (state S.Store connection) → IsUnmigrated db it.error) }
+    ensures crash { IfOk result (λ it. Survives (state S.Store connection) (state S.Store it.0)
+        (MayBeMigrated (state S.Store connection))) }
+    ensures crash_none { IfErr result (λ it. Survives (state S.Store connection)
+        (state S.Store it.connection) (MayBeMigrated (state S.Store connection))) }
 {
     let error = match look(alloc, &mut connection, Counters::new(alloc), progress) {
         Ok(()) => return Ok((connection, VERSION)),

@@ -1,20 +1,20 @@
 //! A shop's file is read, and what it holds is opened.
 
 ghost use Rattle.std.specs.Prelude.{◌≡◌, ◌⊎◌, false, IfOk, IfErr, OnOk, IsTrue};
-ghost use Rattle.sqlite.specs.Effect.{Database};
 ghost use Rattle.sqlite.specs.Held.{state};
-ghost use Rattle.sqlite.specs.State.{HasCleanDisk, Survives, IsUnchanged};
-ghost use Rattle.file_schema.specs.Tables.{schema, this_version};
+ghost use Rattle.file_schema.specs.Tables.{this_version};
 ghost use Rattle.model_rows.specs.Lists.{empty};
 ghost use Rattle.model_invariant.specs.Sound.{IsSound};
 ghost use Rattle.file_rows.specs.Tables.{Holds};
 ghost use Rattle.file_scan.specs.declared.error.OpenError.{OpenError};
-ghost use Rattle.file_scan.specs.Rests.{IsOpenAt, Rests};
+ghost use Rattle.file_scan.specs.Rests.{Rests};
 ghost use Rattle.file_scan.specs.Causes.{IsFitFile, IsReadable, IsCause};
 ghost use Rattle.file_scan.specs.Lawful.{IsOfMachine};
 ghost use Rattle.file_scan.specs.Read.{tables_of};
 ghost use Rattle.file_scan.specs.Stopped.{IsStopped, WhereClosed};
 ghost use Rattle.file_open.specs.Opened.{IsReason, IsOpened, IsWithheld};
+ghost use Rattle.file_scan.specs.Reading.{OfOpen, OfThisVersion, IsUnchangedWhere};
+ghost use Rattle.file_schema.specs.Clean.{LeavesNoMore};
 
 use crate::book::{Reopened, open_rows};
 use book_usage::Book;
@@ -29,16 +29,20 @@ fn read_outside<S: Alter, P: Progress>(
     connection: &mut Connection<S>,
     progress: &mut P,
 ) -> Result<FileTables, OpenError>
-    ensures held { HasCleanDisk (state S.Store connection.new) → (db : Database) → IsOpenAt db (state S.Store connection.old) → db.schema ≡ schema → IfOk result (λ file. Holds db.trees (tables_of file)) }
+    ensures held { OfThisVersion S.Store connection.old connection.new
+        (λ db. IfOk result (λ file. Holds db.trees (tables_of file))) }
     ensures version { IfOk result (λ file. file.shop.version ≡ this_version) }
     ensures limits { IfOk result IsFitFile }
-    ensures found { HasCleanDisk (state S.Store connection.new) → (db : Database) → IsOpenAt db (state S.Store connection.old) → OnOk result (IsReadable db) }
-    ensures cause { HasCleanDisk (state S.Store connection.new) → (db : Database) → IsOpenAt db (state S.Store connection.old) → IfErr result (IsCause db) }
-    ensures store { HasCleanDisk (state S.Store connection.new) → (db : Database) → IsOpenAt db (state S.Store connection.old) → db.schema ≡ schema → IfErr result (WhereClosed (IsTrue (state S.Store connection.old).in_transaction ⊎ IsStopped (state S.Store connection.old) (state S.Store connection.new))) }
+    ensures found { OfOpen S.Store connection.old connection.new
+        (λ db. OnOk result (IsReadable db)) }
+    ensures cause { OfOpen S.Store connection.old connection.new (λ db. IfErr result (IsCause db)) }
+    ensures store { OfThisVersion S.Store connection.old connection.new
+        (λ db. IfErr result (WhereClosed (IsTrue (state S.Store connection.old).in_transaction
+        ⊎ IsStopped (state S.Store connection.old) (state S.Store connection.new)))) }
     ensures outside { OnOk result (connection.new.in_transaction ≡ false) }
-    ensures same { HasCleanDisk (state S.Store connection.new) → OnOk result (IsUnchanged (state S.Store connection.old) (state S.Store connection.new)) }
+    ensures same { IsUnchangedWhere (OnOk result) S.Store connection.old connection.new }
     ensures rests { Rests (state S.Store connection.old) (state S.Store connection.new) }
-    ensures crash { Survives (state S.Store connection.old) (state S.Store connection.new) (λ _. ⊥) }
+    ensures crash { LeavesNoMore S.Store connection.old connection.new }
 {
     if !connection.is_autocommit() {
         return Err(OpenError::Store);
@@ -58,17 +62,25 @@ pub(crate) fn reopen<S: Alter, B: Book + Drop, P: Progress>(
     progress: &mut P,
 ) -> Result<Reopened<B>, OpenError>
     requires { B.state book ≡ empty }
-    ensures opened { HasCleanDisk (state S.Store connection.new) → (db : Database) → IsOpenAt db (state S.Store connection.old) → db.schema ≡ schema → IfOk result (λ it. IsOpened db.trees it.head it.next_row (B.state it.book) (state S.Store connection.new)) }
-    ensures names { IfOk result (λ it. (it.organizer ≡ it.head.organizer) × (it.event ≡ it.head.event)) }
+    ensures opened { OfThisVersion S.Store connection.old connection.new
+        (λ db. IfOk result (λ it. IsOpened db.trees it.head it.next_row (B.state it.book)
+        (state S.Store connection.new))) }
+    ensures names { IfOk result
+        (λ it. (it.organizer ≡ it.head.organizer) × (it.event ≡ it.head.event)) }
     ensures version { IfOk result (λ it. it.head.version ≡ this_version) }
     ensures sound { IfOk result (λ it. IsSound (B.state it.book)) }
-    ensures found { HasCleanDisk (state S.Store connection.new) → (db : Database) → IsOpenAt db (state S.Store connection.old) → OnOk result (IsReadable db) }
-    ensures whole { HasCleanDisk (state S.Store connection.new) → (db : Database) → IsOpenAt db (state S.Store connection.old) → db.schema ≡ schema → OnOk result ((error : OpenError) → IsReason db error → IsOfMachine error) }
-    ensures cause { HasCleanDisk (state S.Store connection.new) → (db : Database) → IsOpenAt db (state S.Store connection.old) → IfErr result (IsReason db) }
-    ensures store { HasCleanDisk (state S.Store connection.new) → (db : Database) → IsOpenAt db (state S.Store connection.old) → db.schema ≡ schema → IfErr result (WhereClosed (IsWithheld db (state S.Store connection.old) (state S.Store connection.new))) }
-    ensures same { HasCleanDisk (state S.Store connection.new) → OnOk result (IsUnchanged (state S.Store connection.old) (state S.Store connection.new)) }
+    ensures found { OfOpen S.Store connection.old connection.new
+        (λ db. OnOk result (IsReadable db)) }
+    ensures whole { OfThisVersion S.Store connection.old connection.new
+        (λ db. OnOk result ((error : OpenError) → IsReason db error → IsOfMachine error)) }
+    ensures cause { OfOpen S.Store connection.old connection.new
+        (λ db. IfErr result (IsReason db)) }
+    ensures store { OfThisVersion S.Store connection.old connection.new
+        (λ db. IfErr result (WhereClosed
+        (IsWithheld db (state S.Store connection.old) (state S.Store connection.new)))) }
+    ensures same { IsUnchangedWhere (OnOk result) S.Store connection.old connection.new }
     ensures rests { Rests (state S.Store connection.old) (state S.Store connection.new) }
-    ensures crash { Survives (state S.Store connection.old) (state S.Store connection.new) (λ _. ⊥) }
+    ensures crash { LeavesNoMore S.Store connection.old connection.new }
 {
     schema_known(connection);
     match read_outside(alloc, connection, progress) {

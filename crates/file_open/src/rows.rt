@@ -28,8 +28,10 @@ use std::alloc::Global;
 
 /// The number from which rows without an id of their own are numbered on, the least that is free. None where those that stand weren't shown in order.
 pub(crate) fn free_number(tables: &TableRows) -> Option<u64>
-    ensures next { IfSome result (λ next. (t : Tables) → AreTableRows t tables.now → IsFree next t) }
-    ensures least { IfSome result (λ next. (t : Tables) → AreTableRows t tables.now → (number : ℕ) → IsFree number t → next ≤ number) }
+    ensures next { IfSome result
+        (λ next. (t : Tables) → AreTableRows t tables.now → IsFree next t) }
+    ensures least { IfSome result (λ next. (t : Tables) → AreTableRows t tables.now → (number : ℕ)
+        → IsFree number t → next ≤ number) }
     ensures none { IfNone result (¬ RowsRise tables.now) }
 {
     let items = next_number(tables.catalogue.quota_items.as_slice())?;
@@ -50,7 +52,8 @@ fn are_below(shop: &ShopRow, tokens: &[Token]) -> bool
 // aren't whole.
 fn broken_beside(numbered: bool, whole: bool) -> Option<Rule>
     ensures kept { IfNone result (IsTrue numbered × IsTrue whole) }
-    ensures broken { IfSome result (λ rule. ((rule ≡ Ids) × (¬ IsTrue numbered)) ⊎ ((rule ≡ Names) × IsTrue numbered × (¬ IsTrue whole))) }
+    ensures broken { IfSome result (λ rule. ((rule ≡ Ids) × (¬ IsTrue numbered))
+        ⊎ ((rule ≡ Names) × IsTrue numbered × (¬ IsTrue whole))) }
 {
     if !numbered {
         return Some(Rule::Ids);
@@ -62,7 +65,10 @@ fn broken_beside(numbered: bool, whole: bool) -> Option<Rule>
 fn broken_in(rows: &FileRows, numbered: bool, whole: bool) -> Option<Rule>
     ensures whole { IfNone result (IsTrue numbered × IsTrue whole) }
     ensures kept { IfNone result (KeepsFirst (file_of rows.now)) }
-    ensures broken { IfSome result (λ rule. (shop : Head) (tokens : List TokenRow) (links : OfficeRows) (tables : TableRows) → (IsTrue numbered ↔ AreBelowNext shop tokens) → (AreRowsOf (file_of rows.now).state.lists links → IsTrue whole) → IsLeastIn shop tokens links (ArePaired tables) (file_of rows.now) rule) }
+    ensures broken { IfSome result (λ rule. (shop : Head) (tokens : List TokenRow)
+        (links : OfficeRows) (tables : TableRows) → (IsTrue numbered ↔ AreBelowNext shop tokens)
+        → (AreRowsOf (file_of rows.now).state.lists links → IsTrue whole)
+        → IsLeastIn shop tokens links (ArePaired tables) (file_of rows.now) rule) }
 {
     match first_broken(rows) {
         Some(rule) => Some(rule),
@@ -72,7 +78,8 @@ fn broken_in(rows: &FileRows, numbered: bool, whole: bool) -> Option<Rule>
 
 // What a refusal to arrange rows means.
 fn unarranged(error: ArrangeError) -> OpenError
-    ensures { (read : FileTables) → (error ≡ Order → ¬ AreReadInOrder read.shop read.tables) → IsWhy read result }
+    ensures { (read : FileTables) → (error ≡ Order → ¬ AreReadInOrder read.shop read.tables)
+        → IsWhy read result }
 {
     match error {
         ArrangeError::Memory => OpenError::Memory,

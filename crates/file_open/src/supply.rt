@@ -101,7 +101,8 @@ pub(crate) fn supply(
     ensures shop { IfOk result (λ it. it.0.shop ≡ file.shop) }
     ensures limits { IsFitFile file → IfOk result (λ it. IsFitFile it.0) }
     ensures tables { IfOk result (λ it. tables_of it.0 ≡ supplied own (tables_of file)) }
-    ensures lacking { IfOk result (λ it. AreLacking own (tables_of file) it.1.exits.items it.1.spents.items) }
+    ensures lacking { IfOk result
+        (λ it. AreLacking own (tables_of file) it.1.exits.items it.1.spents.items) }
 {
     let exits = lacking_exits(alloc, own, file.tables.others.counts.as_slice())?;
     let spents = lacking_spents(alloc, own, file.tables.sales.vouchers.as_slice())?;

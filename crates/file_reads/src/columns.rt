@@ -1,8 +1,8 @@
 //! Columns that stand side by side, read one after another.
 
-ghost use Rattle.std.specs.Prelude.{◌≡◌, ◌≢◌, ◌≤◌, length, drop, [], ◌∷◌, ⊤, IfOk, IfErr};
+ghost use Rattle.std.specs.Prelude.{◌≡◌, ◌≤◌, length, drop, [], ◌∷◌, ⊤, IfOk, IfErr};
 ghost use Rattle.sqlite_value.specs.Order.{Row as Shown};
-ghost use Rattle.file_rows.specs.Unread.{IsUnread};
+ghost use Rattle.file_rows.specs.Unread.{IsUnread, IsOfNoFit};
 
 use file_rows::Column;
 use file_schema::RowError;
@@ -22,7 +22,7 @@ pub(crate) trait Columns: Sized {
         requires { at ≤ length row.now }
         ensures values { IfOk result (λ x. drop at row.now ≡ cells x) }
         ensures limits { IfOk result fit }
-        ensures refused { IfErr result (IsUnread ((x : Self) → fit x → drop at row.now ≢ cells x)) };
+        ensures refused { IfErr result (IsUnread (IsOfNoFit fit cells (drop at row.now))) };
 }
 
 /// No column is left.

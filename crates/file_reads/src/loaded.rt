@@ -1,12 +1,13 @@
 //! A row that a table of the file shows.
 
-ghost use Rattle.std.specs.Prelude.{◌≡◌, ◌≢◌, ℕ, map, true, List, [], All, IfOk, IfErr};
+ghost use Rattle.std.specs.Prelude.{◌≡◌, ℕ, map, List, [], All, IfOk, IfErr};
 ghost use Rattle.sqlite_value.specs.Order.{Row as Shown};
 ghost use Rattle.sqlite_schema.specs.declared.schema.Schema.{Schema};
-ghost use Rattle.sqlite.specs.Held.{state};
 ghost use Rattle.sqlite.specs.Values.{bound};
-ghost use Rattle.sqlite.specs.State.{HasCleanDisk, Survives, KeepsCommit, Shown as Shows};
-ghost use Rattle.file_rows.specs.Unread.{IsUnread};
+ghost use Rattle.sqlite.specs.State.{KeepsCommit, Shown as Shows};
+ghost use Rattle.file_schema.specs.Clean.{WhileClean, LeavesNoMore};
+ghost use Rattle.file_schema.specs.Inside.{KeepsCommitInside};
+ghost use Rattle.file_rows.specs.Unread.{IsUnread, IsOfNoFit};
 ghost use Rattle.file_reads.specs.Alone.{RunsAloneSince};
 ghost use Rattle.file_reads.specs.Damage.{IsDamaged, IsFor, IsForReading, HasNoMeaning};
 ghost use Rattle.file_reads.specs.Select.{IsSelectSince};
@@ -44,7 +45,7 @@ pub trait Loaded: Drop {
     fn read(alloc: Global, row: &Row) -> Result<Self, RowError>
         ensures value { IfOk result (λ w. row.now ≡ as_row w) }
         ensures limits { IfOk result fits }
-        ensures refused { IfErr result (IsUnread ((w : Self) → fits w → row.now ≢ as_row w)) };
+        ensures refused { IfErr result (IsUnread (IsOfNoFit fits as_row row.now)) };
 }
 
 fn read_rows<T: Loaded>(alloc: Global, rows: &[Row]) -> Result<Vec<T>, RowError>
@@ -74,12 +75,19 @@ pub(crate) fn rows_of<S: Alter, T: Loaded>(
     params: &[ValueRef<'_>],
 ) -> Result<Vec<T>, RowError>
     ensures same { tx.new.conn.ghost_name ≡ tx.old.conn.ghost_name }
-    ensures shown { HasCleanDisk (state S.Store tx.new.conn.now) → IfOk result (λ all. Shows sql.now (bound params.now) (state S.Store tx.old.conn.now) (state S.Store tx.new.conn.now) (map T.Loaded.as_row all.items)) }
+    ensures shown { WhileClean S.Store tx.old.conn.now tx.new.conn.now (λ old new.
+        IfOk result
+        (λ all. Shows sql.now (bound params.now) old new (map T.Loaded.as_row all.items))) }
     ensures limits { IfOk result (λ all. All T.Loaded.fits all.items) }
-    ensures refused { HasCleanDisk (state S.Store tx.new.conn.now) → IsForReading (state S.Store tx.old.conn.now).now.schema sql.now → IfErr result (IsFor (HasNoMeaning (state S.Store tx.old.conn.now).now.schema sql.now) ((rows : List Shown) × Shows sql.now (bound params.now) (state S.Store tx.old.conn.now) (state S.Store tx.new.conn.now) rows × IsDamaged T.Loaded.as_row T.Loaded.fits rows)) }
-    ensures kept { HasCleanDisk (state S.Store tx.new.conn.now) → (state S.Store tx.old.conn.now).in_transaction ≡ true → KeepsCommit (state S.Store tx.old.conn.now) (state S.Store tx.new.conn.now) }
-    ensures kept_reading { HasCleanDisk (state S.Store tx.new.conn.now) → IsForReading (state S.Store tx.old.conn.now).now.schema sql.now → KeepsCommit (state S.Store tx.old.conn.now) (state S.Store tx.new.conn.now) }
-    ensures crash { Survives (state S.Store tx.old.conn.now) (state S.Store tx.new.conn.now) (λ _. ⊥) }
+    ensures refused { WhileClean S.Store tx.old.conn.now tx.new.conn.now (λ old new.
+        IsForReading old.now.schema sql.now
+        → IfErr result (IsFor (HasNoMeaning old.now.schema sql.now)
+        ((rows : List Shown) × Shows sql.now (bound params.now) old new rows
+        × IsDamaged T.Loaded.as_row T.Loaded.fits rows))) }
+    ensures kept { KeepsCommitInside S.Store tx.old.conn.now tx.new.conn.now }
+    ensures kept_reading { WhileClean S.Store tx.old.conn.now tx.new.conn.now (λ old new.
+        IsForReading old.now.schema sql.now → KeepsCommit old new) }
+    ensures crash { LeavesNoMore S.Store tx.old.conn.now tx.new.conn.now }
 {
     match tx.query_all(sql, params) {
         Ok(rows) => read_rows(alloc, rows.as_slice()),

@@ -1,16 +1,14 @@
 //! Rows are looked up by other columns than their number.
 
-ghost use Rattle.std.specs.Prelude.{◌≡◌, ◌==◌, true, filter, map, IfOk, IfErr, OnOk, IsPermutation};
-ghost use Rattle.sqlite.specs.Held.{state};
-ghost use Rattle.sqlite.specs.State.{HasCleanDisk, Survives, KeepsCommit};
-ghost use Rattle.file_schema.specs.Tables.{schema};
-ghost use Rattle.file_schema.specs.Parts.{shown};
-ghost use Rattle.file_rows.specs.Changes.{IsInside, Changes};
+ghost use Rattle.std.specs.Prelude.{◌≡◌, ◌==◌, IfOk, IfErr, OnOk};
+ghost use Rattle.sqlite.specs.State.{KeepsCommit};
+ghost use Rattle.file_schema.specs.Clean.{WhileClean, LeavesNoMore};
+ghost use Rattle.file_rows.specs.Changes.{Changes};
 ghost use Rattle.file_rows.specs.Fit.{IsFitKept, IsFitToken};
 ghost use Rattle.file_rows.specs.Rows.{kept_row, token_row};
-ghost use Rattle.file_rows.specs.Tables.{Tables, Holds};
-ghost use Rattle.file_reads.specs.Damage.{IsDamaged, IsFor};
-ghost use Rattle.file_reads.specs.Lookups.{is_under, has_digest};
+ghost use Rattle.file_rows.specs.Written.{WhileInside};
+ghost use Rattle.file_reads.specs.Damage.{ShowsDamage, IsFor};
+ghost use Rattle.file_reads.specs.Lookups.{is_under, has_digest, AreAllThatPass, WhileOfShop, FindsRows};
 ghost use Rattle.file_reads.specs.Select.{IsSelectByOwner};
 
 use crate::loaded::{Loaded, rows_of};
@@ -27,12 +25,8 @@ pub fn find_kept<S: Alter>(
     token: u64,
     key: &[u8],
 ) -> Result<Vec<KeptRow>, RowError>
-    ensures same { tx.new.conn.ghost_name ≡ tx.old.conn.ghost_name }
-    ensures found { HasCleanDisk (state S.Store tx.new.conn.now) → (state S.Store tx.old.conn.now).now.schema ≡ schema → IfOk result (λ all. (t : Tables) → Holds (state S.Store tx.old.conn.now).now.trees t → IsPermutation all.items (filter (is_under token key.now) t.kept)) }
-    ensures refused { HasCleanDisk (state S.Store tx.new.conn.now) → (state S.Store tx.old.conn.now).now.schema ≡ schema → IfErr result (IsFor ⊥ (IsDamaged kept_row IsFitKept (map (shown schema 24) ((state S.Store tx.old.conn.now).now.trees 24)))) }
-    ensures still { HasCleanDisk (state S.Store tx.new.conn.now) → (state S.Store tx.old.conn.now).now.schema ≡ schema → OnOk result ((state S.Store tx.new.conn.now).now ≡ (state S.Store tx.old.conn.now).now) }
-    ensures kept { HasCleanDisk (state S.Store tx.new.conn.now) → (state S.Store tx.old.conn.now).in_transaction ≡ true → KeepsCommit (state S.Store tx.old.conn.now) (state S.Store tx.new.conn.now) }
-    ensures crash { Survives (state S.Store tx.old.conn.now) (state S.Store tx.new.conn.now) (λ _. ⊥) }
+    ensures { FindsRows S.Store tx.old tx.new
+        (λ t. t.kept) (is_under token key.now) kept_row IsFitKept 24 result }
 {
     let id = token.bind()?;
     rows_of(
@@ -49,12 +43,8 @@ pub fn find_token<S: Alter>(
     tx: &mut Transaction<'_, S>,
     digest: &[u8; 32],
 ) -> Result<Vec<Token>, RowError>
-    ensures same { tx.new.conn.ghost_name ≡ tx.old.conn.ghost_name }
-    ensures found { HasCleanDisk (state S.Store tx.new.conn.now) → (state S.Store tx.old.conn.now).now.schema ≡ schema → IfOk result (λ all. (t : Tables) → Holds (state S.Store tx.old.conn.now).now.trees t → IsPermutation all.items (filter (has_digest digest.now) t.tokens)) }
-    ensures refused { HasCleanDisk (state S.Store tx.new.conn.now) → (state S.Store tx.old.conn.now).now.schema ≡ schema → IfErr result (IsFor ⊥ (IsDamaged token_row IsFitToken (map (shown schema 22) ((state S.Store tx.old.conn.now).now.trees 22)))) }
-    ensures still { HasCleanDisk (state S.Store tx.new.conn.now) → (state S.Store tx.old.conn.now).now.schema ≡ schema → OnOk result ((state S.Store tx.new.conn.now).now ≡ (state S.Store tx.old.conn.now).now) }
-    ensures kept { HasCleanDisk (state S.Store tx.new.conn.now) → (state S.Store tx.old.conn.now).in_transaction ≡ true → KeepsCommit (state S.Store tx.old.conn.now) (state S.Store tx.new.conn.now) }
-    ensures crash { Survives (state S.Store tx.old.conn.now) (state S.Store tx.new.conn.now) (λ _. ⊥) }
+    ensures { FindsRows S.Store tx.old tx.new
+        (λ t. t.tokens) (has_digest digest.now) token_row IsFitToken 22 result }
 {
     rows_of(
         alloc,
@@ -92,11 +82,14 @@ pub fn members_of<S: Alter, T: FindByOwner>(
     owner: u64,
 ) -> Result<Vec<T>, RowError>
     ensures same { tx.new.conn.ghost_name ≡ tx.old.conn.ghost_name }
-    ensures found { HasCleanDisk (state S.Store tx.new.conn.now) → (state S.Store tx.old.conn.now).now.schema ≡ schema → IfOk result (λ all. (t : Tables) → Holds (state S.Store tx.old.conn.now).now.trees t → IsPermutation all.items (filter (λ r. T.owner_of r == owner) (T.rows t))) }
-    ensures refused { HasCleanDisk (state S.Store tx.new.conn.now) → (state S.Store tx.old.conn.now).now.schema ≡ schema → IfErr result (IsFor ⊥ (IsDamaged T.as_row T.fits (map (shown schema T.tree) ((state S.Store tx.old.conn.now).now.trees T.tree)))) }
-    ensures still { HasCleanDisk (state S.Store tx.new.conn.now) → IsInside (state S.Store tx.old.conn.now) → OnOk result (Changes (λ t. t) (state S.Store tx.old.conn.now) (state S.Store tx.new.conn.now)) }
-    ensures kept { HasCleanDisk (state S.Store tx.new.conn.now) → KeepsCommit (state S.Store tx.old.conn.now) (state S.Store tx.new.conn.now) }
-    ensures crash { Survives (state S.Store tx.old.conn.now) (state S.Store tx.new.conn.now) (λ _. ⊥) }
+    ensures found { WhileOfShop S.Store tx.old tx.new (λ old _. IfOk result (λ all.
+        AreAllThatPass T.rows (λ r. T.owner_of r == owner) old.now.trees all.items)) }
+    ensures refused { WhileOfShop S.Store tx.old tx.new (λ old _.
+        IfErr result (IsFor ⊥ (ShowsDamage T.as_row T.fits T.tree old.now.trees))) }
+    ensures still { WhileInside S.Store tx.old tx.new (λ old new.
+        OnOk result (Changes (λ t. t) old new)) }
+    ensures kept { WhileClean S.Store tx.old.conn.now tx.new.conn.now KeepsCommit }
+    ensures crash { LeavesNoMore S.Store tx.old.conn.now tx.new.conn.now }
 {
     let id = owner.bind()?;
     rows_of(alloc, tx, T::select_by_owner(), &[id])

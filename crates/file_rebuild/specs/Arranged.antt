@@ -1,15 +1,18 @@
 -- The box office that the rows of a file tell.
-use Rattle.std.specs.Prelude.{◌≡◌, ℕ, Bool, true, false, List, [], ◌∷◌, map}
+use Rattle.std.specs.Prelude.{◌≡◌, ℕ, Bool, true, false, List, [], ◌∷◌, map, Option, unwrap_or, IsPermutation}
 use Rattle.std.specs.List.{zip}
 use Rattle.base_sorted.specs.Tables.{AreInOrder}
 use Rattle.model_catalogue.specs.declared.rows.Quota.{Quota}
 use Rattle.model_rows.specs.declared.rows.CheckinList.{CheckinList}
 use Rattle.model_rows.specs.declared.rows.OrderPos.{OrderPos}
 use Rattle.model_rows.specs.declared.rows.Voucher.{Voucher}
+use Rattle.model_rows.specs.declared.count_rows.QuotaCount.{QuotaCount}
 use Rattle.model_rows.specs.declared.count_rows.VoucherCount.{VoucherCount}
 use Rattle.model_rows.specs.Lists.{Lists}
 use Rattle.file_rows.specs.declared.rows.BudgetRow.{BudgetRow}
+use Rattle.file_rows.specs.declared.rows.CountRow.{CountRow}
 use Rattle.file_rows.specs.declared.rows.DiscountRow.{DiscountRow}
+use Rattle.file_rows.specs.declared.rows.ExitRow.{ExitRow}
 use Rattle.file_rows.specs.declared.rows.ListItem.{ListItem}
 use Rattle.file_rows.specs.declared.rows.ListRow.{ListRow}
 use Rattle.file_rows.specs.declared.rows.PositionRow.{PositionRow}
@@ -18,15 +21,18 @@ use Rattle.file_rows.specs.declared.rows.QuotaRow.{QuotaRow}
 use Rattle.file_rows.specs.declared.rows.QuotaVariation.{QuotaVariation}
 use Rattle.file_rows.specs.declared.rows.ReleaseRow.{ReleaseRow}
 use Rattle.file_rows.specs.declared.rows.ShopRow.{ShopRow}
+use Rattle.file_rows.specs.declared.rows.SpentRow.{SpentRow}
 use Rattle.file_rows.specs.declared.rows.VoucherHead.{VoucherHead}
 use Rattle.file_rows.specs.declared.rows.VoucherRow.{VoucherRow}
+use Rattle.file_rows.specs.declared.table_rows.CatalogueRows.{CatalogueRows}
+use Rattle.file_rows.specs.declared.table_rows.DoorRows.{DoorRows}
 use Rattle.file_rows.specs.declared.table_rows.OtherRows.{OtherRows}
 use Rattle.file_rows.specs.declared.table_rows.SaleRows.{SaleRows}
 use Rattle.file_rows.specs.declared.table_rows.TableRows.{TableRows}
 use Rattle.model_rules.specs.Rules.{File}
-use Rattle.file_meaning.specs.Links.{Link}
-use Rattle.file_meaning.specs.Rows.{OfficeRows, budget_in, discount_in, voucher_of, position_of, usage_in}
-use Rattle.file_meaning.specs.Stands.{AreOrdered}
+use Rattle.file_meaning.specs.Links.{Link, all_links}
+use Rattle.file_meaning.specs.Rows.{OfficeRows, budget_in, budgets_of, discount_in, discounts_of, releases_of, voucher_of, position_of, usage_in}
+use Rattle.file_meaning.specs.Stands.{AreOrdered, AreRowsOf}
 use Rattle.file_rebuild.specs.Members.{told, members_of}
 
 -- ---- rows as they were read
@@ -80,20 +86,73 @@ rows_in tables = record {
   checkins = tables.doors.checkins.items;
 }
 
--- ---- the office that they tell
+-- ---- rows that stand in the same places, put together
 
 -- there is at least one
 abbrev pub is_any : List ℕ → Bool
 is_any [] = false
 is_any (n ∷ ns) = true
 
+-- a quota of its row, with these items and these variations; it releases places where it has a release
+abbrev pub quota_having : QuotaRow → List ℕ → List ℕ → List ℕ → Quota
+quota_having row items variations releases = record {
+  id = row.id;
+  name = row.name;
+  release_after_exit = is_any releases;
+  size = row.size;
+  items = items;
+  variations = variations;
+}
+
+-- each quota of its row, its items, its variations and its releases
+abbrev pub quotas_beside : List QuotaRow → List (List ℕ) → List (List ℕ) → List (List ℕ) → List Quota
+quotas_beside rows items variations releases = map (λ p. quota_having p.0.0.0 p.0.0.1 p.0.1 p.1) (zip (zip (zip rows items) variations) releases)
+
+-- a check-in list of its row, with these items
+abbrev pub list_having : ListRow → List ℕ → CheckinList
+list_having row items = record {
+  id = row.id;
+  name = row.name;
+  all_products = row.all_products;
+  limit_products = items;
+  include_pending = row.include_pending;
+  allow_multiple_entries = row.allow_multiple_entries;
+  allow_entry_after_exit = row.allow_entry_after_exit;
+}
+
+-- each check-in list of its row and its items
+abbrev pub lists_beside : List ListRow → List (List ℕ) → List CheckinList
+lists_beside rows items = map (λ p. list_having p.0 p.1) (zip rows items)
+
+-- each voucher of its row and its budget
+abbrev pub vouchers_beside : List VoucherRow → List (Option ℕ) → List Voucher
+vouchers_beside rows budgets = map (λ p. voucher_of p.1 p.0.voucher) (zip rows budgets)
+
+-- each order position of its row and its discount; without one it is 0
+abbrev pub positions_beside : List PositionRow → List (Option ℕ) → List OrderPos
+positions_beside rows discounts = map (λ p. position_of (unwrap_or p.1 0) p.0) (zip rows discounts)
+
+-- each quota's usage of its count and its exits
+abbrev pub usages_beside : List CountRow → List ExitRow → List QuotaCount
+usages_beside counts exits = map (λ p. usage_in p.0 p.1.exited) (zip counts exits)
+
+-- each voucher's count of its row and what is spent of it
+abbrev pub uses_beside : List VoucherRow → List SpentRow → List VoucherCount
+uses_beside rows spents = map (λ p. count_in p.0 p.1.spent) (zip rows spents)
+
+-- each voucher's count, where so much is spent of it
+abbrev pub counts_beside : List VoucherCount → List SpentRow → List VoucherCount
+counts_beside counts spents = map (λ (p : VoucherCount × SpentRow). record p.0 { spent = p.1.spent }) (zip counts spents)
+
+-- ---- the office that rows tell
+
 -- a quota with the members that its links tell; it releases places where a link tells that it does
 abbrev pub quota_of : List Link → List Link → List Link → QuotaRow → Quota
-quota_of items variations releases row = record { id = row.id; name = row.name; release_after_exit = is_any (members_of row.id releases); size = row.size; items = members_of row.id items; variations = members_of row.id variations }
+quota_of items variations releases row = quota_having row (members_of row.id items) (members_of row.id variations) (members_of row.id releases)
 
 -- a check-in list with the items that its links tell
 abbrev pub list_of : List Link → ListRow → CheckinList
-list_of items row = record { id = row.id; name = row.name; all_products = row.all_products; limit_products = members_of row.id items; include_pending = row.include_pending; allow_multiple_entries = row.allow_multiple_entries; allow_entry_after_exit = row.allow_entry_after_exit }
+list_of items row = list_having row (members_of row.id items)
 
 -- a voucher with the budget that is told of it first, if one is
 abbrev pub voucher_with : List Link → VoucherHead → Voucher
@@ -102,6 +161,22 @@ voucher_with budgets row = voucher_of (budget_in (told row.id budgets)) row
 -- an order position with the discount that is told of it first; without one it is 0
 abbrev pub position_with : List Link → PositionRow → OrderPos
 position_with discounts row = position_of (discount_in (told row.id discounts)) row
+
+-- the quotas that the tables of quotas tell
+abbrev pub quotas_arranged : CatalogueRows → List Quota
+quotas_arranged rows = map (quota_of (map item_link rows.quota_items.items) (map variation_link rows.quota_variations.items) (map release_link rows.releases.items)) rows.quotas.items
+
+-- the check-in lists that the tables of the doors tell
+abbrev pub lists_arranged : DoorRows → List CheckinList
+lists_arranged rows = map (list_of (map list_link rows.list_items.items)) rows.checkin_lists.items
+
+-- the vouchers that these rows tell, with these budgets
+abbrev pub vouchers_arranged : List VoucherRow → List BudgetRow → List Voucher
+vouchers_arranged rows budgets = map (λ r. voucher_with (map budget_link budgets) r.voucher) rows
+
+-- the order positions that these rows tell, with these discounts
+abbrev pub positions_arranged : List PositionRow → List DiscountRow → List OrderPos
+positions_arranged rows discounts = map (position_with (map discount_link discounts)) rows
 
 -- a link whose row isn't there tells nothing, and one that comes twice tells no more than once
 abbrev pub told_by : OfficeRows → Lists
@@ -123,9 +198,44 @@ arranged shop tables = record {
   organizer = shop.organizer;
   event = shop.event;
   state = record { lists = told_by (rows_in tables); next = shop.next; moment = shop.moment };
-  used = map (λ p. usage_in p.0 p.1.exited) (zip tables.others.counts.items tables.others.exits.items);
-  redeemed = map (λ p. count_in p.0 p.1.spent) (zip tables.sales.vouchers.items tables.others.spents.items);
+  used = usages_beside tables.others.counts.items tables.others.exits.items;
+  redeemed = uses_beside tables.sales.vouchers.items tables.others.spents.items;
 }
+
+-- ---- when rows of members, budgets and discounts are those of these rows
+
+-- the rows of items, of variations and of releases are those of these quotas, each once
+abbrev pub AreLinksOfQuotas : CatalogueRows → List Quota → Type 0
+AreLinksOfQuotas rows quotas =
+    (IsPermutation (map item_link rows.quota_items.items) (all_links (λ q. q.id) (λ q. q.items) quotas)
+    × IsPermutation (map variation_link rows.quota_variations.items) (all_links (λ q. q.id) (λ q. q.variations) quotas))
+    × IsPermutation (map release_link rows.releases.items) (all_links (λ q. q.id) releases_of quotas)
+
+-- the rows of items are those of these check-in lists, each once
+abbrev pub AreLinksOfLists : DoorRows → List CheckinList → Type 0
+AreLinksOfLists rows lists = IsPermutation (map list_link rows.list_items.items) (all_links (λ l. l.id) (λ l. l.limit_products) lists)
+
+-- the budgets are those of these vouchers, each once
+abbrev pub AreBudgetsOf : List BudgetRow → List Voucher → Type 0
+AreBudgetsOf budgets vouchers = IsPermutation (map budget_link budgets) (all_links (λ v. v.id) budgets_of vouchers)
+
+-- the discounts are those of these order positions, each once
+abbrev pub AreDiscountsOf : List DiscountRow → List OrderPos → Type 0
+AreDiscountsOf discounts positions = IsPermutation (map discount_link discounts) (all_links (λ p. p.id) discounts_of positions)
+
+-- the tables hold just the office that their rows tell
+abbrev pub AreTablesWhole : TableRows → Type 0
+AreTablesWhole tables = AreRowsOf (told_by (rows_in tables)) (rows_in tables)
+
+-- ---- when ids rise
+
+-- ids rise in the tables of vouchers and of budgets
+abbrev pub VouchersRise : List VoucherRow → List BudgetRow → Type 0
+VouchersRise rows budgets = AreInOrder (λ r. r.voucher.id) rows × AreInOrder (λ r. r.voucher_id) budgets
+
+-- ids rise in the tables of order positions and of discounts
+abbrev pub PositionsRise : List PositionRow → List DiscountRow → Type 0
+PositionsRise rows discounts = AreInOrder (λ r. r.id) rows × AreInOrder (λ r. r.position_id) discounts
 
 -- ids rise in each table whose rows stand there as they were read
 abbrev pub OthersRise : Lists → Type 0
@@ -139,16 +249,26 @@ pub record SalesRise (rows : SaleRows) : Type 0 where
   pub positions : AreInOrder (λ r. r.id) rows.positions.items
   pub discounts : AreInOrder (λ r. r.position_id) rows.discounts.items
 
--- and in those of counters
+-- ids rise in the tables of counters
 pub record CountsRise (rows : OtherRows) : Type 0 where
   pub counts : AreInOrder (λ r. r.quota) rows.counts.items
   pub exits : AreInOrder (λ r. r.quota) rows.exits.items
   pub spents : AreInOrder (λ r. r.voucher_id) rows.spents.items
 
+-- ---- when counters are those of the rows
+
+-- each count has its exits, and there are no others
+abbrev pub AreExitsPaired : List CountRow → List ExitRow → Type 0
+AreExitsPaired counts exits = map (λ r. r.quota) counts ≡ map (λ r. r.quota) exits
+
+-- of each voucher it is told what is spent, and of no other
+abbrev pub AreSpentsPaired : List VoucherRow → List SpentRow → Type 0
+AreSpentsPaired vouchers spents = map (λ r. r.voucher.id) vouchers ≡ map (λ r. r.voucher_id) spents
+
 -- each count has its exits and each voucher what is spent of it, and there are no others
 pub record AreCountsPaired (vouchers : List VoucherRow) (rows : OtherRows) : Type 0 where
-  pub exits : map (λ r. r.quota) rows.counts.items ≡ map (λ r. r.quota) rows.exits.items
-  pub spents : map (λ r. r.voucher.id) vouchers ≡ map (λ r. r.voucher_id) rows.spents.items
+  pub exits : AreExitsPaired rows.counts.items rows.exits.items
+  pub spents : AreSpentsPaired vouchers rows.spents.items
 
 -- the same of all tables that were read
 abbrev pub ArePaired : TableRows → Type 0

@@ -16,7 +16,8 @@ pub(crate) fn put<B: Book>(
     at: Moment,
 ) -> Result<(), AllocError>
     requires { (B.state book.old).moment ≤ at }
-    ensures done { OnOk result (B.state book.new ≡ applied (record { list = list.items; next = next }) at (B.state book.old)) }
+    ensures done { OnOk result (B.state book.new
+        ≡ applied (record { list = list.items; next = next }) at (B.state book.old)) }
     ensures moment { (B.state book.new).moment ≤ at }
 {
     let changes = Changes::new(list, next);

@@ -1,10 +1,10 @@
 //! What uses each quota, and what is used of each voucher.
 
 ghost use Rattle.std.specs.Prelude.{◌≡◌, ◌↔◌, map, IfOk, IfErr, OnOk, IsTrue};
-ghost use Rattle.std.specs.List.{zip};
 ghost use Rattle.base_sorted.specs.Tables.{AreInOrder};
 ghost use Rattle.file_meaning.specs.Rows.{usage_in};
-ghost use Rattle.file_rebuild.specs.Arranged.{count_in, AreCountsPaired, CountsRise};
+ghost use Rattle.model_rules.specs.Tests.{TellsWhether};
+ghost use Rattle.file_rebuild.specs.Arranged.{count_in, usages_beside, uses_beside, counts_beside, AreExitsPaired, AreSpentsPaired, AreCountsPaired, CountsRise};
 ghost use Rattle.file_rebuild.specs.declared.error.ArrangeError.TheVariants.{Order};
 
 use crate::error::ArrangeError;
@@ -38,7 +38,7 @@ fn used_in(
     counts: Vec<CountRow>,
     exits: Vec<ExitRow>,
 ) -> Result<Vec<QuotaCount>, AllocError>
-    ensures { IfOk result (λ all. all.items ≡ map (λ p. usage_in p.0 p.1.exited) (zip counts.items exits.items)) }
+    ensures { IfOk result (λ all. all.items ≡ usages_beside counts.items exits.items) }
 {
     counts
         .into_iter()
@@ -63,7 +63,7 @@ fn quotas_out(alloc: Global, exits: &[ExitRow]) -> Result<Vec<u64>, AllocError>
 
 // Whether the quotas of counts rise.
 fn counts_rise(alloc: Global, counts: &[CountRow]) -> Result<bool, AllocError>
-    ensures { IfOk result (λ told. IsTrue told ↔ AreInOrder (λ c. c.quota) counts.now) }
+    ensures { TellsWhether result (AreInOrder (λ c. c.quota) counts.now) }
 {
     let ids = quotas_counted(alloc, counts)?;
     Ok(rises(ids.as_slice()))
@@ -71,7 +71,7 @@ fn counts_rise(alloc: Global, counts: &[CountRow]) -> Result<bool, AllocError>
 
 // Whether the quotas of exits rise.
 fn exits_rise(alloc: Global, exits: &[ExitRow]) -> Result<bool, AllocError>
-    ensures { IfOk result (λ told. IsTrue told ↔ AreInOrder (λ c. c.quota) exits.now) }
+    ensures { TellsWhether result (AreInOrder (λ c. c.quota) exits.now) }
 {
     let ids = quotas_out(alloc, exits)?;
     Ok(rises(ids.as_slice()))
@@ -86,7 +86,7 @@ fn are_same(a: &[u64], b: &[u64]) -> bool
 
 // Whether each count has its exits, and there are no others.
 fn exits_paired(alloc: Global, counts: &[CountRow], exits: &[ExitRow]) -> Result<bool, AllocError>
-    ensures { IfOk result (λ told. IsTrue told ↔ (map (λ c. c.quota) counts.now ≡ map (λ c. c.quota) exits.now)) }
+    ensures { TellsWhether result (AreExitsPaired counts.now exits.now) }
 {
     let counted = quotas_counted(alloc, counts)?;
     let out = quotas_out(alloc, exits)?;
@@ -109,7 +109,7 @@ fn uses_in(alloc: Global, vouchers: &[VoucherRow]) -> Result<Vec<VoucherCount>, 
 
 // The count, where so much is spent.
 fn count_with(parts: (VoucherCount, SpentRow)) -> VoucherCount
-    ensures { result ≡ record { voucher = parts.0.voucher; redeemed = parts.0.redeemed; spent = parts.1.spent } }
+    ensures { result ≡ record parts.0 { spent = parts.1.spent } }
 {
     let (uses, spent) = parts;
     VoucherCount {
@@ -125,7 +125,7 @@ fn with_spents(
     uses: Vec<VoucherCount>,
     spents: Vec<SpentRow>,
 ) -> Result<Vec<VoucherCount>, AllocError>
-    ensures { IfOk result (λ all. all.items ≡ map (λ p. record { voucher = p.0.voucher; redeemed = p.0.redeemed; spent = p.1.spent }) (zip uses.items spents.items)) }
+    ensures { IfOk result (λ all. all.items ≡ counts_beside uses.items spents.items) }
 {
     uses.into_iter()
         .zip(spents.into_iter())
@@ -139,7 +139,7 @@ fn redeemed_in(
     vouchers: &[VoucherRow],
     spents: Vec<SpentRow>,
 ) -> Result<Vec<VoucherCount>, AllocError>
-    ensures { IfOk result (λ all. all.items ≡ map (λ p. count_in p.0 p.1.spent) (zip vouchers.now spents.items)) }
+    ensures { IfOk result (λ all. all.items ≡ uses_beside vouchers.now spents.items) }
 {
     let uses = uses_in(alloc, vouchers)?;
     with_spents(alloc, uses, spents)
@@ -165,7 +165,7 @@ fn spents_paired(
     vouchers: &[VoucherRow],
     spents: &[SpentRow],
 ) -> Result<bool, AllocError>
-    ensures { IfOk result (λ told. IsTrue told ↔ (map (λ r. r.voucher.id) vouchers.now ≡ map (λ r. r.voucher_id) spents.now)) }
+    ensures { TellsWhether result (AreSpentsPaired vouchers.now spents.now) }
 {
     let ids = vouchers_counted(alloc, vouchers)?;
     let spent = vouchers_spent(alloc, spents)?;
@@ -183,7 +183,7 @@ pub(crate) struct CountParts {
 
 // Whether the ids of all counters rise.
 fn all_rise(alloc: Global, rows: &OtherRows) -> Result<bool, AllocError>
-    ensures { IfOk result (λ told. IsTrue told ↔ CountsRise rows.now) }
+    ensures { TellsWhether result (CountsRise rows.now) }
 {
     let counts = counts_rise(alloc, rows.counts.as_slice())?;
     let exits = exits_rise(alloc, rows.exits.as_slice())?;
@@ -193,7 +193,7 @@ fn all_rise(alloc: Global, rows: &OtherRows) -> Result<bool, AllocError>
 
 // Whether each count has its exits and each voucher what is spent of it, and there are no others.
 fn all_paired(alloc: Global, vouchers: &[VoucherRow], rows: &OtherRows) -> Result<bool, AllocError>
-    ensures { IfOk result (λ told. IsTrue told ↔ AreCountsPaired vouchers.now rows.now) }
+    ensures { TellsWhether result (AreCountsPaired vouchers.now rows.now) }
 {
     let exits = exits_paired(alloc, rows.counts.as_slice(), rows.exits.as_slice())?;
     let spents = spents_paired(alloc, vouchers, rows.spents.as_slice())?;
@@ -206,8 +206,10 @@ pub(crate) fn counts_in(
     vouchers: &[VoucherRow],
     rows: OtherRows,
 ) -> Result<CountParts, ArrangeError>
-    ensures used { IfOk result (λ c. c.used.items ≡ map (λ p. usage_in p.0 p.1.exited) (zip rows.counts.items rows.exits.items)) }
-    ensures redeemed { IfOk result (λ c. c.redeemed.items ≡ map (λ p. count_in p.0 p.1.spent) (zip vouchers.now rows.spents.items)) }
+    ensures used { IfOk result (λ c. c.used.items
+        ≡ usages_beside rows.counts.items rows.exits.items) }
+    ensures redeemed { IfOk result (λ c. c.redeemed.items
+        ≡ uses_beside vouchers.now rows.spents.items) }
     ensures order { OnOk result (CountsRise rows) }
     ensures refused { IfErr result (λ e. e ≡ Order → ¬ CountsRise rows) }
     ensures paired { IfOk result (λ c. IsTrue c.paired ↔ AreCountsPaired vouchers.now rows) }

@@ -1,10 +1,8 @@
 //! Check-in lists with their items.
 
-ghost use Rattle.std.specs.Prelude.{◌≡◌, ◌↔◌, IfOk, IfErr, OnOk, IsTrue, IsPermutation, map};
-ghost use Rattle.std.specs.List.{zip};
+ghost use Rattle.std.specs.Prelude.{◌≡◌, ◌↔◌, IfOk, IfErr, OnOk, IsTrue, map};
 ghost use Rattle.base_sorted.specs.Tables.{AreInOrder};
-ghost use Rattle.file_meaning.specs.Links.{all_links};
-ghost use Rattle.file_rebuild.specs.Arranged.{list_link, list_of};
+ghost use Rattle.file_rebuild.specs.Arranged.{list_having, lists_beside, lists_arranged, AreLinksOfLists};
 ghost use Rattle.file_rebuild.specs.declared.error.ArrangeError.TheVariants.{Order};
 
 use crate::error::ArrangeError;
@@ -31,7 +29,7 @@ fn ids_of(alloc: Global, rows: &[ListRow]) -> Result<Vec<u64>, AllocError>
 
 // A check-in list of its row and its items.
 fn list_with(parts: (ListRow, Ids)) -> CheckinList
-    ensures { result ≡ record { id = parts.0.id; name = parts.0.name; all_products = parts.0.all_products; limit_products = parts.1; include_pending = parts.0.include_pending; allow_multiple_entries = parts.0.allow_multiple_entries; allow_entry_after_exit = parts.0.allow_entry_after_exit } }
+    ensures { result ≡ list_having parts.0 parts.1 }
 {
     let (row, limit_products) = parts;
     CheckinList {
@@ -51,7 +49,7 @@ fn joined(
     rows: Vec<ListRow>,
     items: Vec<Ids>,
 ) -> Result<Vec<CheckinList>, AllocError>
-    ensures { IfOk result (λ all. all.items ≡ map (λ p. record { id = p.0.id; name = p.0.name; all_products = p.0.all_products; limit_products = p.1; include_pending = p.0.include_pending; allow_multiple_entries = p.0.allow_multiple_entries; allow_entry_after_exit = p.0.allow_entry_after_exit }) (zip rows.items items.items)) }
+    ensures { IfOk result (λ all. all.items ≡ lists_beside rows.items items.items) }
 {
     rows.into_iter()
         .zip(items.into_iter())
@@ -62,10 +60,11 @@ fn joined(
 /// What the doors have, with the items that links tell of check-in lists. Refusals: 6, and 63 where the lists' ids don't rise.
 pub(crate) fn doors_in(alloc: Global, rows: DoorRows) -> Result<DoorParts, ArrangeError>
     ensures checkins { IfOk result (λ d. d.checkins ≡ rows.checkins) }
-    ensures lists { IfOk result (λ d. d.lists.items ≡ map (list_of (map list_link rows.list_items.items)) rows.checkin_lists.items) }
+    ensures lists { IfOk result (λ d. d.lists.items ≡ lists_arranged rows) }
     ensures order { OnOk result (AreInOrder (λ r. r.id) rows.checkin_lists.items) }
-    ensures refused { IfErr result (λ e. e ≡ Order → ¬ AreInOrder (λ r. r.id) rows.checkin_lists.items) }
-    ensures whole { IfOk result (λ d. IsTrue d.whole ↔ IsPermutation (map list_link rows.list_items.items) (all_links (λ l. l.id) (λ l. l.limit_products) d.lists.items)) }
+    ensures refused { IfErr result (λ e. e ≡ Order →
+        ¬ AreInOrder (λ r. r.id) rows.checkin_lists.items) }
+    ensures whole { IfOk result (λ d. IsTrue d.whole ↔ AreLinksOfLists rows d.lists.items) }
 {
     let ids = ids_of(alloc, rows.checkin_lists.as_slice())?;
     if !rises(ids.as_slice()) {

@@ -1,10 +1,10 @@
 //! The members of rows, as links tell them.
 
-ghost use Rattle.std.specs.Prelude.{◌≡◌, ◌↔◌, ◌++◌, [], ◌∷◌, IfOk, OnOk, IsTrue, IsPermutation, List, map, flat_map, length};
+ghost use Rattle.std.specs.Prelude.{◌≡◌, ◌↔◌, ◌++◌, [], ◌∷◌, IfOk, OnOk, IsTrue, List, map, flat_map, length};
 ghost use Rattle.base_sorted.specs.Rising.{rising};
 ghost use Rattle.base_sorted.specs.Tables.{AreInOrder};
 ghost use Rattle.file_meaning.specs.Links.{Link};
-ghost use Rattle.file_rebuild.specs.Members.{told, members_of, links_of};
+ghost use Rattle.file_rebuild.specs.Members.{each_members, AreTold, AreLinksOf};
 
 use crate::links::Linking;
 use base_sorted::{Ids, Row, place_of};
@@ -12,7 +12,7 @@ use std::alloc::{AllocError, Global};
 
 // No members yet for each id.
 fn none_told(alloc: Global, ids: &[u64]) -> Result<Vec<Vec<u64>>, AllocError>
-    ensures { IfOk result (λ all. map (λ v. v.items) all.items ≡ map (λ id. told id []) ids.now) }
+    ensures { IfOk result (λ all. AreTold ids.now [] all.items) }
 {
     let mut all = Vec::new(alloc);
     for _id in ids {
@@ -26,7 +26,8 @@ fn tell<L: Linking>(all: &mut Vec<Vec<u64>>, ids: &[u64], link: &L) -> Result<()
     requires order { AreInOrder (λ n. n) ids.now }
     requires length { length all.old.items ≡ length ids.now }
     ensures length { OnOk result (length all.new.items ≡ length ids.now) }
-    ensures told { (before : List Link) → map (λ v. v.items) all.old.items ≡ map (λ id. told id before) ids.now → OnOk result (map (λ v. v.items) all.new.items ≡ map (λ id. told id (before ++ L.link link.now ∷ [])) ids.now) }
+    ensures told { (before : List Link) → AreTold ids.now before all.old.items
+        → OnOk result (AreTold ids.now (before ++ L.link link.now ∷ []) all.new.items) }
 {
     match place_of(ids, link.owner()) {
         Ok(at) => {
@@ -40,7 +41,7 @@ fn tell<L: Linking>(all: &mut Vec<Vec<u64>>, ids: &[u64], link: &L) -> Result<()
 // The members of each id, in the order of their links.
 fn told_in<L: Linking>(alloc: Global, ids: &[u64], links: &[L]) -> Result<Vec<Vec<u64>>, AllocError>
     requires { AreInOrder (λ n. n) ids.now }
-    ensures { IfOk result (λ all. map (λ v. v.items) all.items ≡ map (λ id. told id (map L.link links.now)) ids.now) }
+    ensures { IfOk result (λ all. AreTold ids.now (map L.link links.now) all.items) }
 {
     let mut all = none_told(alloc, ids)?;
     for link in links {
@@ -93,8 +94,8 @@ pub(crate) fn members_in<L: Linking>(
     links: &[L],
 ) -> Result<Members, AllocError>
     requires { AreInOrder (λ n. n) ids.now }
-    ensures each { IfOk result (λ m. m.each.items ≡ map (λ id. members_of id (map L.link links.now)) ids.now) }
-    ensures whole { IfOk result (λ m. IsTrue m.whole ↔ IsPermutation (map L.link links.now) (links_of ids.now (map L.link links.now))) }
+    ensures each { IfOk result (λ m. m.each.items ≡ each_members ids.now (map L.link links.now)) }
+    ensures whole { IfOk result (λ m. IsTrue m.whole ↔ AreLinksOf ids.now (map L.link links.now)) }
 {
     let told = told_in(alloc, ids, links)?;
     let each = each_sorted(alloc, told)?;

@@ -1,11 +1,8 @@
 //! Order positions with their discounts.
 
-ghost use Rattle.std.specs.Prelude.{◌≡◌, ◌==◌, ◌↔◌, All, not, true, map, unwrap_or, IfOk, IfErr, OnOk, IsTrue, IsPermutation};
-ghost use Rattle.std.specs.List.{zip};
-ghost use Rattle.base_sorted.specs.Tables.{AreInOrder};
-ghost use Rattle.file_meaning.specs.Links.{all_links};
-ghost use Rattle.file_meaning.specs.Rows.{discounts_of, position_of};
-ghost use Rattle.file_rebuild.specs.Arranged.{discount_link, position_with};
+ghost use Rattle.std.specs.Prelude.{◌≡◌, ◌==◌, ◌↔◌, All, not, true, map, unwrap_or, IfOk, IfErr, OnOk, IsTrue};
+ghost use Rattle.file_meaning.specs.Rows.{position_of};
+ghost use Rattle.file_rebuild.specs.Arranged.{positions_arranged, positions_beside, AreDiscountsOf, PositionsRise};
 ghost use Rattle.file_rebuild.specs.declared.error.ArrangeError.TheVariants.{Order};
 
 use crate::error::ArrangeError;
@@ -54,7 +51,7 @@ fn joined(
     rows: Vec<PositionRow>,
     discounts: Vec<Option<Cents>>,
 ) -> Result<Vec<OrderPos>, AllocError>
-    ensures { IfOk result (λ all. all.items ≡ map (λ p. position_of (unwrap_or p.1 0) p.0) (zip rows.items discounts.items)) }
+    ensures { IfOk result (λ all. all.items ≡ positions_beside rows.items discounts.items) }
 {
     rows.into_iter()
         .zip(discounts.into_iter())
@@ -75,10 +72,12 @@ pub(crate) fn positions_in(
     rows: Vec<PositionRow>,
     discounts: &[DiscountRow],
 ) -> Result<PositionParts, ArrangeError>
-    ensures positions { IfOk result (λ p. p.positions.items ≡ map (position_with (map discount_link discounts.now)) rows.items) }
-    ensures order { OnOk result (AreInOrder (λ r. r.id) rows.items × AreInOrder (λ r. r.position_id) discounts.now) }
-    ensures refused { IfErr result (λ e. e ≡ Order → ¬ (AreInOrder (λ r. r.id) rows.items × AreInOrder (λ r. r.position_id) discounts.now)) }
-    ensures whole { IfOk result (λ p. IsTrue p.whole ↔ IsPermutation (map discount_link discounts.now) (all_links (λ p. p.id) discounts_of p.positions.items)) }
+    ensures positions { IfOk result (λ p. p.positions.items
+        ≡ positions_arranged rows.items discounts.now) }
+    ensures order { OnOk result (PositionsRise rows.items discounts.now) }
+    ensures refused { IfErr result (λ e. e ≡ Order → ¬ PositionsRise rows.items discounts.now) }
+    ensures whole { IfOk result (λ p. IsTrue p.whole
+        ↔ AreDiscountsOf discounts.now p.positions.items) }
 {
     let ids = ids_of(alloc, rows.as_slice())?;
     if !both(rises(ids.as_slice()), rises(discounts)) {

@@ -36,7 +36,8 @@ pub(crate) fn put_rows<B: Book, T: Put>(
     at: Moment,
 ) -> Result<(), AllocError>
     requires { (B.state book.old).moment ≤ at }
-    ensures done { OnOk result (B.state book.new ≡ applied (record { list = map T.change rows.items; next = next }) at (B.state book.old)) }
+    ensures done { OnOk result (B.state book.new
+        ≡ applied (record { list = map T.change rows.items; next = next }) at (B.state book.old)) }
     ensures moment { (B.state book.new).moment ≤ at }
 {
     let changes = changes(alloc, rows)?;

@@ -1,11 +1,8 @@
 //! Quotas with their members.
 
-ghost use Rattle.std.specs.Prelude.{◌≡◌, ◌↔◌, IfOk, IfErr, OnOk, IsTrue, IsPermutation, map};
-ghost use Rattle.std.specs.List.{zip};
+ghost use Rattle.std.specs.Prelude.{◌≡◌, ◌↔◌, IfOk, IfErr, OnOk, IsTrue, map};
 ghost use Rattle.base_sorted.specs.Tables.{AreInOrder};
-ghost use Rattle.file_meaning.specs.Links.{all_links};
-ghost use Rattle.file_meaning.specs.Rows.{releases_of};
-ghost use Rattle.file_rebuild.specs.Arranged.{item_link, variation_link, release_link, is_any, quota_of};
+ghost use Rattle.file_rebuild.specs.Arranged.{is_any, quota_having, quotas_beside, quotas_arranged, AreLinksOfQuotas};
 ghost use Rattle.file_rebuild.specs.declared.error.ArrangeError.TheVariants.{Order};
 
 use crate::error::ArrangeError;
@@ -40,7 +37,7 @@ fn is_any(ids: &[u64]) -> bool
 
 // A quota of its row, its items, its variations, and its links of releases.
 fn quota_with(parts: (((QuotaRow, Ids), Ids), Ids)) -> Quota
-    ensures { result ≡ record { id = parts.0.0.0.id; name = parts.0.0.0.name; release_after_exit = is_any parts.1; size = parts.0.0.0.size; items = parts.0.0.1; variations = parts.0.1 } }
+    ensures { result ≡ quota_having parts.0.0.0 parts.0.0.1 parts.0.1 parts.1 }
 {
     let (((row, items), variations), releases) = parts;
     Quota {
@@ -61,7 +58,8 @@ fn joined(
     variations: Vec<Ids>,
     releases: Vec<Ids>,
 ) -> Result<Vec<Quota>, AllocError>
-    ensures { IfOk result (λ all. all.items ≡ map (λ p. record { id = p.0.0.0.id; name = p.0.0.0.name; release_after_exit = is_any p.1; size = p.0.0.0.size; items = p.0.0.1; variations = p.0.1 }) (zip (zip (zip rows.items items.items) variations.items) releases.items)) }
+    ensures { IfOk result (λ all. all.items
+        ≡ quotas_beside rows.items items.items variations.items releases.items) }
 {
     rows.into_iter()
         .zip(items.into_iter())
@@ -78,10 +76,10 @@ pub(crate) fn catalogue_in(
 ) -> Result<CatalogueParts, ArrangeError>
     ensures items { IfOk result (λ c. c.items ≡ rows.items) }
     ensures variations { IfOk result (λ c. c.variations ≡ rows.variations) }
-    ensures quotas { IfOk result (λ c. c.quotas.items ≡ map (quota_of (map item_link rows.quota_items.items) (map variation_link rows.quota_variations.items) (map release_link rows.releases.items)) rows.quotas.items) }
+    ensures quotas { IfOk result (λ c. c.quotas.items ≡ quotas_arranged rows) }
     ensures order { OnOk result (AreInOrder (λ r. r.id) rows.quotas.items) }
     ensures refused { IfErr result (λ e. e ≡ Order → ¬ AreInOrder (λ r. r.id) rows.quotas.items) }
-    ensures whole { IfOk result (λ c. IsTrue c.whole ↔ ((IsPermutation (map item_link rows.quota_items.items) (all_links (λ q. q.id) (λ q. q.items) c.quotas.items) × IsPermutation (map variation_link rows.quota_variations.items) (all_links (λ q. q.id) (λ q. q.variations) c.quotas.items)) × IsPermutation (map release_link rows.releases.items) (all_links (λ q. q.id) releases_of c.quotas.items))) }
+    ensures whole { IfOk result (λ c. IsTrue c.whole ↔ AreLinksOfQuotas rows c.quotas.items) }
 {
     let ids = ids_of(alloc, rows.quotas.as_slice())?;
     if !rises(ids.as_slice()) {

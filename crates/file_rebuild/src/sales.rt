@@ -1,9 +1,7 @@
 //! What is sold, held and waited for.
 
-ghost use Rattle.std.specs.Prelude.{◌≡◌, ◌↔◌, map, IfOk, IfErr, OnOk, IsTrue, IsPermutation};
-ghost use Rattle.file_meaning.specs.Links.{all_links};
-ghost use Rattle.file_meaning.specs.Rows.{budgets_of, discounts_of};
-ghost use Rattle.file_rebuild.specs.Arranged.{budget_link, discount_link, voucher_with, position_with, SalesRise};
+ghost use Rattle.std.specs.Prelude.{◌≡◌, ◌↔◌, IfOk, IfErr, OnOk, IsTrue};
+ghost use Rattle.file_rebuild.specs.Arranged.{vouchers_arranged, positions_arranged, AreBudgetsOf, AreDiscountsOf, SalesRise};
 ghost use Rattle.file_rebuild.specs.declared.error.ArrangeError.TheVariants as refusals;
 
 use crate::error::ArrangeError;
@@ -31,11 +29,15 @@ pub(crate) fn sales_in(alloc: Global, rows: SaleRows) -> Result<SaleParts, Arran
     ensures carts { IfOk result (λ s. s.carts ≡ rows.carts) }
     ensures orders { IfOk result (λ s. s.orders ≡ rows.orders) }
     ensures waiting { IfOk result (λ s. s.waiting ≡ rows.waiting) }
-    ensures vouchers { IfOk result (λ s. s.vouchers.items ≡ map (λ r. voucher_with (map budget_link rows.budgets.items) r.voucher) rows.vouchers.items) }
-    ensures positions { IfOk result (λ s. s.positions.items ≡ map (position_with (map discount_link rows.discounts.items)) rows.positions.items) }
+    ensures vouchers { IfOk result (λ s.
+        s.vouchers.items ≡ vouchers_arranged rows.vouchers.items rows.budgets.items) }
+    ensures positions { IfOk result (λ s.
+        s.positions.items ≡ positions_arranged rows.positions.items rows.discounts.items) }
     ensures order { OnOk result (SalesRise rows) }
     ensures refused { IfErr result (λ e. e ≡ refusals.Order → ¬ SalesRise rows) }
-    ensures whole { IfOk result (λ s. IsTrue s.whole ↔ (IsPermutation (map budget_link rows.budgets.items) (all_links (λ v. v.id) budgets_of s.vouchers.items) × IsPermutation (map discount_link rows.discounts.items) (all_links (λ p. p.id) discounts_of s.positions.items))) }
+    ensures whole { IfOk result (λ s. IsTrue s.whole
+        ↔ (AreBudgetsOf rows.budgets.items s.vouchers.items
+        × AreDiscountsOf rows.discounts.items s.positions.items)) }
 {
     let vouchers = vouchers_in(alloc, rows.vouchers, rows.budgets.as_slice())?;
     let positions = positions_in(alloc, rows.positions, rows.discounts.as_slice())?;

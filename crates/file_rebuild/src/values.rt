@@ -1,9 +1,8 @@
 //! Amounts that stand in a table of their own, each under the id of the row that has it.
 
-ghost use Rattle.std.specs.Prelude.{◌≡◌, ◌↔◌, ℕ, List, map, length, count_by, is_some, option_map, IfOk, IsTrue, IsPermutation};
+ghost use Rattle.std.specs.Prelude.{◌≡◌, ◌↔◌, ℕ, count_by, is_some, option_map, IfOk, IsTrue};
 ghost use Rattle.base_sorted.specs.Tables.{AreInOrder, row_at};
-ghost use Rattle.file_meaning.specs.Links.{Link};
-ghost use Rattle.file_rebuild.specs.Members.{values_of};
+ghost use Rattle.file_rebuild.specs.Members.{each_value, AreValuesOf};
 
 use base_sorted::{Row, place_of};
 use base_values::Cents;
@@ -53,7 +52,7 @@ fn each_value<V: Valued>(
     rows: &[V],
 ) -> Result<Vec<Option<Cents>>, AllocError>
     requires { AreInOrder V.Row.key rows.now }
-    ensures { IfOk result (λ all. all.items ≡ map (λ id. option_map V.value_of (row_at V.Row.key id rows.now)) ids.now) }
+    ensures { IfOk result (λ all. all.items ≡ each_value V.Row.key V.value_of ids.now rows.now) }
 {
     let mut all = Vec::new(alloc);
     for id in ids {
@@ -85,8 +84,10 @@ pub(crate) fn values_in<V: Valued>(
 ) -> Result<Values, AllocError>
     requires ids { AreInOrder (λ n. n) ids.now }
     requires rows { AreInOrder V.Row.key rows.now }
-    ensures each { IfOk result (λ v. v.each.items ≡ map (λ id. option_map V.value_of (row_at V.Row.key id rows.now)) ids.now) }
-    ensures whole { IfOk result (λ v. IsTrue v.whole ↔ IsPermutation (map (λ r. record { owner = V.Row.key r; member = V.value_of r }) rows.now) (values_of ids.now (map (λ r. record { owner = V.Row.key r; member = V.value_of r }) rows.now))) }
+    ensures each { IfOk result (λ v. v.each.items
+        ≡ each_value V.Row.key V.value_of ids.now rows.now) }
+    ensures whole { IfOk result (λ v. IsTrue v.whole
+        ↔ AreValuesOf V.Row.key V.value_of ids.now rows.now) }
 {
     let each = each_value(alloc, ids, rows)?;
     let whole = are_so_many(each.as_slice(), rows.len());

@@ -1,11 +1,8 @@
 //! Vouchers with their budgets.
 
-ghost use Rattle.std.specs.Prelude.{◌≡◌, ◌↔◌, map, IfOk, IfErr, OnOk, IsTrue, IsPermutation};
-ghost use Rattle.std.specs.List.{zip};
-ghost use Rattle.base_sorted.specs.Tables.{AreInOrder};
-ghost use Rattle.file_meaning.specs.Links.{all_links};
-ghost use Rattle.file_meaning.specs.Rows.{budgets_of, voucher_of};
-ghost use Rattle.file_rebuild.specs.Arranged.{budget_link, voucher_with};
+ghost use Rattle.std.specs.Prelude.{◌≡◌, ◌↔◌, map, IfOk, IfErr, OnOk, IsTrue};
+ghost use Rattle.file_meaning.specs.Rows.{voucher_of};
+ghost use Rattle.file_rebuild.specs.Arranged.{vouchers_arranged, vouchers_beside, AreBudgetsOf, VouchersRise};
 ghost use Rattle.file_rebuild.specs.declared.error.ArrangeError.TheVariants.{Order};
 
 use crate::error::ArrangeError;
@@ -75,7 +72,7 @@ fn joined(
     rows: Vec<VoucherRow>,
     budgets: Vec<Option<Cents>>,
 ) -> Result<Vec<Voucher>, AllocError>
-    ensures { IfOk result (λ all. all.items ≡ map (λ p. voucher_of p.1 p.0.voucher) (zip rows.items budgets.items)) }
+    ensures { IfOk result (λ all. all.items ≡ vouchers_beside rows.items budgets.items) }
 {
     rows.into_iter()
         .zip(budgets.into_iter())
@@ -89,10 +86,11 @@ pub(crate) fn vouchers_in(
     rows: Vec<VoucherRow>,
     budgets: &[BudgetRow],
 ) -> Result<VoucherParts, ArrangeError>
-    ensures vouchers { IfOk result (λ p. p.vouchers.items ≡ map (λ r. voucher_with (map budget_link budgets.now) r.voucher) rows.items) }
-    ensures order { OnOk result (AreInOrder (λ r. r.voucher.id) rows.items × AreInOrder (λ r. r.voucher_id) budgets.now) }
-    ensures refused { IfErr result (λ e. e ≡ Order → ¬ (AreInOrder (λ r. r.voucher.id) rows.items × AreInOrder (λ r. r.voucher_id) budgets.now)) }
-    ensures whole { IfOk result (λ p. IsTrue p.whole ↔ IsPermutation (map budget_link budgets.now) (all_links (λ v. v.id) budgets_of p.vouchers.items)) }
+    ensures vouchers { IfOk result (λ p. p.vouchers.items
+        ≡ vouchers_arranged rows.items budgets.now) }
+    ensures order { OnOk result (VouchersRise rows.items budgets.now) }
+    ensures refused { IfErr result (λ e. e ≡ Order → ¬ VouchersRise rows.items budgets.now) }
+    ensures whole { IfOk result (λ p. IsTrue p.whole ↔ AreBudgetsOf budgets.now p.vouchers.items) }
 {
     let ids = ids_of(alloc, rows.as_slice())?;
     if !both(rises(ids.as_slice()), rises(budgets)) {

@@ -1,6 +1,6 @@
 //! A value in a column.
 
-ghost use Rattle.std.specs.Prelude.{◌≡◌, ◌≢◌, ◌<◌, ◌^◌, length, ⊤, false, IfOk, IfErr, IfSome, IsTrue};
+ghost use Rattle.std.specs.Prelude.{◌≡◌, ◌≢◌, ◌<◌, ◌^◌, ⊤, false, IfOk, IfErr, IfSome, IsTrue};
 ghost use Rattle.sqlite_value.specs.declared.value.Value.{Value};
 ghost use Rattle.sqlite_value.specs.declared.value.Value.TheVariants.{Null};
 ghost use Rattle.sqlite_value.specs.Value.{owned};
@@ -8,7 +8,7 @@ ghost use Rattle.sqlite_value.specs.Order.{column};
 ghost use Rattle.sqlite.specs.Values.{or_null, bound_value};
 ghost use Rattle.file_schema.specs.declared.error.RowError.TheVariants.{Store};
 ghost use Rattle.file_rows.specs.Cells as cell;
-ghost use Rattle.file_rows.specs.Unread.{IsUnread};
+ghost use Rattle.file_rows.specs.Unread.{IsOfNoFit, UnreadAt};
 
 use file_schema::RowError;
 use sqlite::Row;
@@ -33,13 +33,13 @@ pub trait Column {
     fn read(alloc: Global, row: &Row, at: usize) -> Result<Self, RowError>
         ensures value { IfOk result (λ x. column row.now at ≡ cell x) }
         ensures limits { IfOk result fits }
-        ensures refused { at < length row.now → IfErr result (IsUnread ((x : Self) → fits x → column row.now at ≢ cell x)) };
+        ensures refused { UnreadAt row.now at result (IsOfNoFit fits cell (column row.now at)) };
 }
 
 // The value of a column, of a kind that the store knows.
 pub(crate) fn value_at<T: FromSql>(row: &Row, at: usize) -> Result<T, RowError>
     ensures value { IfOk result (T.FromSql.reads_as (column row.now at)) }
-    ensures refused { at < length row.now → IfErr result (IsUnread (¬ T.FromSql.is_readable (column row.now at))) }
+    ensures refused { UnreadAt row.now at result (¬ T.FromSql.is_readable (column row.now at)) }
 {
     match row.get(at) {
         Ok(value) => Ok(value),
@@ -125,7 +125,7 @@ impl<T: Column + Drop> Column for Option<T> {
 fn is_null(row: &Row, at: usize) -> Result<bool, RowError>
     ensures null { IfOk result (λ null. IsTrue null → column row.now at ≡ Null) }
     ensures other { IfOk result (λ null. null ≡ false → column row.now at ≢ Null) }
-    ensures refused { at < length row.now → IfErr result (IsUnread ⊥) }
+    ensures refused { UnreadAt row.now at result ⊥ }
 {
     match row.get_ref(at) {
         Ok(ValueRef::Null) => Ok(true),

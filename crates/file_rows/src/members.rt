@@ -55,7 +55,8 @@ impl Numbered for QuotaItem {
 }
 
 impl Member for QuotaItem {
-    ghost row_of = { λ number owner member. record { rowid = number; quota = owner; item = member } };
+    ghost row_of = { λ number owner member.
+        record { rowid = number; quota = owner; item = member } };
 
     ghost owner_of = { λ r. r.quota };
 
@@ -93,7 +94,8 @@ impl Numbered for QuotaVariation {
 }
 
 impl Member for QuotaVariation {
-    ghost row_of = { λ number owner member. record { rowid = number; quota = owner; variation = member } };
+    ghost row_of = { λ number owner member.
+        record { rowid = number; quota = owner; variation = member } };
 
     ghost owner_of = { λ r. r.quota };
 
@@ -131,7 +133,8 @@ impl Numbered for ListItem {
 }
 
 impl Member for ListItem {
-    ghost row_of = { λ number owner member. record { rowid = number; list = owner; item = member } };
+    ghost row_of = { λ number owner member.
+        record { rowid = number; list = owner; item = member } };
 
     ghost owner_of = { λ r. r.list };
 

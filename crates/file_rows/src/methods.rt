@@ -1,12 +1,11 @@
 //! The methods of a path in a column.
 
-ghost use Rattle.std.specs.Prelude.{◌≡◌, ◌≢◌, ◌<◌, length, ⊤, IfOk, IfErr, IfSome, Option, None, string_bytes};
+ghost use Rattle.std.specs.Prelude.{◌≡◌, ⊤, IfOk, IfSome, None, string_bytes};
 ghost use Rattle.sqlite_value.specs.Value.{owned};
 ghost use Rattle.sqlite_value.specs.Order.{column};
 ghost use Rattle.sqlite.specs.Values.{bound_value};
-ghost use Rattle.base_values.specs.declared.answer.Methods.{Methods};
 ghost use Rattle.file_rows.specs.Cells.{methods, methods_text};
-ghost use Rattle.file_rows.specs.Unread.{IsUnread};
+ghost use Rattle.file_rows.specs.Unread.{IsOfNone, UnreadAt};
 
 use crate::column::{Column, value_at};
 use base_values::Methods;
@@ -51,7 +50,7 @@ pub fn bind_methods<'a>(allow: &Option<Methods>) -> ValueRef<'a>
 // The methods that a text names.
 fn methods_in(text: &str) -> Option<Methods>
     ensures named { IfSome result (λ m. text.now ≡ methods_text m) }
-    ensures other { result ≡ None → (m : Methods) → text.now ≢ methods_text m }
+    ensures other { result ≡ None → IsOfNone methods_text text.now }
 {
     let (get, post, patch, delete) = match text {
         "-" => (false, false, false, false),
@@ -106,7 +105,7 @@ impl Column for Allow {
 /// The methods in a column, which may be empty. Refusals: 62 where the text names none, 6.
 pub(crate) fn read_methods(row: &Row, at: usize) -> Result<Option<Methods>, RowError>
     ensures value { IfOk result (λ allow. column row.now at ≡ methods allow) }
-    ensures refused { at < length row.now → IfErr result (IsUnread ((allow : Option Methods) → column row.now at ≢ methods allow)) }
+    ensures refused { UnreadAt row.now at result (IsOfNone methods (column row.now at)) }
 {
     let text = match value_at::<String>(row, at) {
         Ok(text) => text,

@@ -1,13 +1,13 @@
 //! Numbers within limits in columns.
 
-ghost use Rattle.std.specs.Prelude.{◌≡◌, ◌≢◌, ◌≤◌, ◌<◌, ℕ, length, IfOk, IfErr};
+ghost use Rattle.std.specs.Prelude.{◌≡◌, ◌≢◌, ◌≤◌, ℕ, IfOk};
 ghost use Rattle.sqlite_value.specs.declared.value.Value.TheVariants.{Int};
 ghost use Rattle.sqlite_value.specs.Order.{column};
 ghost use Rattle.base_values.specs.Counts.{IsUses, IsSize, IsPriority};
 ghost use Rattle.base_values.specs.Moments.{IsMoment};
 ghost use Rattle.base_values.specs.Money.{IsMoney};
 ghost use Rattle.file_rows.specs.Cells as cell;
-ghost use Rattle.file_rows.specs.Unread.{IsUnread};
+ghost use Rattle.file_rows.specs.Unread.{UnreadAt};
 
 use crate::column::{Column, value_at};
 use base_values::cents::LAST_CENTS;
@@ -22,7 +22,8 @@ use std::alloc::Global;
 pub(crate) fn number_in(row: &Row, at: usize, from: u64, to: u64) -> Result<u64, RowError>
     ensures value { IfOk result (λ n. column row.now at ≡ cell.number n) }
     ensures limits { IfOk result (λ n. (from ≤ n) × (n ≤ to)) }
-    ensures refused { at < length row.now → IfErr result (IsUnread ((n : ℕ) → from ≤ n → n ≤ to → column row.now at ≢ cell.number n)) }
+    ensures refused { UnreadAt row.now at result
+        ((n : ℕ) → from ≤ n → n ≤ to → column row.now at ≢ cell.number n) }
 {
     match value_at::<u64>(row, at) {
         Ok(n) if from <= n && n <= to => Ok(n),

@@ -1,17 +1,28 @@
 -- What is read of a connection that stays as it is.
-use Rattle.std.proofs.Common.{◌≡◌, List, [], ◌∷◌, map, Result, Ok, Err, IfOk, IfErr, OnOk, Option, Some, None, IfSome, subst, sym}
+use Rattle.std.proofs.Common.{◌≡◌, List, [], ◌∷◌, map, Result, Ok, Err, IfOk, IfErr, OnOk, Option, Some, None, IfSome, subst, sym, arith}
 use Rattle.std.specs.List.Sorted.{IsPermutation}
 use Rattle.sqlite_value.specs.Order.{Row}
+use Rattle.sqlite_trees.specs.declared.store.Store.{Ghosts}
+use Rattle.sqlite.specs.Held.{Held, state}
 use Rattle.sqlite.specs.State.{State}
+use Rattle.sqlite.proofs.StateLemmas.{survives_then}
 use Rattle.sqlite.proofs.Callers.{one_permutation}
 use Rattle.file_rows.specs.declared.rows.ShopRow.{ShopRow}
 use Rattle.file_rows.specs.Rows.{shop_row}
 pub use Rattle.file_reads.proofs.Causes.{if_err, on_ok}
 pub use Rattle.file_reads.proofs.Loads.{if_ok}
-use Rattle.file_scan.specs.Rests.{StaysOpen}
+use Rattle.file_scan.specs.Rests.{OnlyReads, StaysOpen}
 
-pub then : (a b c : State) → StaysOpen a b → StaysOpen b c → StaysOpen a c
+then : (a b c : State) → StaysOpen a b → StaysOpen b c → StaysOpen a c
 then a b c h k = record { was_open = h.was_open; stays = λ db at. k.stays db (h.stays db at) }
+
+-- one reads, and then another
+pub reads_then : {S : Type 0} (g : Ghosts S) (old mid new : Held S) → OnlyReads g old mid → OnlyReads g mid new → OnlyReads g old new
+reads_then g old mid new a b = record {
+  rests = λ clean opened. let later = b.rests clean opened in then (state g old) (state g mid) (state g new) (a.rests (omega (arith, b.crash.clean)) later.was_open) later;
+  mode = b.mode;
+  crash = survives_then (state g old) (state g mid) (state g new) _ _ (λ _. ⊥) (λ _ db none. none) (λ _ db none. none) a.crash b.crash;
+}
 
 pub if_some : {T : Type 0} (o : Option T) (P Q : T → Type 0) → IfSome o P → ((x : T) → P x → Q x) → IfSome o Q
 if_some (Some x) P Q h k = k x h

@@ -5,3 +5,4 @@ pub mod Read
 pub mod Causes
 pub mod Lawful
 pub mod Took
+pub mod Reading

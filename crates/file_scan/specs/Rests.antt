@@ -1,7 +1,9 @@
 -- A connection that is only read.
-use Rattle.std.specs.Prelude.{◌≡◌, IsTrue, Result, Ok, Err}
+use Rattle.std.specs.Prelude.{◌≡◌, IsTrue, false, Result, Ok, Err}
+use Rattle.sqlite_trees.specs.declared.store.Store.{Ghosts}
 use Rattle.sqlite.specs.Effect.{Database}
-use Rattle.sqlite.specs.State.{State, HasCleanDisk}
+use Rattle.sqlite.specs.Held.{Held, state}
+use Rattle.sqlite.specs.State.{State, HasCleanDisk, Survives}
 use Rattle.file_schema.specs.Tables.{schema}
 use Rattle.file_schema.specs.declared.error.RowError.{RowError}
 use Rattle.file_schema.specs.declared.error.RowError.TheVariants.{Memory, Foreign, Damaged, Store}
@@ -33,6 +35,15 @@ pub record StaysOpen (old new : State) : Type 0 where
 -- so it is while the connection is open
 abbrev pub Rests : State → State → Type 0
 Rests old new = HasCleanDisk new → IsTrue new.is_open → StaysOpen old new
+
+-- what a call that only reads leaves of a connection with no open transaction
+pub record OnlyReads {S : Type 0} (g : Ghosts S) (old new : Held S) : Type 0 where
+  -- while it is open it shows what it showed
+  pub rests : Rests (state g old) (state g new)
+  -- no transaction is open afterwards
+  pub mode : new.in_transaction ≡ false
+  -- a crash leaves no more than it could have left before
+  pub crash : Survives (state g old) (state g new) (λ _. ⊥)
 
 -- this holds where each row of a table was shown, also where a value of one can't be read
 abbrev pub WhereDamaged : RowError → Type 0 → Type 0

@@ -4,13 +4,14 @@ ghost use Rattle.std.specs.Prelude.{◌≡◌, ℕ, [], false, IfOk, IfErr, OnOk
 ghost use Rattle.sqlite_value.specs.Order.{Row as Shown};
 ghost use Rattle.sqlite_schema.specs.declared.schema.Schema.{Schema};
 ghost use Rattle.sqlite.specs.Held.{state};
-ghost use Rattle.sqlite.specs.State.{HasCleanDisk, Survives, IsUnchanged};
+ghost use Rattle.sqlite.specs.State.{HasCleanDisk};
 ghost use Rattle.file_reads.specs.Alone.{RunsAloneIn};
 ghost use Rattle.file_reads.specs.Damage.{HasNoMeaning, IsFor, IsForReading};
 ghost use Rattle.file_reads.specs.Select.{IsSelectIn};
-ghost use Rattle.file_scan.specs.Rests.{Rests};
+ghost use Rattle.file_scan.specs.Rests.{OnlyReads};
 ghost use Rattle.file_scan.specs.Stopped.{IsStopped, WhereStopped};
 ghost use Rattle.file_scan.specs.Took.{TakesAll, TakesSome, BreaksOff};
+ghost use Rattle.file_scan.specs.Reading.{IsUnchangedWhere};
 
 use crate::progress::Progress;
 use file_schema::RowError;
@@ -42,15 +43,22 @@ pub fn each_row<S: Alter, E: Drop, K: Taker<E>, P: Progress>(
 ) -> Result<Result<(), E>, RowError>
     requires outside { conn.old.in_transaction ≡ false }
     requires reads { (s : Schema) → IsForReading s sql.now }
-    ensures whole { IfOk result (λ r. OnOk r (TakesAll K.Taker.takes sql.now (state S.Store conn.old) (state S.Store conn.new) taker.old taker.new)) }
-    ensures stopped { IfOk result (λ r. IfErr r (λ e. TakesSome K.Taker.takes (λ k row n. K.Taker.stops k row e n) sql.now (state S.Store conn.old) (state S.Store conn.new) taker.old taker.new)) }
-    ensures broken { IfErr result (λ _. BreaksOff K.Taker.takes sql.now (state S.Store conn.old) (state S.Store conn.new) taker.old taker.new) }
-    ensures refused { HasCleanDisk (state S.Store conn.new) → IfErr result (IsFor (HasNoMeaning (state S.Store conn.old).now.schema sql.now) ⊥) }
-    ensures store { HasCleanDisk (state S.Store conn.new) → (s : Schema) (tree : ℕ) → IsSelectIn s sql.now tree [] → RunsAloneIn s sql.now → IsTrue (state S.Store conn.old).is_open → (state S.Store conn.old).now.schema ≡ s → IfErr result (WhereStopped (IsStopped (state S.Store conn.old) (state S.Store conn.new))) }
-    ensures same { HasCleanDisk (state S.Store conn.new) → IfOk result (λ _. IsUnchanged (state S.Store conn.old) (state S.Store conn.new)) }
-    ensures rests { Rests (state S.Store conn.old) (state S.Store conn.new) }
-    ensures mode { conn.new.in_transaction ≡ false }
-    ensures crash { Survives (state S.Store conn.old) (state S.Store conn.new) (λ _. ⊥) }
+    ensures whole { IfOk result (λ r. OnOk r (TakesAll K.Taker.takes sql.now
+        (state S.Store conn.old) (state S.Store conn.new) taker.old taker.new)) }
+    ensures stopped { IfOk result (λ r. IfErr r (λ e. TakesSome K.Taker.takes
+        (λ k row n. K.Taker.stops k row e n) sql.now
+        (state S.Store conn.old) (state S.Store conn.new) taker.old taker.new)) }
+    ensures broken { IfErr result (λ _. BreaksOff K.Taker.takes sql.now
+        (state S.Store conn.old) (state S.Store conn.new) taker.old taker.new) }
+    ensures refused { HasCleanDisk (state S.Store conn.new)
+        → IfErr result (IsFor (HasNoMeaning (state S.Store conn.old).now.schema sql.now) ⊥) }
+    ensures store { HasCleanDisk (state S.Store conn.new) → (s : Schema) (tree : ℕ)
+        → IsSelectIn s sql.now tree [] → RunsAloneIn s sql.now
+        → IsTrue (state S.Store conn.old).is_open → (state S.Store conn.old).now.schema ≡ s
+        → IfErr result
+        (WhereStopped (IsStopped (state S.Store conn.old) (state S.Store conn.new))) }
+    ensures same { IsUnchangedWhere (λ holds. IfOk result (λ _. holds)) S.Store conn.old conn.new }
+    ensures only { OnlyReads S.Store conn.old conn.new }
 {
     let mut rows = match conn.query(sql, &[]) {
         Ok(rows) => rows,

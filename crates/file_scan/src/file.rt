@@ -3,18 +3,17 @@
 ghost use Rattle.std.specs.Prelude.{◌≡◌, ◌≤◌, ℕ, false, [], ◌∷◌, IfOk, IfErr, IfSome, OnOk, Ok, Err, Some, None};
 ghost use Rattle.sqlite.specs.Effect.{Database};
 ghost use Rattle.sqlite.specs.Held.{state};
-ghost use Rattle.sqlite.specs.State.{HasCleanDisk, Survives, IsUnchanged};
 ghost use Rattle.file_schema.specs.declared.error.RowError.TheVariants.{Damaged, Store};
 ghost use Rattle.file_schema.specs.Tables.{schema, this_version};
 ghost use Rattle.file_rows.specs.Rows.{shop_row};
 ghost use Rattle.file_rows.specs.Tables.{Holds, HoldsAt};
 ghost use Rattle.file_reads.specs.Damage.{HasNoMeaning, IsFor};
-ghost use Rattle.file_reads.specs.Since.{IsSince};
 ghost use Rattle.file_reads.specs.Texts.{shop_text};
-ghost use Rattle.file_scan.specs.Rests.{IsOpenAt, Rests};
+ghost use Rattle.file_scan.specs.Rests.{OnlyReads};
 ghost use Rattle.file_scan.specs.Stopped.{IsStopped, WhereClosed};
 ghost use Rattle.file_scan.specs.Read.{HoldsRows, tables_of};
-ghost use Rattle.file_scan.specs.Causes.{LacksTable, HasTables, HasDamage, AreFitTables, IsFitFile, IsReadable, IsReadableAs, ShowsBy, OfTheShop, HasNoOtherVersion, IsCause, IsCauseAs};
+ghost use Rattle.file_scan.specs.Causes.{LacksTable, HasTables, AreFitTables, IsFitFile, IsReadable, IsReadableAs, ShowsBy, OfTheShop, HasNoOtherVersion, IsCause, IsCauseAs};
+ghost use Rattle.file_scan.specs.Reading.{OfOpen, OfVersion, OfThisVersion, IsUnchangedWhere, StopsAs, ShowsShop, OfShop, HasDamageSince};
 
 use crate::error::OpenError;
 use crate::head::{read_shop, shop_rows, test_version};
@@ -35,7 +34,8 @@ pub struct FileTables {
 
 // What a refusal means where the shop's rows are read, which aren't damaged before they are looked at.
 fn refusal(error: RowError) -> OpenError
-    ensures cause { (own : ℕ) (db : Database) → IsFor (HasNoMeaning db.schema shop_text) ⊥ error → IsCauseAs own db result }
+    ensures cause { (own : ℕ) (db : Database) → IsFor (HasNoMeaning db.schema shop_text) ⊥ error
+        → IsCauseAs own db result }
     ensures store { WhereClosed (error ≡ Store) result }
 {
     match error {
@@ -51,7 +51,9 @@ fn readable(read: Result<TableRows, RowError>) -> Result<Option<TableRows>, Open
     ensures read { IfOk result (λ found. IfSome found (λ rows. read ≡ Ok rows)) }
     ensures unread { IfOk result (λ found. found ≡ None → read ≡ Err Damaged) }
     ensures store { IfErr result (WhereClosed (read ≡ Err Store)) }
-    ensures cause { (own : ℕ) (db : Database) → OfTheShop db (HasNoOtherVersion own) → IfErr read (IsFor (LacksTable own db.schema) (IsSince own db.schema → HasDamage own db.trees)) → IfErr result (IsCauseAs own db) }
+    ensures cause { (own : ℕ) (db : Database) → OfTheShop db (HasNoOtherVersion own)
+        → IfErr read (IsFor (LacksTable own db.schema) (HasDamageSince own db))
+        → IfErr result (IsCauseAs own db) }
 {
     match read {
         Ok(rows) => Ok(Some(rows)),
@@ -67,7 +69,8 @@ fn tested(rows: Vec<Row>, own: u64) -> Result<Vec<Row>, OpenError>
     requires { own ≤ this_version }
     ensures same { IfOk result (λ same. same ≡ rows) }
     ensures passed { OnOk result (HasNoOtherVersion own rows.items) }
-    ensures cause { (db : Database) → ShowsBy shop_text db rows.items → IfErr result (IsCauseAs own db) }
+    ensures cause { (db : Database) → ShowsBy shop_text db rows.items
+        → IfErr result (IsCauseAs own db) }
     ensures never { IfErr result (WhereClosed ⊥) }
 {
     match test_version(rows.as_slice(), own) {
@@ -80,13 +83,12 @@ fn tested(rows: Vec<Row>, own: u64) -> Result<Vec<Row>, OpenError>
 fn read_head<S: Alter>(conn: &mut Connection<S>, own: u64) -> Result<Vec<Row>, OpenError>
     requires outside { conn.old.in_transaction ≡ false }
     requires version { own ≤ this_version }
-    ensures found { HasCleanDisk (state S.Store conn.new) → (db : Database) → IsOpenAt db (state S.Store conn.old) → IfOk result (λ rows. ShowsBy shop_text db rows.items × HasNoOtherVersion own rows.items) }
-    ensures cause { HasCleanDisk (state S.Store conn.new) → (db : Database) → IsOpenAt db (state S.Store conn.old) → IfErr result (IsCauseAs own db) }
-    ensures store { HasCleanDisk (state S.Store conn.new) → (db : Database) → IsOpenAt db (state S.Store conn.old) → IsSince 1 db.schema → IfErr result (WhereClosed (IsStopped (state S.Store conn.old) (state S.Store conn.new))) }
-    ensures same { HasCleanDisk (state S.Store conn.new) → OnOk result (IsUnchanged (state S.Store conn.old) (state S.Store conn.new)) }
-    ensures rests { Rests (state S.Store conn.old) (state S.Store conn.new) }
-    ensures mode { conn.new.in_transaction ≡ false }
-    ensures crash { Survives (state S.Store conn.old) (state S.Store conn.new) (λ _. ⊥) }
+    ensures found { OfOpen S.Store conn.old conn.new
+        (λ db. IfOk result (λ rows. ShowsShop own db rows.items)) }
+    ensures cause { OfOpen S.Store conn.old conn.new (λ db. IfErr result (IsCauseAs own db)) }
+    ensures store { StopsAs WhereClosed 1 S.Store conn.old conn.new result }
+    ensures same { IsUnchangedWhere (OnOk result) S.Store conn.old conn.new }
+    ensures only { OnlyReads S.Store conn.old conn.new }
 {
     match shop_rows(conn) {
         Ok(rows) => tested(rows, own),
@@ -104,15 +106,16 @@ fn read_all<S: Alter, P: Progress>(
     requires outside { conn.old.in_transaction ≡ false }
     requires first { 1 ≤ own }
     requires version { own ≤ this_version }
-    ensures loaded { HasCleanDisk (state S.Store conn.new) → (db : Database) → IsOpenAt db (state S.Store conn.old) → IsSince own db.schema → IfOk result (λ read. IfSome read.1 (HoldsRows own db.trees)) }
+    ensures loaded { OfVersion own S.Store conn.old conn.new
+        (λ db. IfOk result (λ read. IfSome read.1 (HoldsRows own db.trees))) }
     ensures limits { IfOk result (λ read. IfSome read.1 AreFitTables) }
-    ensures found { HasCleanDisk (state S.Store conn.new) → (db : Database) → IsOpenAt db (state S.Store conn.old) → IfOk result (λ read. ShowsBy shop_text db read.0.items × HasNoOtherVersion own read.0.items × HasTables own db.schema × (read.1 ≡ None → IsSince own db.schema → HasDamage own db.trees)) }
-    ensures cause { HasCleanDisk (state S.Store conn.new) → (db : Database) → IsOpenAt db (state S.Store conn.old) → IfErr result (IsCauseAs own db) }
-    ensures store { HasCleanDisk (state S.Store conn.new) → (db : Database) → IsOpenAt db (state S.Store conn.old) → IsSince own db.schema → IfErr result (WhereClosed (IsStopped (state S.Store conn.old) (state S.Store conn.new))) }
-    ensures same { HasCleanDisk (state S.Store conn.new) → OnOk result (IsUnchanged (state S.Store conn.old) (state S.Store conn.new)) }
-    ensures rests { Rests (state S.Store conn.old) (state S.Store conn.new) }
-    ensures mode { conn.new.in_transaction ≡ false }
-    ensures crash { Survives (state S.Store conn.old) (state S.Store conn.new) (λ _. ⊥) }
+    ensures found { OfOpen S.Store conn.old conn.new (λ db. IfOk result
+        (λ read. ShowsBy shop_text db read.0.items × HasNoOtherVersion own read.0.items
+        × HasTables own db.schema × (read.1 ≡ None → HasDamageSince own db))) }
+    ensures cause { OfOpen S.Store conn.old conn.new (λ db. IfErr result (IsCauseAs own db)) }
+    ensures store { StopsAs WhereClosed own S.Store conn.old conn.new result }
+    ensures same { IsUnchangedWhere (OnOk result) S.Store conn.old conn.new }
+    ensures only { OnlyReads S.Store conn.old conn.new }
 {
     match read_head(conn, own) {
         Ok(rows) => match readable(read_tables(alloc, conn, own, progress)) {
@@ -134,7 +137,8 @@ fn whole_file(
     ensures version { IfOk result (λ file. file.shop.version ≡ own) }
     ensures tables { IfOk result (λ file. tables ≡ Some file.tables) }
     ensures limits { IfSome tables AreFitTables → IfOk result IsFitFile }
-    ensures cause { (db : Database) → ShowsBy shop_text db rows.now → HasNoOtherVersion own rows.now → HasTables own db.schema → (tables ≡ None → IsSince own db.schema → HasDamage own db.trees) → IfErr result (IsCauseAs own db) }
+    ensures cause { OfShop own rows.now (λ db. (tables ≡ None → HasDamageSince own db)
+        → IfErr result (IsCauseAs own db)) }
     ensures never { IfErr result (WhereClosed ⊥) }
 {
     match (read_shop(alloc, rows, own), tables) {
@@ -157,16 +161,15 @@ pub fn read_file_of<S: Alter, P: Progress>(
     requires outside { conn.old.in_transaction ≡ false }
     requires first { 1 ≤ own }
     requires version { own ≤ this_version }
-    ensures held { HasCleanDisk (state S.Store conn.new) → (db : Database) → IsOpenAt db (state S.Store conn.old) → IsSince own db.schema → IfOk result (λ file. HoldsAt own db.trees (tables_of file)) }
+    ensures held { OfVersion own S.Store conn.old conn.new
+        (λ db. IfOk result (λ file. HoldsAt own db.trees (tables_of file))) }
     ensures version { IfOk result (λ file. file.shop.version ≡ own) }
     ensures limits { IfOk result IsFitFile }
-    ensures found { HasCleanDisk (state S.Store conn.new) → (db : Database) → IsOpenAt db (state S.Store conn.old) → OnOk result (IsReadableAs own db) }
-    ensures cause { HasCleanDisk (state S.Store conn.new) → (db : Database) → IsOpenAt db (state S.Store conn.old) → IfErr result (IsCauseAs own db) }
-    ensures store { HasCleanDisk (state S.Store conn.new) → (db : Database) → IsOpenAt db (state S.Store conn.old) → IsSince own db.schema → IfErr result (WhereClosed (IsStopped (state S.Store conn.old) (state S.Store conn.new))) }
-    ensures same { HasCleanDisk (state S.Store conn.new) → OnOk result (IsUnchanged (state S.Store conn.old) (state S.Store conn.new)) }
-    ensures rests { Rests (state S.Store conn.old) (state S.Store conn.new) }
-    ensures mode { conn.new.in_transaction ≡ false }
-    ensures crash { Survives (state S.Store conn.old) (state S.Store conn.new) (λ _. ⊥) }
+    ensures found { OfOpen S.Store conn.old conn.new (λ db. OnOk result (IsReadableAs own db)) }
+    ensures cause { OfOpen S.Store conn.old conn.new (λ db. IfErr result (IsCauseAs own db)) }
+    ensures store { StopsAs WhereClosed own S.Store conn.old conn.new result }
+    ensures same { IsUnchangedWhere (OnOk result) S.Store conn.old conn.new }
+    ensures only { OnlyReads S.Store conn.old conn.new }
 {
     match read_all(alloc, conn, own, progress) {
         Ok((rows, tables)) => whole_file(alloc, rows.as_slice(), tables, own),
@@ -184,16 +187,16 @@ pub fn read_file<S: Alter, P: Progress>(
     progress: &mut P,
 ) -> Result<FileTables, OpenError>
     requires { conn.old.in_transaction ≡ false }
-    ensures held { HasCleanDisk (state S.Store conn.new) → (db : Database) → IsOpenAt db (state S.Store conn.old) → db.schema ≡ schema → IfOk result (λ file. Holds db.trees (tables_of file)) }
+    ensures held { OfThisVersion S.Store conn.old conn.new
+        (λ db. IfOk result (λ file. Holds db.trees (tables_of file))) }
     ensures version { IfOk result (λ file. file.shop.version ≡ this_version) }
     ensures limits { IfOk result IsFitFile }
-    ensures found { HasCleanDisk (state S.Store conn.new) → (db : Database) → IsOpenAt db (state S.Store conn.old) → OnOk result (IsReadable db) }
-    ensures cause { HasCleanDisk (state S.Store conn.new) → (db : Database) → IsOpenAt db (state S.Store conn.old) → IfErr result (IsCause db) }
-    ensures store { HasCleanDisk (state S.Store conn.new) → (db : Database) → IsOpenAt db (state S.Store conn.old) → db.schema ≡ schema → IfErr result (WhereClosed (IsStopped (state S.Store conn.old) (state S.Store conn.new))) }
-    ensures same { HasCleanDisk (state S.Store conn.new) → OnOk result (IsUnchanged (state S.Store conn.old) (state S.Store conn.new)) }
-    ensures rests { Rests (state S.Store conn.old) (state S.Store conn.new) }
-    ensures mode { conn.new.in_transaction ≡ false }
-    ensures crash { Survives (state S.Store conn.old) (state S.Store conn.new) (λ _. ⊥) }
+    ensures found { OfOpen S.Store conn.old conn.new (λ db. OnOk result (IsReadable db)) }
+    ensures cause { OfOpen S.Store conn.old conn.new (λ db. IfErr result (IsCause db)) }
+    ensures store { OfThisVersion S.Store conn.old conn.new (λ _. IfErr result
+        (WhereClosed (IsStopped (state S.Store conn.old) (state S.Store conn.new)))) }
+    ensures same { IsUnchangedWhere (OnOk result) S.Store conn.old conn.new }
+    ensures only { OnlyReads S.Store conn.old conn.new }
 {
     read_file_of(alloc, conn, VERSION, progress)
 }

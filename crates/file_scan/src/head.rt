@@ -4,18 +4,16 @@ ghost use Rattle.std.specs.Prelude.{◌≡◌, ◌≢◌, ◌≤◌, ℤ, false,
 ghost use Rattle.sqlite_value.specs.declared.value.Value.TheVariants.{Int};
 ghost use Rattle.sqlite_value.specs.Order.{column};
 ghost use Rattle.sqlite.specs.Effect.{Database};
-ghost use Rattle.sqlite.specs.Held.{state};
-ghost use Rattle.sqlite.specs.State.{HasCleanDisk, Survives, IsUnchanged};
 ghost use Rattle.file_schema.specs.Tables.{this_version};
 ghost use Rattle.file_rows.specs.Rows.{shop_row};
 ghost use Rattle.file_rows.specs.Fit.{IsFitShop};
 ghost use Rattle.file_rows.specs.Unread.{IsUnread};
 ghost use Rattle.file_reads.specs.Damage.{HasNoMeaning, IsFor};
-ghost use Rattle.file_reads.specs.Since.{IsSince};
 ghost use Rattle.file_reads.specs.Texts.{shop_text};
-ghost use Rattle.file_scan.specs.Rests.{IsOpenAt, Rests};
-ghost use Rattle.file_scan.specs.Stopped.{IsStopped, WhereClosed, WhereStopped};
-ghost use Rattle.file_scan.specs.Causes.{HasNextIds, HasTables, ShowsBy, HasNoOtherVersion, IsCauseAs};
+ghost use Rattle.file_scan.specs.Rests.{OnlyReads};
+ghost use Rattle.file_scan.specs.Stopped.{WhereClosed, WhereStopped};
+ghost use Rattle.file_scan.specs.Causes.{HasNextIds, ShowsBy, HasNoOtherVersion, IsCauseAs};
+ghost use Rattle.file_scan.specs.Reading.{OfOpen, IsUnchangedWhere, StopsAs, OfShop};
 
 use crate::error::OpenError;
 use crate::ids::has_next_ids;
@@ -30,13 +28,13 @@ use std::alloc::Global;
 /// Refusals: 6, 60 where the file has no such table with these columns, 63.
 pub(crate) fn shop_rows<S: Alter>(conn: &mut Connection<S>) -> Result<Vec<Row>, RowError>
     requires { conn.old.in_transaction ≡ false }
-    ensures shown { HasCleanDisk (state S.Store conn.new) → (db : Database) → IsOpenAt db (state S.Store conn.old) → IfOk result (λ rows. ShowsBy shop_text db rows.items) }
-    ensures refused { HasCleanDisk (state S.Store conn.new) → (db : Database) → IsOpenAt db (state S.Store conn.old) → IfErr result (IsFor (HasNoMeaning db.schema shop_text) ⊥) }
-    ensures store { HasCleanDisk (state S.Store conn.new) → (db : Database) → IsOpenAt db (state S.Store conn.old) → IsSince 1 db.schema → IfErr result (WhereStopped (IsStopped (state S.Store conn.old) (state S.Store conn.new))) }
-    ensures same { HasCleanDisk (state S.Store conn.new) → OnOk result (IsUnchanged (state S.Store conn.old) (state S.Store conn.new)) }
-    ensures rests { Rests (state S.Store conn.old) (state S.Store conn.new) }
-    ensures mode { conn.new.in_transaction ≡ false }
-    ensures crash { Survives (state S.Store conn.old) (state S.Store conn.new) (λ _. ⊥) }
+    ensures shown { OfOpen S.Store conn.old conn.new
+        (λ db. IfOk result (λ rows. ShowsBy shop_text db rows.items)) }
+    ensures refused { OfOpen S.Store conn.old conn.new
+        (λ db. IfErr result (IsFor (HasNoMeaning db.schema shop_text) ⊥)) }
+    ensures store { StopsAs WhereStopped 1 S.Store conn.old conn.new result }
+    ensures same { IsUnchangedWhere (OnOk result) S.Store conn.old conn.new }
+    ensures only { OnlyReads S.Store conn.old conn.new }
 {
     match conn.query_all(ShopRow::statement(), &[]) {
         Ok(rows) => Ok(rows),
@@ -60,7 +58,8 @@ fn version_in(row: &Row) -> Result<i64, RowError>
 pub(crate) fn test_version(rows: &[Row], own: u64) -> Result<(), OpenError>
     requires { own ≤ this_version }
     ensures passed { OnOk result (HasNoOtherVersion own rows.now) }
-    ensures cause { (db : Database) → ShowsBy shop_text db rows.now → IfErr result (IsCauseAs own db) }
+    ensures cause { (db : Database) → ShowsBy shop_text db rows.now
+        → IfErr result (IsCauseAs own db) }
     ensures never { IfErr result (WhereClosed ⊥) }
 {
     let [row] = rows else {
@@ -81,7 +80,7 @@ pub(crate) fn read_shop(alloc: Global, rows: &[Row], own: u64) -> Result<ShopRow
     ensures version { IfOk result (λ shop. shop.version ≡ own) }
     ensures limits { IfOk result IsFitShop }
     ensures ids { IfOk result HasNextIds }
-    ensures cause { (db : Database) → ShowsBy shop_text db rows.now → HasNoOtherVersion own rows.now → HasTables own db.schema → IfErr result (IsCauseAs own db) }
+    ensures cause { OfShop own rows.now (λ db. IfErr result (IsCauseAs own db)) }
     ensures never { IfErr result (WhereClosed ⊥) }
 {
     let [row] = rows else {

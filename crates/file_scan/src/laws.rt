@@ -22,27 +22,36 @@ ghost use Rattle.file_scan.specs.Lawful.{AreFit, IsOfMachine};
 /// A file whose tables hold one shop of this version, and values within their limits, is refused for want of memory or because the
 /// store fails, and never with 60, 61 or 62.
 pub fn fit_tables_are_no_fault()
-    ensures { (t : Tables) (db : Database) → db.schema ≡ schema → Holds db.trees t → AreFit t → (e : OpenError) → IsCause db e → IsOfMachine e }
+    ensures { (t : Tables) (db : Database) → db.schema ≡ schema → Holds db.trees t → AreFit t
+        → (e : OpenError) → IsCause db e → IsOfMachine e }
 {}
 
 /// So it is of a file that was read: none of 60, 61 and 62 by the first two rules has its cause.
 pub fn readable_files_are_no_fault()
-    ensures { (db : Database) → db.schema ≡ schema → IsReadable db → (e : OpenError) → IsCause db e → IsOfMachine e }
+    ensures { (db : Database) → db.schema ≡ schema → IsReadable db
+        → (e : OpenError) → IsCause db e → IsOfMachine e }
 {}
 
 /// A version that is told is that of the shop's row, and not that of this program.
 pub fn a_version_is_told_of_the_shop()
-    ensures { (t : Tables) (db : Database) → db.schema ≡ schema → Holds db.trees t → (shop : ShopRow) → t.shop ≡ shop ∷ [] → (version : ℤ) → IsCause db (Version version) → (pos shop.version ≡ version) × (version ≢ pos this_version) }
+    ensures { (t : Tables) (db : Database) → db.schema ≡ schema → Holds db.trees t
+        → (shop : ShopRow) → t.shop ≡ shop ∷ [] → (version : ℤ) → IsCause db (Version version)
+        → (pos shop.version ≡ version) × (version ≢ pos this_version) }
 {}
 
 /// A file of whatever version whose tables hold one shop of another version than this program's is refused with 61, which tells the shop's
 /// version, or for want of memory or because the store fails, and never with 60 or 62.
 pub fn another_version_is_told()
-    ensures { (from : ℕ) (t : Tables) (db : Database) → db.schema ≡ schema_of_version from → HoldsAt from db.trees t → (shop : ShopRow) → t.shop ≡ shop ∷ [] → shop.version ≢ this_version
-        → (e : OpenError) → IsCause db e → (e ≡ Version (pos shop.version)) ⊎ IsOfMachine e }
+    ensures { (from : ℕ) (t : Tables) (db : Database) → db.schema ≡ schema_of_version from
+        → HoldsAt from db.trees t → (shop : ShopRow) → t.shop ≡ shop ∷ []
+        → shop.version ≢ this_version → (e : OpenError) → IsCause db e
+        → (e ≡ Version (pos shop.version)) ⊎ IsOfMachine e }
 {}
 
 /// The values of tables that hold a sound box office are within their limits, where their types keep what they promise.
 pub fn a_sound_office_is_fit()
-    ensures { (shop : ShopRow) (t : Tables) (state : State) (answers : List Kept) → shop.version ≡ this_version → IsSlug shop.organizer → IsSlug shop.event → IsNextId last_id shop.next_token → Stand shop t state answers → IsSound state → AreTyped t → AreFit t }
+    ensures { (shop : ShopRow) (t : Tables) (state : State) (answers : List Kept)
+        → shop.version ≡ this_version → IsSlug shop.organizer → IsSlug shop.event
+        → IsNextId last_id shop.next_token → Stand shop t state answers → IsSound state → AreTyped t
+        → AreFit t }
 {}

@@ -9,7 +9,8 @@ use file_rows::Numbered;
 /// The number that follows on the last one, the least above all, where the numbers rise. None where they don't, or where the last one is 2^64 - 1.
 pub fn next_number<T: Numbered>(rows: &[T]) -> Option<u64>
     ensures next { IfSome result (λ next. AreBelow next (map T.number_of rows.now)) }
-    ensures least { IfSome result (λ next. (number : ℕ) → AreBelow number (map T.number_of rows.now) → next ≤ number) }
+    ensures least { IfSome result (λ next. (number : ℕ)
+        → AreBelow number (map T.number_of rows.now) → next ≤ number) }
     ensures none { IfNone result (¬ Rise (map T.number_of rows.now)) }
 {
     let mut from: u64 = 0;

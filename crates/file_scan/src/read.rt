@@ -1,17 +1,13 @@
 //! All that the tables of a file hold, as it is read.
 
-ghost use Rattle.std.specs.Prelude.{◌≡◌, ◌≤◌, ◌⊎◌, ⊤, [], false, All, IfOk, IfErr};
+ghost use Rattle.std.specs.Prelude.{◌≡◌, ◌≤◌, ⊤, [], false, All, IfOk};
 ghost use Rattle.sqlite_trees.specs.Tree.{Trees};
-ghost use Rattle.sqlite.specs.Effect.{Database};
-ghost use Rattle.sqlite.specs.Held.{state};
-ghost use Rattle.sqlite.specs.State.{HasCleanDisk, Survives, IsUnchanged};
 ghost use Rattle.file_rows.specs.Fit.{IsFitBudget, IsFitDiscount};
-ghost use Rattle.file_reads.specs.Since.{IsSince};
-ghost use Rattle.file_reads.specs.Damage.{IsFor};
-ghost use Rattle.file_scan.specs.Rests.{IsOpenAt, Rests, WhereShown};
-ghost use Rattle.file_scan.specs.Stopped.{IsStopped, WhereStopped};
+ghost use Rattle.file_scan.specs.Rests.{OnlyReads, WhereShown};
+ghost use Rattle.file_scan.specs.Stopped.{WhereStopped};
 ghost use Rattle.file_scan.specs.Causes.{IsFitCatalogue, HasCatalogue, LacksCatalogue, IsDamagedCatalogue, AreFitSales, HasSales, LacksSales, AreDamagedSales, AreFitDoors, HasDoors, LacksDoors, AreDamagedDoors, AreFitOthers, HasOthers, LacksOthers, AreDamagedOthers, AreFitTables, HasFirst, LacksFirst, HasFirstDamage, HasSides, LacksSides, AreDamagedSides, HasSums, LacksSums, AreDamagedSums, HasTables, LacksTable, HasDamage};
 ghost use Rattle.file_scan.specs.Read.{HoldsCatalogue, HoldsSales, HoldsDoors, HoldsOthers, HoldsFirst, HoldsSides, HoldsSums, HoldsRows, HasNoSides, HasNoSums};
+ghost use Rattle.file_scan.specs.Reading.{IsUnchangedWhere, StopsAs, Loads, FindsTables, RefusesFor, Both, Either, HoldsTwo, HoldsThree, HasThree, LacksOfThree, IsDamagedOfThree};
 
 use crate::progress::Progress;
 use crate::whole::{Whole, read_both};
@@ -248,9 +244,11 @@ impl SumRows {
 }
 
 impl Whole for SumRows {
-    ghost is_in = { λ db rows. HoldsSums db rows.budgets.items rows.spents.items rows.discounts.items };
+    ghost is_in = { λ db rows. HoldsSums db rows.budgets.items rows.spents.items
+        rows.discounts.items };
 
-    ghost fits = { λ rows. All IsFitBudget rows.budgets.items × All IsFitDiscount rows.discounts.items };
+    ghost fits = { λ rows. All IsFitBudget rows.budgets.items
+        × All IsFitDiscount rows.discounts.items };
 
     ghost since = { 3 };
 
@@ -279,7 +277,8 @@ impl Whole for SumRows {
 // The rows of the tables of the first version, with those of the later ones.
 fn with_later(tables: TableRows, sides: SideRows, sums: SumRows) -> TableRows
     ensures held { (db : Trees) → HoldsFirst db tables → HoldsFirst db result }
-    ensures limits { AreFitTables tables → All IsFitBudget sums.budgets.items → All IsFitDiscount sums.discounts.items → AreFitTables result }
+    ensures limits { AreFitTables tables → All IsFitBudget sums.budgets.items
+        → All IsFitDiscount sums.discounts.items → AreFitTables result }
     ensures releases { result.catalogue.releases ≡ sides.releases }
     ensures exits { result.others.exits ≡ sides.exits }
     ensures budgets { result.sales.budgets ≡ sums.budgets }
@@ -302,16 +301,14 @@ fn read_first<S: Alter, P: Progress>(
     progress: &mut P,
 ) -> Result<TableRows, RowError>
     requires { conn.old.in_transaction ≡ false }
-    ensures loaded { HasCleanDisk (state S.Store conn.new) → (db : Database) → IsOpenAt db (state S.Store conn.old) → IsSince 1 db.schema → IfOk result (HoldsFirst db.trees) }
+    ensures loaded { Loads 1 HoldsFirst S.Store conn.old conn.new result }
     ensures none { IfOk result (λ rows. HasNoSides rows × HasNoSums rows) }
     ensures limits { IfOk result AreFitTables }
-    ensures found { HasCleanDisk (state S.Store conn.new) → (db : Database) → IsOpenAt db (state S.Store conn.old) → WhereShown result (HasFirst db.schema) }
-    ensures refused { HasCleanDisk (state S.Store conn.new) → (db : Database) → IsOpenAt db (state S.Store conn.old) → IfErr result (IsFor (LacksFirst db.schema) (IsSince 1 db.schema → HasFirstDamage db.trees)) }
-    ensures store { HasCleanDisk (state S.Store conn.new) → (db : Database) → IsOpenAt db (state S.Store conn.old) → IsSince 1 db.schema → IfErr result (WhereStopped (IsStopped (state S.Store conn.old) (state S.Store conn.new))) }
-    ensures same { HasCleanDisk (state S.Store conn.new) → WhereShown result (IsUnchanged (state S.Store conn.old) (state S.Store conn.new)) }
-    ensures rests { Rests (state S.Store conn.old) (state S.Store conn.new) }
-    ensures mode { conn.new.in_transaction ≡ false }
-    ensures crash { Survives (state S.Store conn.old) (state S.Store conn.new) (λ _. ⊥) }
+    ensures found { FindsTables HasFirst S.Store conn.old conn.new result }
+    ensures refused { RefusesFor LacksFirst 1 HasFirstDamage S.Store conn.old conn.new result }
+    ensures store { StopsAs WhereStopped 1 S.Store conn.old conn.new result }
+    ensures same { IsUnchangedWhere (WhereShown result) S.Store conn.old conn.new }
+    ensures only { OnlyReads S.Store conn.old conn.new }
 {
     match TableRows::read(alloc, conn, progress) {
         Ok(tables) => Ok(with_later(tables, SideRows::none(alloc), SumRows::none(alloc))),
@@ -326,16 +323,15 @@ fn read_second<S: Alter, P: Progress>(
     progress: &mut P,
 ) -> Result<TableRows, RowError>
     requires { conn.old.in_transaction ≡ false }
-    ensures loaded { HasCleanDisk (state S.Store conn.new) → (db : Database) → IsOpenAt db (state S.Store conn.old) → IsSince 2 db.schema → IfOk result (λ rows. HoldsFirst db.trees rows × HoldsSides db.trees rows.catalogue.releases.items rows.others.exits.items) }
+    ensures loaded { Loads 2 HoldsTwo S.Store conn.old conn.new result }
     ensures none { IfOk result HasNoSums }
     ensures limits { IfOk result AreFitTables }
-    ensures found { HasCleanDisk (state S.Store conn.new) → (db : Database) → IsOpenAt db (state S.Store conn.old) → WhereShown result (HasFirst db.schema × HasSides db.schema) }
-    ensures refused { HasCleanDisk (state S.Store conn.new) → (db : Database) → IsOpenAt db (state S.Store conn.old) → IfErr result (IsFor (LacksFirst db.schema ⊎ LacksSides db.schema) (IsSince 2 db.schema → HasFirstDamage db.trees ⊎ AreDamagedSides db.trees)) }
-    ensures store { HasCleanDisk (state S.Store conn.new) → (db : Database) → IsOpenAt db (state S.Store conn.old) → IsSince 2 db.schema → IfErr result (WhereStopped (IsStopped (state S.Store conn.old) (state S.Store conn.new))) }
-    ensures same { HasCleanDisk (state S.Store conn.new) → WhereShown result (IsUnchanged (state S.Store conn.old) (state S.Store conn.new)) }
-    ensures rests { Rests (state S.Store conn.old) (state S.Store conn.new) }
-    ensures mode { conn.new.in_transaction ≡ false }
-    ensures crash { Survives (state S.Store conn.old) (state S.Store conn.new) (λ _. ⊥) }
+    ensures found { FindsTables (Both HasFirst HasSides) S.Store conn.old conn.new result }
+    ensures refused { RefusesFor (Either LacksFirst LacksSides) 2
+        (Either HasFirstDamage AreDamagedSides) S.Store conn.old conn.new result }
+    ensures store { StopsAs WhereStopped 2 S.Store conn.old conn.new result }
+    ensures same { IsUnchangedWhere (WhereShown result) S.Store conn.old conn.new }
+    ensures only { OnlyReads S.Store conn.old conn.new }
 {
     let read: Result<(TableRows, SideRows), RowError> = read_both(alloc, conn, progress);
     match read {
@@ -351,15 +347,13 @@ fn read_third<S: Alter, P: Progress>(
     progress: &mut P,
 ) -> Result<TableRows, RowError>
     requires { conn.old.in_transaction ≡ false }
-    ensures loaded { HasCleanDisk (state S.Store conn.new) → (db : Database) → IsOpenAt db (state S.Store conn.old) → IsSince 3 db.schema → IfOk result (λ rows. HoldsFirst db.trees rows × (HoldsSides db.trees rows.catalogue.releases.items rows.others.exits.items × HoldsSums db.trees rows.sales.budgets.items rows.others.spents.items rows.sales.discounts.items)) }
+    ensures loaded { Loads 3 HoldsThree S.Store conn.old conn.new result }
     ensures limits { IfOk result AreFitTables }
-    ensures found { HasCleanDisk (state S.Store conn.new) → (db : Database) → IsOpenAt db (state S.Store conn.old) → WhereShown result (HasFirst db.schema × (HasSides db.schema × HasSums db.schema)) }
-    ensures refused { HasCleanDisk (state S.Store conn.new) → (db : Database) → IsOpenAt db (state S.Store conn.old) → IfErr result (IsFor (LacksFirst db.schema ⊎ (LacksSides db.schema ⊎ LacksSums db.schema)) (IsSince 3 db.schema → HasFirstDamage db.trees ⊎ (AreDamagedSides db.trees ⊎ AreDamagedSums db.trees))) }
-    ensures store { HasCleanDisk (state S.Store conn.new) → (db : Database) → IsOpenAt db (state S.Store conn.old) → IsSince 3 db.schema → IfErr result (WhereStopped (IsStopped (state S.Store conn.old) (state S.Store conn.new))) }
-    ensures same { HasCleanDisk (state S.Store conn.new) → WhereShown result (IsUnchanged (state S.Store conn.old) (state S.Store conn.new)) }
-    ensures rests { Rests (state S.Store conn.old) (state S.Store conn.new) }
-    ensures mode { conn.new.in_transaction ≡ false }
-    ensures crash { Survives (state S.Store conn.old) (state S.Store conn.new) (λ _. ⊥) }
+    ensures found { FindsTables HasThree S.Store conn.old conn.new result }
+    ensures refused { RefusesFor LacksOfThree 3 IsDamagedOfThree S.Store conn.old conn.new result }
+    ensures store { StopsAs WhereStopped 3 S.Store conn.old conn.new result }
+    ensures same { IsUnchangedWhere (WhereShown result) S.Store conn.old conn.new }
+    ensures only { OnlyReads S.Store conn.old conn.new }
 {
     let read: Result<(TableRows, (SideRows, SumRows)), RowError> = read_both(alloc, conn, progress);
     match read {
@@ -379,15 +373,14 @@ pub fn read_tables<S: Alter, P: Progress>(
 ) -> Result<TableRows, RowError>
     requires outside { conn.old.in_transaction ≡ false }
     requires first { 1 ≤ own }
-    ensures loaded { HasCleanDisk (state S.Store conn.new) → (db : Database) → IsOpenAt db (state S.Store conn.old) → IsSince own db.schema → IfOk result (HoldsRows own db.trees) }
+    ensures loaded { Loads own (HoldsRows own) S.Store conn.old conn.new result }
     ensures limits { IfOk result AreFitTables }
-    ensures found { HasCleanDisk (state S.Store conn.new) → (db : Database) → IsOpenAt db (state S.Store conn.old) → WhereShown result (HasTables own db.schema) }
-    ensures refused { HasCleanDisk (state S.Store conn.new) → (db : Database) → IsOpenAt db (state S.Store conn.old) → IfErr result (IsFor (LacksTable own db.schema) (IsSince own db.schema → HasDamage own db.trees)) }
-    ensures store { HasCleanDisk (state S.Store conn.new) → (db : Database) → IsOpenAt db (state S.Store conn.old) → IsSince own db.schema → IfErr result (WhereStopped (IsStopped (state S.Store conn.old) (state S.Store conn.new))) }
-    ensures same { HasCleanDisk (state S.Store conn.new) → WhereShown result (IsUnchanged (state S.Store conn.old) (state S.Store conn.new)) }
-    ensures rests { Rests (state S.Store conn.old) (state S.Store conn.new) }
-    ensures mode { conn.new.in_transaction ≡ false }
-    ensures crash { Survives (state S.Store conn.old) (state S.Store conn.new) (λ _. ⊥) }
+    ensures found { FindsTables (HasTables own) S.Store conn.old conn.new result }
+    ensures refused { RefusesFor (LacksTable own) own
+        (HasDamage own) S.Store conn.old conn.new result }
+    ensures store { StopsAs WhereStopped own S.Store conn.old conn.new result }
+    ensures same { IsUnchangedWhere (WhereShown result) S.Store conn.old conn.new }
+    ensures only { OnlyReads S.Store conn.old conn.new }
 {
     if own < 2 {
         return read_first(alloc, conn, progress);

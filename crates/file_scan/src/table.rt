@@ -1,16 +1,11 @@
 //! A table of the file, all of whose rows can be read.
 
-ghost use Rattle.std.specs.Prelude.{◌≡◌, ◌≢◌, ◌++◌, ◌∷◌, [], false, map, All, IfOk, IfErr, IsPermutation};
-ghost use Rattle.sqlite.specs.Effect.{Database};
-ghost use Rattle.sqlite.specs.Held.{state};
-ghost use Rattle.sqlite.specs.State.{HasCleanDisk, Survives, IsUnchanged};
-ghost use Rattle.file_schema.specs.Tables.{schema};
-ghost use Rattle.file_schema.specs.Parts.{shown};
+ghost use Rattle.std.specs.Prelude.{◌≡◌, ◌≢◌, ◌++◌, ◌∷◌, [], false, All, IfOk};
 ghost use Rattle.file_rows.specs.Unread.{IsUnread};
-ghost use Rattle.file_reads.specs.Damage.{HasMeaning, HasNoMeaning, IsDamaged, IsFor};
-ghost use Rattle.file_reads.specs.Since.{IsSince};
-ghost use Rattle.file_scan.specs.Rests.{IsOpenAt, Rests, WhereShown};
-ghost use Rattle.file_scan.specs.Stopped.{IsStopped, WhereStopped};
+ghost use Rattle.file_reads.specs.Damage.{HasMeaning, HasNoMeaning};
+ghost use Rattle.file_scan.specs.Rests.{OnlyReads, WhereShown};
+ghost use Rattle.file_scan.specs.Stopped.{WhereStopped};
+ghost use Rattle.file_scan.specs.Reading.{IsUnchangedWhere, StopsAs, Loads, FindsTables, RefusesFor, HoldsTable, IsDamagedTable};
 
 use crate::each::{Taker, each_row};
 use crate::progress::Progress;
@@ -26,9 +21,11 @@ struct Gathered<T> {
 }
 
 impl<T: Loaded> Taker<RowError> for Gathered<T> {
-    ghost takes = { λ old row new. (w : T) × (row ≡ T.Loaded.as_row w) × T.Loaded.fits w × (new.all.items ≡ old.all.items ++ w ∷ []) };
+    ghost takes = { λ old row new. (w : T) × (row ≡ T.Loaded.as_row w) × T.Loaded.fits w
+        × (new.all.items ≡ old.all.items ++ w ∷ []) };
 
-    ghost stops = { λ old row e new. IsUnread ((w : T) → T.Loaded.fits w → row ≢ T.Loaded.as_row w) e };
+    ghost stops = { λ old row e new. IsUnread
+        ((w : T) → T.Loaded.fits w → row ≢ T.Loaded.as_row w) e };
 
     fn take(&mut self, alloc: Global, row: &Row) -> Result<(), RowError> {
         match T::read(alloc, row) {
@@ -48,15 +45,15 @@ pub(crate) fn rows_in<S: Alter, T: Loaded, P: Progress>(
     progress: &mut P,
 ) -> Result<Vec<T>, RowError>
     requires { conn.old.in_transaction ≡ false }
-    ensures loaded { HasCleanDisk (state S.Store conn.new) → (db : Database) → IsOpenAt db (state S.Store conn.old) → IsSince T.since db.schema → IfOk result (λ all. IsPermutation (map T.as_row all.items) (map (shown schema T.tree) (db.trees T.tree))) }
+    ensures loaded { Loads T.since (λ trees all. HoldsTable T.as_row T.tree trees all.items)
+        S.Store conn.old conn.new result }
     ensures limits { IfOk result (λ all. All T.fits all.items) }
-    ensures found { HasCleanDisk (state S.Store conn.new) → (db : Database) → IsOpenAt db (state S.Store conn.old) → WhereShown result (HasMeaning db.schema T.text) }
-    ensures refused { HasCleanDisk (state S.Store conn.new) → (db : Database) → IsOpenAt db (state S.Store conn.old) → IfErr result (IsFor (HasNoMeaning db.schema T.text) (IsSince T.since db.schema → IsDamaged T.as_row T.fits (map (shown schema T.tree) (db.trees T.tree)))) }
-    ensures store { HasCleanDisk (state S.Store conn.new) → (db : Database) → IsOpenAt db (state S.Store conn.old) → IsSince T.since db.schema → IfErr result (WhereStopped (IsStopped (state S.Store conn.old) (state S.Store conn.new))) }
-    ensures same { HasCleanDisk (state S.Store conn.new) → WhereShown result (IsUnchanged (state S.Store conn.old) (state S.Store conn.new)) }
-    ensures rests { Rests (state S.Store conn.old) (state S.Store conn.new) }
-    ensures mode { conn.new.in_transaction ≡ false }
-    ensures crash { Survives (state S.Store conn.old) (state S.Store conn.new) (λ _. ⊥) }
+    ensures found { FindsTables (λ s. HasMeaning s T.text) S.Store conn.old conn.new result }
+    ensures refused { RefusesFor (λ s. HasNoMeaning s T.text) T.since
+        (IsDamagedTable T.as_row T.fits T.tree) S.Store conn.old conn.new result }
+    ensures store { StopsAs WhereStopped T.since S.Store conn.old conn.new result }
+    ensures same { IsUnchangedWhere (WhereShown result) S.Store conn.old conn.new }
+    ensures only { OnlyReads S.Store conn.old conn.new }
 {
     let mut gathered: Gathered<T> = Gathered {
         all: Vec::new(alloc),

@@ -1,17 +1,12 @@
 //! What is read of a file whole: tables one after another.
 
-ghost use Rattle.std.specs.Prelude.{◌≡◌, ◌⊎◌, ℕ, max, false, map, All, IfOk, IfErr, IsPermutation};
+ghost use Rattle.std.specs.Prelude.{◌≡◌, ◌⊎◌, ℕ, max, false, All, IfOk};
 ghost use Rattle.sqlite_trees.specs.Tree.{Trees};
 ghost use Rattle.sqlite_schema.specs.declared.schema.Schema.{Schema};
-ghost use Rattle.sqlite.specs.Effect.{Database};
-ghost use Rattle.sqlite.specs.Held.{state};
-ghost use Rattle.sqlite.specs.State.{HasCleanDisk, Survives, IsUnchanged};
-ghost use Rattle.file_schema.specs.Tables.{schema};
-ghost use Rattle.file_schema.specs.Parts.{shown};
-ghost use Rattle.file_reads.specs.Damage.{HasMeaning, HasNoMeaning, IsDamaged, IsFor};
-ghost use Rattle.file_reads.specs.Since.{IsSince};
-ghost use Rattle.file_scan.specs.Rests.{IsOpenAt, Rests, WhereShown};
-ghost use Rattle.file_scan.specs.Stopped.{IsStopped, WhereStopped};
+ghost use Rattle.file_reads.specs.Damage.{HasMeaning, HasNoMeaning};
+ghost use Rattle.file_scan.specs.Rests.{OnlyReads, WhereShown};
+ghost use Rattle.file_scan.specs.Stopped.{WhereStopped};
+ghost use Rattle.file_scan.specs.Reading.{IsUnchangedWhere, StopsAs, Loads, FindsTables, RefusesFor, HoldsTable, IsDamagedTable, HoldsBoth, Both, Either};
 
 use crate::progress::Progress;
 use crate::table::rows_in;
@@ -48,20 +43,18 @@ pub(crate) trait Whole: Drop {
         progress: &mut P,
     ) -> Result<Self, RowError>
         requires { conn.old.in_transaction ≡ false }
-        ensures loaded { HasCleanDisk (state S.Store conn.new) → (db : Database) → IsOpenAt db (state S.Store conn.old) → IsSince since db.schema → IfOk result (is_in db.trees) }
+        ensures loaded { Loads since is_in S.Store conn.old conn.new result }
         ensures limits { IfOk result fits }
-        ensures found { HasCleanDisk (state S.Store conn.new) → (db : Database) → IsOpenAt db (state S.Store conn.old) → WhereShown result (stands db.schema) }
-        ensures refused { HasCleanDisk (state S.Store conn.new) → (db : Database) → IsOpenAt db (state S.Store conn.old) → IfErr result (IsFor (lacks db.schema) (IsSince since db.schema → is_damaged db.trees)) }
-        ensures store { HasCleanDisk (state S.Store conn.new) → (db : Database) → IsOpenAt db (state S.Store conn.old) → IsSince since db.schema → IfErr result (WhereStopped (IsStopped (state S.Store conn.old) (state S.Store conn.new))) }
-        ensures same { HasCleanDisk (state S.Store conn.new) → WhereShown result (IsUnchanged (state S.Store conn.old) (state S.Store conn.new)) }
-        ensures rests { Rests (state S.Store conn.old) (state S.Store conn.new) }
-        ensures mode { conn.new.in_transaction ≡ false }
-        ensures crash { Survives (state S.Store conn.old) (state S.Store conn.new) (λ _. ⊥) };
+        ensures found { FindsTables stands S.Store conn.old conn.new result }
+        ensures refused { RefusesFor lacks since is_damaged S.Store conn.old conn.new result }
+        ensures store { StopsAs WhereStopped since S.Store conn.old conn.new result }
+        ensures same { IsUnchangedWhere (WhereShown result) S.Store conn.old conn.new }
+        ensures only { OnlyReads S.Store conn.old conn.new };
 }
 
 /// One table's rows.
 impl<T: Loaded> Whole for Vec<T> {
-    ghost is_in = { λ trees rows. IsPermutation (map T.as_row rows.items) (map (shown schema T.tree) (trees T.tree)) };
+    ghost is_in = { λ trees rows. HoldsTable T.as_row T.tree trees rows.items };
 
     ghost fits = { λ rows. All T.fits rows.items };
 
@@ -71,7 +64,7 @@ impl<T: Loaded> Whole for Vec<T> {
 
     ghost lacks = { λ s. HasNoMeaning s T.text };
 
-    ghost is_damaged = { λ trees. IsDamaged T.as_row T.fits (map (shown schema T.tree) (trees T.tree)) };
+    ghost is_damaged = { IsDamagedTable T.as_row T.fits T.tree };
 
     fn read<S: Alter, P: Progress>(
         alloc: Global,
@@ -89,15 +82,15 @@ pub(crate) fn read_both<S: Alter, A: Whole, B: Whole, P: Progress>(
     progress: &mut P,
 ) -> Result<(A, B), RowError>
     requires { conn.old.in_transaction ≡ false }
-    ensures loaded { HasCleanDisk (state S.Store conn.new) → (db : Database) → IsOpenAt db (state S.Store conn.old) → IsSince (max A.since B.since) db.schema → IfOk result (λ both. A.is_in db.trees both.0 × B.is_in db.trees both.1) }
+    ensures loaded { Loads (max A.since B.since) (HoldsBoth A.is_in B.is_in)
+        S.Store conn.old conn.new result }
     ensures limits { IfOk result (λ both. A.fits both.0 × B.fits both.1) }
-    ensures found { HasCleanDisk (state S.Store conn.new) → (db : Database) → IsOpenAt db (state S.Store conn.old) → WhereShown result (A.stands db.schema × B.stands db.schema) }
-    ensures refused { HasCleanDisk (state S.Store conn.new) → (db : Database) → IsOpenAt db (state S.Store conn.old) → IfErr result (IsFor (A.lacks db.schema ⊎ B.lacks db.schema) (IsSince (max A.since B.since) db.schema → A.is_damaged db.trees ⊎ B.is_damaged db.trees)) }
-    ensures store { HasCleanDisk (state S.Store conn.new) → (db : Database) → IsOpenAt db (state S.Store conn.old) → IsSince (max A.since B.since) db.schema → IfErr result (WhereStopped (IsStopped (state S.Store conn.old) (state S.Store conn.new))) }
-    ensures same { HasCleanDisk (state S.Store conn.new) → WhereShown result (IsUnchanged (state S.Store conn.old) (state S.Store conn.new)) }
-    ensures rests { Rests (state S.Store conn.old) (state S.Store conn.new) }
-    ensures mode { conn.new.in_transaction ≡ false }
-    ensures crash { Survives (state S.Store conn.old) (state S.Store conn.new) (λ _. ⊥) }
+    ensures found { FindsTables (Both A.stands B.stands) S.Store conn.old conn.new result }
+    ensures refused { RefusesFor (Either A.lacks B.lacks) (max A.since B.since)
+        (Either A.is_damaged B.is_damaged) S.Store conn.old conn.new result }
+    ensures store { StopsAs WhereStopped (max A.since B.since) S.Store conn.old conn.new result }
+    ensures same { IsUnchangedWhere (WhereShown result) S.Store conn.old conn.new }
+    ensures only { OnlyReads S.Store conn.old conn.new }
 {
     match A::read(alloc, conn, progress) {
         Ok(first) => match B::read(alloc, conn, progress) {

@@ -9,3 +9,5 @@ pub mod Versions
 pub mod Grown
 pub mod Whole
 pub mod Inside
+pub mod Clean
+pub mod Outcomes

@@ -1,9 +1,10 @@
 //! What is looked up.
 
-ghost use Rattle.std.specs.Prelude.{◌≡◌, true, false, IsTrue, List, IfOk, OnOk};
+ghost use Rattle.std.specs.Prelude.{◌≡◌, List};
 ghost use Rattle.sqlite.specs.Effect.{Database};
-ghost use Rattle.sqlite.specs.Held.{state};
-ghost use Rattle.sqlite.specs.State.{HasCleanDisk, Survives, KeepsCommit};
+ghost use Rattle.file_schema.specs.Clean.{WhileClean, LeavesNoMore};
+ghost use Rattle.file_schema.specs.Inside.{KeepsCommitInside};
+ghost use Rattle.file_schema.specs.Outcomes.{OnOkWhileClean, WasOpen, LooksUp};
 ghost use Rattle.file_schema.specs.Whole.{IsStill};
 
 use crate::RowError;
@@ -19,9 +20,9 @@ pub trait Lookup<T> {
     /// Finds it, inside a transaction.
     fn look<S: Alter>(&self, alloc: Global, tx: &mut Transaction<'_, S>) -> Result<Vec<T>, RowError>
         ensures same { tx.new.conn.ghost_name ≡ tx.old.conn.ghost_name }
-        ensures found { HasCleanDisk (state S.Store tx.new.conn.now) → IfOk result (λ all. finds self.now (state S.Store tx.old.conn.now).now all.items) }
-        ensures kept { HasCleanDisk (state S.Store tx.new.conn.now) → (state S.Store tx.old.conn.now).in_transaction ≡ true → KeepsCommit (state S.Store tx.old.conn.now) (state S.Store tx.new.conn.now) }
-        ensures crash { Survives (state S.Store tx.old.conn.now) (state S.Store tx.new.conn.now) (λ _. ⊥) };
+        ensures found { LooksUp S.Store tx.old.conn.now tx.new.conn.now (finds self.now) result }
+        ensures kept { KeepsCommitInside S.Store tx.old.conn.now tx.new.conn.now }
+        ensures crash { LeavesNoMore S.Store tx.old.conn.now tx.new.conn.now };
 }
 
 // Finds it, where the connection is open.
@@ -31,10 +32,10 @@ fn look_open<S: Alter, T: Drop, L: Lookup<T>>(
     what: &L,
 ) -> Result<Vec<T>, RowError>
     ensures same { tx.new.conn.ghost_name ≡ tx.old.conn.ghost_name }
-    ensures found { HasCleanDisk (state S.Store tx.new.conn.now) → IfOk result (λ all. L.finds what.now (state S.Store tx.old.conn.now).now all.items) }
-    ensures open { HasCleanDisk (state S.Store tx.new.conn.now) → OnOk result (IsTrue (state S.Store tx.old.conn.now).is_open) }
-    ensures kept { HasCleanDisk (state S.Store tx.new.conn.now) → (state S.Store tx.old.conn.now).in_transaction ≡ true → KeepsCommit (state S.Store tx.old.conn.now) (state S.Store tx.new.conn.now) }
-    ensures crash { Survives (state S.Store tx.old.conn.now) (state S.Store tx.new.conn.now) (λ _. ⊥) }
+    ensures found { LooksUp S.Store tx.old.conn.now tx.new.conn.now (L.finds what.now) result }
+    ensures open { OnOkWhileClean S.Store tx.old.conn.now tx.new.conn.now WasOpen result }
+    ensures kept { KeepsCommitInside S.Store tx.old.conn.now tx.new.conn.now }
+    ensures crash { LeavesNoMore S.Store tx.old.conn.now tx.new.conn.now }
 {
     test_open(tx)?;
     what.look(alloc, tx)
@@ -47,10 +48,10 @@ pub fn look_up<S: Alter, T: Drop, L: Lookup<T>>(
     connection: &mut Connection<S>,
     what: &L,
 ) -> Result<Vec<T>, RowError>
-    ensures found { HasCleanDisk (state S.Store connection.new) → IfOk result (λ all. L.finds what.now (state S.Store connection.old).now all.items) }
-    ensures open { HasCleanDisk (state S.Store connection.new) → OnOk result (IsTrue (state S.Store connection.old).is_open) }
-    ensures still { HasCleanDisk (state S.Store connection.new) → IsStill (state S.Store connection.old) (state S.Store connection.new) }
-    ensures crash { Survives (state S.Store connection.old) (state S.Store connection.new) (λ _. ⊥) }
+    ensures found { LooksUp S.Store connection.old connection.new (L.finds what.now) result }
+    ensures open { OnOkWhileClean S.Store connection.old connection.new WasOpen result }
+    ensures still { WhileClean S.Store connection.old connection.new IsStill }
+    ensures crash { LeavesNoMore S.Store connection.old connection.new }
 {
     if !connection.is_autocommit() {
         return Err(RowError::Store);

@@ -1,11 +1,9 @@
 //! The tables of a shop are made.
 
-ghost use Rattle.std.specs.Prelude.{◌≡◌, map, OnOk};
-ghost use Rattle.sqlite.specs.Held.{state};
-ghost use Rattle.sqlite.specs.State.{HasCleanDisk};
+ghost use Rattle.std.specs.Prelude.{◌≡◌, map};
 ghost use Rattle.file_schema.specs.Inside.{StaysInside};
 ghost use Rattle.file_schema.specs.Tables.{schema};
-ghost use Rattle.file_schema.specs.Grown.{Grows, IsInsideOver};
+ghost use Rattle.file_schema.specs.Grown.{GrowsInside};
 ghost use Rattle.file_schema.specs.Versions.{schema_after, schema_of_version, statement_texts, statements_of};
 
 use crate::{RowError, run};
@@ -84,7 +82,7 @@ fn run_from<S: Alter>(
 ) -> Result<(), RowError>
     requires { map (λ s. s.now) statements.now ≡ statement_texts }
     ensures inside { StaysInside S.Store tx.old.conn tx.new.conn }
-    ensures grown { HasCleanDisk (state S.Store tx.new.conn.now) → IsInsideOver (schema_after from) (state S.Store tx.old.conn.now) → OnOk result (Grows (schema_after from) schema (state S.Store tx.old.conn.now) (state S.Store tx.new.conn.now)) }
+    ensures grown { GrowsInside S.Store tx.old tx.new (schema_after from) schema result }
 {
     'statements: for at in from..statements.len() {
         run(tx, statements[at], &[])?;
@@ -96,7 +94,7 @@ fn run_from<S: Alter>(
 /// tables that stood keep their rows, and the new ones have none. Refusals: 6, 63 where the store refuses a statement.
 pub fn add_tables<S: Alter>(tx: &mut Transaction<'_, S>, from: u64) -> Result<(), RowError>
     ensures inside { StaysInside S.Store tx.old.conn tx.new.conn }
-    ensures grown { HasCleanDisk (state S.Store tx.new.conn.now) → IsInsideOver (schema_of_version from) (state S.Store tx.old.conn.now) → OnOk result (Grows (schema_of_version from) schema (state S.Store tx.old.conn.now) (state S.Store tx.new.conn.now)) }
+    ensures grown { GrowsInside S.Store tx.old tx.new (schema_of_version from) schema result }
 {
     let statements: [&str; 23] = STATEMENTS;
     run_from(tx, statements.as_slice(), statements_of(from))

@@ -1,10 +1,7 @@
 //! One statement inside a transaction.
 
-ghost use Rattle.std.specs.Prelude.{◌≡◌, true, Ok, IfOk};
-ghost use Rattle.sqlite.specs.Held.{state};
 ghost use Rattle.sqlite.specs.Values.{bound};
-ghost use Rattle.sqlite.specs.State.{HasCleanDisk, Executes};
-ghost use Rattle.file_schema.specs.Inside.{StaysInside};
+ghost use Rattle.file_schema.specs.Inside.{StaysInside, RunsInside};
 
 use crate::RowError;
 use sqlite::{Alter, Transaction};
@@ -17,8 +14,7 @@ pub fn run<S: Alter>(
     params: &[ValueRef<'_>],
 ) -> Result<usize, RowError>
     ensures inside { StaysInside S.Store tx.old.conn tx.new.conn }
-    ensures ran { HasCleanDisk (state S.Store tx.new.conn.now) → (state S.Store tx.old.conn.now).in_transaction ≡ true
-        → IfOk result (λ count. Executes sql.now (bound params.now) (state S.Store tx.old.conn.now) (state S.Store tx.new.conn.now) (Ok count)) }
+    ensures ran { RunsInside S.Store tx.old tx.new sql.now (bound params.now) result }
 {
     match tx.execute(sql, params) {
         Ok(count) => Ok(count),

@@ -1,12 +1,12 @@
 //! What is written.
 
-ghost use Rattle.std.specs.Prelude.{◌≡◌, true, IsTrue, IfOk, OnOk, OnErr};
 ghost use Rattle.sqlite_schema.specs.declared.schema.Schema.{Schema};
-ghost use Rattle.sqlite.specs.Effect.{Database, IsDatabase};
+ghost use Rattle.sqlite.specs.Effect.{Database};
 ghost use Rattle.sqlite.specs.Held.{state};
-ghost use Rattle.sqlite.specs.State.{HasCleanDisk, Survives, IsLive, IsUnchanged};
-ghost use Rattle.file_schema.specs.Inside.{StaysInside};
-ghost use Rattle.file_schema.specs.Whole.{IsOver, IsStill, IsWritten, MayBeWritten};
+ghost use Rattle.sqlite.specs.State.{IsLive, IsUnchanged};
+ghost use Rattle.file_schema.specs.Inside.{StaysInside, WritesOver};
+ghost use Rattle.file_schema.specs.Outcomes.{OnOkWhileClean, WasOpen};
+ghost use Rattle.file_schema.specs.Whole.{WritesWhole};
 
 use crate::RowError;
 use sqlite::{Alter, Connection, Transaction};
@@ -22,8 +22,8 @@ pub trait Writing<T> {
     /// Writes it, inside a transaction. The trees list the schema, as they did.
     fn write<S: Alter>(&self, tx: &mut Transaction<'_, S>) -> Result<T, RowError>
         ensures inside { StaysInside S.Store tx.old.conn tx.new.conn }
-        ensures written { HasCleanDisk (state S.Store tx.new.conn.now) → (state S.Store tx.old.conn.now).in_transaction ≡ true → (state S.Store tx.old.conn.now).now.schema ≡ over self.now → IsDatabase (state S.Store tx.old.conn.now).now
-            → IfOk result (λ answer. ((state S.Store tx.new.conn.now).in_transaction ≡ true) × turns self.now answer (state S.Store tx.old.conn.now).now (state S.Store tx.new.conn.now).now × IsDatabase (state S.Store tx.new.conn.now).now) };
+        ensures written { WritesOver S.Store tx.old tx.new (over self.now)
+            (turns self.now) result };
 }
 
 /// What a connection promises: while it is open its trees list the schema that it sees. It does nothing.
@@ -36,7 +36,7 @@ pub fn schema_known<S: Alter>(connection: &Connection<S>)
 // Whether the connection is open, which its other calls don't tell.
 pub(crate) fn test_open<S: Alter>(tx: &mut Transaction<'_, S>) -> Result<(), RowError>
     ensures inside { StaysInside S.Store tx.old.conn tx.new.conn }
-    ensures open { HasCleanDisk (state S.Store tx.new.conn.now) → OnOk result (IsUnchanged (state S.Store tx.old.conn.now) (state S.Store tx.new.conn.now)) }
+    ensures open { OnOkWhileClean S.Store tx.old.conn.now tx.new.conn.now IsUnchanged result }
 {
     match tx.prepare("SELECT 1") {
         Ok(_) => Ok(()),
@@ -50,9 +50,8 @@ fn write_open<S: Alter, T: Drop, W: Writing<T>>(
     what: &W,
 ) -> Result<T, RowError>
     ensures inside { StaysInside S.Store tx.old.conn tx.new.conn }
-    ensures written { HasCleanDisk (state S.Store tx.new.conn.now) → (state S.Store tx.old.conn.now).in_transaction ≡ true → (state S.Store tx.old.conn.now).now.schema ≡ W.over what.now → IsDatabase (state S.Store tx.old.conn.now).now
-        → IfOk result (λ answer. ((state S.Store tx.new.conn.now).in_transaction ≡ true) × W.turns what.now answer (state S.Store tx.old.conn.now).now (state S.Store tx.new.conn.now).now × IsDatabase (state S.Store tx.new.conn.now).now) }
-    ensures open { HasCleanDisk (state S.Store tx.new.conn.now) → OnOk result (IsTrue (state S.Store tx.old.conn.now).is_open) }
+    ensures written { WritesOver S.Store tx.old tx.new (W.over what.now) (W.turns what.now) result }
+    ensures open { OnOkWhileClean S.Store tx.old.conn.now tx.new.conn.now WasOpen result }
 {
     test_open(tx)?;
     what.write(tx)
@@ -64,9 +63,8 @@ pub fn write_whole<S: Alter, T: Drop, W: Writing<T>>(
     connection: &mut Connection<S>,
     what: &W,
 ) -> Result<T, RowError>
-    ensures all { HasCleanDisk (state S.Store connection.new) → IsOver (W.over what.now) (state S.Store connection.old) → IfOk result (λ answer. IsWritten (W.turns what.now answer) (state S.Store connection.old) (state S.Store connection.new)) }
-    ensures none { HasCleanDisk (state S.Store connection.new) → IsOver (W.over what.now) (state S.Store connection.old) → OnErr result (IsStill (state S.Store connection.old) (state S.Store connection.new)) }
-    ensures crash { Survives (state S.Store connection.old) (state S.Store connection.new) (MayBeWritten (W.over what.now) (W.turns what.now) (state S.Store connection.old)) }
+    ensures { WritesWhole S.Store connection.old connection.new
+        (W.over what.now) (W.turns what.now) result }
 {
     if !connection.is_autocommit() {
         return Err(RowError::Store);

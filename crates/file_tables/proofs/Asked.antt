@@ -1,5 +1,5 @@
 -- What is told of the rows that a look-up finds.
-use Rattle.std.proofs.Common.{◌≡◌, ℕ, Bool, true, false, cond, ◌&&◌, ◌==◌, bytes_eq, List, [], ◌∷◌, ◌++◌, length, map, filter, find, Option, Some, None, option_map, refl, sym, ap, subst, ◌∙◌, arith}
+use Rattle.std.proofs.Common.{◌≡◌, ℕ, Bool, true, false, cond, ◌&&◌, ◌==◌, bytes_eq, List, [], ◌∷◌, ◌++◌, length, map, filter, find, Option, Some, None, option_map, Result, Ok, Err, IfOk, refl, sym, ap, subst, ◌∙◌, arith}
 use Rattle.std.specs.List.Sorted.{IsPermutation}
 use Rattle.std.proofs.lemmas.List.Sorted.{IsPermutation-trans, IsPermutation-map, length_permutation}
 use Rattle.sqlite_trees.proofs.ListLemmas.{IsPermutation-filter}
@@ -21,6 +21,11 @@ none_permutation xs h = empty xs (length_permutation [] xs h)
 pub single : {A : Type 0} (l xs : List A) (r : A) → xs ≡ l ++ r ∷ [] → length l ≡ 0 → xs ≡ r ∷ []
 single [] xs r e n = e
 single (x ∷ l) xs r e n = absurd (omega (arith, n))
+
+-- where this holds of what is found if the schema is a shop's, then of what is found it holds that, if it is, this does
+pub found_if : {T E : Type 0} (r : Result T E) (Known : Type 0) (P : T → Type 0) → (Known → IfOk r P) → IfOk r (λ x. Known → P x)
+found_if (Ok x) Known P h = h
+found_if (Err e) Known P h = tt
 
 -- ---- tokens
 

@@ -1,6 +1,8 @@
 -- A shop before its first change, and what a new version and a new token make of its tables.
 use Rattle.std.specs.Prelude.{◌≡◌, ℕ, List, ◌++◌}
 use Rattle.sqlite.specs.Effect.{Database}
+use Rattle.sqlite.specs.State.{State}
+use Rattle.file_schema.specs.Blank.{blank_schema}
 use Rattle.file_schema.specs.Tables.{schema, this_version}
 use Rattle.file_rows.specs.declared.rows.ExitRow.{ExitRow}
 use Rattle.file_rows.specs.declared.rows.ShopRow.{ShopRow}
@@ -17,6 +19,14 @@ first_tables shop = with_shop shop no_rows
 pub record IsBegun (shop : ShopRow) (db : Database) : Type 0 where
   pub known : db.schema ≡ schema
   pub held : Holds db.trees (first_tables shop)
+
+-- what becomes of a database that had no table
+abbrev pub BecomesBegun : ShopRow → Database → Database → Type 0
+BecomesBegun shop db after = IsBegun shop after
+
+-- the connection sees a database that has no table
+abbrev pub SeesNoTable : State → Type 0
+SeesNoTable s = s.now.schema ≡ blank_schema
 
 -- the shop's row of an earlier version, once its tables are of this one
 abbrev pub of_this_version : ShopRow → ShopRow

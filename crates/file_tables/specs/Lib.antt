@@ -7,3 +7,4 @@ pub mod Free
 pub mod Steps
 pub mod Made
 pub mod Tokens
+pub mod Known

@@ -1,10 +1,11 @@
 -- A token is added: its digest keeps its number, or gets the next one, from 1 to 1,000,000.
 use Rattle.std.specs.Prelude.{◌≡◌, ℕ, ◌+◌, ◌<◌, ◌≤◌, List, Option, Some, None, bytes_eq, if◌then◌else◌}
+use Rattle.sqlite.specs.Effect.{Database}
 use Rattle.model_answers.specs.House.{House}
 use Rattle.file_rows.specs.declared.rows.ShopRow.{ShopRow}
 use Rattle.file_rows.specs.declared.rows.Token.{Token}
 use Rattle.file_rows.specs.Tables.{Tables}
-use Rattle.file_tables.specs.Begun.{token_added}
+use Rattle.file_tables.specs.Begun.{HasToken, token_added}
 
 -- the most tokens that a shop's file has
 abbrev pub most_tokens : ℕ
@@ -35,6 +36,10 @@ raised head = record head { next_token = head.next_token + 1 }
 -- the next token, with this digest
 abbrev pub next_one : ShopRow → List ℕ → Token
 next_one head digest = record { id = head.next_token; digest = digest }
+
+-- what the next token, with this digest, makes of a database
+abbrev pub AddsNext : ShopRow → List ℕ → Database → Database → Type 0
+AddsNext head digest = HasToken (raised head) (next_one head digest)
 
 -- the shop's row after a digest that has this number already, or none
 abbrev pub head_after : Option ℕ → ShopRow → ShopRow

@@ -1,10 +1,7 @@
 //! A new token.
 
-ghost use Rattle.std.specs.Prelude.{◌≡◌, OnOk, OnErr};
-ghost use Rattle.sqlite.specs.Held.{state};
-ghost use Rattle.sqlite.specs.State.{HasCleanDisk, Survives};
 ghost use Rattle.file_schema.specs.Tables.{schema};
-ghost use Rattle.file_schema.specs.Whole.{IsOver, IsStill, IsWritten, MayBeWritten};
+ghost use Rattle.file_schema.specs.Whole.{WritesWhole};
 ghost use Rattle.file_tables.specs.Begun.{HasToken};
 
 use file_rows::{ShopRow, Token};
@@ -37,9 +34,8 @@ pub(crate) fn put_token<S: Alter>(
     shop: &ShopRow,
     token: &Token,
 ) -> Result<(), RowError>
-    ensures all { HasCleanDisk (state S.Store connection.new) → IsOver schema (state S.Store connection.old) → OnOk result (IsWritten (HasToken shop.now token.now) (state S.Store connection.old) (state S.Store connection.new)) }
-    ensures none { HasCleanDisk (state S.Store connection.new) → IsOver schema (state S.Store connection.old) → OnErr result (IsStill (state S.Store connection.old) (state S.Store connection.new)) }
-    ensures crash { Survives (state S.Store connection.old) (state S.Store connection.new) (MayBeWritten schema (λ (_ : Unit {0}). HasToken shop.now token.now) (state S.Store connection.old)) }
+    ensures { WritesWhole S.Store connection.old connection.new schema
+        (λ (_ : Unit {0}). HasToken shop.now token.now) result }
 {
     write_whole(connection, &NewToken { shop, token })
 }

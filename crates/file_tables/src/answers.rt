@@ -1,13 +1,12 @@
 //! Kept answers.
 
-ghost use Rattle.std.specs.Prelude.{◌≡◌, ℕ, List, IfOk, OnOk, IsTrue, IsPermutation, filter};
-ghost use Rattle.sqlite.specs.Held.{state};
-ghost use Rattle.sqlite.specs.State.{HasCleanDisk, Survives};
+ghost use Rattle.std.specs.Prelude.{◌≡◌, List, IfOk};
+ghost use Rattle.file_schema.specs.Clean.{WhileClean, LeavesNoMore};
+ghost use Rattle.file_schema.specs.Outcomes.{OnOkWhileClean, WasOpen};
 ghost use Rattle.file_schema.specs.Tables.{schema};
 ghost use Rattle.model_answers.specs.KeptAnswers.{told_by};
 ghost use Rattle.model_answers.specs.declared.kept.Kept.{Kept};
-ghost use Rattle.file_rows.specs.Tables.{Tables, Holds};
-ghost use Rattle.file_reads.specs.Lookups.{is_under};
+ghost use Rattle.file_reads.specs.Lookups.{is_under, AreAllThatPass};
 ghost use Rattle.file_schema.specs.Whole.{IsStill};
 ghost use Rattle.file_tables.specs.Held.{KeepsAnswers};
 
@@ -26,7 +25,8 @@ struct Under<'a> {
 }
 
 impl Lookup<KeptRow> for Under<'_> {
-    ghost finds = { λ what db all. db.schema ≡ schema → (t : Tables) → Holds db.trees t → IsPermutation all (filter (is_under what.token what.key.now) t.kept) };
+    ghost finds = { λ what db all. db.schema ≡ schema
+        → AreAllThatPass (λ t. t.kept) (is_under what.token what.key.now) db.trees all };
 
     fn look<S: Alter>(
         &self,
@@ -46,10 +46,11 @@ pub(crate) fn find_answer<S: Alter>(
     key: &[u8],
     at: Moment,
 ) -> Result<Option<Response>, RowError>
-    ensures found { HasCleanDisk (state S.Store connection.new) → (ks : List Kept) → KeepsAnswers (state S.Store connection.old).now ks → IfOk result (λ told. told ≡ told_by token key.now at ks) }
-    ensures open { HasCleanDisk (state S.Store connection.new) → OnOk result (IsTrue (state S.Store connection.old).is_open) }
-    ensures still { HasCleanDisk (state S.Store connection.new) → IsStill (state S.Store connection.old) (state S.Store connection.new) }
-    ensures crash { Survives (state S.Store connection.old) (state S.Store connection.new) (λ _. ⊥) }
+    ensures found { WhileClean S.Store connection.old connection.new (λ old _. (ks : List Kept)
+        → KeepsAnswers old.now ks → IfOk result (λ told. told ≡ told_by token key.now at ks)) }
+    ensures open { OnOkWhileClean S.Store connection.old connection.new WasOpen result }
+    ensures still { WhileClean S.Store connection.old connection.new IsStill }
+    ensures crash { LeavesNoMore S.Store connection.old connection.new }
 {
     let mut rows = look_up(alloc, connection, &Under { token, key })?;
     let Some(row) = rows.pop() else {

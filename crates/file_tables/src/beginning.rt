@@ -1,13 +1,12 @@
 //! The first row of a shop.
 
-ghost use Rattle.std.specs.Prelude.{◌≡◌, true, IsTrue, OnOk, OnErr, Err};
+ghost use Rattle.std.specs.Prelude.{◌≡◌, true, IsTrue, Err};
 ghost use Rattle.sqlite.specs.Held.{state};
-ghost use Rattle.sqlite.specs.State.{HasCleanDisk, Survives};
-ghost use Rattle.model_rows.specs.Lists.{first_ids};
 ghost use Rattle.file_schema.specs.Blank.{blank_schema};
-ghost use Rattle.file_schema.specs.Tables.{this_version};
-ghost use Rattle.file_schema.specs.Whole.{IsStill, IsWritten, MayBeWritten};
-ghost use Rattle.file_tables.specs.Begun.{IsBegun};
+ghost use Rattle.file_schema.specs.Outcomes.{OnOkWhileClean, OnErrWhileClean};
+ghost use Rattle.file_schema.specs.Whole.{IsStill, IsWritten, LeavesWhole};
+ghost use Rattle.file_tables.specs.Begun.{BecomesBegun, SeesNoTable};
+ghost use Rattle.file_tables.specs.Made.{first_shop};
 ghost use Rattle.file_tables.specs.declared.error.CreateError.TheVariants.{NotBlank};
 
 use crate::error::CreateError;
@@ -21,7 +20,7 @@ use sqlite_schema::schema::Schema;
 
 /// The row of a shop before its first change: this version of its tables, moment 0, and each id begins with 1.
 pub(crate) fn first_row(organizer: Slug, event: Slug) -> ShopRow
-    ensures { result ≡ record { version = this_version; organizer = organizer; event = event; moment = 0; next = first_ids; next_token = 1 } }
+    ensures { result ≡ first_shop organizer event }
 {
     ShopRow {
         version: VERSION,
@@ -47,11 +46,13 @@ pub(crate) fn begin<S: Alter>(
     connection: &mut Connection<S>,
     shop: &ShopRow,
 ) -> Result<(), CreateError>
-    ensures all { HasCleanDisk (state S.Store connection.new) → OnOk result (IsWritten (λ db after. IsBegun shop.now after) (state S.Store connection.old) (state S.Store connection.new)) }
-    ensures none { HasCleanDisk (state S.Store connection.new) → OnErr result (IsStill (state S.Store connection.old) (state S.Store connection.new)) }
-    ensures blank { ¬ ((state S.Store connection.old).now.schema ≡ blank_schema) → result ≡ Err NotBlank }
-    ensures taken { result ≡ Err NotBlank → ¬ ((state S.Store connection.old).now.schema ≡ blank_schema) }
-    ensures crash { Survives (state S.Store connection.old) (state S.Store connection.new) (MayBeWritten blank_schema (λ (_ : Unit {0}) db after. IsBegun shop.now after) (state S.Store connection.old)) }
+    ensures all { OnOkWhileClean S.Store connection.old connection.new
+        (IsWritten (BecomesBegun shop.now)) result }
+    ensures none { OnErrWhileClean S.Store connection.old connection.new IsStill result }
+    ensures blank { ¬ SeesNoTable (state S.Store connection.old) → result ≡ Err NotBlank }
+    ensures taken { result ≡ Err NotBlank → ¬ SeesNoTable (state S.Store connection.old) }
+    ensures crash { LeavesWhole S.Store connection.old connection.new blank_schema
+        (λ (_ : Unit {0}). BecomesBegun shop.now) }
 {
     if !is_blank(connection.schema()) {
         return Err(CreateError::NotBlank);

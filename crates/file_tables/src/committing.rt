@@ -31,7 +31,10 @@ pub(crate) struct Commit<'a> {
 impl Writing<u64> for Commit<'_> {
     ghost over = { λ _. schema };
 
-    ghost turns = { λ what free before after. (free ≡ next_after what.changes.now what.from + 1) × Turns what.from (done what.shop.now what.changes.now what.counts.now what.from (listed what.kept) what.at) before after };
+    ghost turns = { λ what free before after. (free ≡ next_after what.changes.now what.from + 1)
+        × Turns what.from
+        (done what.shop.now what.changes.now what.counts.now what.from (listed what.kept) what.at)
+        before after };
 
     fn write<S: Alter>(&self, tx: &mut Transaction<'_, S>) -> Result<u64, RowError> {
         write_all(

@@ -2,10 +2,10 @@
 
 ghost use Rattle.std.specs.Prelude.{◌≡◌, IfOk, IfErr, IsErrAnd};
 ghost use Rattle.sqlite.specs.Held.{state};
-ghost use Rattle.sqlite.specs.State.{HasCleanDisk, Survives};
 ghost use Rattle.file_schema.specs.Blank.{blank_schema};
-ghost use Rattle.file_schema.specs.Whole.{IsStill, MayBeWritten};
-ghost use Rattle.file_tables.specs.Begun.{IsBegun};
+ghost use Rattle.file_schema.specs.Clean.{WhileClean};
+ghost use Rattle.file_schema.specs.Whole.{IsStill, LeavesWhole};
+ghost use Rattle.file_tables.specs.Begun.{BecomesBegun, SeesNoTable};
 ghost use Rattle.file_tables.specs.Made.{first_shop, IsMade};
 ghost use Rattle.file_tables.specs.declared.error.CreateError.TheVariants.{NotBlank};
 
@@ -26,12 +26,17 @@ pub fn create<S: Alter>(
     organizer: Slug,
     event: Slug,
 ) -> Result<SqlTables<S>, HandedBack<S, CreateError>>
-    ensures made { IfOk result (λ tables. HasCleanDisk (state S.Store tables.connection) → IsMade (first_shop organizer event) (state S.Store connection) tables.head tables.next_row (state S.Store tables.connection)) }
-    ensures none { IfErr result (λ it. HasCleanDisk (state S.Store it.connection) → IsStill (state S.Store connection) (state S.Store it.connection)) }
-    ensures blank { ¬ ((state S.Store connection).now.schema ≡ blank_schema) → IsErrAnd result (λ it. it.error ≡ NotBlank) }
-    ensures taken { IfErr result (λ it. it.error ≡ NotBlank → ¬ ((state S.Store connection).now.schema ≡ blank_schema)) }
-    ensures crash { IfOk result (λ tables. Survives (state S.Store connection) (state S.Store tables.connection) (MayBeWritten blank_schema (λ (_ : Unit {0}) db after. IsBegun (first_shop organizer event) after) (state S.Store connection))) }
-    ensures crash_none { IfErr result (λ it. Survives (state S.Store connection) (state S.Store it.connection) (MayBeWritten blank_schema (λ (_ : Unit {0}) db after. IsBegun (first_shop organizer event) after) (state S.Store connection))) }
+    ensures made { IfOk result (λ tables. WhileClean S.Store connection tables.connection
+        (λ old new. IsMade (first_shop organizer event) old tables.head tables.next_row new)) }
+    ensures none { IfErr result (λ it. WhileClean S.Store connection it.connection IsStill) }
+    ensures blank { ¬ SeesNoTable (state S.Store connection)
+        → IsErrAnd result (λ it. it.error ≡ NotBlank) }
+    ensures taken { IfErr result (λ it. it.error ≡ NotBlank
+        → ¬ SeesNoTable (state S.Store connection)) }
+    ensures crash { IfOk result (λ tables. LeavesWhole S.Store connection tables.connection
+        blank_schema (λ (_ : Unit {0}). BecomesBegun (first_shop organizer event))) }
+    ensures crash_none { IfErr result (λ it. LeavesWhole S.Store connection it.connection
+        blank_schema (λ (_ : Unit {0}). BecomesBegun (first_shop organizer event))) }
 {
     let head = first_row(organizer, event);
     match begin(&mut connection, &head) {

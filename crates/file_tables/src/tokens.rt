@@ -1,11 +1,10 @@
 //! Tokens.
 
-ghost use Rattle.std.specs.Prelude.{◌≡◌, ℕ, List, Option, IfOk, OnOk, IsTrue, IsPermutation, filter};
-ghost use Rattle.sqlite.specs.Held.{state};
-ghost use Rattle.sqlite.specs.State.{HasCleanDisk, Survives};
+ghost use Rattle.std.specs.Prelude.{◌≡◌, ℕ, List, Option, IfOk};
+ghost use Rattle.file_schema.specs.Clean.{WhileClean, LeavesNoMore};
+ghost use Rattle.file_schema.specs.Outcomes.{OnOkWhileClean, WasOpen};
 ghost use Rattle.file_schema.specs.Tables.{schema};
-ghost use Rattle.file_rows.specs.Tables.{Tables, Holds};
-ghost use Rattle.file_reads.specs.Lookups.{has_digest};
+ghost use Rattle.file_reads.specs.Lookups.{has_digest, AreAllThatPass};
 ghost use Rattle.file_schema.specs.Whole.{IsStill};
 ghost use Rattle.file_tables.specs.Held.{KnowsTokens};
 
@@ -22,7 +21,8 @@ struct OfDigest<'a> {
 }
 
 impl Lookup<Token> for OfDigest<'_> {
-    ghost finds = { λ what db all. db.schema ≡ schema → (t : Tables) → Holds db.trees t → IsPermutation all (filter (has_digest what.digest.now) t.tokens) };
+    ghost finds = { λ what db all. db.schema ≡ schema
+        → AreAllThatPass (λ t. t.tokens) (has_digest what.digest.now) db.trees all };
 
     fn look<S: Alter>(
         &self,
@@ -40,10 +40,12 @@ pub(crate) fn find_number<S: Alter>(
     connection: &mut Connection<S>,
     digest: &[u8; 32],
 ) -> Result<Option<u64>, RowError>
-    ensures found { HasCleanDisk (state S.Store connection.new) → (tokens : List ℕ → Option ℕ) → KnowsTokens (state S.Store connection.old).now tokens → IfOk result (λ number. number ≡ tokens digest.now) }
-    ensures open { HasCleanDisk (state S.Store connection.new) → OnOk result (IsTrue (state S.Store connection.old).is_open) }
-    ensures still { HasCleanDisk (state S.Store connection.new) → IsStill (state S.Store connection.old) (state S.Store connection.new) }
-    ensures crash { Survives (state S.Store connection.old) (state S.Store connection.new) (λ _. ⊥) }
+    ensures found { WhileClean S.Store connection.old connection.new (λ old _.
+        (tokens : List ℕ → Option ℕ) → KnowsTokens old.now tokens
+        → IfOk result (λ number. number ≡ tokens digest.now)) }
+    ensures open { OnOkWhileClean S.Store connection.old connection.new WasOpen result }
+    ensures still { WhileClean S.Store connection.old connection.new IsStill }
+    ensures crash { LeavesNoMore S.Store connection.old connection.new }
 {
     let mut rows = look_up(alloc, connection, &OfDigest { digest })?;
     let Some(token) = rows.pop() else {

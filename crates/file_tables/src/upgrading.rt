@@ -1,12 +1,9 @@
 //! A file is brought to this version.
 
-ghost use Rattle.std.specs.Prelude.{OnOk, OnErr};
-ghost use Rattle.sqlite.specs.Held.{state};
-ghost use Rattle.sqlite.specs.State.{HasCleanDisk, Survives};
-ghost use Rattle.file_schema.specs.Inside.{StaysInside};
-ghost use Rattle.file_rows.specs.Changes.{IsInside, Changes};
+ghost use Rattle.file_rows.specs.Changes.{Changes};
+ghost use Rattle.file_rows.specs.Written.{WritesInside};
 ghost use Rattle.file_schema.specs.Versions.{schema_of_version};
-ghost use Rattle.file_schema.specs.Whole.{IsOver, IsStill, IsWritten, MayBeWritten};
+ghost use Rattle.file_schema.specs.Whole.{WritesWhole};
 ghost use Rattle.file_meaning.specs.Made.{each};
 ghost use Rattle.file_tables.specs.Begun.{IsUpgraded};
 
@@ -17,8 +14,8 @@ use sqlite::{Alter, Connection, Transaction};
 
 // Adds rows, whose keys have to be new.
 fn add_rows<S: Alter, T: Stored>(tx: &mut Transaction<'_, S>, rows: &[T]) -> Result<(), RowError>
-    ensures inside { StaysInside S.Store tx.old.conn tx.new.conn }
-    ensures written { HasCleanDisk (state S.Store tx.new.conn.now) → IsInside (state S.Store tx.old.conn.now) → OnOk result (Changes (each T.Stored.with_row rows.now) (state S.Store tx.old.conn.now) (state S.Store tx.new.conn.now)) }
+    ensures { WritesInside S.Store tx.old tx.new
+        (Changes (each T.Stored.with_row rows.now)) result }
 {
     'rows: for row in rows {
         row.insert(tx)?;
@@ -38,7 +35,8 @@ struct ToThisVersion<'a> {
 impl Writing<()> for ToThisVersion<'_> {
     ghost over = { λ what. schema_of_version what.from };
 
-    ghost turns = { λ what _ db after. IsUpgraded what.shop.now what.exits.now what.spents.now what.from db after };
+    ghost turns = { λ what _ db after. IsUpgraded what.shop.now what.exits.now what.spents.now
+        what.from db after };
 
     fn write<S: Alter>(&self, tx: &mut Transaction<'_, S>) -> Result<(), RowError> {
         add_tables(tx, self.from)?;
@@ -58,9 +56,8 @@ pub fn upgrade<S: Alter>(
     spents: &[SpentRow],
     from: u64,
 ) -> Result<(), RowError>
-    ensures all { HasCleanDisk (state S.Store connection.new) → IsOver (schema_of_version from) (state S.Store connection.old) → OnOk result (IsWritten (IsUpgraded shop.now exits.now spents.now from) (state S.Store connection.old) (state S.Store connection.new)) }
-    ensures none { HasCleanDisk (state S.Store connection.new) → IsOver (schema_of_version from) (state S.Store connection.old) → OnErr result (IsStill (state S.Store connection.old) (state S.Store connection.new)) }
-    ensures crash { Survives (state S.Store connection.old) (state S.Store connection.new) (MayBeWritten (schema_of_version from) (λ (_ : Unit {0}). IsUpgraded shop.now exits.now spents.now from) (state S.Store connection.old)) }
+    ensures { WritesWhole S.Store connection.old connection.new (schema_of_version from)
+        (λ (_ : Unit {0}). IsUpgraded shop.now exits.now spents.now from) result }
 {
     let what = ToThisVersion {
         shop,

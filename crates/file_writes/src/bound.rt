@@ -2,8 +2,8 @@
 
 ghost use Rattle.std.specs.Prelude.{◌≡◌, ◌≤◌, length, true, Ok, IfOk};
 ghost use Rattle.sqlite_value.specs.Order.{Row};
-ghost use Rattle.sqlite.specs.Held.{state};
-ghost use Rattle.sqlite.specs.State.{HasCleanDisk, Executes};
+ghost use Rattle.sqlite.specs.State.{Executes};
+ghost use Rattle.file_schema.specs.Clean.{WhileClean};
 ghost use Rattle.file_schema.specs.Inside.{StaysInside};
 ghost use Rattle.file_writes.specs.Bound.{AreBound};
 
@@ -19,8 +19,9 @@ pub(crate) fn run_bound<S: Alter>(
 ) -> Result<usize, RowError>
     requires { length columns.now ≤ 16 }
     ensures inside { StaysInside S.Store tx.old.conn tx.new.conn }
-    ensures ran { HasCleanDisk (state S.Store tx.new.conn.now) → (state S.Store tx.old.conn.now).in_transaction ≡ true
-        → IfOk result (λ count. (values : Row) → AreBound columns.now values → Executes sql.now values (state S.Store tx.old.conn.now) (state S.Store tx.new.conn.now) (Ok count)) }
+    ensures ran { WhileClean S.Store tx.old.conn.now tx.new.conn.now (λ old new.
+        old.in_transaction ≡ true → IfOk result (λ count. (values : Row)
+        → AreBound columns.now values → Executes sql.now values old new (Ok count))) }
 {
     let mut params = [ValueRef::Null; 16];
     let count = columns.len();

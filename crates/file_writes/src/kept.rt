@@ -1,10 +1,7 @@
 //! The table `kept`.
 
-ghost use Rattle.std.specs.Prelude.{OnOk};
-ghost use Rattle.sqlite.specs.Held.{state};
-ghost use Rattle.sqlite.specs.State.{HasCleanDisk};
-ghost use Rattle.file_schema.specs.Inside.{StaysInside};
-ghost use Rattle.file_rows.specs.Changes.{IsInside, Changes, ChangesFit, with_kept};
+ghost use Rattle.file_rows.specs.Changes.{Changes, ChangesFit, with_kept};
+ghost use Rattle.file_rows.specs.Written.{WritesInside};
 ghost use Rattle.file_writes.specs.Removed.{AreApart, without_past};
 
 use base_values::Moment;
@@ -16,8 +13,8 @@ use sqlite::{Alter, Transaction};
 
 /// Keeps an answer, in a row whose number has to be new.
 pub fn keep<S: Alter>(tx: &mut Transaction<'_, S>, number: u64, kept: &Kept) -> Result<(), RowError>
-    ensures inside { StaysInside S.Store tx.old.conn tx.new.conn }
-    ensures written { HasCleanDisk (state S.Store tx.new.conn.now) → IsInside (state S.Store tx.old.conn.now) → OnOk result (Changes (with_kept (record { rowid = number; kept = kept.now })) (state S.Store tx.old.conn.now) (state S.Store tx.new.conn.now)) }
+    ensures { WritesInside S.Store tx.old tx.new
+        (Changes (with_kept (record { rowid = number; kept = kept.now }))) result }
 {
     let rowid = number.bind()?;
     let token_id = kept.token.bind()?;
@@ -44,8 +41,8 @@ pub fn keep<S: Alter>(tx: &mut Transaction<'_, S>, number: u64, kept: &Kept) -> 
 
 /// Removes the answers that are past at a moment, 86,400 seconds or more after their own.
 pub fn forget<S: Alter>(tx: &mut Transaction<'_, S>, at: Moment) -> Result<(), RowError>
-    ensures inside { StaysInside S.Store tx.old.conn tx.new.conn }
-    ensures written { HasCleanDisk (state S.Store tx.new.conn.now) → IsInside (state S.Store tx.old.conn.now) → OnOk result (ChangesFit (λ t. AreApart (λ r. r.rowid) t.kept) (without_past at) (state S.Store tx.old.conn.now) (state S.Store tx.new.conn.now)) }
+    ensures { WritesInside S.Store tx.old tx.new
+        (ChangesFit (λ t. AreApart (λ r. r.rowid) t.kept) (without_past at)) result }
 {
     let now = at.get();
     if now < A_DAY {

@@ -1,11 +1,9 @@
 //! Members are removed with those of their quota or check-in list.
 
-ghost use Rattle.std.specs.Prelude.{◌≡◌, ◌∷◌, OnOk, refl};
-ghost use Rattle.sqlite.specs.Held.{state};
-ghost use Rattle.sqlite.specs.State.{HasCleanDisk};
-ghost use Rattle.file_schema.specs.Inside.{StaysInside};
-ghost use Rattle.file_rows.specs.Changes.{IsInside, ChangesFit};
+ghost use Rattle.std.specs.Prelude.{◌≡◌, ◌∷◌, refl};
+ghost use Rattle.file_rows.specs.Changes.{ChangesFit};
 ghost use Rattle.file_rows.specs.Tables.{Tables};
+ghost use Rattle.file_rows.specs.Written.{WritesInside};
 ghost use Rattle.file_writes.specs.Removed.{AreApart, IsDeleteByOwner, of_others};
 
 use crate::bound::run_bound;
@@ -18,7 +16,8 @@ use sqlite::{Alter, Transaction};
 pub trait RemoveByOwner: Stored + Member {
     /// The DELETE of an owner's members.
     fn delete_by_owner() -> &'static str
-        ensures { IsDeleteByOwner result.now Self.as_row Self.number_of Self.owner_of Self.rows Self.with_rows };
+        ensures { IsDeleteByOwner result.now Self.as_row Self.number_of
+            Self.owner_of Self.rows Self.with_rows };
 
     ghost adds: { (w : Self) (t : Tables) → Self.with_row w t ≡ Self.with_rows (w ∷ Self.rows t) t };
 }
@@ -55,9 +54,9 @@ pub fn remove_members<S: Alter, T: RemoveByOwner>(
     tx: &mut Transaction<'_, S>,
     owner: u64,
 ) -> Result<(), RowError>
-    ensures inside { StaysInside S.Store tx.old.conn tx.new.conn }
-    ensures written { HasCleanDisk (state S.Store tx.new.conn.now) → IsInside (state S.Store tx.old.conn.now)
-        → OnOk result (ChangesFit (λ t. AreApart T.number_of (T.rows t)) (λ t. T.with_rows (of_others T.owner_of owner (T.rows t)) t) (state S.Store tx.old.conn.now) (state S.Store tx.new.conn.now)) }
+    ensures { WritesInside S.Store tx.old tx.new
+        (ChangesFit (λ t. AreApart T.number_of (T.rows t))
+        (λ t. T.with_rows (of_others T.owner_of owner (T.rows t)) t)) result }
 {
     run_bound(tx, T::delete_by_owner(), &[owner.bind()])?;
     Ok(())

@@ -1,13 +1,12 @@
 //! The table `order_positions`.
 
 ghost use Rattle.std.specs.Prelude.{◌≡◌, is_some, IfOk, OnOk};
-ghost use Rattle.sqlite.specs.Held.{state};
-ghost use Rattle.sqlite.specs.State.{HasCleanDisk};
 ghost use Rattle.file_schema.specs.Inside.{StaysInside};
 ghost use Rattle.base_sorted.specs.Tables.{row_at};
 ghost use Rattle.file_rows.specs.Rows.{position_row};
-ghost use Rattle.file_rows.specs.Changes.{IsInside, Changes, head_of_position, with_position, without_position};
+ghost use Rattle.file_rows.specs.Changes.{Changes, head_of_position, with_position, without_position};
 ghost use Rattle.file_rows.specs.Tables.{Tables, Holds};
+ghost use Rattle.file_rows.specs.Written.{WhileInside};
 
 use crate::bound::run_bound;
 use crate::stored::{Statements, Stored};
@@ -57,10 +56,10 @@ impl Stored for OrderPos {
 /// Puts the position in the place of the one with its id, and says whether there was one.
 pub fn put_position<S: Alter>(tx: &mut Transaction<'_, S>, row: &OrderPos) -> Result<bool, RowError>
     ensures inside { StaysInside S.Store tx.old.conn tx.new.conn }
-    ensures written { HasCleanDisk (state S.Store tx.new.conn.now) → IsInside (state S.Store tx.old.conn.now)
-        → OnOk result (Changes (λ t. with_position row.now (without_position row.now.id t)) (state S.Store tx.old.conn.now) (state S.Store tx.new.conn.now)) }
-    ensures told { HasCleanDisk (state S.Store tx.new.conn.now) → IsInside (state S.Store tx.old.conn.now)
-        → IfOk result (λ stood. (t : Tables) → Holds (state S.Store tx.old.conn.now).now.trees t → stood ≡ is_some (row_at (λ r. r.id) row.now.id t.positions)) }
+    ensures written { WhileInside S.Store tx.old tx.new (λ old new. OnOk result
+        (Changes (λ t. with_position row.now (without_position row.now.id t)) old new)) }
+    ensures told { WhileInside S.Store tx.old tx.new (λ old _. IfOk result (λ stood. (t : Tables)
+        → Holds old.now.trees t → stood ≡ is_some (row_at (λ r. r.id) row.now.id t.positions))) }
 {
     let count = row.run(tx, UPDATE)?;
     match count {

@@ -1,12 +1,11 @@
 //! A row that has its place in a table of the file.
 
-ghost use Rattle.std.specs.Prelude.{◌≡◌, ℕ, true, Ok, OnOk, IfOk, if◌then◌else◌};
+ghost use Rattle.std.specs.Prelude.{ℕ, IfOk, if◌then◌else◌};
 ghost use Rattle.sqlite_value.specs.Order.{Row};
-ghost use Rattle.sqlite.specs.Held.{state};
-ghost use Rattle.sqlite.specs.State.{HasCleanDisk, Executes};
-ghost use Rattle.file_schema.specs.Inside.{StaysInside};
+ghost use Rattle.file_schema.specs.Inside.{StaysInside, RunsInside};
 ghost use Rattle.file_rows.specs.Tables.{Tables};
-ghost use Rattle.file_rows.specs.Changes.{IsInside, Changes};
+ghost use Rattle.file_rows.specs.Changes.{Changes};
+ghost use Rattle.file_rows.specs.Written.{WhileInside, WritesInside};
 ghost use Rattle.file_writes.specs.Statements.{AreStatementsOf};
 
 use crate::bound::run_bound;
@@ -41,17 +40,17 @@ pub trait Stored {
 
     /// The statements of the table.
     fn statements() -> Statements
-        ensures { AreStatementsOf as_row key with_row without_row result.insert.now result.update.now result.remove.now };
+        ensures { AreStatementsOf as_row key with_row without_row
+            result.insert.now result.update.now result.remove.now };
 
     /// Runs a statement whose parameters are the row's columns in order. Says how many rows it wrote.
     fn run<S: Alter>(&self, tx: &mut Transaction<'_, S>, sql: &str) -> Result<usize, RowError>
         ensures inside { StaysInside S.Store tx.old.conn tx.new.conn }
-        ensures ran { HasCleanDisk (state S.Store tx.new.conn.now) → (state S.Store tx.old.conn.now).in_transaction ≡ true → IfOk result (λ count. Executes sql.now (as_row self.now) (state S.Store tx.old.conn.now) (state S.Store tx.new.conn.now) (Ok count)) };
+        ensures ran { RunsInside S.Store tx.old tx.new sql.now (as_row self.now) result };
 
     /// Adds the row, whose id has to be new.
     final fn insert<S: Alter>(&self, tx: &mut Transaction<'_, S>) -> Result<(), RowError>
-        ensures inside { StaysInside S.Store tx.old.conn tx.new.conn }
-        ensures written { HasCleanDisk (state S.Store tx.new.conn.now) → IsInside (state S.Store tx.old.conn.now) → OnOk result (Changes (with_row self.now) (state S.Store tx.old.conn.now) (state S.Store tx.new.conn.now)) }
+        ensures { WritesInside S.Store tx.old tx.new (Changes (with_row self.now)) result }
     {
         self.run(tx, Self::statements().insert)?;
         Ok(())
@@ -60,7 +59,9 @@ pub trait Stored {
     /// Puts the row in the place of the one with its id, and says whether there was one.
     final fn update<S: Alter>(&self, tx: &mut Transaction<'_, S>) -> Result<bool, RowError>
         ensures inside { StaysInside S.Store tx.old.conn tx.new.conn }
-        ensures written { HasCleanDisk (state S.Store tx.new.conn.now) → IsInside (state S.Store tx.old.conn.now) → IfOk result (λ stood. Changes (if stood then (λ t. with_row self.now (without_row (key self.now) t)) else without_row (key self.now)) (state S.Store tx.old.conn.now) (state S.Store tx.new.conn.now)) }
+        ensures written { WhileInside S.Store tx.old tx.new (λ old new. IfOk result (λ stood.
+            Changes (if stood then (λ t. with_row self.now (without_row (key self.now) t))
+            else without_row (key self.now)) old new)) }
     {
         match self.run(tx, Self::statements().update)? {
             0 => Ok(false),
@@ -71,8 +72,7 @@ pub trait Stored {
 
     /// Removes the row of this id, if there is one.
     final fn remove<S: Alter>(tx: &mut Transaction<'_, S>, id: u64) -> Result<(), RowError>
-        ensures inside { StaysInside S.Store tx.old.conn tx.new.conn }
-        ensures written { HasCleanDisk (state S.Store tx.new.conn.now) → IsInside (state S.Store tx.old.conn.now) → OnOk result (Changes (without_row id) (state S.Store tx.old.conn.now) (state S.Store tx.new.conn.now)) }
+        ensures { WritesInside S.Store tx.old tx.new (Changes (without_row id)) result }
     {
         run_bound(tx, Self::statements().remove, &[id.bind()])?;
         Ok(())
@@ -81,8 +81,9 @@ pub trait Stored {
 
 /// Puts the row in the place of its id, instead of the row that stood there.
 pub fn put<S: Alter, T: Stored>(tx: &mut Transaction<'_, S>, row: &T) -> Result<(), RowError>
-    ensures inside { StaysInside S.Store tx.old.conn tx.new.conn }
-    ensures written { HasCleanDisk (state S.Store tx.new.conn.now) → IsInside (state S.Store tx.old.conn.now) → OnOk result (Changes (λ t. T.Stored.with_row row.now (T.Stored.without_row (T.Stored.key row.now) t)) (state S.Store tx.old.conn.now) (state S.Store tx.new.conn.now)) }
+    ensures { WritesInside S.Store tx.old tx.new
+        (Changes (λ t. T.Stored.with_row row.now
+        (T.Stored.without_row (T.Stored.key row.now) t))) result }
 {
     let stood = row.update(tx)?;
     if stood {

@@ -1,10 +1,8 @@
 //! The table `vouchers`, which has a count beside each voucher.
 
-ghost use Rattle.std.specs.Prelude.{◌≡◌, true, Ok, OnOk, IfOk};
-ghost use Rattle.sqlite.specs.Held.{state};
-ghost use Rattle.sqlite.specs.State.{HasCleanDisk, Executes};
-ghost use Rattle.file_schema.specs.Inside.{StaysInside};
-ghost use Rattle.file_rows.specs.Changes.{IsInside, Changes};
+ghost use Rattle.file_schema.specs.Inside.{StaysInside, RunsInside};
+ghost use Rattle.file_rows.specs.Changes.{Changes};
+ghost use Rattle.file_rows.specs.Written.{WritesInside};
 ghost use Rattle.file_writes.specs.Vouchers.{voucher_values, with_new_voucher, put_voucher, set_redeemed, without_voucher};
 
 use crate::bound::run_bound;
@@ -21,7 +19,7 @@ fn run_with<S: Alter>(
     row: &Voucher,
 ) -> Result<usize, RowError>
     ensures inside { StaysInside S.Store tx.old.conn tx.new.conn }
-    ensures ran { HasCleanDisk (state S.Store tx.new.conn.now) → (state S.Store tx.old.conn.now).in_transaction ≡ true → IfOk result (λ count. Executes sql.now (voucher_values row.now) (state S.Store tx.old.conn.now) (state S.Store tx.new.conn.now) (Ok count)) }
+    ensures ran { RunsInside S.Store tx.old tx.new sql.now (voucher_values row.now) result }
 {
     let columns = [
         row.id.bind(),
@@ -43,8 +41,7 @@ fn run_with<S: Alter>(
 
 // Adds a voucher, redeemed 0 times.
 fn insert_voucher<S: Alter>(tx: &mut Transaction<'_, S>, row: &Voucher) -> Result<(), RowError>
-    ensures inside { StaysInside S.Store tx.old.conn tx.new.conn }
-    ensures written { HasCleanDisk (state S.Store tx.new.conn.now) → IsInside (state S.Store tx.old.conn.now) → OnOk result (Changes (with_new_voucher row.now) (state S.Store tx.old.conn.now) (state S.Store tx.new.conn.now)) }
+    ensures { WritesInside S.Store tx.old tx.new (Changes (with_new_voucher row.now)) result }
 {
     run_with(
         tx,
@@ -56,8 +53,7 @@ fn insert_voucher<S: Alter>(tx: &mut Transaction<'_, S>, row: &Voucher) -> Resul
 
 /// Puts the voucher in the place of its id, and leaves its count as it is. A new one is redeemed 0 times.
 pub fn put_voucher<S: Alter>(tx: &mut Transaction<'_, S>, row: &Voucher) -> Result<(), RowError>
-    ensures inside { StaysInside S.Store tx.old.conn tx.new.conn }
-    ensures written { HasCleanDisk (state S.Store tx.new.conn.now) → IsInside (state S.Store tx.old.conn.now) → OnOk result (Changes (put_voucher row.now) (state S.Store tx.old.conn.now) (state S.Store tx.new.conn.now)) }
+    ensures { WritesInside S.Store tx.old tx.new (Changes (put_voucher row.now)) result }
 {
     let count = run_with(
         tx,
@@ -76,8 +72,7 @@ pub fn put_redeemed<S: Alter>(
     tx: &mut Transaction<'_, S>,
     count: VoucherCount,
 ) -> Result<(), RowError>
-    ensures inside { StaysInside S.Store tx.old.conn tx.new.conn }
-    ensures written { HasCleanDisk (state S.Store tx.new.conn.now) → IsInside (state S.Store tx.old.conn.now) → OnOk result (Changes (set_redeemed count) (state S.Store tx.old.conn.now) (state S.Store tx.new.conn.now)) }
+    ensures { WritesInside S.Store tx.old tx.new (Changes (set_redeemed count)) result }
 {
     let id = count.voucher.bind()?;
     let redeemed = count.redeemed.bind()?;
@@ -94,8 +89,7 @@ pub fn put_redeemed<S: Alter>(
 
 /// Removes the voucher of this id, if there is one.
 pub fn remove_voucher<S: Alter>(tx: &mut Transaction<'_, S>, id: u64) -> Result<(), RowError>
-    ensures inside { StaysInside S.Store tx.old.conn tx.new.conn }
-    ensures written { HasCleanDisk (state S.Store tx.new.conn.now) → IsInside (state S.Store tx.old.conn.now) → OnOk result (Changes (without_voucher id) (state S.Store tx.old.conn.now) (state S.Store tx.new.conn.now)) }
+    ensures { WritesInside S.Store tx.old tx.new (Changes (without_voucher id)) result }
 {
     let key = id.bind()?;
     run(tx, "DELETE FROM vouchers WHERE id = ?1", &[key])?;

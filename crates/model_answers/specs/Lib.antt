@@ -1,3 +1,4 @@
 pub mod House
 pub mod KeptAnswers
 pub mod ShopView
+pub mod CallsLeave

@@ -2,12 +2,11 @@
 
 ghost use Rattle.std.specs.Prelude.{◌≡◌, ◌⊎◌, ℕ, List, IfOk, OnOk, OnErr, IsPermutation};
 ghost use Rattle.model_rows.specs.Lists.{State};
-ghost use Rattle.model_rows.specs.Change.{applied};
-ghost use Rattle.model_rows.specs.CountRows.{counts_after};
 ghost use Rattle.model_answers.specs.declared.kept.Kept.{Kept};
 ghost use Rattle.model_answers.specs.House.{House};
 ghost use Rattle.model_answers.specs.KeptAnswers.{AreOneForEachKey, told_by};
-ghost use Rattle.model_answers.specs.ShopView.{ShopView, IsSame, committed};
+ghost use Rattle.model_answers.specs.ShopView.{ShopView, IsSame};
+ghost use Rattle.model_answers.specs.CallsLeave.{OfItsHouse, KnowsStill, OfItsRows, HoldsStill, MayLeaveNoMore, OfCommitted};
 
 use crate::kept::Kept;
 use base_values::{Moment, Response};
@@ -45,10 +44,11 @@ pub trait Tables {
     /// The number of the token with this SHA-256 digest, if it is known.
     fn token_of(&mut self, digest: &[u8; 32]) -> Result<Option<u64>, TablesError>
         ensures sure { sure self.new → sure self.old }
-        ensures found { sure self.new → (house : House) → knows self.old house → IfOk result (λ number. number ≡ house.tokens digest.now) }
-        ensures same { sure self.new → (s : State) (ks : List Kept) → holds self.old s ks → holds self.new s ks }
-        ensures house { sure self.new → (house : House) → knows self.old house → knows self.new house }
-        ensures crash { (left : ShopView) → may_leave self.new left → may_leave self.old left };
+        ensures found { OfItsHouse sure knows self.old self.new
+            (λ house. IfOk result (λ number. number ≡ house.tokens digest.now)) }
+        ensures same { HoldsStill sure holds self.old self.new }
+        ensures house { KnowsStill sure knows self.old self.new }
+        ensures crash { MayLeaveNoMore may_leave self.old self.new };
 
     /// What was told under a key of a token that is still kept at a moment.
     fn find_kept(
@@ -59,10 +59,11 @@ pub trait Tables {
         at: Moment,
     ) -> Result<Option<Response>, TablesError>
         ensures sure { sure self.new → sure self.old }
-        ensures found { sure self.new → (s : State) (ks : List Kept) → holds self.old s ks → AreOneForEachKey ks → IfOk result (λ response. response ≡ told_by token key.now at ks) }
-        ensures same { sure self.new → (s : State) (ks : List Kept) → holds self.old s ks → holds self.new s ks }
-        ensures house { sure self.new → (house : House) → knows self.old house → knows self.new house }
-        ensures crash { (left : ShopView) → may_leave self.new left → may_leave self.old left };
+        ensures found { OfItsRows sure holds self.old self.new (λ s ks. AreOneForEachKey ks
+            → IfOk result (λ response. response ≡ told_by token key.now at ks)) }
+        ensures same { HoldsStill sure holds self.old self.new }
+        ensures house { KnowsStill sure knows self.old self.new }
+        ensures crash { MayLeaveNoMore may_leave self.old self.new };
 
     /// Makes these changes at a moment, with the counts that they change, and keeps this answer, all of it or nothing; what is
     /// past goes.
@@ -74,12 +75,14 @@ pub trait Tables {
         kept: Option<&Kept>,
     ) -> Result<(), TablesError>
         ensures sure { sure self.new → sure self.old }
-        ensures all { sure self.new → (s : State) (ks : List Kept) → holds self.old s ks → counts.now ≡ counts_after s (applied changes.now at s)
-            → OnOk result (holds self.new (committed changes.now at kept.entry s ks).state (committed changes.now at kept.entry s ks).kept) }
-        ensures none { sure self.new → (s : State) (ks : List Kept) → holds self.old s ks → OnErr result (holds self.new s ks) }
-        ensures house { sure self.new → (house : House) → knows self.old house → knows self.new house }
+        ensures all { sure self.new
+            → OfCommitted holds self.old changes.now counts.now at kept.entry
+            (λ v. OnOk result (holds self.new v.state v.kept)) }
+        ensures none { OfItsRows sure holds self.old self.new
+            (λ s ks. OnErr result (holds self.new s ks)) }
+        ensures house { KnowsStill sure knows self.old self.new }
         ensures crash { (left : ShopView) → may_leave self.new left → may_leave self.old left
-            ⊎ ((s : State) (ks : List Kept) → holds self.old s ks → counts.now ≡ counts_after s (applied changes.now at s) → IsSame left (committed changes.now at kept.entry s ks)) }
-        ensures settled { sure self.new → OnOk result ((left : ShopView) → may_leave self.new left → (s : State) (ks : List Kept) → holds self.old s ks
-            → counts.now ≡ counts_after s (applied changes.now at s) → IsSame left (committed changes.now at kept.entry s ks)) };
+            ⊎ OfCommitted holds self.old changes.now counts.now at kept.entry (IsSame left) }
+        ensures settled { sure self.new → OnOk result ((left : ShopView) → may_leave self.new left
+            → OfCommitted holds self.old changes.now counts.now at kept.entry (IsSame left)) };
 }

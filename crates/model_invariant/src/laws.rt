@@ -12,7 +12,8 @@ ghost use Rattle.model_rows.specs.Usage.{usage_of};
 
 /// Time alone raises no usage.
 pub fn time_lowers()
-    ensures { (state : State) (quota : Quota) (at later : ℕ) → IsSound state → state.moment ≤ at → at ≤ later →
+    ensures { (state : State) (quota : Quota) (at later : ℕ) →
+        IsSound state → state.moment ≤ at → at ≤ later →
         total (usage_of state.lists later quota) ≤ total (usage_of state.lists at quota) }
 {}
 
@@ -23,12 +24,14 @@ pub fn secrets_are_unlike()
 
 /// By number positions count on from 1 exactly where their numbers are 1 to their count, each once.
 pub fn numbers_are_each_once()
-    ensures { (positions : List OrderPos) → CountFrom 1 (by_positionid positions) ↔ AreEachOnce positions }
+    ensures { (positions : List OrderPos) →
+        CountFrom 1 (by_positionid positions) ↔ AreEachOnce positions }
 {}
 
 /// Those who have gone out of a quota are among those who have paid for it. A quota that keeps its places has none of them.
 pub fn exited_are_paid()
-    ensures paid { (lists : Lists) (at : ℕ) (quota : Quota) → (usage_of lists at quota).exited ≤ (usage_of lists at quota).paid }
+    ensures paid { (lists : Lists) (at : ℕ) (quota : Quota) →
+        (usage_of lists at quota).exited ≤ (usage_of lists at quota).paid }
     ensures kept { (lists : Lists) (at : ℕ) (quota : Quota) →
         quota.release_after_exit ≡ false → (usage_of lists at quota).exited ≡ 0 }
 {}

@@ -44,7 +44,7 @@ abbrev pub same_voucher_count : VoucherCount → VoucherCount → Bool
 same_voucher_count a b = a.voucher == b.voucher && (a.redeemed == b.redeemed && a.spent == b.spent)
 
 -- the counts that are to be written where an office comes after another one: those of the quotas and vouchers that are new,
--- or whose counts differ; of these quotas those of which other tickets are out; and the vouchers that are gone
+-- or whose counts differ; of these quotas those that differ in how many tickets are out; and the vouchers that are gone
 pub record CountRows : Type 0 where
   pub quotas : List QuotaCount
   pub exits : List QuotaCount

@@ -20,8 +20,8 @@ pub struct VoucherCount {
     pub spent: u64,
 }
 
-/// The counts that are to be written: of the quotas and vouchers that are new or whose counts differ, of which of these
-/// quotas other tickets are out, and the ids of the vouchers that are gone.
+/// The counts that are to be written: those of the quotas and vouchers that are new or whose counts differ, which of these
+/// quotas differ in how many tickets are out, and the ids of the vouchers that are gone.
 #[derive(Drop)]
 pub struct CountRows {
     quotas: Vec<QuotaCount>,
@@ -35,7 +35,12 @@ impl Model for CountRows {
 
     ghost Value = { CountRows };
 
-    ghost view = { λ c. record { quotas = c.quotas.items; exits = c.exits.items; vouchers = c.vouchers.items; gone = c.gone.items } };
+    ghost view = { λ c. record {
+      quotas = c.quotas.items;
+      exits = c.exits.items;
+      vouchers = c.vouchers.items;
+      gone = c.gone.items;
+    } };
 }
 
 impl CountRows {
@@ -66,7 +71,7 @@ impl CountRows {
         self.quotas.as_slice()
     }
 
-    /// Those of the quotas of which other tickets are out, by id.
+    /// Those of the quotas that differ in how many tickets are out, by id.
     pub fn exits(&self) -> &[QuotaCount]
         ensures { result.now ≡ self.now.exits }
     {

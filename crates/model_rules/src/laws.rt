@@ -13,5 +13,7 @@ pub fn what_keeps_the_rules_is_sound()
 
 /// The file of a sound box office keeps all rules, where its slugs are slugs and its counters are counted afresh.
 pub fn a_sound_office_keeps_the_rules()
-    ensures { (file : File) (rule : Rule) → IsSlug file.organizer → IsSlug file.event → IsSound file.state → IsCounted file → Keeps rule file }
+    ensures { (file : File) (rule : Rule) →
+        IsSlug file.organizer → IsSlug file.event → IsSound file.state → IsCounted file →
+        Keeps rule file }
 {}

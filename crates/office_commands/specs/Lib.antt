@@ -1,1 +1,2 @@
 pub mod OfficeView
+pub mod Told

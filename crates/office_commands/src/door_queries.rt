@@ -1,8 +1,9 @@
 //! Queries of check-in lists, and of the positions that belong to them.
 
-ghost use Rattle.std.specs.Prelude.{◌≡◌, IfOk, map, take, drop};
-ghost use Rattle.office_service.specs.Machine.{list_of, one_of, status_told, ticket_if, belonging, show_ticket};
+ghost use Rattle.std.specs.Prelude.{◌≡◌, IfOk, map};
+ghost use Rattle.office_service.specs.Machine.{list_of, one_of, status_told, ticket_if};
 ghost use Rattle.model_rows.specs.Lists.{checkin_list_at};
+ghost use Rattle.office_commands.specs.Told.{IfOkIs, tickets_behind};
 
 use crate::lists::no_page;
 use crate::office::Office;
@@ -16,7 +17,7 @@ use std::alloc::{AllocError, Global};
 
 impl<B: Book> Office<B> {
     pub(crate) fn one_checkin_list(&self, alloc: Global, id: u64) -> Result<Reply, AllocError>
-        ensures { IfOk result (λ reply. reply ≡ one_of Resource.CheckinLists id self.now.state.lists) }
+        ensures { IfOkIs result (one_of Resource.CheckinLists id self.now.state.lists) }
     {
         match self.book().checkin_list(id) {
             None => Ok(no_list(Kind::One)),
@@ -25,7 +26,8 @@ impl<B: Book> Office<B> {
     }
 
     pub(crate) fn one_ticket(&self, alloc: Global, list: u64, id: u64) -> Result<Reply, AllocError>
-        ensures { IfOk result (λ reply. reply ≡ one_of (Resource.Tickets list) id self.now.state.lists) }
+        ensures { IfOk result
+            (λ reply. reply ≡ one_of (Resource.Tickets list) id self.now.state.lists) }
     {
         match self.book().checkin_list(list) {
             None => Ok(no_list(Kind::One)),
@@ -43,7 +45,8 @@ impl<B: Book> Office<B> {
         list: &CheckinList,
         position: &OrderPos,
     ) -> Result<Reply, AllocError>
-        ensures { IfOk result (λ reply. reply ≡ ticket_if list.now self.now.state.lists position.now) }
+        ensures { IfOk result
+            (λ reply. reply ≡ ticket_if list.now self.now.state.lists position.now) }
     {
         if !belongs(self.book(), list, position) {
             return Ok(invalid());
@@ -59,7 +62,7 @@ impl<B: Book> Office<B> {
         id: u64,
         number: u64,
     ) -> Result<Reply, AllocError>
-        ensures { IfOk result (λ reply. reply ≡ list_of (Resource.Tickets id) number self.now.state.lists) }
+        ensures { IfOkIs result (list_of (Resource.Tickets id) number self.now.state.lists) }
     {
         let Some(list) = self.book().checkin_list(id) else {
             return Ok(no_list(Kind::List));
@@ -84,7 +87,7 @@ impl<B: Book> Office<B> {
         list: &CheckinList,
         before: usize,
     ) -> Result<List<Shown>, AllocError>
-        ensures { IfOk result (λ rows. rows ≡ map (show_ticket list.now self.now.state.lists) (take 50 (drop before (belonging list.now self.now.state.lists)))) }
+        ensures { IfOkIs result (tickets_behind before list.now self.now.state.lists) }
     {
         let tickets = positions(self.book(), alloc, list, before, 50)?;
         Ok(List::new(all_shown(alloc, tickets)?))
@@ -92,7 +95,8 @@ impl<B: Book> Office<B> {
 
     // The numbers of a check-in list.
     pub(crate) fn status(&self, alloc: Global, id: u64) -> Result<Reply, AllocError>
-        ensures { IfOk result (λ reply. reply ≡ status_told self.now.state.lists (checkin_list_at id self.now.state.lists)) }
+        ensures { IfOkIs result
+            (status_told self.now.state.lists (checkin_list_at id self.now.state.lists)) }
     {
         match self.book().checkin_list(id) {
             None => Ok(no_list(Kind::Status)),

@@ -1,8 +1,9 @@
 //! Pages of lists.
 
-ghost use Rattle.std.specs.Prelude.{◌≡◌, IfOk, map};
+ghost use Rattle.std.specs.Prelude.{◌≡◌, map};
 ghost use Rattle.office_service.specs.Machine.{list_of};
 ghost use Rattle.model_commands.specs.Pages.{listed};
+ghost use Rattle.office_commands.specs.Told.{IfOkIs};
 
 use crate::office::Office;
 use crate::shown_rows::ShownRow;
@@ -21,7 +22,7 @@ impl<B: Book> Office<B> {
         resource: Resource,
         number: u64,
     ) -> Result<Reply, AllocError>
-        ensures { IfOk result (λ reply. reply ≡ list_of resource number self.now.state.lists) }
+        ensures { IfOkIs result (list_of resource number self.now.state.lists) }
     {
         let book = self.book();
         match resource {
@@ -44,7 +45,7 @@ impl<B: Book> Office<B> {
         number: u64,
         rows: &[R],
     ) -> Result<Reply, AllocError>
-        ensures { IfOk result (λ reply. reply ≡ listed resource (R.show self.now.state.lists) number rows.now) }
+        ensures { IfOkIs result (listed resource (R.show self.now.state.lists) number rows.now) }
     {
         let count = rows.len();
         if !is_page(number, count) {
@@ -62,7 +63,8 @@ impl<B: Book> Office<B> {
         number: u64,
         rows: &Sparse<R>,
     ) -> Result<Reply, AllocError>
-        ensures { IfOk result (λ reply. reply ≡ listed resource (R.show self.now.state.lists) number rows.now.rows) }
+        ensures { IfOkIs result
+            (listed resource (R.show self.now.state.lists) number rows.now.rows) }
     {
         let count = rows.len();
         if !is_page(number, count) {
@@ -81,7 +83,12 @@ impl<B: Book> Office<B> {
         count: usize,
         rows: &[&R],
     ) -> Result<Reply, AllocError>
-        ensures { IfOk result (λ reply. reply ≡ Reply.Listed (record { resource = resource; number = number; count = count; rows = map (R.show self.now.state.lists) (map (λ r. r.now) rows.now) })) }
+        ensures { IfOkIs result (Reply.Listed (record {
+          resource = resource;
+          number = number;
+          count = count;
+          rows = map (R.show self.now.state.lists) (map (λ r. r.now) rows.now);
+        })) }
     {
         let rows = self.shown_rows(alloc, rows)?;
         Ok(Reply::Listed(Page {
@@ -94,7 +101,7 @@ impl<B: Book> Office<B> {
 
     // Each of these rows as it is shown.
     fn shown_rows<R: ShownRow>(&self, alloc: Global, rows: &[&R]) -> Result<List<Shown>, AllocError>
-        ensures { IfOk result (λ shown. shown ≡ map (R.show self.now.state.lists) (map (λ r. r.now) rows.now)) }
+        ensures { IfOkIs result (map (R.show self.now.state.lists) (map (λ r. r.now) rows.now)) }
     {
         let mut shown = Vec::new(alloc);
         for row in rows {

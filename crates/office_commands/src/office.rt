@@ -1,11 +1,12 @@
 //! One box office over a book.
 
-ghost use Rattle.std.specs.Prelude.{◌≡◌, ◌≤◌, ℕ, IfOk, OnOk};
+ghost use Rattle.std.specs.Prelude.{◌≡◌, ◌≤◌, IfOk, OnOk};
 ghost use Rattle.model_rows.specs.Change.{applied};
 ghost use Rattle.model_rows.specs.CountRows.{counts_after};
 ghost use Rattle.model_rows.specs.Weight.{weight};
 ghost use Rattle.model_invariant.specs.Sound.{IsSound};
 ghost use Rattle.office_service.specs.Machine.{IsStep, answer};
+ghost use Rattle.office_commands.specs.Told.{IfOkIs};
 
 use crate::deciding::decide_over;
 use base_values::{Draw, Known, Moment, Slug};
@@ -117,7 +118,7 @@ impl<B: Book> Office<B> {
     /// 59 `NoPage` where the list has no such page.
     pub fn ask(&self, alloc: Global, at: Moment, query: &Query) -> Result<Reply, AllocError>
         requires { self.now.state.moment ≤ at }
-        ensures { IfOk result (λ reply. reply ≡ answer query.now at self.now.state) }
+        ensures { IfOkIs result (answer query.now at self.now.state) }
     {
         match query {
             Query::List(resource, number) => self.list(alloc, *resource, *number),
@@ -156,7 +157,8 @@ impl<B: Dues> Office<B> {
         requires room { weight changes.list ≤ self.old.room }
         requires moment { self.old.state.moment ≤ at }
         requires sound { IsSound (applied changes at self.old.state) }
-        requires counts { counts.now ≡ counts_after self.old.state (applied changes at self.old.state) }
+        requires counts { counts.now
+            ≡ counts_after self.old.state (applied changes at self.old.state) }
         ensures state { self.new.state ≡ applied changes at self.old.state }
         ensures organizer { self.new.organizer ≡ self.old.organizer }
         ensures event { self.new.event ≡ self.old.event }

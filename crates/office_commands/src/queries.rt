@@ -1,8 +1,9 @@
 //! Queries of one row, and how each row is shown.
 
-ghost use Rattle.std.specs.Prelude.{◌≡◌, ◌≤◌, IfOk};
+ghost use Rattle.std.specs.Prelude.{◌≡◌, ◌≤◌};
 ghost use Rattle.model_commands.specs.declared.requests.Query.{Query};
 ghost use Rattle.office_service.specs.Machine.{answer, one_of, show_item, show_voucher, show_order};
+ghost use Rattle.office_commands.specs.Told.{IfOkIs};
 
 use crate::office::Office;
 use base_values::Moment;
@@ -19,7 +20,7 @@ use std::alloc::{AllocError, Global};
 impl<B: Book> Office<B> {
     // An item with its variations.
     pub(crate) fn shown_item(&self, alloc: Global, item: &Item) -> Result<Shown, AllocError>
-        ensures { IfOk result (λ shown. shown ≡ show_item self.now.state.lists item.now) }
+        ensures { IfOkIs result (show_item self.now.state.lists item.now) }
     {
         Ok(Shown::Item(self.book().catalogue().with_variations(alloc, item)?))
     }
@@ -30,14 +31,14 @@ impl<B: Book> Office<B> {
         alloc: Global,
         voucher: &Voucher,
     ) -> Result<Shown, AllocError>
-        ensures { IfOk result (λ shown. shown ≡ show_voucher self.now.state.lists voucher.now) }
+        ensures { IfOkIs result (show_voucher self.now.state.lists voucher.now) }
     {
         Ok(show_voucher(self.book(), voucher.copy(alloc)?))
     }
 
     // An order with its positions, by their numbers.
     pub(crate) fn shown_order(&self, alloc: Global, order: &Order) -> Result<Shown, AllocError>
-        ensures { IfOk result (λ shown. shown ≡ show_order self.now.state.lists order.now) }
+        ensures { IfOkIs result (show_order self.now.state.lists order.now) }
     {
         Ok(Shown::Order(OrderRows {
             order: order.copy(alloc)?,
@@ -52,7 +53,7 @@ impl<B: Book> Office<B> {
         resource: Resource,
         id: u64,
     ) -> Result<Reply, AllocError>
-        ensures { IfOk result (λ reply. reply ≡ one_of resource id self.now.state.lists) }
+        ensures { IfOkIs result (one_of resource id self.now.state.lists) }
     {
         match resource {
             Resource::Items => self.one_item(alloc, id),
@@ -67,7 +68,7 @@ impl<B: Book> Office<B> {
     }
 
     fn one_item(&self, alloc: Global, id: u64) -> Result<Reply, AllocError>
-        ensures { IfOk result (λ reply. reply ≡ one_of Resource.Items id self.now.state.lists) }
+        ensures { IfOkIs result (one_of Resource.Items id self.now.state.lists) }
     {
         match self.book().catalogue().item(id) {
             None => Ok(none(Refusal::Catalogue(CatalogueRefusal::NoItem))),
@@ -76,7 +77,7 @@ impl<B: Book> Office<B> {
     }
 
     fn one_quota(&self, alloc: Global, id: u64) -> Result<Reply, AllocError>
-        ensures { IfOk result (λ reply. reply ≡ one_of Resource.Quotas id self.now.state.lists) }
+        ensures { IfOkIs result (one_of Resource.Quotas id self.now.state.lists) }
     {
         match self.book().catalogue().quota(id) {
             None => Ok(none(Refusal::Catalogue(CatalogueRefusal::NoQuota))),
@@ -85,7 +86,7 @@ impl<B: Book> Office<B> {
     }
 
     fn one_voucher(&self, alloc: Global, id: u64) -> Result<Reply, AllocError>
-        ensures { IfOk result (λ reply. reply ≡ one_of Resource.Vouchers id self.now.state.lists) }
+        ensures { IfOkIs result (one_of Resource.Vouchers id self.now.state.lists) }
     {
         match self.book().voucher(id) {
             None => Ok(none(Refusal::Voucher(VoucherRefusal::NoVoucher))),
@@ -94,7 +95,7 @@ impl<B: Book> Office<B> {
     }
 
     fn one_cart(&self, alloc: Global, id: u64) -> Result<Reply, AllocError>
-        ensures { IfOk result (λ reply. reply ≡ one_of Resource.Carts id self.now.state.lists) }
+        ensures { IfOkIs result (one_of Resource.Carts id self.now.state.lists) }
     {
         match self.book().cart(id) {
             None => Ok(none(Refusal::Order(OrderRefusal::NoPosition))),
@@ -103,7 +104,7 @@ impl<B: Book> Office<B> {
     }
 
     fn one_order(&self, alloc: Global, number: u64) -> Result<Reply, AllocError>
-        ensures { IfOk result (λ reply. reply ≡ one_of Resource.Orders number self.now.state.lists) }
+        ensures { IfOkIs result (one_of Resource.Orders number self.now.state.lists) }
     {
         match self.book().order(number) {
             None => Ok(none(Refusal::Order(OrderRefusal::NoOrder))),
@@ -112,7 +113,7 @@ impl<B: Book> Office<B> {
     }
 
     fn one_waiting(&self, alloc: Global, id: u64) -> Result<Reply, AllocError>
-        ensures { IfOk result (λ reply. reply ≡ one_of Resource.WaitingEntries id self.now.state.lists) }
+        ensures { IfOkIs result (one_of Resource.WaitingEntries id self.now.state.lists) }
     {
         match self.book().entry(id) {
             None => Ok(none(Refusal::Waiting(WaitingRefusal::NoEntry))),

@@ -1,9 +1,9 @@
 //! How lists show their rows.
 
-ghost use Rattle.std.specs.Prelude.{◌≡◌, IfOk};
 ghost use Rattle.model_commands.specs.declared.replies.Shown.{Shown};
 ghost use Rattle.model_rows.specs.Lists.{Lists};
 ghost use Rattle.office_service.specs.Machine.{show_item, show_quota, show_voucher, show_cart, show_order, show_waiting, show_checkin_list};
+ghost use Rattle.office_commands.specs.Told.{IfOkIs};
 
 use crate::office::Office;
 use book_usage::Book;
@@ -19,7 +19,7 @@ pub(crate) trait ShownRow {
 
     /// How it is shown in this office.
     fn shown<B: Book>(&self, office: &Office<B>, alloc: Global) -> Result<Shown, AllocError>
-        ensures { IfOk result (λ shown. shown ≡ show office.now.state.lists self.now) };
+        ensures { IfOkIs result (show office.now.state.lists self.now) };
 }
 
 impl ShownRow for Item {

@@ -1,1 +1,2 @@
 pub mod OpenShop
+pub mod CallsLeave

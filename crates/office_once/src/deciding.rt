@@ -29,7 +29,8 @@ impl<T: Tables, B: Dues, W: Wording> Shop<T, B, W> {
         command: &Command,
     ) -> Result<(Drafted, Response), AllocError>
         requires { self.now.state.moment ≤ at }
-        ensures done { IfOk result (λ r. (applied r.0.changes at self.now.state, r.1) ≡ done (W.words self.now.wording) (Write command.now) at draw self.now.state) }
+        ensures done { IfOk result (λ r. (applied r.0.changes at self.now.state, r.1)
+            ≡ done (W.words self.now.wording) (Write command.now) at draw self.now.state) }
         ensures sound { IfOk result (λ r. IsSound (applied r.0.changes at self.now.state)) }
         ensures shifts { IfOk result (λ r. HasShifts at self.now.state.lists r.0) }
     {
@@ -41,7 +42,8 @@ impl<T: Tables, B: Dues, W: Wording> Shop<T, B, W> {
     // What a write changes that was refused before it was a command: its moment alone.
     fn pass(&self, alloc: Global, at: Moment) -> Drafted
         requires { self.now.state.moment ≤ at }
-        ensures passed { applied result.changes at self.now.state ≡ record self.now.state { moment = at } }
+        ensures passed { applied result.changes at self.now.state
+            ≡ record self.now.state { moment = at } }
         ensures sound { IsSound (applied result.changes at self.now.state) }
         ensures shifts { HasShifts at self.now.state.lists result }
     {
@@ -59,7 +61,8 @@ impl<T: Tables, B: Dues, W: Wording> Shop<T, B, W> {
     ) -> Result<(Drafted, Response), AllocError>
         requires write { is_write request ≡ true }
         requires later { self.now.state.moment ≤ at }
-        ensures done { IfOk result (λ r. (applied r.0.changes at self.now.state, r.1) ≡ done (W.words self.now.wording) request at draw self.now.state) }
+        ensures done { IfOk result (λ r. (applied r.0.changes at self.now.state, r.1)
+            ≡ done (W.words self.now.wording) request at draw self.now.state) }
         ensures sound { IfOk result (λ r. IsSound (applied r.0.changes at self.now.state)) }
         ensures shifts { IfOk result (λ r. HasShifts at self.now.state.lists r.0) }
     {
@@ -89,9 +92,11 @@ impl<T: Tables, B: Dues, W: Wording> Shop<T, B, W> {
     ) -> Result<(Changes, CountRows, Response), AllocError>
         requires write { is_write request ≡ true }
         requires later { self.now.state.moment ≤ at }
-        ensures done { IfOk result (λ r. (applied r.0 at self.now.state, r.2) ≡ done (W.words self.now.wording) request at draw self.now.state) }
+        ensures done { IfOk result (λ r. (applied r.0 at self.now.state, r.2)
+            ≡ done (W.words self.now.wording) request at draw self.now.state) }
         ensures sound { IfOk result (λ r. IsSound (applied r.0 at self.now.state)) }
-        ensures counts { IfOk result (λ r. r.1 ≡ counts_after self.now.state (applied r.0 at self.now.state)) }
+        ensures counts { IfOk result (λ r. r.1
+            ≡ counts_after self.now.state (applied r.0 at self.now.state)) }
     {
         let (drafted, response) = self.decide(alloc, at, draw, request)?;
         let Drafted { changes, shifts } = drafted;

@@ -2,9 +2,9 @@
 
 ghost use Rattle.std.specs.Prelude.{◌≡◌, ◌≤◌, IfOk};
 ghost use Rattle.model_invariant.specs.Sound.{IsSound};
-ghost use Rattle.model_answers.specs.House.{House};
-ghost use Rattle.model_answers.specs.ShopView.{ShopView};
-ghost use Rattle.office_deliveries.specs.Shops.{Views, moment_at};
+ghost use Rattle.model_answers.specs.CallsLeave.{OfItsHouse, KnowsStill, MayLeaveNoMore};
+ghost use Rattle.office_deliveries.specs.Shops.{moment_at};
+ghost use Rattle.office_once.specs.CallsLeave.{StaysItsShop};
 
 use base_values::Moment;
 use book_usage::Book;
@@ -56,10 +56,11 @@ impl<T: Tables, B: Book, W: Wording> Shop<T, B, W> {
         ensures office { self.new.state ≡ self.old.state }
         ensures wording { self.new.wording ≡ self.old.wording }
         ensures sure { T.sure self.new.tables → T.sure self.old.tables }
-        ensures found { T.sure self.new.tables → (house : House) → T.knows self.old.tables house → IfOk result (λ number. number ≡ house.tokens digest.now) }
-        ensures same { T.sure self.new.tables → (v : ShopView) → Views T.holds self.old.tables self.old.state v → Views T.holds self.new.tables self.new.state v }
-        ensures house { T.sure self.new.tables → (house : House) → T.knows self.old.tables house → T.knows self.new.tables house }
-        ensures crash { (left : ShopView) → T.may_leave self.new.tables left → T.may_leave self.old.tables left }
+        ensures found { OfItsHouse T.sure T.knows self.old.tables self.new.tables
+            (λ house. IfOk result (λ number. number ≡ house.tokens digest.now)) }
+        ensures same { StaysItsShop T.sure T.holds self.old self.new }
+        ensures house { KnowsStill T.sure T.knows self.old.tables self.new.tables }
+        ensures crash { MayLeaveNoMore T.may_leave self.old.tables self.new.tables }
     {
         self.tables.token_of(digest)
     }

@@ -1,14 +1,14 @@
 //! Writes, each carried out once.
 
-ghost use Rattle.std.specs.Prelude.{◌≡◌, ◌⊎◌, ◌≤◌, ◌++◌, List, [], ◌∷◌, None, IfOk, OnOk, OnErr, true};
+ghost use Rattle.std.specs.Prelude.{◌≡◌, ◌≤◌, None, IfOk, OnOk, OnErr, true};
 ghost use Rattle.base_values.specs.declared.answer.Answer.TheVariants.{Unavailable};
-ghost use Rattle.model_invariant.specs.Sound.{IsSound};
-ghost use Rattle.model_answers.specs.House.{House};
+ghost use Rattle.model_answers.specs.CallsLeave.{KnowsStill, MayLeaveNoMore};
 ghost use Rattle.model_answers.specs.KeptAnswers.{told_by};
 ghost use Rattle.model_answers.specs.ShopView.{ShopView, IsSame, listed, own_row};
-ghost use Rattle.office_deliveries.specs.Deliveries.{Opening, Delivery, is_write, told};
+ghost use Rattle.office_deliveries.specs.Deliveries.{is_write};
 ghost use Rattle.office_deliveries.specs.Histories.{Running, IsRunning, TellsIt, after_act};
-ghost use Rattle.office_deliveries.specs.Shops.{Views, StandsFor, IsAnswered, IsDecided, delivered, served, executes, executed_at};
+ghost use Rattle.office_deliveries.specs.Shops.{Views, IsAnswered, IsDecided, served, executed_at};
+ghost use Rattle.office_once.specs.CallsLeave.{OfItsShop, StaysItsShop, MayLeaveMade, LeavesServed, StandsWith};
 
 use crate::shop::Shop;
 use base_values::{Answer, Moment, Response};
@@ -30,13 +30,18 @@ impl<T: Tables, B: Dues, W: Wording> Shop<T, B, W> {
         ensures wording { self.new.wording ≡ self.old.wording }
         ensures office { OnErr result (self.new.state ≡ self.old.state) }
         ensures sure { T.sure self.new.tables → T.sure self.old.tables }
-        ensures house { T.sure self.new.tables → (house : House) → T.knows self.old.tables house → T.knows self.new.tables house }
-        ensures done { T.sure self.new.tables → (v : ShopView) → Views T.holds self.old.tables self.old.state v → (told_by arrival.token arrival.key at v.kept ≡ None)
-            → IfOk result (λ told. Views T.holds self.new.tables self.new.state (executed_at (W.words self.old.wording) arrival at v).0 × (told ≡ (executed_at (W.words self.old.wording) arrival at v).1)) }
-        ensures none { T.sure self.new.tables → (v : ShopView) → Views T.holds self.old.tables self.old.state v → OnErr result (Views T.holds self.new.tables self.new.state v) }
-        ensures crash { (left : ShopView) → T.may_leave self.new.tables left → T.may_leave self.old.tables left
-            ⊎ ((v : ShopView) → Views T.holds self.old.tables self.old.state v → IsSame left (executed_at (W.words self.old.wording) arrival at v).0 × IsSound left.state) }
-        ensures settled { T.sure self.new.tables → OnOk result ((left : ShopView) → T.may_leave self.new.tables left → (v : ShopView) → Views T.holds self.old.tables self.old.state v
+        ensures house { KnowsStill T.sure T.knows self.old.tables self.new.tables }
+        ensures done { OfItsShop T.sure T.holds self.old self.new
+            (λ v. (told_by arrival.token arrival.key at v.kept ≡ None) → IfOk result (λ told.
+            let made = executed_at (W.words self.old.wording) arrival at v in
+            Views T.holds self.new.tables self.new.state made.0 × (told ≡ made.1))) }
+        ensures none { OfItsShop T.sure T.holds self.old self.new
+            (λ v. OnErr result (Views T.holds self.new.tables self.new.state v)) }
+        ensures crash { MayLeaveMade T.holds T.may_leave self.old self.new
+            (λ v. (executed_at (W.words self.old.wording) arrival at v).0) }
+        ensures settled { T.sure self.new.tables → OnOk result ((left : ShopView)
+            → T.may_leave self.new.tables left
+            → (v : ShopView) → Views T.holds self.old.tables self.old.state v
             → IsSame left (executed_at (W.words self.old.wording) arrival at v).0) }
     {
         let Arrival {
@@ -73,10 +78,11 @@ impl<T: Tables, B: Dues, W: Wording> Shop<T, B, W> {
         ensures wording { self.new.wording ≡ self.old.wording }
         ensures office { self.new.state ≡ self.old.state }
         ensures sure { T.sure self.new.tables → T.sure self.old.tables }
-        ensures house { T.sure self.new.tables → (house : House) → T.knows self.old.tables house → T.knows self.new.tables house }
-        ensures found { T.sure self.new.tables → (v : ShopView) → Views T.holds self.old.tables self.old.state v → IfOk result (λ told. told ≡ told_by arrival.now.token arrival.now.key at v.kept) }
-        ensures same { T.sure self.new.tables → (v : ShopView) → Views T.holds self.old.tables self.old.state v → Views T.holds self.new.tables self.new.state v }
-        ensures crash { (left : ShopView) → T.may_leave self.new.tables left → T.may_leave self.old.tables left }
+        ensures house { KnowsStill T.sure T.knows self.old.tables self.new.tables }
+        ensures found { OfItsShop T.sure T.holds self.old self.new (λ v. IfOk result (λ told.
+            told ≡ told_by arrival.now.token arrival.now.key at v.kept)) }
+        ensures same { StaysItsShop T.sure T.holds self.old self.new }
+        ensures crash { MayLeaveNoMore T.may_leave self.old.tables self.new.tables }
     {
         if arrival.key.is_empty() {
             return Ok(None);
@@ -91,13 +97,14 @@ impl<T: Tables, B: Dues, W: Wording> Shop<T, B, W> {
         ensures wording { self.new.wording ≡ self.old.wording }
         ensures office { result ≡ Unavailable → self.new.state ≡ self.old.state }
         ensures sure { T.sure self.new.tables → T.sure self.old.tables }
-        ensures house { T.sure self.new.tables → (house : House) → T.knows self.old.tables house → T.knows self.new.tables house }
-        ensures answered { T.sure self.new.tables → (v : ShopView) → Views T.holds self.old.tables self.old.state v
-            → IsAnswered (W.words self.old.wording) arrival v result (λ w. Views T.holds self.new.tables self.new.state w) }
-        ensures crash { T.sure self.new.tables → (left : ShopView) → T.may_leave self.new.tables left → T.may_leave self.old.tables left
-            ⊎ ((v : ShopView) → Views T.holds self.old.tables self.old.state v → IsSame left (served (W.words self.old.wording) arrival v).0 × IsSound left.state) }
-        ensures settled { T.sure self.new.tables → IsDecided result ((v : ShopView) → Views T.holds self.old.tables self.old.state v → executes arrival v ≡ true
-            → (left : ShopView) → T.may_leave self.new.tables left → IsSame left (served (W.words self.old.wording) arrival v).0) }
+        ensures house { KnowsStill T.sure T.knows self.old.tables self.new.tables }
+        ensures answered { OfItsShop T.sure T.holds self.old self.new
+            (λ v. IsAnswered (W.words self.old.wording) arrival v result
+            (λ w. Views T.holds self.new.tables self.new.state w)) }
+        ensures crash { T.sure self.new.tables → MayLeaveMade T.holds T.may_leave self.old self.new
+            (λ v. (served (W.words self.old.wording) arrival v).0) }
+        ensures settled { T.sure self.new.tables → IsDecided result (LeavesServed
+            (W.words self.old.wording) T.holds T.may_leave arrival self.old self.new) }
     {
         let at = self.moment_at(arrival.clock);
         // Where it isn't carried out it is let go by name, as a whole: part by part is a way of the proof for each of its requests.
@@ -126,17 +133,21 @@ impl<T: Tables, B: Dues, W: Wording> Shop<T, B, W> {
         ensures wording { self.new.wording ≡ self.old.wording }
         ensures office { result ≡ Unavailable → self.new.state ≡ self.old.state }
         ensures sure { T.sure self.new.tables → T.sure self.old.tables }
-        ensures house { T.sure self.new.tables → (house : House) → T.knows self.old.tables house → T.knows self.new.tables house }
-        ensures answered { T.sure self.new.tables → (v : ShopView) → Views T.holds self.old.tables self.old.state v
-            → IsAnswered (W.words self.old.wording) arrival v result (λ w. Views T.holds self.new.tables self.new.state w) }
-        ensures stands { T.sure self.new.tables → (p : Opening) (ds : List Delivery) → StandsFor (W.words self.old.wording) T.holds self.old.tables self.old.state p ds
-            → StandsFor (W.words self.old.wording) T.holds self.new.tables self.new.state p (ds ++ delivered arrival result ∷ []) × (told (W.words self.old.wording) p ds (delivered arrival result) ≡ result) }
-        ensures running { T.sure self.new.tables → (r : Running) → IsRunning (W.words self.old.wording) T.holds T.may_leave self.old.tables self.old.state r
-            → IsRunning (W.words self.old.wording) T.holds T.may_leave self.new.tables self.new.state (after_act (W.words self.old.wording) arrival result r) × TellsIt (W.words self.old.wording) arrival result r.shop }
-        ensures crash { T.sure self.new.tables → (left : ShopView) → T.may_leave self.new.tables left → T.may_leave self.old.tables left
-            ⊎ ((v : ShopView) → Views T.holds self.old.tables self.old.state v → IsSame left (served (W.words self.old.wording) arrival v).0 × IsSound left.state) }
-        ensures settled { T.sure self.new.tables → IsDecided result ((v : ShopView) → Views T.holds self.old.tables self.old.state v → executes arrival v ≡ true
-            → (left : ShopView) → T.may_leave self.new.tables left → IsSame left (served (W.words self.old.wording) arrival v).0) }
+        ensures house { KnowsStill T.sure T.knows self.old.tables self.new.tables }
+        ensures answered { OfItsShop T.sure T.holds self.old self.new
+            (λ v. IsAnswered (W.words self.old.wording) arrival v result
+            (λ w. Views T.holds self.new.tables self.new.state w)) }
+        ensures stands { T.sure self.new.tables
+            → StandsWith (W.words self.old.wording) T.holds arrival result self.old self.new }
+        ensures running { T.sure self.new.tables → (r : Running) →
+            let words = W.words self.old.wording in
+            IsRunning words T.holds T.may_leave self.old.tables self.old.state r
+            → IsRunning words T.holds T.may_leave self.new.tables self.new.state
+            (after_act words arrival result r) × TellsIt words arrival result r.shop }
+        ensures crash { T.sure self.new.tables → MayLeaveMade T.holds T.may_leave self.old self.new
+            (λ v. (served (W.words self.old.wording) arrival v).0) }
+        ensures settled { T.sure self.new.tables → IsDecided result (LeavesServed
+            (W.words self.old.wording) T.holds T.may_leave arrival self.old self.new) }
     {
         let answer = self.write(alloc, arrival);
         self.known();

@@ -30,14 +30,18 @@ with_ticket entered inside e = record { positions = e.positions + 1; entered = e
 unfoldable pub counted : ℕ → Bool → Bool → ItemEntries → ItemEntries
 counted item entered inside s = if item == s.item then record s { entries = with_ticket entered inside s.entries } else s
 
--- with a position, where it belongs to the list
+-- with a position, where a test of it is passed
 abbrev pub counted_where : Bool → CheckinList → Lists → OrderPos → ItemEntries → ItemEntries
 counted_where b list lists position s = if b then counted position.product.item (has_entered list.id lists.checkins position) (is_inside list.id lists.checkins position) s else s
+
+-- with the next position, where it belongs to the list
+abbrev pub counted_next : CheckinList → Lists → OrderPos → ItemEntries → ItemEntries
+counted_next list lists position s = counted_where (belongs list lists position) list lists position s
 
 -- with one position after another
 abbrev pub counted_all : CheckinList → Lists → List OrderPos → ItemEntries → ItemEntries
 counted_all list lists [] s = s
-counted_all list lists (p ∷ ps) s = counted_all list lists ps (counted_where (belongs list lists p) list lists p s)
+counted_all list lists (p ∷ ps) s = counted_all list lists ps (counted_next list lists p s)
 
 -- no count is above n
 pub record AreAtMost (n : ℕ) (e : Entries) : Type 0 where

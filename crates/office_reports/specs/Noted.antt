@@ -32,10 +32,14 @@ abbrev pub noted_if : Option Order → OrderPos → ItemSales → ItemSales
 noted_if None position s = s
 noted_if (Some order) position s = noted order.status position.product.item position.price s
 
+-- with the next position, in its order
+abbrev pub noted_next : Lists → OrderPos → ItemSales → ItemSales
+noted_next lists position s = noted_if (order_at position.order lists) position s
+
 -- with one position after another
 abbrev pub noted_all : Lists → List OrderPos → ItemSales → ItemSales
 noted_all lists [] s = s
-noted_all lists (p ∷ ps) s = noted_all lists ps (noted_if (order_at p.order lists) p s)
+noted_all lists (p ∷ ps) s = noted_all lists ps (noted_next lists p s)
 
 -- no count is above n, and no more was paid than n times the greatest price
 pub record IsFew (n : ℕ) (s : Sales) : Type 0 where

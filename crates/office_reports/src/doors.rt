@@ -1,6 +1,6 @@
 //! Who came in by a check-in list, as a text.
 
-ghost use Rattle.std.specs.Prelude.{◌≡◌, ◌++◌, IfOk, OnOk, Option};
+ghost use Rattle.std.specs.Prelude.{◌≡◌, ◌++◌, IfOk, OnOk};
 ghost use Rattle.model_invariant.specs.Sound.{IsSound};
 ghost use Rattle.office_reports.specs.DoorText.{door_columns, door_line, door_text_of, status_line};
 ghost use Rattle.office_reports.specs.ItemLines.{door_lines};
@@ -40,7 +40,8 @@ fn append_columns(
     entered: u64,
     inside: u64,
 ) -> Result<(), AllocError>
-    ensures { OnOk result (text.new.items ≡ text.old.items ++ door_columns positions entered inside) }
+    ensures { OnOk result (text.new.items
+        ≡ text.old.items ++ door_columns positions entered inside) }
 {
     append_number(text, 9, positions)?;
     append_number(text, 9, entered)?;
@@ -64,7 +65,8 @@ fn append_entries(
     catalogue: &Catalogue,
     rows: &[ItemEntries],
 ) -> Result<(), AllocError>
-    ensures { OnOk result (text.new.items ≡ text.old.items ++ door_lines catalogue.now.lists rows.now) }
+    ensures { OnOk result (text.new.items
+        ≡ text.old.items ++ door_lines catalogue.now.lists rows.now) }
 {
     for row in rows {
         if let Some(item) = catalogue.item(row.item) {

@@ -3,10 +3,10 @@
 ghost use Rattle.std.specs.Prelude.{◌≡◌, ◌≤◌, IfOk, OnOk, filter, length, map};
 ghost use Rattle.base_sorted.specs.Tables.{AreInOrder};
 ghost use Rattle.model_invariant.specs.Sound.{IsSound};
-ghost use Rattle.decide_door.specs.Belongs.{belongs, is_for};
+ghost use Rattle.decide_door.specs.Belongs.{is_for};
 ghost use Rattle.decide_door.specs.Status.{has_entered, is_inside};
-ghost use Rattle.office_reports.specs.Entered.{all_entries, items_on};
-ghost use Rattle.office_reports.specs.Counted.{AllAtMost, AreAtMost, counted, counted_all, counted_where, unvisited, with_ticket};
+ghost use Rattle.office_reports.specs.Entered.{all_entries};
+ghost use Rattle.office_reports.specs.Counted.{AllAtMost, AreAtMost, counted, counted_all, counted_next, unvisited, with_ticket};
 
 use base_sorted::{Row, place_of};
 use book_usage::Book;
@@ -63,7 +63,8 @@ fn all_unvisited(
     alloc: Global,
     list: &CheckinList,
 ) -> Result<Vec<ItemEntries>, AllocError>
-    ensures { IfOk result (λ rows. rows.items ≡ map unvisited (filter (λ i. is_for list.now i.id) items.now)) }
+    ensures { IfOk result (λ rows. rows.items
+        ≡ map unvisited (filter (λ i. is_for list.now i.id) items.now)) }
 {
     items
         .iter()
@@ -96,7 +97,9 @@ fn count_all<B: Book>(
     requires order { AreInOrder (λ s. s.item) rows.old.items }
     requires few { AllAtMost 0 rows.old.items }
     requires rows { length (B.state book.now).lists.positions ≤ 1000000 }
-    ensures { OnOk result (rows.new.items ≡ map (counted_all list.now (B.state book.now).lists (B.state book.now).lists.positions) rows.old.items) }
+    ensures { OnOk result (rows.new.items
+        ≡ map (counted_all list.now (B.state book.now).lists (B.state book.now).lists.positions)
+        rows.old.items) }
 {
     for position in book.positions() {
         count_position(rows, book, alloc, list, position)?;
@@ -114,7 +117,8 @@ fn count_position<B: Book>(
 ) -> Result<(), AllocError>
     requires order { AreInOrder (λ s. s.item) rows.old.items }
     requires few { AllAtMost 1000000 rows.old.items }
-    ensures { OnOk result (rows.new.items ≡ map (counted_where (belongs list.now (B.state book.now).lists position.now) list.now (B.state book.now).lists position.now) rows.old.items) }
+    ensures { OnOk result (rows.new.items
+        ≡ map (counted_next list.now (B.state book.now).lists position.now) rows.old.items) }
 {
     if belongs(book, list, position) {
         let (entered, inside) = came(book, alloc, list, position)?;
@@ -130,8 +134,10 @@ fn came<B: Book>(
     list: &CheckinList,
     position: &OrderPos,
 ) -> Result<(bool, bool), AllocError>
-    ensures entered { IfOk result (λ c. c.0 ≡ has_entered list.now.id (B.state book.now).lists.checkins position.now) }
-    ensures inside { IfOk result (λ c. c.1 ≡ is_inside list.now.id (B.state book.now).lists.checkins position.now) }
+    ensures entered { IfOk result (λ c. c.0
+        ≡ has_entered list.now.id (B.state book.now).lists.checkins position.now) }
+    ensures inside { IfOk result (λ c. c.1
+        ≡ is_inside list.now.id (B.state book.now).lists.checkins position.now) }
 {
     let checkins = book.checkins_of(alloc, list.id, position.id)?;
     let checkins = checkins.as_slice();

@@ -3,10 +3,9 @@
 ghost use Rattle.std.specs.Prelude.{◌≡◌, ◌≤◌, IfOk, length, map};
 ghost use Rattle.base_values.specs.Money.{last_cents};
 ghost use Rattle.base_sorted.specs.Tables.{AreInOrder};
-ghost use Rattle.model_rows.specs.Lists.{order_at};
 ghost use Rattle.model_invariant.specs.Sound.{IsSound};
 ghost use Rattle.office_reports.specs.Sold.{all_sales, nothing};
-ghost use Rattle.office_reports.specs.Noted.{AreFew, IsFew, noted, noted_all, noted_if, unsold, with_sale};
+ghost use Rattle.office_reports.specs.Noted.{AreFew, IsFew, noted, noted_all, noted_next, unsold, with_sale};
 
 use base_sorted::{Row, place_of};
 use book_usage::Book;
@@ -87,7 +86,9 @@ fn note_all<B: Book>(sales: &mut Vec<ItemSales>, book: &B)
     requires order { AreInOrder (λ s. s.item) sales.old.items }
     requires few { AreFew 0 sales.old.items }
     requires rows { length (B.state book.now).lists.positions ≤ 1000000 }
-    ensures noted { sales.new.items ≡ map (noted_all (B.state book.now).lists (B.state book.now).lists.positions) sales.old.items }
+    ensures noted { sales.new.items
+        ≡ map (noted_all (B.state book.now).lists (B.state book.now).lists.positions)
+        sales.old.items }
     ensures few { AreFew 1000000 sales.new.items }
 {
     book.known();
@@ -100,7 +101,8 @@ fn note_all<B: Book>(sales: &mut Vec<ItemSales>, book: &B)
 fn note_position<B: Book>(sales: &mut Vec<ItemSales>, book: &B, position: &OrderPos)
     requires order { AreInOrder (λ s. s.item) sales.old.items }
     requires few { AreFew 1000000 sales.old.items }
-    ensures noted { sales.new.items ≡ map (noted_if (order_at position.now.order (B.state book.now).lists) position.now) sales.old.items }
+    ensures noted { sales.new.items
+        ≡ map (noted_next (B.state book.now).lists position.now) sales.old.items }
     ensures price { position.now.price ≤ last_cents }
 {
     let price = position.price.get();

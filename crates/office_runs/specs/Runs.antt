@@ -74,6 +74,14 @@ abbrev pub after_run : List Arrival → State → State
 after_run [] state = state
 after_run (arrival ∷ arrivals) state = after_run arrivals (stepped arrival state).after
 
+-- this is so of each step, whatever commands come to whatever office
+abbrev pub InEachRun : (Stepped → Type 0) → Type 0
+InEachRun Holds = (arrivals : List Arrival) (state : State) → AllByRecursion Holds (trace arrivals state)
+
+-- this is so of each step, whatever commands come to a sound office
+abbrev pub InEachSoundRun : (Stepped → Type 0) → Type 0
+InEachSoundRun Holds = (arrivals : List Arrival) (state : State) → AllByRecursion IsFitArrival arrivals → IsSound state → AllByRecursion Holds (trace arrivals state)
+
 -- an entry of a bulk call as a command of its own
 abbrev pub alone : ℕ → Draw → List Entry → List Arrival
 alone clock draw [] = []

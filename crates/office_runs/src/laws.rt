@@ -27,20 +27,19 @@ ghost use Rattle.office_runs.specs.NothingTooMuch.{TakesNothingTooMuch, steps};
 ghost use Rattle.office_runs.specs.Doors.{HasNoncesOnce, scan_comes, AddsNothing};
 ghost use Rattle.office_runs.specs.NewIds.{AllIdsGoOn};
 ghost use Rattle.office_runs.specs.Takings.{fills_again};
-ghost use Rattle.office_runs.specs.Runs.{Arrival, IsFitArrival, stepped, trace, after_run, Each, NoneOver, StaysWithin, RaisesNothing, RunsItsEntries, GivesNewIds, LeavesSound, KeepsBudgets, StoresItsMoment, ChangesNothingElse, NeverGoesBack};
+ghost use Rattle.office_runs.specs.Runs.{Arrival, IsFitArrival, InEachRun, InEachSoundRun, stepped, after_run, Each, NoneOver, StaysWithin, RaisesNothing, RunsItsEntries, GivesNewIds, LeavesSound, KeepsBudgets, StoresItsMoment, ChangesNothingElse, NeverGoesBack};
 
 /// Whatever commands come, where one takes places, no quota is taken too much of: where a cart position is added, an order is
 /// made, an expired order is marked paid or extended, or a voucher that then doesn't ignore quotas is made or changed. A
 /// position whose voucher ignores quotas isn't weighed for its own request.
 pub fn none_over()
-    ensures { (arrivals : List Arrival) (state : State) → AllByRecursion (Each NoneOver) (trace arrivals state) }
+    ensures { InEachRun (Each NoneOver) }
 {}
 
 /// Whatever commands come to a sound office, where one takes places and no voucher of its own rows ignores quotas, the usage
 /// of each quota is within its size, or no more than before.
 pub fn takings_stay_within()
-    ensures { (arrivals : List Arrival) (state : State) →
-        AllByRecursion IsFitArrival arrivals → IsSound state → AllByRecursion (Each StaysWithin) (trace arrivals state) }
+    ensures { InEachSoundRun (Each StaysWithin) }
 {}
 
 /// Whatever commands come to a sound office, one that takes no places raises the usage of no quota that stood before: a
@@ -49,8 +48,7 @@ pub fn takings_stay_within()
 /// and joining the waiting list; and, of quotas that release the places of tickets that went out alone, an entry, a payment that is
 /// taken back, and a paid order that ends while a voucher of one who has gone out blocks places.
 pub fn the_rest_raises_nothing()
-    ensures rest { (arrivals : List Arrival) (state : State) →
-        AllByRecursion IsFitArrival arrivals → IsSound state → AllByRecursion (Each RaisesNothing) (trace arrivals state) }
+    ensures rest { InEachSoundRun (Each RaisesNothing) }
     ensures again { (command : Command) (state : State) (quota : Quota) →
         fills_again command state quota ≡ true → quota.release_after_exit ≡ true }
 {}
@@ -60,14 +58,15 @@ pub fn the_rest_raises_nothing()
 /// command is answered, in order: the row, or why it was refused; of a faulty one it is its fault. So does an import: a row whose code a
 /// voucher has asks nothing, and is told whether that voucher is as the row has it.
 pub fn bulk_calls_run_their_entries()
-    ensures { (arrivals : List Arrival) (state : State) → AllByRecursion RunsItsEntries (trace arrivals state) }
+    ensures { InEachRun RunsItsEntries }
 {}
 
 /// A row of an import that was added, or was the same, is the same in a next one, behind whatever rows, if no voucher has changed in
 /// between: so a file can be imported again after a lost answer. A voucher file's rows all have a code.
 pub fn importing_again_adds_nothing()
     ensures { (vouchers before : List NewVoucher) (draw other : Draw) (state later : State) →
-        AllByRecursion IsFitVoucher vouchers → IsDraw draw → IsSound state → AllByRecursion IsFitVoucher before → IsDraw other → IsSound later →
+        AllByRecursion IsFitVoucher vouchers → IsDraw draw → IsSound state →
+        AllByRecursion IsFitVoucher before → IsDraw other → IsSound later →
         later.lists.vouchers ≡ (rows_imported vouchers draw state).0.lists.vouchers →
         AreSameAgain later other before vouchers (rows_imported vouchers draw state).1 }
 {}
@@ -75,66 +74,71 @@ pub fn importing_again_adds_nothing()
 /// Ids are never used again: no command lowers the next id of a table, and a row that it adds has an id that is at least the
 /// next one before it, and below the next one after it. So do all of them together.
 pub fn ids_are_never_used_again()
-    ensures each { (arrivals : List Arrival) (state : State) → AllByRecursion GivesNewIds (trace arrivals state) }
-    ensures run { (arrivals : List Arrival) (state : State) → AllIdsGoOn state (after_run arrivals state) }
+    ensures each { InEachRun GivesNewIds }
+    ensures run { (arrivals : List Arrival) (state : State) →
+        AllIdsGoOn state (after_run arrivals state) }
 {}
 
 /// Whatever commands come, a sound office stays sound: headroom and fit hold before and after each.
 pub fn always_sound()
-    ensures { (arrivals : List Arrival) (state : State) →
-        AllByRecursion IsFitArrival arrivals → IsSound state → AllByRecursion LeavesSound (trace arrivals state) }
+    ensures { InEachSoundRun LeavesSound }
 {}
 
 /// Whatever commands come to a sound office, of each voucher with a budget no more is spent than that, before and after each:
 /// what its positions in pending and paid orders took off their prices.
 pub fn budgets_hold()
-    ensures { (arrivals : List Arrival) (state : State) →
-        AllByRecursion IsFitArrival arrivals → IsSound state → AllByRecursion KeepsBudgets (trace arrivals state) }
+    ensures { InEachSoundRun KeepsBudgets }
 {}
 
 /// Whatever commands come, the office's moment never falls.
 pub fn time_never_falls()
-    ensures { (arrivals : List Arrival) (state : State) → AllByRecursion NeverGoesBack (trace arrivals state) }
+    ensures { InEachRun NeverGoesBack }
 {}
 
 /// Each command stores its moment, refused or not.
 pub fn moments_are_stored()
-    ensures { (arrivals : List Arrival) (state : State) → AllByRecursion StoresItsMoment (trace arrivals state) }
+    ensures { InEachRun StoresItsMoment }
 {}
 
 /// A refused command changes the moment alone.
 pub fn refused_change_nothing_else()
-    ensures { (arrivals : List Arrival) (state : State) → AllByRecursion ChangesNothingElse (trace arrivals state) }
+    ensures { InEachRun ChangesNothingElse }
 {}
 
 /// Whatever commands come to a sound office, the changes of each step can be made one after another, and lead to the rows
 /// that it leaves: where a row is put, those that it names stand and no other row has its unique values, and no row names
 /// one that goes. So a file takes them in this order, though it tests references and unique values at each change.
 pub fn changes_can_be_made()
-    ensures { (arrivals : List Arrival) (state : State) →
-        AllByRecursion IsFitArrival arrivals → IsSound state → AllByRecursion MakesItsChanges (trace arrivals state) }
+    ensures { InEachSoundRun MakesItsChanges }
 {}
 
 /// Whatever commands come to a sound office, no list ever has a nonce twice for a position.
 pub fn nonce_once()
-    ensures { (arrivals : List Arrival) (state : State) →
-        AllByRecursion IsFitArrival arrivals → IsSound state → AllByRecursion HasNoncesOnce (trace arrivals state) }
+    ensures { InEachSoundRun HasNoncesOnce }
 {}
 
 /// A scan with a nonce that was let through is, sent again after whatever commands, told the same position and adds nothing,
 /// where the position's order is paid or has the status that it had: unless it has meanwhile expired, been cancelled, or
 /// become pending again.
 pub fn a_scan_sent_again_adds_nothing()
-    ensures { (list : ℕ) (ticket : Ticket) (scan : Scan) (position : OrderPos) (clock later : ℕ) (draw other : Draw) (arrivals : List Arrival) (state : State) →
-        IsFitArrival (scan_comes list ticket scan clock draw) → AllByRecursion IsFitArrival arrivals → IsSound state → is_some scan.nonce ≡ true →
-        (stepped (scan_comes list ticket scan clock draw) state).reply ≡ Reply.Admitted position →
-        IsStillGood position.order state.lists (after_run arrivals (stepped (scan_comes list ticket scan clock draw) state).after).lists →
-        AddsNothing position (stepped (scan_comes list ticket scan later other) (after_run arrivals (stepped (scan_comes list ticket scan clock draw) state).after)) }
+    ensures { (list : ℕ) (ticket : Ticket) (scan : Scan) (position : OrderPos) (clock later : ℕ)
+        (draw other : Draw) (arrivals : List Arrival) (state : State) →
+        IsFitArrival (scan_comes list ticket scan clock draw) →
+        AllByRecursion IsFitArrival arrivals → IsSound state → is_some scan.nonce ≡ true →
+        let admitted = stepped (scan_comes list ticket scan clock draw) state in
+        let between = after_run arrivals admitted.after in
+        admitted.reply ≡ Reply.Admitted position →
+        IsStillGood position.order state.lists between.lists →
+        AddsNothing position (stepped (scan_comes list ticket scan later other) between) }
 {}
 
 /// Whatever arrivals come to a sound office, each executed command takes too much of no quota, as the laws of the office say
 /// it, a bulk call by its entries; it uses no id again, and leaves the office sound; and so the office is after all of them.
 pub fn nothing_is_taken_too_much()
-    ensures each { (words : Reply → Response) (p : Opening) (ds : List Delivery) → AllByRecursion IsFitDelivery ds → IsSound p.state → AllByRecursion TakesNothingTooMuch (steps words p.state (firsts p ds)) }
-    ensures all { (words : Reply → Response) (p : Opening) (ds : List Delivery) → AllByRecursion IsFitDelivery ds → IsSound p.state → IsSound (office words p (firsts p ds)) }
+    ensures each { (words : Reply → Response) (p : Opening) (ds : List Delivery) →
+        AllByRecursion IsFitDelivery ds → IsSound p.state →
+        AllByRecursion TakesNothingTooMuch (steps words p.state (firsts p ds)) }
+    ensures all { (words : Reply → Response) (p : Opening) (ds : List Delivery) →
+        AllByRecursion IsFitDelivery ds → IsSound p.state →
+        IsSound (office words p (firsts p ds)) }
 {}

@@ -46,7 +46,8 @@ pub fn change_voucher<B: Book>(
     patch: &VoucherPatch,
 ) -> Result<(Drafted, Reply), AllocError>
     requires { CanBegin at (B.state book.now) }
-    ensures { IfOk result (IsUndrawnStep (Command.ChangeVoucher id patch.now) at (B.state book.now)) }
+    ensures { IfOk result
+        (IsUndrawnStep (Command.ChangeVoucher id patch.now) at (B.state book.now)) }
 {
     let mut draft = open(book, alloc, at)?;
     let reply = match decide_voucher::patch(&mut draft, alloc, id, patch) {

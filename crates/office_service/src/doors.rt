@@ -41,7 +41,8 @@ pub fn redeem<B: Book>(
     scan: &Scan,
 ) -> Result<(Drafted, Reply), AllocError>
     requires { CanBegin at (B.state book.now) }
-    ensures { IfOk result (IsUndrawnStep (Command.Redeem list ticket.now scan.now) at (B.state book.now)) }
+    ensures { IfOk result
+        (IsUndrawnStep (Command.Redeem list ticket.now scan.now) at (B.state book.now)) }
 {
     let mut draft = open(book, alloc, at)?;
     let reply = match decide_door::redeem(&mut draft, alloc, list, ticket, scan) {

@@ -122,7 +122,8 @@ fn work_in<B: Book>(
 ) -> Result<PeriodicCounts, AllocError>
     requires sound { IsSound (now draft.old) }
     requires unchanged { draft.old.log.changes ≡ [] }
-    ensures done { IfOk result (λ counts. periodic_done draw (now draft.old) ≡ (now draft.new, counts)) }
+    ensures done { IfOk result (λ counts.
+        periodic_done draw (now draft.old) ≡ (now draft.new, counts)) }
     ensures changes { OnOk result (draft.new.log.changes ≡ periodic_changes draw (now draft.old)) }
     ensures extends { Extends draft.old draft.new }
 {

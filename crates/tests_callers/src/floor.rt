@@ -1,6 +1,6 @@
 //! A hall, who is in it, and what those who left were told.
 
-ghost use Rattle.std.specs.Prelude.{◌<◌, ◌≤◌, length};
+ghost use Rattle.web_connection.specs.Run.{IsPiece};
 
 use crate::party::Guest;
 use base_devices::{Device, Ticks};
@@ -75,8 +75,7 @@ impl<'a> Floor<'a> {
         ticks: &mut T,
         desk: &mut D,
     )
-        requires some { 0 < length piece.old }
-        requires most { length piece.old ≤ 65536 }
+        requires { IsPiece piece.old }
     {
         if let Next::Leaves(place) = next {
             return self.leave(place);

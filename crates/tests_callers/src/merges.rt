@@ -23,7 +23,8 @@ fn add_merges(
     one: &[Next],
     other: &[Next],
 ) -> Result<(), AllocError>
-    ensures { OnOk result (AddsMerges first.now one.now other.now (map (λ v. v.items) all.old.items) (map (λ v. v.items) all.new.items)) }
+    ensures { OnOk result (AddsMerges first.now one.now other.now
+        (map (λ v. v.items) all.old.items) (map (λ v. v.items) all.new.items)) }
 {
     let Some((x, xs)) = one.split_first() else {
         all.push(joined(alloc, first, other)?)?;

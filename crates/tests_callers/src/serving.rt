@@ -1,6 +1,7 @@
 //! Callers at a desk.
 
-ghost use Rattle.std.specs.Prelude.{◌≡◌, ◌<◌, ◌≤◌, length};
+ghost use Rattle.web_connection.specs.Run.{IsPiece};
+ghost use Rattle.base_devices.specs.Blanks.{IsBlankOf};
 
 use crate::error::TogetherError;
 use crate::floor::Floor;
@@ -26,8 +27,7 @@ fn go_on<L: Ledger, M: Ledger, T: Ticks, D: Desk>(
     ticks: &mut T,
     desk: &mut D,
 )
-    requires some { 0 < length piece.old }
-    requires most { length piece.old ≤ 65536 }
+    requires { IsPiece piece.old }
 {
     for next in order {
         floor.go(alloc, *next, piece, page, ticks, desk);
@@ -44,8 +44,8 @@ impl Party<'_> {
         desk: &mut D,
         blanks: (Blank, Blank),
     ) -> Result<Vec<Vec<u8>>, TogetherError>
-        requires calls { (blanks.0.name ≡ L.name) × (blanks.0.parts ≡ L.parts) × (0 < L.parts) }
-        requires failures { (blanks.1.name ≡ M.name) × (blanks.1.parts ≡ M.parts) × (0 < M.parts) }
+        requires calls { IsBlankOf L.Ledger blanks.0 }
+        requires failures { IsBlankOf M.Ledger blanks.1 }
     {
         let mut page = Device {
             inner: Vec::new(alloc),

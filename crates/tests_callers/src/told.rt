@@ -24,7 +24,8 @@ pub trait Houses {
 impl Plan {
     // All that happens, where what two lists say happens in this order.
     fn whole(&self, alloc: Global, order: &[Next]) -> Result<Vec<Next>, AllocError>
-        ensures { IfOk result (λ all. all.items ≡ self.now.first.items ++ order.now ++ self.now.last.items) }
+        ensures { IfOk result
+            (λ all. all.items ≡ self.now.first.items ++ order.now ++ self.now.last.items) }
     {
         let begun = joined(alloc, self.first.as_slice(), order)?;
         joined(alloc, begun.as_slice(), self.last.as_slice())

@@ -107,7 +107,8 @@ fn redeemed(
     ticket: Option<&[u8]>,
     body: &[u8],
 ) -> Result<Call, AllocError>
-    ensures { IfOk result (λ call. call ≡ redeemed list (option_map bytes_of ticket.entry) (read_scan body.now)) }
+    ensures { IfOk result
+        (λ call. call ≡ redeemed list (option_map bytes_of ticket.entry) (read_scan body.now)) }
 {
     match read_scan(alloc, body) {
         Ok(scan) => {
@@ -136,7 +137,8 @@ fn call_at(
     ticket: Option<&[u8]>,
     target: Target,
 ) -> Result<Call, AllocError>
-    ensures { IfOk result (λ call. call ≡ call_at frame.now (option_map bytes_of ticket.entry) target) }
+    ensures { IfOk result
+        (λ call. call ≡ call_at frame.now (option_map bytes_of ticket.entry) target) }
 {
     let method = frame.method();
     let verb = verb_of(method);
@@ -161,7 +163,8 @@ pub(crate) fn call_of(
     ticket: Option<&[u8]>,
     target: Option<Target>,
 ) -> Result<Call, AllocError>
-    ensures { IfOk result (λ call. call ≡ call_of frame.now (option_map bytes_of ticket.entry) target) }
+    ensures { IfOk result
+        (λ call. call ≡ call_of frame.now (option_map bytes_of ticket.entry) target) }
 {
     match target {
         None => Ok(refused(verb_of(frame.method()), not_found(alloc)?)),

@@ -37,20 +37,26 @@ pub fn each_path_has_its_route()
 pub fn each_path_names_its_target()
     ensures alone { (organizer event text ticket : List ℕ) (route : Route) →
         IsName text → IsSegment ticket → has 63 organizer ≡ false → has 63 event ≡ false →
-        target_of organizer event (in_shop organizer event (path_with text ticket route)) ≡ target_by (Some text) route }
+        target_of organizer event (in_shop organizer event (path_with text ticket route))
+        ≡ target_by (Some text) route }
     ensures with_query { (organizer event text ticket query : List ℕ) (route : Route) →
         IsName text → IsSegment ticket → has 63 organizer ≡ false → has 63 event ≡ false →
-        target_of organizer event (in_shop organizer event (path_with text ticket route) ++ 63 ∷ query) ≡ target_by (Some text) route }
+        target_of organizer event
+        (in_shop organizer event (path_with text ticket route) ++ 63 ∷ query)
+        ≡ target_by (Some text) route }
 {}
 
 /// In the shop of these slugs the path of a scan names the ticket that stands in its place, whatever query follows.
 pub fn each_scan_names_its_ticket()
     ensures alone { (organizer event text ticket : List ℕ) →
         IsName text → IsSegment ticket → has 63 organizer ≡ false → has 63 event ≡ false →
-        ticket_named organizer event (in_shop organizer event (path_with text ticket Route.Redeem)) ≡ Some ticket }
+        ticket_named organizer event (in_shop organizer event (path_with text ticket Route.Redeem))
+        ≡ Some ticket }
     ensures with_query { (organizer event text ticket query : List ℕ) →
         IsName text → IsSegment ticket → has 63 organizer ≡ false → has 63 event ≡ false →
-        ticket_named organizer event (in_shop organizer event (path_with text ticket Route.Redeem) ++ 63 ∷ query) ≡ Some ticket }
+        ticket_named organizer event
+        (in_shop organizer event (path_with text ticket Route.Redeem) ++ 63 ∷ query)
+        ≡ Some ticket }
 {}
 
 /// Paths that no row has: without a slash at the end or in front, with a name too few or too many, of other words.
@@ -73,15 +79,19 @@ pub fn pages_read_back()
         page_of (page_path organizer event resource number) ≡ Some number }
     ensures list { (organizer event : List ℕ) (resource : Resource) (number : ℕ) →
         IsNamed resource → has 63 organizer ≡ false → has 63 event ≡ false →
-        target_of organizer event (page_path organizer event resource number) ≡ Some (Target.All resource) }
+        target_of organizer event (page_path organizer event resource number)
+        ≡ Some (Target.All resource) }
 {}
 
 /// The first of a message's key fields counts, whatever follows it, and in whatever case its name is written. A message
 /// without such a field has no key.
 pub fn the_first_key_counts()
-    ensures first { (m : Message) (before after : List Header) (field : Header) → AllByRecursion (λ h. same_word h.0 key_name ≡ false) before → same_word field.0 key_name ≡ true
+    ensures first { (m : Message) (before after : List Header) (field : Header)
+        → AllByRecursion (λ h. same_word h.0 key_name ≡ false) before
+        → same_word field.0 key_name ≡ true
         → m.fields ≡ before ++ field ∷ after → key_of m ≡ field.1 }
-    ensures none { (m : Message) → AllByRecursion (λ h. same_word h.0 key_name ≡ false) m.fields → key_of m ≡ [] }
+    ensures none { (m : Message) → AllByRecursion (λ h. same_word h.0 key_name ≡ false) m.fields
+        → key_of m ≡ [] }
     ensures any_case { same_word (codes "X-IDEMPOTENCY-Key") key_name ≡ true }
     ensures other_word { same_word (codes "Idempotency-Key") key_name ≡ false }
 {}
@@ -94,5 +104,6 @@ pub fn statuses_are_few()
     ensures faults { (fault : FrameFault) → is_given (fault_status fault) ≡ true }
     ensures unavailable { is_given (status_of Answer.Unavailable) ≡ true }
     ensures texts { (answer : Answer) (closes : Bool) →
-        (allow : Option Methods) × (body : List ℕ) × (text answer closes ≡ answer_text (status_of answer) allow body closes) }
+        (allow : Option Methods) × (body : List ℕ)
+        × (text answer closes ≡ answer_text (status_of answer) allow body closes) }
 {}

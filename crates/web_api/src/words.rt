@@ -95,7 +95,8 @@ impl Words {
 
     /// The words of a reply.
     pub fn words(&self, alloc: Global, reply: &Reply) -> Result<Response, AllocError>
-        ensures { IfOk result (λ response. response ≡ words self.now.organizer self.now.event reply.now) }
+        ensures { IfOk result
+            (λ response. response ≡ words self.now.organizer self.now.event reply.now) }
     {
         web_responses::words(alloc, self.organizer.as_str(), self.event.as_str(), reply)
     }

@@ -4,6 +4,7 @@ use Rattle.base_values.specs.declared.answer.Response.{Response}
 use Rattle.model_rows.specs.Lists.{State}
 use Rattle.model_commands.specs.declared.replies.Reply.{Reply}
 use Rattle.model_answers.specs.declared.kept.Kept.{Kept}
+use Rattle.model_answers.specs.declared.tables.Tables.{Ghosts}
 pub use Rattle.model_answers.specs.House.{House}
 use Rattle.model_answers.specs.ShopView.{ShopView}
 use Rattle.web_responses.specs.Replies.{words}
@@ -25,6 +26,10 @@ pub record Meaning (T : Type 0) : Type 1 where
 -- what is said of tables, by its four parts
 abbrev pub meaning : {T : Type 0} → (T → Type 0) → (T → State → List Kept → Type 0) → (T → House → Type 0) → (T → ShopView → Type 0) → Meaning T
 meaning sure holds knows may_leave = record { sure = sure; holds = holds; knows = knows; may_leave = may_leave }
+
+-- what this trait says of its tables
+abbrev pub trait_meaning : {T : Type 0} → Ghosts T → Meaning T
+trait_meaning g = meaning g.sure g.holds g.knows g.may_leave
 
 -- by what a message is read at a desk: its own names, and the tokens of the house that its tables know
 abbrev pub house_of : {T : Type 0} → DeskView T → House → House

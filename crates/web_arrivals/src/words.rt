@@ -56,7 +56,8 @@ impl HouseWords {
         frame: &Frame<'_>,
         number: Option<u64>,
     ) -> Result<Result<Arrival, Response>, AllocError>
-        ensures { IfOk result (λ r. r ≡ arrival_with self.now.organizer self.now.event number tick frame.now) }
+        ensures { IfOk result
+            (λ r. r ≡ arrival_with self.now.organizer self.now.event number tick frame.now) }
     {
         let call = self.words.read_request(alloc, frame, number)?;
         let key = key_of(alloc, frame)?;

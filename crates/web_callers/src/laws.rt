@@ -20,44 +20,59 @@ use model_answers::Tables;
 /// the same conversation as before: the acts of its own bytes, in order. What was known of the ticks is known of these arrivals, in this law and
 /// in the others.
 pub fn callers_are_told_once<T: Tables, K: Ticks>()
-    ensures { (house : House) (p : Opening) (ds : List Delivery) (came : ℕ) (old new : Between (DeskView T)) (all : Story)
+    ensures { (house : House) (p : Opening) (ds : List Delivery) (came : ℕ)
+        (old new : Between (DeskView T)) (all : Story)
         → let tables = meaning T.sure T.holds T.knows T.may_leave in
-        Hall (AtTick K.reads (Serves tables)) came old new all → T.sure new.desk.tables → IsOf tables house old.desk
+        Hall (AtTick K.reads (Serves tables)) came old new all → T.sure new.desk.tables
+        → IsOf tables house old.desk
         → StandsFor (words_of house) T.holds old.desk.tables old.desk.state p ds
-        → (es : List Delivery) × Hall (AtTick K.reads (ServesList house p)) came (seen_at old ds) (seen_at new es) all
-        × IsOf tables house new.desk × StandsFor (words_of house) T.holds new.desk.tables new.desk.state p es }
+        → (es : List Delivery)
+        × Hall (AtTick K.reads (ServesList house p)) came (seen_at old ds) (seen_at new es) all
+        × IsOf tables house new.desk
+        × StandsFor (words_of house) T.holds new.desk.tables new.desk.state p es }
 {}
 
 /// The same of a shop that is running: whatever a crash leaves of it at the end is the shop as it is, or with one write carried out that was
 /// answered 503 since the last one that was executed.
 pub fn callers_run_on<T: Tables, K: Ticks>()
-    ensures { (house : House) (r : Running) (came : ℕ) (old new : Between (DeskView T)) (all : Story)
+    ensures { (house : House) (r : Running) (came : ℕ) (old new : Between (DeskView T))
+        (all : Story)
         → let tables = meaning T.sure T.holds T.knows T.may_leave in
-        Hall (AtTick K.reads (Serves tables)) came old new all → T.sure new.desk.tables → IsOf tables house old.desk
+        Hall (AtTick K.reads (Serves tables)) came old new all → T.sure new.desk.tables
+        → IsOf tables house old.desk
         → IsRunning (words_of house) T.holds T.may_leave old.desk.tables old.desk.state r
-        → (s : Running) × Hall (AtTick K.reads (ServesRunning house)) came (seen_at old r) (seen_at new s) all
-        × IsOf tables house new.desk × IsRunning (words_of house) T.holds T.may_leave new.desk.tables new.desk.state s }
+        → (s : Running)
+        × Hall (AtTick K.reads (ServesRunning house)) came (seen_at old r) (seen_at new s) all
+        × IsOf tables house new.desk
+        × IsRunning (words_of house) T.holds T.may_leave new.desk.tables new.desk.state s }
 {}
 
 /// Whatever callers send to a sound shop: each request that is executed makes a step that takes too much of no quota; a repeat, a read and what is
 /// refused before it is a command take nothing; and the shop remains sound.
 pub fn callers_take_nothing_too_much<T: Tables, K: Ticks>()
-    ensures { (house : House) (v : ShopView) (came : ℕ) (old new : Between (DeskView T)) (all : Story)
+    ensures { (house : House) (v : ShopView) (came : ℕ) (old new : Between (DeskView T))
+        (all : Story)
         → let tables = meaning T.sure T.holds T.knows T.may_leave in
-        IsSound v.state → Hall (AtTick K.reads (Serves tables)) came old new all → T.sure new.desk.tables → IsOf tables house old.desk
+        IsSound v.state → Hall (AtTick K.reads (Serves tables)) came old new all
+        → T.sure new.desk.tables → IsOf tables house old.desk
         → Views T.holds old.desk.tables old.desk.state v
-        → (w : ShopView) × Hall (AtTick K.reads (ServesAndKeeps house)) came (seen_at old v) (seen_at new w) all
-        × IsOf tables house new.desk × Views T.holds new.desk.tables new.desk.state w × IsSound w.state }
+        → (w : ShopView)
+        × Hall (AtTick K.reads (ServesAndKeeps house)) came (seen_at old v) (seen_at new w) all
+        × IsOf tables house new.desk × Views T.holds new.desk.tables new.desk.state w
+        × IsSound w.state }
 {}
 
 /// The same as a history, which may have begun long before, with crashes in it: each message that was acted on is an event behind those before
 /// it, an arrival with what it was answered, or without an answer; and the shop is running as these events leave it.
 pub fn callers_go_on_with_a_history<T: Tables, K: Ticks>()
-    ensures { (house : House) (begun q : Running) (es : List Event) (came : ℕ) (old new : Between (DeskView T)) (all : Story)
+    ensures { (house : House) (begun q : Running) (es : List Event) (came : ℕ)
+        (old new : Between (DeskView T)) (all : Story)
         → let tables = meaning T.sure T.holds T.knows T.may_leave in
-        Hall (AtTick K.reads (Serves tables)) came old new all → T.sure new.desk.tables → IsOf tables house old.desk → Happens (words_of house) begun es q
+        Hall (AtTick K.reads (Serves tables)) came old new all → T.sure new.desk.tables
+        → IsOf tables house old.desk → Happens (words_of house) begun es q
         → IsRunning (words_of house) T.holds T.may_leave old.desk.tables old.desk.state q
-        → (fs : List Event) × (s : Running) × Hall (AtTick K.reads (ServesHistory house)) came (seen_at old es) (seen_at new fs) all
+        → (fs : List Event) × (s : Running)
+        × Hall (AtTick K.reads (ServesHistory house)) came (seen_at old es) (seen_at new fs) all
         × IsOf tables house new.desk × Happens (words_of house) begun fs s
         × IsRunning (words_of house) T.holds T.may_leave new.desk.tables new.desk.state s }
 {}

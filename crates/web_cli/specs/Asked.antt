@@ -2,7 +2,7 @@
 use Rattle.std.specs.Prelude.{◌≡◌, ◌==◌, ◌&&◌, ◌||◌, Bool, false, List, [], ◌∷◌, Option, Some, None, option_map, codes, ◌⊎◌, unwrap_or, nat_le, if◌then◌else◌}
 use Rattle.std.specs.Str.{bytes_eq}
 use Rattle.clap.specs.declared.error.ErrorKind.{ErrorKind}
-use Rattle.clap.specs.declared.error.ErrorKind.TheVariants.{OutOfMemory}
+use Rattle.clap.specs.declared.error.ErrorKind.TheVariants.{MissingRequiredArgument, OutOfMemory}
 use Rattle.clap.specs.Words.{IsAmong, Kinds, Row, Text, fault_of, first_of, subcommand_of}
 use Rattle.web_cli.specs.Words.{program}
 use Rattle.web_cli.specs.declared.words.Line.{Line}
@@ -98,6 +98,10 @@ asked_by_line (lines.Report line) = reports line.file.now line.report.now (optio
 asked_by_line (lines.Export line) = exports line.file.now
 asked_by_line (lines.Import line) = imports line.file.now line.csv.now
 asked_by_line (lines.Migrate line) = migrates line.file.now
+
+-- it asks for nothing, since an argument is not there
+abbrev pub lacks_argument : Asked
+lacks_argument = none (MissingRequiredArgument ∷ [])
 
 -- it asks for nothing, and this is one of the reasons
 abbrev pub HasReason : Asked → ErrorKind → Type 0

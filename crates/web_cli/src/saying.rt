@@ -1,7 +1,7 @@
 //! What a command on a shop's file writes.
 
 ghost use Rattle.std.specs.Prelude.{◌≡◌, ◌++◌, [], ◌∷◌};
-ghost use Rattle.web_http.specs.Written.{Writes};
+ghost use Rattle.web_http.specs.Written.{Writes, writer_page};
 ghost use Rattle.web_cli.specs.Saying.{said};
 
 use crate::fault::RunFault;
@@ -11,7 +11,8 @@ use web_http::write_all;
 
 // Writes a text, and ends the line.
 fn end_line<W: Drain>(writer: &mut W, text: &[u8]) -> Result<(), Refused>
-    ensures { Writes result (text.now ++ 10 ∷ []) (record { taken = W.taken writer.old; failures = W.failures writer.old }) (record { taken = W.taken writer.new; failures = W.failures writer.new }) }
+    ensures { Writes result (text.now ++ 10 ∷ [])
+        (writer_page W.Drain writer.old) (writer_page W.Drain writer.new) }
 {
     match write_all(writer, text) {
         Ok(()) => write_all(writer, b"\n"),
@@ -21,7 +22,8 @@ fn end_line<W: Drain>(writer: &mut W, text: &[u8]) -> Result<(), Refused>
 
 /// Writes a line of two texts. Where the writer refuses, a part of it was written, and the writer has counted it.
 pub fn say<W: Drain>(writer: &mut W, first: &[u8], second: &[u8]) -> Result<(), Refused>
-    ensures { Writes result (first.now ++ (second.now ++ 10 ∷ [])) (record { taken = W.taken writer.old; failures = W.failures writer.old }) (record { taken = W.taken writer.new; failures = W.failures writer.new }) }
+    ensures { Writes result (first.now ++ (second.now ++ 10 ∷ []))
+        (writer_page W.Drain writer.old) (writer_page W.Drain writer.new) }
 {
     match write_all(writer, first) {
         Ok(()) => end_line(writer, second),

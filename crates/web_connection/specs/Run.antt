@@ -3,6 +3,9 @@ use Rattle.std.specs.Prelude.{◌≡◌, ℕ, ◌+◌, ◌-◌, ◌*◌, ◌<◌
 use Rattle.std.specs.Io.KnownBytes.{IsAtEnd}
 use Rattle.base_values.specs.declared.answer.Answer.{Answer}
 use Rattle.base_devices.specs.declared.device.Tick.{Tick}
+use Rattle.base_devices.specs.declared.device.Source as source
+use Rattle.base_devices.specs.declared.device.Ticks as clock
+use Rattle.base_devices.specs.declared.device.Drain as drain
 use Rattle.base_devices.specs.Told.{Adds, Gives}
 use Rattle.web_http.specs.declared.fault.FrameFault.{FrameFault}
 use Rattle.web_http.specs.Text.{text, fault_text}
@@ -152,6 +155,11 @@ pub record Devices (D : Type 0) : Type 0 where
   pub desk : D
   pub taken : Option (List ℕ)
 
+-- where this reader, this clock, this desk and this writer stand
+abbrev pub devices_at : {R T D W : Type 0} → source.Ghosts R → clock.Ghosts T → drain.Ghosts W → R → T → D → W → Devices D
+devices_at r t w reader ticks desk writer =
+    record { left = r.left reader; calls = r.calls reader; told = t.told ticks; desk = desk; taken = w.taken writer }
+
 -- the same with another desk among them
 abbrev pub with_desk : {D E : Type 0} → Devices D → E → Devices E
 with_desk devices desk = record { left = devices.left; calls = devices.calls; told = devices.told; desk = desk; taken = devices.taken }
@@ -190,6 +198,15 @@ pub record Counts : Type 0 where
   pub input : ℕ
   pub calls : ℕ
 
+-- what this reader, this clock and this writer have counted
+abbrev pub device_counts : {R T W : Type 0} → source.Ghosts R → clock.Ghosts T → drain.Ghosts W → R → T → W → Counts
+device_counts r t w reader ticks writer =
+    record { clock = t.failures ticks; output = w.failures writer; input = r.failures reader; calls = r.calls reader }
+
+-- the most calls of its reader that a run makes
+abbrev pub most_reads : ℕ
+most_reads = 1000000
+
 -- The same of a whole run. It ends with the failure of a device where that device failed, and no other one did; else no
 -- device failed, and the limit is met only by 1,000,000 reads.
 abbrev pub CountedAll : Result (Unit {0}) Failure → Counts → Counts → Type 0
@@ -199,12 +216,12 @@ CountedAll (Err failures.Output) old new = (new.clock ≡ old.clock) × (old.out
 CountedAll (Err failures.Input) old new = (new.clock ≡ old.clock) × (new.output ≡ old.output) × (old.input < new.input)
 CountedAll (Err failures.Memory) old new = (new.clock ≡ old.clock) × (new.output ≡ old.output) × (new.input ≡ old.input)
 CountedAll (Err failures.Limit) old new =
-    (new.clock ≡ old.clock) × (new.output ≡ old.output) × (new.input ≡ old.input) × (new.calls ≡ old.calls + 1000000)
+    (new.clock ≡ old.clock) × (new.output ≡ old.output) × (new.input ≡ old.input) × (new.calls ≡ old.calls + most_reads)
 
 -- A run ends with a number of its devices only for what they counted: 82 where the reader failed or was called 1,000,000
 -- times, 83 where the writer failed, 85 where the clock failed.
 pub record NumberCounted (number : ℕ) (old new : Counts) : Type 0 where
-  pub input : number ≡ 82 → (old.input < new.input) ⊎ (new.calls ≡ old.calls + 1000000)
+  pub input : number ≡ 82 → (old.input < new.input) ⊎ (new.calls ≡ old.calls + most_reads)
   pub output : number ≡ 83 → old.output < new.output
   pub clock : number ≡ 85 → old.clock < new.clock
 

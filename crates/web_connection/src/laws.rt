@@ -9,11 +9,13 @@ ghost use Rattle.web_connection.specs.declared.failure.Failure.{Failure};
 
 /// Where the bytes of a stream are known, the messages that a run answers are those of the whole stream, however it was cut.
 pub fn all_are_answered()
-    ensures { (all front : List ℕ) (after : Option (List ℕ)) (items : List Item) → Gives (Some all) front after → AreAll front after items → Messages all items }
+    ensures { (all front : List ℕ) (after : Option (List ℕ)) (items : List Item)
+        → Gives (Some all) front after → AreAll front after items → Messages all items }
 {}
 
 /// A run ends with the number of a device only where that device counted a failure, or the limit of its reads was met: want
 /// of memory has a number of its own.
 pub fn numbers_are_counted()
-    ensures { (failure : Failure) (old new : Counts) → CountedAll (Err failure) old new → NumberCounted (failure_number failure) old new }
+    ensures { (failure : Failure) (old new : Counts)
+        → CountedAll (Err failure) old new → NumberCounted (failure_number failure) old new }
 {}

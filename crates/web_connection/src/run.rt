@@ -1,7 +1,7 @@
 //! A connection, from its first byte to its end.
 
-ghost use Rattle.std.specs.Prelude.{◌≡◌, ◌+◌, ◌≤◌, ◌<◌, [], length};
-ghost use Rattle.web_connection.specs.Run.{AtTick, RunLeads, CountedAll, TakesIn, CountedIn};
+ghost use Rattle.std.specs.Prelude.{◌≡◌, ◌+◌, ◌≤◌, []};
+ghost use Rattle.web_connection.specs.Run.{AtTick, CountedAll, CountedIn, IsPiece, RunLeads, TakesIn, device_counts, devices_at, most_reads};
 
 use crate::desk::Desk;
 use crate::failure::Failure;
@@ -17,9 +17,9 @@ fn take_in<R: Source>(
     piece: &mut [u8],
     reader: &mut R,
 ) -> Result<bool, Failure>
-    requires some { 0 < length piece.old }
-    requires most { length piece.old ≤ 65536 }
-    ensures leads { TakesIn result frames.old.left frames.new.left (R.left reader.old) (R.left reader.new) }
+    requires { IsPiece piece.old }
+    ensures leads { TakesIn result frames.old.left frames.new.left
+        (R.left reader.old) (R.left reader.new) }
     ensures counted { CountedIn result (R.failures reader.old) (R.failures reader.new) }
     ensures calls { R.calls reader.new ≡ R.calls reader.old + 1 }
 {
@@ -46,15 +46,14 @@ fn serve_all<R: Source, T: Ticks, D: Desk, W: Drain>(
     writer: &mut W,
 ) -> Result<(), Failure>
     requires empty { frames.old.left ≡ [] }
-    requires some { 0 < length piece.old }
-    requires most { length piece.old ≤ 65536 }
+    requires piece { IsPiece piece.old }
     ensures leads { RunLeads (AtTick T.reads D.serves)
-        (record { left = R.left reader.old; calls = R.calls reader.old; told = T.told ticks.old; desk = desk.old; taken = W.taken writer.old })
-        (record { left = R.left reader.new; calls = R.calls reader.new; told = T.told ticks.new; desk = desk.new; taken = W.taken writer.new }) result }
+        (devices_at R.Source T.Ticks W.Drain reader.old ticks.old desk.old writer.old)
+        (devices_at R.Source T.Ticks W.Drain reader.new ticks.new desk.new writer.new) result }
     ensures counted { CountedAll result
-        (record { clock = T.failures ticks.old; output = W.failures writer.old; input = R.failures reader.old; calls = R.calls reader.old })
-        (record { clock = T.failures ticks.new; output = W.failures writer.new; input = R.failures reader.new; calls = R.calls reader.new }) }
-    ensures calls { R.calls reader.new ≤ R.calls reader.old + 1000000 }
+        (device_counts R.Source T.Ticks W.Drain reader.old ticks.old writer.old)
+        (device_counts R.Source T.Ticks W.Drain reader.new ticks.new writer.new) }
+    ensures calls { R.calls reader.new ≤ R.calls reader.old + most_reads }
 {
     for turn in 0..1_000_000u32 {
         match serve_ready(alloc, frames, ticks, desk, writer) {
@@ -88,12 +87,12 @@ pub fn run_stream<R: Source, T: Ticks, D: Desk, W: Drain>(
     writer: &mut W,
 ) -> Result<(), Failure>
     ensures leads { RunLeads (AtTick T.reads D.serves)
-        (record { left = R.left reader.old; calls = R.calls reader.old; told = T.told ticks.old; desk = desk.old; taken = W.taken writer.old })
-        (record { left = R.left reader.new; calls = R.calls reader.new; told = T.told ticks.new; desk = desk.new; taken = W.taken writer.new }) result }
+        (devices_at R.Source T.Ticks W.Drain reader.old ticks.old desk.old writer.old)
+        (devices_at R.Source T.Ticks W.Drain reader.new ticks.new desk.new writer.new) result }
     ensures counted { CountedAll result
-        (record { clock = T.failures ticks.old; output = W.failures writer.old; input = R.failures reader.old; calls = R.calls reader.old })
-        (record { clock = T.failures ticks.new; output = W.failures writer.new; input = R.failures reader.new; calls = R.calls reader.new }) }
-    ensures calls { R.calls reader.new ≤ R.calls reader.old + 1000000 }
+        (device_counts R.Source T.Ticks W.Drain reader.old ticks.old writer.old)
+        (device_counts R.Source T.Ticks W.Drain reader.new ticks.new writer.new) }
+    ensures calls { R.calls reader.new ≤ R.calls reader.old + most_reads }
 {
     let frames = &mut room.frames;
     frames.clear();
@@ -109,12 +108,12 @@ pub fn serve_desk<R: Source, T: Ticks, D: Desk + Drop, W: Drain>(
     writer: &mut W,
 ) -> Result<(), Failure>
     ensures leads { (last : D) × RunLeads (AtTick T.reads D.serves)
-        (record { left = R.left reader.old; calls = R.calls reader.old; told = T.told ticks.old; desk = desk; taken = W.taken writer.old })
-        (record { left = R.left reader.new; calls = R.calls reader.new; told = T.told ticks.new; desk = last; taken = W.taken writer.new }) result }
+        (devices_at R.Source T.Ticks W.Drain reader.old ticks.old desk writer.old)
+        (devices_at R.Source T.Ticks W.Drain reader.new ticks.new last writer.new) result }
     ensures counted { CountedAll result
-        (record { clock = T.failures ticks.old; output = W.failures writer.old; input = R.failures reader.old; calls = R.calls reader.old })
-        (record { clock = T.failures ticks.new; output = W.failures writer.new; input = R.failures reader.new; calls = R.calls reader.new }) }
-    ensures calls { R.calls reader.new ≤ R.calls reader.old + 1000000 }
+        (device_counts R.Source T.Ticks W.Drain reader.old ticks.old writer.old)
+        (device_counts R.Source T.Ticks W.Drain reader.new ticks.new writer.new) }
+    ensures calls { R.calls reader.new ≤ R.calls reader.old + most_reads }
 {
     let mut desk = desk;
     let Ok(mut room) = Room::new(alloc) else {

@@ -20,7 +20,8 @@ pub fn step<T: Ticks, D: Desk, W: Drain>(
     ensures leads { Steps (AtTick T.reads D.serves)
         (cursor frames.old.left (T.told ticks.old) desk.old (W.taken writer.old))
         (cursor frames.new.left (T.told ticks.new) desk.new (W.taken writer.new)) result }
-    ensures counted { Counted result (T.failures ticks.old) (T.failures ticks.new) (W.failures writer.old) (W.failures writer.new) }
+    ensures counted { Counted result (T.failures ticks.old) (T.failures ticks.new)
+        (W.failures writer.old) (W.failures writer.new) }
 {
     match frames.next() {
         None => Ok(Step::Waits),
@@ -56,7 +57,8 @@ pub fn serve_ready<T: Ticks, D: Desk, W: Drain>(
     ensures leads { ServesReady (AtTick T.reads D.serves)
         (cursor frames.old.left (T.told ticks.old) desk.old (W.taken writer.old))
         (cursor frames.new.left (T.told ticks.new) desk.new (W.taken writer.new)) result }
-    ensures counted { Counted result (T.failures ticks.old) (T.failures ticks.new) (W.failures writer.old) (W.failures writer.new) }
+    ensures counted { Counted result (T.failures ticks.old) (T.failures ticks.new)
+        (W.failures writer.old) (W.failures writer.new) }
 {
     loop {
         match step(alloc, frames, ticks, desk, writer) {

@@ -122,7 +122,8 @@ fn first_member<'v>(languages: &'v Map<String, Value>) -> Option<&'v Value>
 
 /// The name in the first of its languages.
 fn first_name<'v>(field: Field, languages: &'v Map<String, Value>) -> Result<&'v str, BodyFault>
-    ensures value { Shows text_of result (first_name field (first_member (members_view languages.now.entries))) }
+    ensures value { Shows text_of result
+        (first_name field (first_member (members_view languages.now.entries))) }
     ensures text { IfOk result (λ s. IsText s.now) }
 {
     match first_member(languages) {

@@ -62,7 +62,8 @@ pub fn first_entries<T: Drop, R: Reading<T>>(
     most: usize,
     list: &[Value],
 ) -> Result<Vec<T>, ReadError>
-    ensures { Gives (λ kept. kept.items) result (at_most most (all_of (R.reading reading.now) (items_view list.now))) }
+    ensures { Gives (λ kept. kept.items) result
+        (at_most most (all_of (R.reading reading.now) (items_view list.now))) }
 {
     let mut found = Vec::new(alloc);
     for entry in list {
@@ -80,7 +81,8 @@ pub fn entries<T: Drop, R: Reading<T>>(
     reading: &R,
     list: &[Value],
 ) -> Result<Vec<T>, ReadError>
-    ensures { Gives (λ all. all.items) result (all_of (R.reading reading.now) (items_view list.now)) }
+    ensures { Gives (λ all. all.items) result
+        (all_of (R.reading reading.now) (items_view list.now)) }
 {
     first_entries(alloc, reading, list.len(), list)
 }

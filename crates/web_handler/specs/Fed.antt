@@ -1,9 +1,11 @@
 -- What a desk is fed, and what comes of it.
 use Rattle.std.specs.Prelude.{◌≡◌, ℕ, ◌+◌, ◌≤◌, List, [], Option, Some, Result, Err, ⊤}
 use Rattle.base_devices.specs.declared.device.Tick.{Tick}
+use Rattle.base_devices.specs.declared.device.Source as source
+use Rattle.base_devices.specs.declared.device.Drain as drain
 use Rattle.web_connection.specs.declared.failure.Failure.{Failure}
 use Rattle.web_connection.specs.declared.failure.Failure.TheVariants as failures
-use Rattle.web_connection.specs.Run.{Counts, CountedAll, Devices, RunLeads}
+use Rattle.web_connection.specs.Run.{Counts, CountedAll, Devices, RunLeads, most_reads}
 use Rattle.web_arrivals.specs.DeskView.{DeskView, Meaning}
 use Rattle.web_arrivals.specs.Served.{Serves}
 use Rattle.web_cli.specs.FeedTicks.{feed_ticks}
@@ -16,6 +18,11 @@ pub record Ports : Type 0 where
   pub calls : ℕ
   pub input : ℕ
   pub output : ℕ
+
+-- where this reader and this writer stand
+abbrev pub ports_at : {R W : Type 0} → source.Ghosts R → drain.Ghosts W → R → W → Ports
+ports_at r w reader writer =
+    record { left = r.left reader; taken = w.taken writer; calls = r.calls reader; input = r.failures reader; output = w.failures writer }
 
 -- the same with the ticks that were told and the desk of the shop between them
 abbrev pub devices : {D : Type 0} → Ports → List Tick → D → Devices D
@@ -39,4 +46,4 @@ pub record FeedsDesk {T : Type 0} (tables : Meaning T) (first : DeskView T) (fro
   pub leads : RunLeads (Serves tables) (devices old [] first) (devices new (feed_ticks from step count) house) result
   pub ends_ticks : EndsTicks count result
   pub counted : CountedAll result (counts old 0) (counts new clock)
-  pub calls : new.calls ≤ old.calls + 1000000
+  pub calls : new.calls ≤ old.calls + most_reads

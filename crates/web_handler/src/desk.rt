@@ -1,7 +1,7 @@
 //! A shop that answers messages.
 
 ghost use Rattle.std.specs.Prelude.{◌≡◌, IfOk};
-ghost use Rattle.web_arrivals.specs.DeskView.{DeskView, meaning};
+ghost use Rattle.web_arrivals.specs.DeskView.{DeskView, desk_with, meaning};
 ghost use Rattle.web_arrivals.specs.Served.{Serves};
 
 use base_devices::Tick;
@@ -38,7 +38,8 @@ impl<T: Tables, B: Book> Model for ShopDesk<T, B> {
 impl<T: Tables + Drop, B: Book + Drop> ShopDesk<T, B> {
     /// The desk of an office, over tables that hold its rows.
     pub fn over(alloc: Global, tables: T, office: Office<B>) -> Result<Self, AllocError>
-        ensures { IfOk result (λ desk. desk ≡ record { organizer = office.organizer; event = office.event; tables = tables; state = office.state }) }
+        ensures { IfOk result
+            (λ desk. desk ≡ desk_with tables office.organizer office.event office.state) }
     {
         let words = HouseWords::new(alloc, office.organizer(), office.event())?;
         Ok(ShopDesk::with_words(tables, office, words))
@@ -46,7 +47,7 @@ impl<T: Tables + Drop, B: Book + Drop> ShopDesk<T, B> {
 
     /// The same where the words of its answers were made before.
     pub fn with_words(tables: T, office: Office<B>, words: HouseWords) -> Self
-        ensures { result ≡ record { organizer = words.organizer; event = words.event; tables = tables; state = office.state } }
+        ensures { result ≡ desk_with tables words.organizer words.event office.state }
     {
         ShopDesk {
             shop: Shop::over(tables, office, words),

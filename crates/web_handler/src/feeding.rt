@@ -1,8 +1,9 @@
 //! Requests from a reader, answers to a writer, at moments that count on.
 
-ghost use Rattle.std.specs.Prelude.{◌≡◌, ◌<◌};
-ghost use Rattle.web_arrivals.specs.DeskView.{desk_with, meaning};
-ghost use Rattle.web_handler.specs.Fed.{FeedsDesk};
+ghost use Rattle.std.specs.Prelude.{◌≡◌};
+ghost use Rattle.base_devices.specs.Blanks.{IsBlankOf};
+ghost use Rattle.web_arrivals.specs.DeskView.{desk_with, trait_meaning};
+ghost use Rattle.web_handler.specs.Fed.{FeedsDesk, ports_at};
 
 use crate::office::serve_office;
 use base_devices::{Drain, Source};
@@ -29,10 +30,11 @@ fn feed_with<P: Pace, E: Ledger, T: Tables + Drop, B: Dues + Drop, R: Source, W:
 ) -> Result<(), Failure>
     requires from { from ≡ P.from }
     requires step { step ≡ P.step }
-    requires blank { (blank.name ≡ E.name) × (blank.parts ≡ E.parts) × (0 < E.parts) }
-    ensures { FeedsDesk (meaning T.sure T.holds T.knows T.may_leave) (desk_with tables office.organizer office.event office.state) P.from P.step
-        (record { left = R.left reader.old; taken = W.taken writer.old; calls = R.calls reader.old; input = R.failures reader.old; output = W.failures writer.old })
-        (record { left = R.left reader.new; taken = W.taken writer.new; calls = R.calls reader.new; input = R.failures reader.new; output = W.failures writer.new }) result }
+    requires blank { IsBlankOf E.Ledger blank }
+    ensures { FeedsDesk (trait_meaning T.Tables)
+        (desk_with tables office.organizer office.event office.state) P.from P.step
+        (ports_at R.Source W.Drain reader.old writer.old)
+        (ports_at R.Source W.Drain reader.new writer.new) result }
 {
     let mut ticks = FeedTicks::<P, E> {
         from,
@@ -57,9 +59,10 @@ pub fn feed_office<T: Tables + Drop, B: Dues + Drop, R: Source, W: Drain>(
     reader: &mut R,
     writer: &mut W,
 ) -> Result<(), Failure>
-    ensures { FeedsDesk (meaning T.sure T.holds T.knows T.may_leave) (desk_with tables office.organizer office.event office.state) from step
-        (record { left = R.left reader.old; taken = W.taken writer.old; calls = R.calls reader.old; input = R.failures reader.old; output = W.failures writer.old })
-        (record { left = R.left reader.new; taken = W.taken writer.new; calls = R.calls reader.new; input = R.failures reader.new; output = W.failures writer.new }) result }
+    ensures { FeedsDesk (trait_meaning T.Tables)
+        (desk_with tables office.organizer office.event office.state) from step
+        (ports_at R.Source W.Drain reader.old writer.old)
+        (ports_at R.Source W.Drain reader.new writer.new) result }
 {
     feed_with::<Brand, Brand, T, B, R, W>(
         alloc,

@@ -8,12 +8,16 @@ use Rattle.web_http.specs.declared.first.FoundMessage.{FoundMessage}
 use Rattle.web_http.specs.declared.first.First.{First}
 use Rattle.web_http.specs.declared.first.First.TheVariants as firsts
 use Rattle.web_http.specs.Heads.{HasNoHead}
-use Rattle.web_http.specs.Messages.{Message, Takes, Faults, HasNone}
+use Rattle.web_http.specs.Messages.{Header, Message, Takes, Faults, HasNone}
 
 -- the values seen so far, where more than one is a fault
 abbrev pub seen_value : Option (Bor (List ℕ)) → List (List ℕ)
 seen_value None = []
 seen_value (Some v) = v.now ∷ []
+
+-- the fields that the spans cover in a head
+abbrev pub fields_at : List ℕ → List HeaderSpan → List Header
+fields_at head headers = map (header_bytes head) headers
 
 -- the message that the spans cover in the text
 abbrev pub message_at : List ℕ → List HeaderSpan → RequestSpans → List ℕ → Message
@@ -21,7 +25,7 @@ message_at text headers r body = record {
   method = span_bytes text r.method;
   target = span_bytes text r.path;
   minor = r.version;
-  fields = map (header_bytes text) (take r.headers headers);
+  fields = fields_at text (take r.headers headers);
   body = body;
 }
 

@@ -59,6 +59,10 @@ body_length [] = Ok 0
 body_length (v ∷ []) = limited (number_of v)
 body_length (v ∷ w ∷ vs) = Err BadHead
 
+-- the length that the fields declare for a body
+abbrev pub declared_length : List Header → Result ℕ FrameFault
+declared_length fields = body_length (values_named (codes "content-length") fields)
+
 -- whether there is one
 abbrev pub is_some_list : {X : Type 0} → List X → Bool
 is_some_list [] = false
@@ -69,7 +73,7 @@ abbrev pub check_fields : List Header → Result ℕ FrameFault
 check_fields fields =
     if nat_lt field_limit (length fields) then Err HeadTooLarge
     else (if is_some_list (values_named (codes "transfer-encoding") fields) then Err UnknownCoding
-    else body_length (values_named (codes "content-length") fields))
+    else declared_length fields)
 
 -- the fields of a head
 abbrev pub fields_of : RequestHead → List Header
@@ -105,9 +109,13 @@ pub record HasNone (bytes : List ℕ) : Type 0 where
 abbrev pub lists_close : List ℕ → Bool
 lists_close value = list_any (λ w. same_word (trim_ows w) (codes "close")) (slice_split (λ b. b == comma) value)
 
+-- a `Connection` field lists `close`
+abbrev pub says_close : List Header → Bool
+says_close fields = list_any lists_close (values_named (codes "connection") fields)
+
 -- the connection ends after the message
 abbrev pub closes : Message → Bool
-closes m = (m.minor == 0) || list_any lists_close (values_named (codes "connection") m.fields)
+closes m = (m.minor == 0) || says_close m.fields
 
 -- the bytes are these messages and then less than a whole one, or a fault ends them, or a message that closes
 abbrev pub Messages : List ℕ → List (Result Message FrameFault) → Type 0

@@ -1,9 +1,9 @@
 //! What the fields of a head say of the body.
 
-ghost use Rattle.std.specs.Prelude.{◌≡◌, ◌≤◌, length, map, All, option_map, codes, reverse};
-ghost use Rattle.httparse.specs.Spans.{IsHeaderWithin, header_bytes};
-ghost use Rattle.web_http.specs.Messages.{same_word, values_named, first_named, body_length, check_fields, lists_close};
-ghost use Rattle.std.specs.List.{list_any};
+ghost use Rattle.std.specs.Prelude.{◌≡◌, ◌≤◌, length, All, option_map, reverse};
+ghost use Rattle.httparse.specs.Spans.{IsHeaderWithin};
+ghost use Rattle.web_http.specs.Found.{fields_at};
+ghost use Rattle.web_http.specs.Messages.{same_word, first_named, declared_length, check_fields, lists_close, says_close};
 ghost use Rattle.httparse.specs.Grammar.{skip_ows, trim_ows};
 
 use crate::fault::FrameFault;
@@ -34,7 +34,8 @@ pub fn same_word(a: &[u8], b: &[u8]) -> bool
 /// The value of the first field of that name.
 pub fn first_named<'a>(head: &'a [u8], headers: &[HeaderSpan], name: &[u8]) -> Option<&'a [u8]>
     requires { All (IsHeaderWithin (length head.now)) headers.now }
-    ensures { option_map (λ v. v.now) result ≡ first_named name.now (map (header_bytes head.now) headers.now) }
+    ensures { option_map (λ v. v.now) result
+        ≡ first_named name.now (fields_at head.now headers.now) }
 {
     for header in headers {
         if same_word(header.name.of(head), name) {
@@ -47,7 +48,7 @@ pub fn first_named<'a>(head: &'a [u8], headers: &[HeaderSpan], name: &[u8]) -> O
 // The length that the fields declare for the body.
 fn declared_length(head: &[u8], headers: &[HeaderSpan]) -> Result<u64, FrameFault>
     requires { All (IsHeaderWithin (length head.now)) headers.now }
-    ensures { result ≡ body_length (values_named (codes "content-length") (map (header_bytes head.now) headers.now)) }
+    ensures { result ≡ declared_length (fields_at head.now headers.now) }
 {
     let mut seen: Option<&[u8]> = None;
     for header in headers {
@@ -76,7 +77,7 @@ fn declared_length(head: &[u8], headers: &[HeaderSpan]) -> Result<u64, FrameFaul
 /// The length of the body, or the first fault of the fields.
 pub fn check_fields(head: &[u8], headers: &[HeaderSpan]) -> Result<u64, FrameFault>
     requires { All (IsHeaderWithin (length head.now)) headers.now }
-    ensures { result ≡ check_fields (map (header_bytes head.now) headers.now) }
+    ensures { result ≡ check_fields (fields_at head.now headers.now) }
 {
     if headers.len() > FIELD_LIMIT {
         return Err(FrameFault::HeadTooLarge);
@@ -130,7 +131,7 @@ fn lists_close(value: &[u8]) -> bool
 /// Whether a `Connection` field lists `close`.
 pub fn says_close(head: &[u8], headers: &[HeaderSpan]) -> bool
     requires { All (IsHeaderWithin (length head.now)) headers.now }
-    ensures { result ≡ list_any lists_close (values_named (codes "connection") (map (header_bytes head.now) headers.now)) }
+    ensures { result ≡ says_close (fields_at head.now headers.now) }
 {
     for header in headers {
         if same_word(header.name.of(head), b"connection") && lists_close(header.value.of(head)) {

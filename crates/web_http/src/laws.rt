@@ -8,7 +8,8 @@ ghost use Rattle.web_http.specs.Messages.{Message, Messages, Reads, AreLast, who
 
 /// A stream has one reading.
 pub fn one_reading()
-    ensures { (bytes : List ℕ) (ms ns : List (Result Message FrameFault)) → Messages bytes ms → Messages bytes ns → ms ≡ ns }
+    ensures { (bytes : List ℕ) (ms ns : List (Result Message FrameFault))
+        → Messages bytes ms → Messages bytes ns → ms ≡ ns }
 {}
 
 /// No lines that are shorter than the head are a head, or rule one out.
@@ -19,17 +20,19 @@ pub fn head_is_the_shortest()
 
 /// Where some lines rule a head out, none are a head.
 pub fn bad_head_is_alone()
-    ensures { (bytes : List ℕ) → HasBadHead bytes → (k : ℕ) (h : RequestHead) → ¬ (ReadsRequest (take k bytes) h []) }
+    ensures { (bytes : List ℕ) → HasBadHead bytes
+        → (k : ℕ) (h : RequestHead) → ¬ (ReadsRequest (take k bytes) h []) }
 {}
 
 /// However a stream is cut: the messages that were taken off its first piece, and those of what they left with the next
 /// piece behind it, are the messages of both pieces in one.
 pub fn cutting_makes_no_difference()
-    ensures { (a b rest : List ℕ) (ms : List Message) (items : List (Result Message FrameFault)) → Reads a ms rest
-        → Messages (rest ++ b) items → Messages (a ++ b) (map whole ms ++ items) }
+    ensures { (a b rest : List ℕ) (ms : List Message) (items : List (Result Message FrameFault))
+        → Reads a ms rest → Messages (rest ++ b) items → Messages (a ++ b) (map whole ms ++ items) }
 {}
 
 /// Nothing that comes behind the end of a connection changes its messages.
 pub fn the_end_stays()
-    ensures { (a b : List ℕ) (items : List (Result Message FrameFault)) → Messages a items → AreLast items → Messages (a ++ b) items }
+    ensures { (a b : List ℕ) (items : List (Result Message FrameFault))
+        → Messages a items → AreLast items → Messages (a ++ b) items }
 {}

@@ -2,7 +2,7 @@
 
 ghost use Rattle.std.specs.Prelude.{◌≡◌};
 ghost use Rattle.web_http.specs.Text.{content, answer_text, text, fault_text};
-ghost use Rattle.web_http.specs.Written.{Writes};
+ghost use Rattle.web_http.specs.Written.{Writes, writer_page};
 
 use crate::answer_head::{head_of, when};
 use crate::fault::FrameFault;
@@ -12,7 +12,8 @@ use base_values::{Answer, Methods, StatusCode};
 /// Writes the bytes, as many at a time as the writer takes.
 /// Where the writer refuses, a part of them was written, and the writer has counted it.
 pub fn write_all<W: Drain>(writer: &mut W, bytes: &[u8]) -> Result<(), Refused>
-    ensures { Writes result bytes.now (record { taken = W.taken writer.old; failures = W.failures writer.old }) (record { taken = W.taken writer.new; failures = W.failures writer.new }) }
+    ensures { Writes result bytes.now
+        (writer_page W.Drain writer.old) (writer_page W.Drain writer.new) }
 {
     let mut at = 0;
     while at < bytes.len() {
@@ -39,7 +40,8 @@ fn write_text<W: Drain>(
     body: &[u8],
     closes: bool,
 ) -> Result<(), Refused>
-    ensures { Writes result (answer_text status allow body.now closes) (record { taken = W.taken writer.old; failures = W.failures writer.old }) (record { taken = W.taken writer.new; failures = W.failures writer.new }) }
+    ensures { Writes result (answer_text status allow body.now closes)
+        (writer_page W.Drain writer.old) (writer_page W.Drain writer.new) }
 {
     let head = head_of(status, allow, body.len(), closes);
     match write_all(writer, head.as_slice()) {
@@ -51,7 +53,8 @@ fn write_text<W: Drain>(
 /// Writes an answer, which says `Connection: close` where the connection ends after it.
 /// Where the writer refuses, a part of its text was written, and the writer has counted it.
 pub fn write_answer<W: Drain>(writer: &mut W, answer: &Answer, closes: bool) -> Result<(), Refused>
-    ensures { Writes result (text answer.now closes) (record { taken = W.taken writer.old; failures = W.failures writer.old }) (record { taken = W.taken writer.new; failures = W.failures writer.new }) }
+    ensures { Writes result (text answer.now closes)
+        (writer_page W.Drain writer.old) (writer_page W.Drain writer.new) }
 {
     match answer {
         Answer::Decided(response) => write_text(
@@ -74,7 +77,8 @@ pub fn write_answer<W: Drain>(writer: &mut W, answer: &Answer, closes: bool) -> 
 /// Writes the answer of a fault, after which the connection ends.
 /// Where the writer refuses, a part of its text was written, and the writer has counted it.
 pub fn write_fault<W: Drain>(writer: &mut W, fault: FrameFault) -> Result<(), Refused>
-    ensures { Writes result (fault_text fault) (record { taken = W.taken writer.old; failures = W.failures writer.old }) (record { taken = W.taken writer.new; failures = W.failures writer.new }) }
+    ensures { Writes result (fault_text fault)
+        (writer_page W.Drain writer.old) (writer_page W.Drain writer.new) }
 {
     write_text(writer, fault.status(), None, fault.body().as_bytes(), true)
 }

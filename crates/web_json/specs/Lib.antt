@@ -1,4 +1,5 @@
 pub mod Values
+pub mod Made
 pub mod Pieces
 pub mod OrderRows
 pub mod WaitingRows

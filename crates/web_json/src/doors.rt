@@ -1,10 +1,9 @@
 //! Check-in lists, the positions that belong to one, and what a door answers, as JSON.
 
-ghost use Rattle.std.specs.Prelude.{◌≡◌, ◌++◌, IfOk, OnOk};
+ghost use Rattle.std.specs.Prelude.{◌≡◌};
 ghost use Rattle.serde_json.specs.Data.{object, no_members};
-ghost use Rattle.serde_json.specs.View.{view};
-ghost use Rattle.serde_json.specs.Written.{compact_text};
 ghost use Rattle.web_json.specs.DoorRows.{checkin_list_members, list_name, checkin_list_body, kind_word, checkin_body, ticket_body, admitted_body, door_status_body};
+ghost use Rattle.web_json.specs.Made.{AppendsJson, MakesJson};
 
 use crate::members::{with, with_moment, with_text, with_text_or_null};
 use crate::orders::position_value;
@@ -20,7 +19,7 @@ use std::alloc::{AllocError, Global};
 
 /// What stands of a check-in list before the ids of its items.
 fn list_value(alloc: Global, list: &CheckinList) -> Result<Value, AllocError>
-    ensures { IfOk result (λ v. view v ≡ object (checkin_list_members list.now no_members)) }
+    ensures { MakesJson result (object (checkin_list_members list.now no_members)) }
 {
     let again = Value::Bool(list.allow_entry_after_exit);
     let many = Value::Bool(list.allow_multiple_entries);
@@ -45,7 +44,7 @@ fn list_value(alloc: Global, list: &CheckinList) -> Result<Value, AllocError>
 
 /// The name of a check-in list.
 fn name_value(alloc: Global, list: &CheckinList) -> Result<Value, AllocError>
-    ensures { IfOk result (λ v. view v ≡ object (list_name list.now)) }
+    ensures { MakesJson result (object (list_name list.now)) }
 {
     json!(in alloc; {"name": list.name.as_str()})
 }
@@ -56,7 +55,7 @@ pub(crate) fn append_checkin_list(
     out: &mut Vec<u8>,
     list: &CheckinList,
 ) -> Result<(), AllocError>
-    ensures { OnOk result (out.new.items ≡ out.old.items ++ compact_text (checkin_list_body list.now)) }
+    ensures { AppendsJson result out.old out.new (checkin_list_body list.now) }
 {
     let value = list_value(alloc, list)?;
     let name = name_value(alloc, list)?;
@@ -79,7 +78,7 @@ fn kind_word(kind: CheckinKind) -> &'static str
 
 /// A check-in.
 fn checkin_value(alloc: Global, checkin: &Checkin) -> Result<Value, AllocError>
-    ensures { IfOk result (λ v. view v ≡ checkin_body checkin.now) }
+    ensures { MakesJson result (checkin_body checkin.now) }
 {
     let members = with_moment(alloc, Map::new(alloc), "datetime", checkin.datetime)?;
     let members = with(alloc, members, "id", Value::from(checkin.id))?;
@@ -107,7 +106,7 @@ pub(crate) fn append_ticket(
     position: &OrderPos,
     checkins: &[Checkin],
 ) -> Result<(), AllocError>
-    ensures { OnOk result (out.new.items ≡ out.old.items ++ compact_text (ticket_body position.now checkins.now)) }
+    ensures { AppendsJson result out.old out.new (ticket_body position.now checkins.now) }
 {
     let value = position_value(alloc, position)?;
     append_text(out, "{")?;
@@ -118,7 +117,7 @@ pub(crate) fn append_ticket(
 
 /// A position that was let in or out.
 pub fn admitted_value(alloc: Global, position: &OrderPos) -> Result<Value, AllocError>
-    ensures { IfOk result (λ v. view v ≡ admitted_body position.now) }
+    ensures { MakesJson result (admitted_body position.now) }
 {
     let position = position_value(alloc, position)?;
     json!(in alloc; {"position": position, "status": "ok"})
@@ -126,7 +125,7 @@ pub fn admitted_value(alloc: Global, position: &OrderPos) -> Result<Value, Alloc
 
 /// The numbers of a check-in list.
 pub fn door_status_value(alloc: Global, door: DoorStatus) -> Result<Value, AllocError>
-    ensures { IfOk result (λ v. view v ≡ door_status_body door) }
+    ensures { MakesJson result (door_status_body door) }
 {
     json!(in alloc; {
         "checkin_count": door.entered,

@@ -1,10 +1,10 @@
 //! The members of an object, added one by one. Each call takes those that stand, so that where memory is refused nothing
 //! else is left to be dropped: a proof looks at each way out of a function.
 
-ghost use Rattle.std.specs.Prelude.{◌≡◌, IfOk};
 ghost use Rattle.serde_json.specs.Data.{put, string};
-ghost use Rattle.serde_json.specs.View.{view, members_view};
+ghost use Rattle.serde_json.specs.View.{view};
 ghost use Rattle.web_json.specs.Values.{money, money_or_null, moment, moment_or_null, text_or_null};
+ghost use Rattle.web_json.specs.Made.{MakesMembers};
 
 use crate::values::{moment, moment_or_null, money, money_or_null, text_or_null};
 use base_values::{Cents, Moment, Text};
@@ -18,7 +18,7 @@ pub(crate) fn with(
     key: &str,
     value: Value,
 ) -> Result<Map<String, Value>, AllocError>
-    ensures { IfOk result (λ m. members_view m.entries ≡ put key.now (view value) (members_view members.entries)) }
+    ensures { MakesMembers result members (put key.now (view value)) }
 {
     let mut members = members;
     serde_json::put(&mut members, alloc, key, value)?;
@@ -32,7 +32,7 @@ pub(crate) fn with_text(
     key: &str,
     chars: &str,
 ) -> Result<Map<String, Value>, AllocError>
-    ensures { IfOk result (λ m. members_view m.entries ≡ put key.now (string chars.now) (members_view members.entries)) }
+    ensures { MakesMembers result members (put key.now (string chars.now)) }
 {
     let value = Value::try_from_str(alloc, chars)?;
     with(alloc, members, key, value)
@@ -45,7 +45,7 @@ pub(crate) fn with_text_or_null(
     key: &str,
     text: &Option<Text>,
 ) -> Result<Map<String, Value>, AllocError>
-    ensures { IfOk result (λ m. members_view m.entries ≡ put key.now (text_or_null text.now) (members_view members.entries)) }
+    ensures { MakesMembers result members (put key.now (text_or_null text.now)) }
 {
     let value = text_or_null(alloc, text)?;
     with(alloc, members, key, value)
@@ -58,7 +58,7 @@ pub(crate) fn with_money(
     key: &str,
     amount: Cents,
 ) -> Result<Map<String, Value>, AllocError>
-    ensures { IfOk result (λ m. members_view m.entries ≡ put key.now (money amount) (members_view members.entries)) }
+    ensures { MakesMembers result members (put key.now (money amount)) }
 {
     let value = money(alloc, amount)?;
     with(alloc, members, key, value)
@@ -71,7 +71,7 @@ pub(crate) fn with_money_or_null(
     key: &str,
     amount: Option<Cents>,
 ) -> Result<Map<String, Value>, AllocError>
-    ensures { IfOk result (λ m. members_view m.entries ≡ put key.now (money_or_null amount) (members_view members.entries)) }
+    ensures { MakesMembers result members (put key.now (money_or_null amount)) }
 {
     let value = money_or_null(alloc, amount)?;
     with(alloc, members, key, value)
@@ -84,7 +84,7 @@ pub(crate) fn with_moment(
     key: &str,
     at: Moment,
 ) -> Result<Map<String, Value>, AllocError>
-    ensures { IfOk result (λ m. members_view m.entries ≡ put key.now (moment at) (members_view members.entries)) }
+    ensures { MakesMembers result members (put key.now (moment at)) }
 {
     let value = moment(alloc, at)?;
     with(alloc, members, key, value)
@@ -97,7 +97,7 @@ pub(crate) fn with_moment_or_null(
     key: &str,
     at: Option<Moment>,
 ) -> Result<Map<String, Value>, AllocError>
-    ensures { IfOk result (λ m. members_view m.entries ≡ put key.now (moment_or_null at) (members_view members.entries)) }
+    ensures { MakesMembers result members (put key.now (moment_or_null at)) }
 {
     let value = moment_or_null(alloc, at)?;
     with(alloc, members, key, value)

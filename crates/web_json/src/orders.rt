@@ -1,11 +1,10 @@
 //! Orders and their positions as JSON.
 
-ghost use Rattle.std.specs.Prelude.{◌≡◌, ◌++◌, IfOk, OnOk};
+ghost use Rattle.std.specs.Prelude.{◌≡◌};
 ghost use Rattle.serde_json.specs.Data.{object, no_members, put, string};
-ghost use Rattle.serde_json.specs.View.{view, members_view};
-ghost use Rattle.serde_json.specs.Written.{compact_text};
 ghost use Rattle.base_values.specs.Codes.{order_code};
 ghost use Rattle.web_json.specs.OrderRows.{order_total, position_body, order_members, last_members, order_body};
+ghost use Rattle.web_json.specs.Made.{AppendsJson, MakesJson, MakesMembers};
 
 use crate::members::{with, with_moment, with_money, with_text, with_text_or_null};
 use crate::pieces::{
@@ -24,7 +23,7 @@ fn with_code(
     key: &str,
     number: u64,
 ) -> Result<Map<String, Value>, AllocError>
-    ensures { IfOk result (λ m. members_view m.entries ≡ put key.now (string (order_code number)) (members_view members.entries)) }
+    ensures { MakesMembers result members (put key.now (string (order_code number))) }
 {
     let code = code_of(alloc, number)?;
     with_text(alloc, members, key, code.as_str())
@@ -32,7 +31,7 @@ fn with_code(
 
 /// A position.
 pub(crate) fn position_value(alloc: Global, position: &OrderPos) -> Result<Value, AllocError>
-    ensures { IfOk result (λ v. view v ≡ position_body position.now) }
+    ensures { MakesJson result (position_body position.now) }
 {
     let variation = count_or_null(position.product.variation);
     let members = Map::new(alloc);
@@ -77,7 +76,7 @@ fn total(positions: &[OrderPos]) -> u128
 
 /// What stands of an order before its positions.
 fn order_value(alloc: Global, order: &Order) -> Result<Value, AllocError>
-    ensures { IfOk result (λ v. view v ≡ object (order_members order.now no_members)) }
+    ensures { MakesJson result (object (order_members order.now no_members)) }
 {
     let members = with_code(alloc, Map::new(alloc), "code", order.id)?;
     let members = with_moment(alloc, members, "datetime", order.made_at)?;
@@ -88,7 +87,7 @@ fn order_value(alloc: Global, order: &Order) -> Result<Value, AllocError>
 
 /// What stands of an order behind its positions.
 fn last_value(alloc: Global, order: &Order, positions: &[OrderPos]) -> Result<Value, AllocError>
-    ensures { IfOk result (λ v. view v ≡ object (last_members order.now positions.now)) }
+    ensures { MakesJson result (object (last_members order.now positions.now)) }
 {
     let total = total_text(alloc, total(positions))?;
     json!(in alloc; {"status": order.status.letter(), "total": total.as_str()})
@@ -101,7 +100,7 @@ pub(crate) fn append_order(
     order: &Order,
     positions: &[OrderPos],
 ) -> Result<(), AllocError>
-    ensures { OnOk result (out.new.items ≡ out.old.items ++ compact_text (order_body order.now positions.now)) }
+    ensures { AppendsJson result out.old out.new (order_body order.now positions.now) }
 {
     let value = order_value(alloc, order)?;
     let last = last_value(alloc, order, positions)?;

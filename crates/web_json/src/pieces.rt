@@ -1,18 +1,19 @@
 //! JSON written behind a text, piece by piece: of a long list never more than one row stands as a value.
 
-ghost use Rattle.std.specs.Prelude.{◌≡◌, ◌++◌, ◌∷◌, map, false, OnOk};
+ghost use Rattle.std.specs.Prelude.{◌≡◌, ◌∷◌, map, false};
 ghost use Rattle.serde_json.specs.Data.{Data};
 ghost use Rattle.serde_json.specs.View.{view};
 ghost use Rattle.serde_json.specs.Written.{has_float, compact_text};
 ghost use Rattle.web_json.specs.Pieces.{opened, inside, member_text, row_text};
 ghost use Rattle.web_json.specs.Values.{list};
+ghost use Rattle.web_json.specs.Made.{AppendsJson, AppendsText};
 
 use serde_json::Value;
 use std::alloc::{AllocError, Global};
 
 /// Appends these characters.
 pub fn append_text(out: &mut Vec<u8>, text: &str) -> Result<(), AllocError>
-    ensures { OnOk result (out.new.items ≡ out.old.items ++ text.now) }
+    ensures { AppendsText result out.old out.new text.now }
 {
     out.extend_from_slice(text.as_bytes())
 }
@@ -20,7 +21,7 @@ pub fn append_text(out: &mut Vec<u8>, text: &str) -> Result<(), AllocError>
 /// Appends a value, without spaces.
 pub fn append_value(alloc: Global, out: &mut Vec<u8>, value: &Value) -> Result<(), AllocError>
     requires { has_float (view value.now) ≡ false }
-    ensures { OnOk result (out.new.items ≡ out.old.items ++ compact_text (view value.now)) }
+    ensures { AppendsJson result out.old out.new (view value.now) }
 {
     let text = value.to_vec(alloc)?;
     out.extend_from_slice(text.as_slice())
@@ -29,7 +30,7 @@ pub fn append_value(alloc: Global, out: &mut Vec<u8>, value: &Value) -> Result<(
 /// Appends an object without its closing brace, so that more members can follow.
 pub fn append_opened(alloc: Global, out: &mut Vec<u8>, object: &Value) -> Result<(), AllocError>
     requires { has_float (view object.now) ≡ false }
-    ensures { OnOk result (out.new.items ≡ out.old.items ++ opened (compact_text (view object.now))) }
+    ensures { AppendsText result out.old out.new (opened (compact_text (view object.now))) }
 {
     let text = object.to_vec(alloc)?;
     out.extend_from_slice(&text[..text.len().saturating_sub(1)])
@@ -38,7 +39,7 @@ pub fn append_opened(alloc: Global, out: &mut Vec<u8>, object: &Value) -> Result
 /// Appends the members of an object, without its braces.
 fn append_inside(alloc: Global, out: &mut Vec<u8>, object: &Value) -> Result<(), AllocError>
     requires { has_float (view object.now) ≡ false }
-    ensures { OnOk result (out.new.items ≡ out.old.items ++ inside (compact_text (view object.now))) }
+    ensures { AppendsText result out.old out.new (inside (compact_text (view object.now))) }
 {
     let text = object.to_vec(alloc)?;
     let text = text.as_slice();
@@ -55,7 +56,7 @@ pub(crate) fn append_members(
     object: &Value,
 ) -> Result<(), AllocError>
     requires { has_float (view object.now) ≡ false }
-    ensures { OnOk result (out.new.items ≡ out.old.items ++ 44 ∷ inside (compact_text (view object.now))) }
+    ensures { AppendsText result out.old out.new (44 ∷ inside (compact_text (view object.now))) }
 {
     append_text(out, ",")?;
     append_inside(alloc, out, object)
@@ -68,7 +69,7 @@ pub trait WriteRow<T> {
 
     /// Appends a row.
     fn append(&self, alloc: Global, out: &mut Vec<u8>, row: &T) -> Result<(), AllocError>
-        ensures { OnOk result (out.new.items ≡ out.old.items ++ compact_text (body self.now row.now)) };
+        ensures { AppendsJson result out.old out.new (body self.now row.now) };
 }
 
 /// Appends a row, behind a comma where one stands before it.
@@ -79,7 +80,8 @@ fn append_row<T, W: WriteRow<T>>(
     later: bool,
     row: &T,
 ) -> Result<(), AllocError>
-    ensures { OnOk result (out.new.items ≡ out.old.items ++ row_text later (W.WriteRow.body writer.now row.now)) }
+    ensures { AppendsText result out.old out.new
+        (row_text later (W.WriteRow.body writer.now row.now)) }
 {
     if later {
         append_text(out, ",")?;
@@ -94,7 +96,8 @@ fn append_list<T, W: WriteRow<T>>(
     writer: &W,
     rows: &[T],
 ) -> Result<(), AllocError>
-    ensures { OnOk result (out.new.items ≡ out.old.items ++ compact_text (list (map (W.WriteRow.body writer.now) rows.now))) }
+    ensures { AppendsJson result out.old out.new
+        (list (map (W.WriteRow.body writer.now) rows.now)) }
 {
     append_text(out, "[")?;
     let mut later = false;
@@ -113,7 +116,8 @@ pub fn append_key_and_list<T, W: WriteRow<T>>(
     writer: &W,
     rows: &[T],
 ) -> Result<(), AllocError>
-    ensures { OnOk result (out.new.items ≡ out.old.items ++ member_text key.now (list (map (W.WriteRow.body writer.now) rows.now))) }
+    ensures { AppendsText result out.old out.new
+        (member_text key.now (list (map (W.WriteRow.body writer.now) rows.now))) }
 {
     append_value(alloc, out, &Value::try_from_str(alloc, key)?)?;
     append_text(out, ":")?;
@@ -128,7 +132,8 @@ pub fn append_list_member<T, W: WriteRow<T>>(
     writer: &W,
     rows: &[T],
 ) -> Result<(), AllocError>
-    ensures { OnOk result (out.new.items ≡ out.old.items ++ 44 ∷ member_text key.now (list (map (W.WriteRow.body writer.now) rows.now))) }
+    ensures { AppendsText result out.old out.new
+        (44 ∷ member_text key.now (list (map (W.WriteRow.body writer.now) rows.now))) }
 {
     append_text(out, ",")?;
     append_key_and_list(alloc, out, key, writer, rows)

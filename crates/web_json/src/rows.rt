@@ -1,11 +1,10 @@
 //! The rows of answers as JSON.
 
-ghost use Rattle.std.specs.Prelude.{◌≡◌, ◌++◌, IfOk, OnOk, codes};
+ghost use Rattle.std.specs.Prelude.{codes};
 ghost use Rattle.serde_json.specs.Data.{object, member, no_members};
-ghost use Rattle.serde_json.specs.View.{view};
-ghost use Rattle.serde_json.specs.Written.{compact_text};
 ghost use Rattle.web_json.specs.Values.{count};
 ghost use Rattle.web_json.specs.Rows.{sold_body, variation_body, priced_body, item_members, item_body, quota_members, quota_body, cart_body, voucher_body, shown_body, availability_body};
+ghost use Rattle.web_json.specs.Made.{AppendsJson, MakesJson};
 
 use crate::doors::{append_checkin_list, append_ticket};
 use crate::members::{with, with_moment, with_money, with_money_or_null, with_text};
@@ -25,7 +24,7 @@ use std::alloc::{AllocError, Global};
 
 /// A variation that is sold at a price.
 fn sold_value(alloc: Global, variation: &Variation, price: Cents) -> Result<Value, AllocError>
-    ensures { IfOk result (λ v. view v ≡ sold_body variation.now price) }
+    ensures { MakesJson result (sold_body variation.now price) }
 {
     let members = Map::new(alloc);
     let members = with(alloc, members, "active", Value::Bool(variation.active))?;
@@ -38,14 +37,14 @@ fn sold_value(alloc: Global, variation: &Variation, price: Cents) -> Result<Valu
 
 /// A variation of an item that costs that price.
 fn variation_value(alloc: Global, price: Cents, variation: &Variation) -> Result<Value, AllocError>
-    ensures { IfOk result (λ v. view v ≡ variation_body price variation.now) }
+    ensures { MakesJson result (variation_body price variation.now) }
 {
     sold_value(alloc, variation, variation.default_price.unwrap_or(price))
 }
 
 /// A variation, with the price that it costs.
 fn priced_value(alloc: Global, priced: &PricedVariation) -> Result<Value, AllocError>
-    ensures { IfOk result (λ v. view v ≡ priced_body priced.now) }
+    ensures { MakesJson result (priced_body priced.now) }
 {
     sold_value(alloc, &priced.row, priced.price)
 }
@@ -67,7 +66,7 @@ impl WriteRow<Variation> for VariationWriter {
 
 /// An item without its variations.
 fn item_value(alloc: Global, item: &Item) -> Result<Value, AllocError>
-    ensures { IfOk result (λ v. view v ≡ object (item_members item.now no_members)) }
+    ensures { MakesJson result (object (item_members item.now no_members)) }
 {
     let members = Map::new(alloc);
     let members = with(alloc, members, "active", Value::Bool(item.active))?;
@@ -85,7 +84,7 @@ fn append_item(
     item: &Item,
     variations: &[Variation],
 ) -> Result<(), AllocError>
-    ensures { OnOk result (out.new.items ≡ out.old.items ++ compact_text (item_body item.now variations.now)) }
+    ensures { AppendsJson result out.old out.new (item_body item.now variations.now) }
 {
     let value = item_value(alloc, item)?;
     let writer = VariationWriter {
@@ -98,14 +97,14 @@ fn append_item(
 
 /// A quota's id.
 fn quota_id_value(alloc: Global, quota: &Quota) -> Result<Value, AllocError>
-    ensures { IfOk result (λ v. view v ≡ object (member (codes "id") (count quota.now.id) no_members)) }
+    ensures { MakesJson result (object (member (codes "id") (count quota.now.id) no_members)) }
 {
     json!(in alloc; {"id": quota.id})
 }
 
 /// A quota's name, whether it releases places, and its size.
 fn quota_value(alloc: Global, quota: &Quota) -> Result<Value, AllocError>
-    ensures { IfOk result (λ v. view v ≡ object (quota_members quota.now no_members)) }
+    ensures { MakesJson result (object (quota_members quota.now no_members)) }
 {
     let size = size_or_null(quota.size);
     json!(in alloc; {
@@ -117,7 +116,7 @@ fn quota_value(alloc: Global, quota: &Quota) -> Result<Value, AllocError>
 
 /// Appends a quota.
 fn append_quota(alloc: Global, out: &mut Vec<u8>, quota: &Quota) -> Result<(), AllocError>
-    ensures { OnOk result (out.new.items ≡ out.old.items ++ compact_text (quota_body quota.now)) }
+    ensures { AppendsJson result out.old out.new (quota_body quota.now) }
 {
     let id = quota_id_value(alloc, quota)?;
     let value = quota_value(alloc, quota)?;
@@ -132,7 +131,7 @@ fn append_quota(alloc: Global, out: &mut Vec<u8>, quota: &Quota) -> Result<(), A
 
 /// A cart position.
 pub fn cart_value(alloc: Global, cart: &CartPos) -> Result<Value, AllocError>
-    ensures { IfOk result (λ v. view v ≡ cart_body cart.now) }
+    ensures { MakesJson result (cart_body cart.now) }
 {
     let variation = count_or_null(cart.product.variation);
     let members = Map::new(alloc);
@@ -153,7 +152,7 @@ fn append_priced(
     out: &mut Vec<u8>,
     priced: &PricedVariation,
 ) -> Result<(), AllocError>
-    ensures { OnOk result (out.new.items ≡ out.old.items ++ compact_text (priced_body priced.now)) }
+    ensures { AppendsJson result out.old out.new (priced_body priced.now) }
 {
     let value = priced_value(alloc, priced)?;
     append_value(alloc, out, &value)
@@ -161,7 +160,7 @@ fn append_priced(
 
 /// Appends a cart position.
 fn append_cart(alloc: Global, out: &mut Vec<u8>, cart: &CartPos) -> Result<(), AllocError>
-    ensures { OnOk result (out.new.items ≡ out.old.items ++ compact_text (cart_body cart.now)) }
+    ensures { AppendsJson result out.old out.new (cart_body cart.now) }
 {
     let value = cart_value(alloc, cart)?;
     append_value(alloc, out, &value)
@@ -174,7 +173,7 @@ fn append_voucher(
     voucher: &Voucher,
     redeemed: u64,
 ) -> Result<(), AllocError>
-    ensures { OnOk result (out.new.items ≡ out.old.items ++ compact_text (voucher_body voucher.now redeemed)) }
+    ensures { AppendsJson result out.old out.new (voucher_body voucher.now redeemed) }
 {
     let value = voucher_value(alloc, voucher, redeemed)?;
     append_value(alloc, out, &value)
@@ -182,7 +181,7 @@ fn append_voucher(
 
 /// Appends a row as it is shown.
 pub fn append_shown(alloc: Global, out: &mut Vec<u8>, shown: &Shown) -> Result<(), AllocError>
-    ensures { OnOk result (out.new.items ≡ out.old.items ++ compact_text (shown_body shown.now)) }
+    ensures { AppendsJson result out.old out.new (shown_body shown.now) }
 {
     match shown {
         Shown::Item(rows) => append_item(alloc, out, &rows.item, rows.variations.as_slice()),
@@ -201,7 +200,7 @@ pub fn append_shown(alloc: Global, out: &mut Vec<u8>, shown: &Shown) -> Result<(
 
 /// What is left of a quota, and what uses it.
 pub fn availability_value(alloc: Global, left: &Availability) -> Result<Value, AllocError>
-    ensures { IfOk result (λ v. view v ≡ availability_body left.now) }
+    ensures { MakesJson result (availability_body left.now) }
 {
     let usage = left.usage;
     let number = count_or_null(left.available_number);

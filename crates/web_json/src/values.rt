@@ -1,8 +1,9 @@
 //! Numbers, amounts, moments and lists as JSON.
 
-ghost use Rattle.std.specs.Prelude.{◌≡◌, IfOk};
+ghost use Rattle.std.specs.Prelude.{◌≡◌};
 ghost use Rattle.serde_json.specs.View.{view};
 ghost use Rattle.web_json.specs.Values.{count, count_or_null, money, money_or_null, moment, moment_or_null, text_or_null};
+ghost use Rattle.web_json.specs.Made.{MakesJson};
 
 use crate::pieces::{WriteRow, append_value};
 use base_dates::moment_text;
@@ -32,14 +33,14 @@ pub(crate) fn size_or_null(size: Option<Size>) -> Value
 
 /// An amount as a text, `"23.00"`.
 pub(crate) fn money(alloc: Global, amount: Cents) -> Result<Value, AllocError>
-    ensures { IfOk result (λ v. view v ≡ money amount) }
+    ensures { MakesJson result (money amount) }
 {
     Ok(Value::String(cents_text(alloc, amount)?))
 }
 
 /// An amount, or null.
 pub(crate) fn money_or_null(alloc: Global, amount: Option<Cents>) -> Result<Value, AllocError>
-    ensures { IfOk result (λ v. view v ≡ money_or_null amount) }
+    ensures { MakesJson result (money_or_null amount) }
 {
     match amount {
         None => Ok(Value::Null),
@@ -49,14 +50,14 @@ pub(crate) fn money_or_null(alloc: Global, amount: Option<Cents>) -> Result<Valu
 
 /// A moment as a text, `"2026-05-01T10:00:00Z"`.
 pub(crate) fn moment(alloc: Global, at: Moment) -> Result<Value, AllocError>
-    ensures { IfOk result (λ v. view v ≡ moment at) }
+    ensures { MakesJson result (moment at) }
 {
     Ok(Value::String(moment_text(alloc, at)?))
 }
 
 /// A moment, or null.
 pub(crate) fn moment_or_null(alloc: Global, at: Option<Moment>) -> Result<Value, AllocError>
-    ensures { IfOk result (λ v. view v ≡ moment_or_null at) }
+    ensures { MakesJson result (moment_or_null at) }
 {
     match at {
         None => Ok(Value::Null),
@@ -66,7 +67,7 @@ pub(crate) fn moment_or_null(alloc: Global, at: Option<Moment>) -> Result<Value,
 
 /// A text, or null.
 pub(crate) fn text_or_null(alloc: Global, text: &Option<Text>) -> Result<Value, AllocError>
-    ensures { IfOk result (λ v. view v ≡ text_or_null text.now) }
+    ensures { MakesJson result (text_or_null text.now) }
 {
     match text {
         None => Ok(Value::Null),

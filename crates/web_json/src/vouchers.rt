@@ -1,9 +1,9 @@
 //! A voucher as JSON. It has more members than one proof takes at once, so they are added part by part.
 
-ghost use Rattle.std.specs.Prelude.{◌≡◌, IfOk};
-ghost use Rattle.serde_json.specs.View.{view, members_view};
+ghost use Rattle.std.specs.Prelude.{◌≡◌};
 ghost use Rattle.web_json.specs.Rows.{mode_word, voucher_body};
 ghost use Rattle.web_json.specs.VoucherParts.{with_target, with_texts, with_flags, with_limits, with_price};
+ghost use Rattle.web_json.specs.Made.{MakesJson, MakesMembers};
 
 use crate::members::{with, with_moment_or_null, with_money_or_null, with_text};
 use crate::values::count_or_null;
@@ -30,7 +30,7 @@ fn with_target(
     members: Map<String, Value>,
     voucher: &Voucher,
 ) -> Result<Map<String, Value>, AllocError>
-    ensures { IfOk result (λ m. members_view m.entries ≡ with_target voucher.now (members_view members.entries)) }
+    ensures { MakesMembers result members (with_target voucher.now) }
 {
     let members = with(alloc, members, "item", count_or_null(voucher.item))?;
     let members = with(alloc, members, "quota", count_or_null(voucher.quota))?;
@@ -48,7 +48,7 @@ fn with_texts(
     members: Map<String, Value>,
     voucher: &Voucher,
 ) -> Result<Map<String, Value>, AllocError>
-    ensures { IfOk result (λ m. members_view m.entries ≡ with_texts voucher.now (members_view members.entries)) }
+    ensures { MakesMembers result members (with_texts voucher.now) }
 {
     let members = with_text(alloc, members, "code", voucher.code.as_str())?;
     let members = with_text(alloc, members, "comment", voucher.comment.as_str())?;
@@ -61,7 +61,7 @@ fn with_flags(
     members: Map<String, Value>,
     voucher: &Voucher,
 ) -> Result<Map<String, Value>, AllocError>
-    ensures { IfOk result (λ m. members_view m.entries ≡ with_flags voucher.now (members_view members.entries)) }
+    ensures { MakesMembers result members (with_flags voucher.now) }
 {
     let ignores = Value::Bool(voucher.allow_ignore_quota);
     let members = with(alloc, members, "allow_ignore_quota", ignores)?;
@@ -79,7 +79,7 @@ fn with_limits(
     members: Map<String, Value>,
     voucher: &Voucher,
 ) -> Result<Map<String, Value>, AllocError>
-    ensures { IfOk result (λ m. members_view m.entries ≡ with_limits voucher.now (members_view members.entries)) }
+    ensures { MakesMembers result members (with_limits voucher.now) }
 {
     let members = with(
         alloc,
@@ -97,7 +97,7 @@ fn with_price(
     members: Map<String, Value>,
     voucher: &Voucher,
 ) -> Result<Map<String, Value>, AllocError>
-    ensures { IfOk result (λ m. members_view m.entries ≡ with_price voucher.now (members_view members.entries)) }
+    ensures { MakesMembers result members (with_price voucher.now) }
 {
     let members = with_text(alloc, members, "price_mode", mode_word(voucher.price_mode))?;
     with_money_or_null(alloc, members, "value", voucher.value)
@@ -109,7 +109,7 @@ pub(crate) fn voucher_value(
     voucher: &Voucher,
     redeemed: u64,
 ) -> Result<Value, AllocError>
-    ensures { IfOk result (λ v. view v ≡ voucher_body voucher.now redeemed) }
+    ensures { MakesJson result (voucher_body voucher.now redeemed) }
 {
     let members = with(alloc, Map::new(alloc), "id", Value::from(voucher.id))?;
     let members = with(alloc, members, "redeemed", Value::from(redeemed))?;

@@ -1,9 +1,7 @@
 //! Entries of the waiting list, and what periodic work did, as JSON.
 
-ghost use Rattle.std.specs.Prelude.{◌≡◌, ◌++◌, IfOk, OnOk};
-ghost use Rattle.serde_json.specs.View.{view};
-ghost use Rattle.serde_json.specs.Written.{compact_text};
 ghost use Rattle.web_json.specs.WaitingRows.{waiting_body, periodic_body};
+ghost use Rattle.web_json.specs.Made.{AppendsJson, MakesJson};
 
 use crate::members::{with, with_moment, with_text};
 use crate::pieces::append_value;
@@ -15,7 +13,7 @@ use std::alloc::{AllocError, Global};
 
 /// An entry.
 fn waiting_value(alloc: Global, entry: &Waiting) -> Result<Value, AllocError>
-    ensures { IfOk result (λ v. view v ≡ waiting_body entry.now) }
+    ensures { MakesJson result (waiting_body entry.now) }
 {
     let variation = count_or_null(entry.product.variation);
     let members = with_moment(alloc, Map::new(alloc), "created", entry.created)?;
@@ -39,7 +37,7 @@ pub(crate) fn append_waiting(
     out: &mut Vec<u8>,
     entry: &Waiting,
 ) -> Result<(), AllocError>
-    ensures { OnOk result (out.new.items ≡ out.old.items ++ compact_text (waiting_body entry.now)) }
+    ensures { AppendsJson result out.old out.new (waiting_body entry.now) }
 {
     let value = waiting_value(alloc, entry)?;
     append_value(alloc, out, &value)
@@ -47,7 +45,7 @@ pub(crate) fn append_waiting(
 
 /// What periodic work did.
 pub fn periodic_value(alloc: Global, counts: PeriodicCounts) -> Result<Value, AllocError>
-    ensures { IfOk result (λ v. view v ≡ periodic_body counts) }
+    ensures { MakesJson result (periodic_body counts) }
 {
     json!(in alloc; {
         "deleted": counts.deleted,

@@ -1,8 +1,8 @@
 //! The words for a request that can't be read.
 
 ghost use Rattle.std.specs.Prelude.{◌≡◌, IfOk, string_bytes};
-ghost use Rattle.serde_json.specs.View.{view};
 ghost use Rattle.web_responses.specs.Faults.{fault_body, field_fault, parse_error, invalid_data, no_credentials, invalid_token, not_found, invalid_page, method_text, method_not_allowed};
+ghost use Rattle.web_json.specs.Made.{MakesJson};
 
 use crate::responses::{detailed, response};
 use base_values::{Methods, Response, StatusCode};
@@ -12,7 +12,7 @@ use std::alloc::{AllocError, Global};
 
 /// `{"field":["text"]}`.
 pub(crate) fn fault_value(alloc: Global, fault: Fault) -> Result<Value, AllocError>
-    ensures { IfOk result (λ v. view v ≡ fault_body fault) }
+    ensures { MakesJson result (fault_body fault) }
 {
     let name = fault.field.name();
     let text = fault.problem.text();

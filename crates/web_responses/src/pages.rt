@@ -1,11 +1,10 @@
 //! A page of a list, and the paths of the pages beside it.
 
-ghost use Rattle.std.specs.Prelude.{◌≡◌, ◌+◌, ◌*◌, ◌++◌, nat_lt, Some, None, IfOk, OnOk, if◌then◌else◌, string_bytes};
+ghost use Rattle.std.specs.Prelude.{◌≡◌, ◌+◌, ◌*◌, nat_lt, Some, None, IfOk, if◌then◌else◌, string_bytes};
 ghost use Rattle.serde_json.specs.Data.{object, no_members};
-ghost use Rattle.serde_json.specs.View.{view};
-ghost use Rattle.serde_json.specs.Written.{compact_text};
 ghost use Rattle.web_responses.specs.Pages.{resource_path, page_path, next_path, previous_path, page_members, page_body};
 ghost use Rattle.web_json.specs.Rows.{shown_body};
+ghost use Rattle.web_json.specs.Made.{AppendsJson, MakesJson};
 
 use model_commands::{Page, Resource, Shown};
 use serde_json::{Value, json};
@@ -37,7 +36,8 @@ fn page_path(
     resource: Resource,
     number: u64,
 ) -> Result<String, AllocError>
-    ensures { IfOk result (λ s. string_bytes s ≡ page_path organizer.now event.now resource number) }
+    ensures { IfOk result
+        (λ s. string_bytes s ≡ page_path organizer.now event.now resource number) }
 {
     let path = resource_path(alloc, resource)?;
     format!(in alloc; "/api/v1/organizers/{organizer}/events/{event}{path}?page={number}")
@@ -56,7 +56,7 @@ fn next_number(number: u64, count: u64) -> Option<u64>
 
 /// The path of the next page, or null where no rows are left for one.
 fn next_value(alloc: Global, organizer: &str, event: &str, page: &Page) -> Result<Value, AllocError>
-    ensures { IfOk result (λ v. view v ≡ next_path organizer.now event.now page.now) }
+    ensures { MakesJson result (next_path organizer.now event.now page.now) }
 {
     match next_number(page.number, page.count) {
         Some(number) => {
@@ -74,7 +74,7 @@ fn previous_value(
     event: &str,
     page: &Page,
 ) -> Result<Value, AllocError>
-    ensures { IfOk result (λ v. view v ≡ previous_path organizer.now event.now page.now) }
+    ensures { MakesJson result (previous_path organizer.now event.now page.now) }
 {
     if page.number > 1 {
         let path = page_path(alloc, organizer, event, page.resource, page.number - 1)?;
@@ -97,7 +97,7 @@ impl WriteRow<Shown> for ShownWriter {
 
 /// A page without its rows, in the shop of these slugs.
 fn page_value(alloc: Global, organizer: &str, event: &str, page: &Page) -> Result<Value, AllocError>
-    ensures { IfOk result (λ v. view v ≡ object (page_members organizer.now event.now page.now no_members)) }
+    ensures { MakesJson result (object (page_members organizer.now event.now page.now no_members)) }
 {
     let next = next_value(alloc, organizer, event, page)?;
     let previous = previous_value(alloc, organizer, event, page)?;
@@ -112,7 +112,7 @@ pub(crate) fn append_page(
     event: &str,
     page: &Page,
 ) -> Result<(), AllocError>
-    ensures { OnOk result (out.new.items ≡ out.old.items ++ compact_text (page_body organizer.now event.now page.now)) }
+    ensures { AppendsJson result out.old out.new (page_body organizer.now event.now page.now) }
 {
     let value = page_value(alloc, organizer, event, page)?;
     let rows = page.rows.as_slice();

@@ -2,9 +2,9 @@
 
 ghost use Rattle.std.specs.Prelude.{◌≡◌, IfOk};
 ghost use Rattle.std.specs.Option.{option_copied};
-ghost use Rattle.serde_json.specs.View.{view};
 ghost use Rattle.web_responses.specs.Faults.{fault_body};
 ghost use Rattle.web_responses.specs.Refusals.{catalogue_detail, voucher_detail, order_detail, waiting_detail, door_detail, detail, quota_of, quota_named, refusal_body, numbered_body, wrong_status_body, reason_of, door_body, sent_status, told_status, told_body, manner_of, status_in, refusal_data, refused};
+ghost use Rattle.web_json.specs.Made.{MakesJson};
 
 use crate::faults::fault_value;
 use crate::responses::{detail_value, value_response};
@@ -141,7 +141,7 @@ fn refusal_value(
     text: &str,
     quota: Option<u64>,
 ) -> Result<Value, AllocError>
-    ensures { IfOk result (λ v. view v ≡ refusal_body number text.now quota) }
+    ensures { MakesJson result (refusal_body number text.now quota) }
 {
     match quota {
         None => json!(in alloc; {"code": number, "detail": text}),
@@ -151,7 +151,7 @@ fn refusal_value(
 
 /// A refusal by its number and its sentence.
 fn numbered_value(alloc: Global, refusal: Refusal) -> Result<Value, AllocError>
-    ensures { IfOk result (λ v. view v ≡ numbered_body refusal (detail refusal)) }
+    ensures { MakesJson result (numbered_body refusal (detail refusal)) }
 {
     let number = refusal.number();
     match detail(refusal) {
@@ -162,7 +162,8 @@ fn numbered_value(alloc: Global, refusal: Refusal) -> Result<Value, AllocError>
 
 /// A voucher's value is out of range.
 fn too_large(alloc: Global) -> Result<Value, AllocError>
-    ensures { IfOk result (λ v. view v ≡ fault_body (record { field = Field.Value; problem = Problem.OutOfRange })) }
+    ensures { MakesJson result
+        (fault_body (record { field = Field.Value; problem = Problem.OutOfRange })) }
 {
     let fault = Fault {
         field: Field::Value,
@@ -173,7 +174,7 @@ fn too_large(alloc: Global) -> Result<Value, AllocError>
 
 /// Number 42, its sentence, and the order's status.
 fn wrong_status_value(alloc: Global, status: Status) -> Result<Value, AllocError>
-    ensures { IfOk result (λ v. view v ≡ wrong_status_body status) }
+    ensures { MakesJson result (wrong_status_body status) }
 {
     let letter = status.letter();
     json!(in alloc; {"code": 42, "detail": "Not possible in this status.", "status": letter})
@@ -195,7 +196,7 @@ fn reason_of(refusal: DoorRefusal) -> Option<&'static str>
 
 /// A refusal of the doors, by its word where it has one, else by its number and its sentence.
 fn door_value(alloc: Global, refusal: DoorRefusal) -> Result<Value, AllocError>
-    ensures { IfOk result (λ v. view v ≡ door_body refusal (reason_of refusal)) }
+    ensures { MakesJson result (door_body refusal (reason_of refusal)) }
 {
     match reason_of(refusal) {
         None => numbered_value(alloc, Refusal::Door(refusal)),
@@ -230,7 +231,7 @@ fn told_status(kind: Kind, refusal: Refusal) -> StatusCode
 
 /// The body for a refusal that the kind of request can have.
 fn told_value(alloc: Global, refusal: Refusal) -> Result<Value, AllocError>
-    ensures { IfOk result (λ v. view v ≡ told_body refusal) }
+    ensures { MakesJson result (told_body refusal) }
 {
     match refusal {
         Refusal::Voucher(VoucherRefusal::TooLarge) => too_large(alloc),
@@ -281,7 +282,7 @@ fn status_in(manner: Manner, kind: Kind, refusal: Refusal) -> StatusCode
 /// The body for a refusal of a request of that kind.
 #[tactic(auto, unfolding(crate::specs::Refusals::refusal_data))]
 pub(crate) fn refusal_data(alloc: Global, kind: Kind, refusal: Refusal) -> Result<Value, AllocError>
-    ensures { IfOk result (λ v. view v ≡ refusal_data kind refusal) }
+    ensures { MakesJson result (refusal_data kind refusal) }
 {
     match manner_of(kind, refusal) {
         Manner::Missing => detail_value(alloc, "Not found."),

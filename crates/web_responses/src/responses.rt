@@ -4,6 +4,7 @@ ghost use Rattle.std.specs.Prelude.{◌≡◌, false, None, IfOk};
 ghost use Rattle.serde_json.specs.View.{view};
 ghost use Rattle.serde_json.specs.Written.{has_float};
 ghost use Rattle.web_responses.specs.Responses.{response, detail_body};
+ghost use Rattle.web_json.specs.Made.{MakesJson};
 
 use base_values::{Body, Methods, Response, StatusCode};
 use serde_json::{Value, json};
@@ -41,7 +42,7 @@ pub(crate) fn value_response(
 
 /// `{"detail":"text"}`.
 pub(crate) fn detail_value(alloc: Global, text: &str) -> Result<Value, AllocError>
-    ensures { IfOk result (λ v. view v ≡ detail_body text.now) }
+    ensures { MakesJson result (detail_body text.now) }
 {
     json!(in alloc; {"detail": text})
 }

@@ -1,9 +1,8 @@
 //! What became of the entries of a bulk call, as JSON.
 
-ghost use Rattle.std.specs.Prelude.{◌≡◌, ◌++◌, IfOk, OnOk};
 ghost use Rattle.serde_json.specs.View.{view};
-ghost use Rattle.serde_json.specs.Written.{compact_text};
 ghost use Rattle.web_responses.specs.Results.{entry_fault_body, result_body, outcome_body, results_body};
+ghost use Rattle.web_json.specs.Made.{AppendsJson, MakesJson};
 
 use crate::faults::fault_value;
 use crate::refusals::refusal_data;
@@ -16,7 +15,7 @@ use web_json::{WriteRow, append_key_and_list, append_text, append_value, cart_va
 
 /// What is wrong with an entry, as a request of its own is told it.
 fn entry_fault_value(alloc: Global, fault: EntryFault) -> Result<Value, AllocError>
-    ensures { IfOk result (λ v. view v ≡ entry_fault_body fault) }
+    ensures { MakesJson result (entry_fault_body fault) }
 {
     match fault {
         EntryFault::InvalidData => detail_value(alloc, "Invalid data."),
@@ -31,14 +30,14 @@ fn result_value(
     errors: Value,
     success: bool,
 ) -> Result<Value, AllocError>
-    ensures { IfOk result (λ v. view v ≡ result_body (view shown) (view errors) success) }
+    ensures { MakesJson result (result_body (view shown) (view errors) success) }
 {
     json!(in alloc; {"data": shown, "errors": errors, "success": success})
 }
 
 /// What became of an entry.
 fn outcome_value(alloc: Global, outcome: &Outcome) -> Result<Value, AllocError>
-    ensures { IfOk result (λ v. view v ≡ outcome_body outcome.now) }
+    ensures { MakesJson result (outcome_body outcome.now) }
 {
     match outcome {
         Outcome::Added(cart) => {
@@ -74,7 +73,7 @@ pub(crate) fn append_results(
     out: &mut Vec<u8>,
     outcomes: &[Outcome],
 ) -> Result<(), AllocError>
-    ensures { OnOk result (out.new.items ≡ out.old.items ++ compact_text (results_body outcomes.now)) }
+    ensures { AppendsJson result out.old out.new (results_body outcomes.now) }
 {
     append_text(out, "{")?;
     append_key_and_list(alloc, out, "results", &OutcomeWriter, outcomes)?;

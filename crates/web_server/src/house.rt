@@ -1,7 +1,7 @@
 //! A house that is open: its callers, and when they have to go.
 
 ghost use Rattle.std.specs.Prelude.{◌≡◌, ◌+◌, ◌<◌, ◌≤◌, None, true, length, replicate, IfOk, IfErr};
-ghost use Rattle.web_connection.specs.Run.{AtTick};
+ghost use Rattle.web_connection.specs.Run.{AtTick, IsPiece};
 ghost use Rattle.web_cli.specs.declared.fault.RunFault.TheVariants.{Listen};
 ghost use Rattle.web_turns.specs.Acts.{between};
 ghost use Rattle.web_turns.specs.Halls.{IsFree, callers};
@@ -299,9 +299,10 @@ impl<'a, R: Clock + System + Console> House<'a, R> {
         desk: &mut D,
         now: u64,
     )
-        requires some { 0 < length piece.old }
-        requires most { length piece.old ≤ 65536 }
-        ensures hall { Happened (AtTick T.reads D.serves) (between (T.told ticks.old) desk.old) (between (T.told ticks.new) desk.new) self.old.hall self.new.hall }
+        requires { IsPiece piece.old }
+        ensures hall { Happened (AtTick T.reads D.serves)
+            (between (T.told ticks.old) desk.old) (between (T.told ticks.new) desk.new)
+            self.old.hall self.new.hall }
         ensures count { self.new.hall.came + self.new.left ≤ self.old.hall.came + self.old.left }
         ensures piece { length piece.new ≡ length piece.old }
     {
@@ -331,9 +332,10 @@ impl<'a, R: Clock + System + Console> House<'a, R> {
         desk: &mut D,
         now: u64,
     )
-        requires some { 0 < length piece.old }
-        requires most { length piece.old ≤ 65536 }
-        ensures hall { Happened (AtTick T.reads D.serves) (between (T.told ticks.old) desk.old) (between (T.told ticks.new) desk.new) self.old.hall self.new.hall }
+        requires { IsPiece piece.old }
+        ensures hall { Happened (AtTick T.reads D.serves)
+            (between (T.told ticks.old) desk.old) (between (T.told ticks.new) desk.new)
+            self.old.hall self.new.hall }
         ensures count { self.new.hall.came + self.new.left ≤ self.old.hall.came + self.old.left }
         ensures piece { length piece.new ≡ length piece.old }
     {

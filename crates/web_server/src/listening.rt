@@ -1,6 +1,8 @@
 //! A desk at an address.
 
-ghost use Rattle.std.specs.Prelude.{◌≡◌, ◌<◌, None};
+ghost use Rattle.std.specs.Prelude.{None};
+ghost use Rattle.base_devices.specs.Blanks.{IsBlankOf};
+ghost use Rattle.web_http.specs.Written.{writer_page};
 ghost use Rattle.web_connection.specs.Run.{AtTick};
 ghost use Rattle.web_cli.specs.Saying.{TellsListening};
 ghost use Rattle.web_server.specs.Clock.{IsRead};
@@ -30,8 +32,10 @@ fn serve_listener<M: Ledger, R: Net + Clock + System + Console, D: Desk + Attend
     desk: &mut D,
     blank: Blank,
 ) -> Result<(), RunFault>
-    requires blank { (blank.name ≡ M.name) × (blank.parts ≡ M.parts) × (0 < M.parts) }
-    ensures { AnswersCallers (AtTick (IsRead R.shows R.gives) D.serves) (most_of connections) (between None desk.old) (between None desk.new) result }
+    requires blank { IsBlankOf M.Ledger blank }
+    ensures { AnswersCallers (AtTick (IsRead R.shows R.gives) D.serves) (most_of connections)
+        (between None desk.old) (between None desk.new)
+        result }
 {
     let failures = Steps::<M>::new(blank);
     let mut ticks = ClockTicks::<R, M> { rt, failures };
@@ -53,8 +57,12 @@ pub fn serve_at<
     desk: &mut D,
     writer: &mut W,
 ) -> Result<(), RunFault>
-    ensures said { TellsListening place.now.text.now (record { taken = W.taken writer.old; failures = W.failures writer.old }) (record { taken = W.taken writer.new; failures = W.failures writer.new }) result }
-    ensures leads { AnswersCallers (AtTick (IsRead R.shows R.gives) D.serves) (most_of place.now.connections) (between None desk.old) (between None desk.new) result }
+    ensures said { TellsListening place.now.text.now
+        (writer_page W.Drain writer.old) (writer_page W.Drain writer.new) result }
+    ensures leads { AnswersCallers (AtTick (IsRead R.shows R.gives) D.serves)
+        (most_of place.now.connections)
+        (between None desk.old) (between None desk.new)
+        result }
 {
     let Ok(listener) = rt.bind(place.addr) else {
         return Err(RunFault::Listen);

@@ -1,8 +1,9 @@
 //! Many connections at once, in one thread.
 
-ghost use Rattle.std.specs.Prelude.{◌≡◌, ◌+◌, ◌<◌, ◌≤◌, None, length, replicate, IfOk, IfErr};
-ghost use Rattle.web_connection.specs.Run.{AtTick};
-ghost use Rattle.web_cli.specs.declared.fault.RunFault.TheVariants.{Listen, Memory};
+ghost use Rattle.std.specs.Prelude.{◌≡◌, ◌+◌, ◌≤◌, None, length, replicate, IfOk, IfErr};
+ghost use Rattle.base_devices.specs.Blanks.{IsBlankOf};
+ghost use Rattle.web_connection.specs.Run.{AtTick, IsPiece};
+ghost use Rattle.web_cli.specs.declared.fault.RunFault.TheVariants.{Listen};
 ghost use Rattle.web_turns.specs.Acts.{between};
 ghost use Rattle.web_turns.specs.Halls.{callers};
 ghost use Rattle.web_server.specs.Visits.{AnswersCallers, EndsAtOnce, Happened, Rearranged, RoundsEnd, most_of};
@@ -99,9 +100,10 @@ fn serve_round<R: Clock + System + Console, L: Ledger, M: Ledger, T: Ticks, D: D
     ticks: &mut T,
     desk: &mut D,
 ) -> Result<(), RunFault>
-    requires some { 0 < length piece.old }
-    requires most { length piece.old ≤ 65536 }
-    ensures hall { Happened (AtTick T.reads D.serves) (between (T.told ticks.old) desk.old) (between (T.told ticks.new) desk.new) house.old.hall house.new.hall }
+    requires { IsPiece piece.old }
+    ensures hall { Happened (AtTick T.reads D.serves)
+        (between (T.told ticks.old) desk.old) (between (T.told ticks.new) desk.new)
+        house.old.hall house.new.hall }
     ensures count { house.new.hall.came + house.new.left ≤ house.old.hall.came + house.old.left }
     ensures ends { IfErr result (λ fault. fault ≡ Listen) }
     ensures piece { length piece.new ≡ length piece.old }
@@ -133,9 +135,10 @@ fn serve_rounds<R: Clock + System + Console, L: Ledger, M: Ledger, T: Ticks, D: 
     ticks: &mut T,
     desk: &mut D,
 ) -> Result<(), RunFault>
-    requires some { 0 < length piece.old }
-    requires most { length piece.old ≤ 65536 }
-    ensures hall { Happened (AtTick T.reads D.serves) (between (T.told ticks.old) desk.old) (between (T.told ticks.new) desk.new) house.old.hall house.new.hall }
+    requires { IsPiece piece.old }
+    ensures hall { Happened (AtTick T.reads D.serves)
+        (between (T.told ticks.old) desk.old) (between (T.told ticks.new) desk.new)
+        house.old.hall house.new.hall }
     ensures count { house.new.hall.came + house.new.left ≤ house.old.hall.came + house.old.left }
     ensures ends { IfErr result (λ fault. fault ≡ Listen) }
 {
@@ -162,7 +165,9 @@ fn serve_house<R: Clock + System + Console, L: Ledger, M: Ledger, T: Ticks, D: D
     ticks: &mut T,
     desk: &mut D,
 ) -> Result<(), RunFault>
-    ensures hall { Happened (AtTick T.reads D.serves) (between (T.told ticks.old) desk.old) (between (T.told ticks.new) desk.new) house.old.hall house.new.hall }
+    ensures hall { Happened (AtTick T.reads D.serves)
+        (between (T.told ticks.old) desk.old) (between (T.told ticks.new) desk.new)
+        house.old.hall house.new.hall }
     ensures count { house.new.hall.came + house.new.left ≤ house.old.hall.came + house.old.left }
     ensures ends { RoundsEnd result house.old.hall house.new.hall }
 {
@@ -195,9 +200,11 @@ fn serve_with<R: Clock + System + Console, L: Ledger, M: Ledger, T: Ticks, D: De
     desk: &mut D,
     blanks: (Blank, Blank),
 ) -> Result<(), RunFault>
-    requires calls { (blanks.0.name ≡ L.name) × (blanks.0.parts ≡ L.parts) × (0 < L.parts) }
-    requires failures { (blanks.1.name ≡ M.name) × (blanks.1.parts ≡ M.parts) × (0 < M.parts) }
-    ensures hall { Happened (AtTick T.reads D.serves) (between (T.told ticks.old) desk.old) (between (T.told ticks.new) desk.new) house.old.hall house.new.hall }
+    requires calls { IsBlankOf L.Ledger blanks.0 }
+    requires failures { IsBlankOf M.Ledger blanks.1 }
+    ensures hall { Happened (AtTick T.reads D.serves)
+        (between (T.told ticks.old) desk.old) (between (T.told ticks.new) desk.new)
+        house.old.hall house.new.hall }
     ensures count { house.new.hall.came + house.new.left ≤ house.old.hall.came + house.old.left }
     ensures ends { RoundsEnd result house.old.hall house.new.hall }
 {
@@ -247,7 +254,9 @@ pub fn serve_callers<R: Net + Clock + System + Console, T: Ticks, D: Desk + Atte
     ticks: &mut T,
     desk: &mut D,
 ) -> Result<(), RunFault>
-    ensures { AnswersCallers (AtTick T.reads D.serves) (most_of connections) (between (T.told ticks.old) desk.old) (between (T.told ticks.new) desk.new) result }
+    ensures { AnswersCallers (AtTick T.reads D.serves) (most_of connections)
+        (between (T.told ticks.old) desk.old) (between (T.told ticks.new) desk.new)
+        result }
 {
     let (Ok(mut poll), Ok(start)) = (Poll::new(rt), Instant::now(rt)) else {
         return Err(RunFault::Listen);

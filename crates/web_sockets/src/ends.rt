@@ -1,7 +1,7 @@
 //! The two directions of a connection, neither of which waits.
 
-ghost use Rattle.std.specs.Prelude.{◌≡◌, ℕ, ◌≤◌, List, [], Option, length, take, IfOk, OnErr};
-ghost use Rattle.base_devices.specs.Told.{Adds};
+ghost use Rattle.std.specs.Prelude.{◌≡◌, ℕ, ◌≤◌, List, [], Option, length, IfOk, OnErr};
+ghost use Rattle.base_devices.specs.Told.{Adds, AddsSoMany};
 ghost use Rattle.web_sockets.specs.Reads.{Reads};
 
 use base_devices::Refused;
@@ -43,7 +43,7 @@ pub trait Ends: Drop {
     /// Takes as many of the bytes as there is room for, perhaps none.
     fn write(&mut self, bytes: &[u8]) -> Result<usize, Refused>
         ensures fits { IfOk result (λ n. n ≤ length bytes.now) }
-        ensures taken { IfOk result (λ n. Adds (taken self.old) (take n bytes.now) (taken self.new)) }
+        ensures taken { AddsSoMany result (taken self.old) bytes.now (taken self.new) }
         ensures kept { OnErr result (Adds (taken self.old) [] (taken self.new)) }
         ensures same { left self.new ≡ left self.old };
 

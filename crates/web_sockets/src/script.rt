@@ -1,7 +1,7 @@
 //! A connection over memory, which goes as a script says.
 
 ghost use Rattle.std.specs.Prelude.{◌≡◌, ◌≤◌, ◌++◌, [], Some, Ok, length, take, min, IfOk, OnErr};
-ghost use Rattle.base_devices.specs.Told.{Adds};
+ghost use Rattle.base_devices.specs.Told.{Adds, AddsSoMany};
 ghost use Rattle.web_sockets.specs.Reads.{Reads};
 ghost use Rattle.web_sockets.specs.Scripts.{came_of, limit_of, rest_of};
 
@@ -71,10 +71,14 @@ impl Ends for Script<'_> {
 
     // A read gives nothing yet where it may give none, or has no room for any; else what there is, or the end.
     fn read(&mut self, buffer: &mut [u8]) -> Result<Came, Refused>
-        ensures reads { Reads result (Some self.old.bytes.now) (Some self.new.bytes.now) buffer.new }
+        ensures reads { Reads result
+            (Some self.old.bytes.now) (Some self.new.bytes.now) buffer.new }
         ensures size { length buffer.new ≡ length buffer.old }
-        ensures same { let before = Some self.old.taken.items in Some self.new.taken.items ≡ before }
-        ensures came { result ≡ Ok (came_of (limit_of self.old.reads.now) (length buffer.old) (length self.old.bytes.now)) }
+        ensures same { let before = Some self.old.taken.items in
+            Some self.new.taken.items ≡ before }
+        ensures came { result
+            ≡ Ok (came_of (limit_of self.old.reads.now) (length buffer.old)
+            (length self.old.bytes.now)) }
         ensures rest { self.new.reads.now ≡ rest_of self.old.reads.now }
         ensures writes { self.new.writes.now ≡ self.old.writes.now }
     {
@@ -95,9 +99,12 @@ impl Ends for Script<'_> {
     // A write takes as many as it may.
     fn write(&mut self, bytes: &[u8]) -> Result<usize, Refused>
         ensures fits { IfOk result (λ n. n ≤ length bytes.now) }
-        ensures many { IfOk result (λ n. n ≡ min (limit_of self.old.writes.now) (length bytes.now)) }
-        ensures taken { IfOk result (λ n. Adds (Some self.old.taken.items) (take n bytes.now) (Some self.new.taken.items)) }
-        ensures kept { OnErr result (Adds (Some self.old.taken.items) [] (Some self.new.taken.items)) }
+        ensures many { IfOk result
+            (λ n. n ≡ min (limit_of self.old.writes.now) (length bytes.now)) }
+        ensures taken { AddsSoMany result (Some self.old.taken.items) bytes.now
+            (Some self.new.taken.items) }
+        ensures kept { OnErr result
+            (Adds (Some self.old.taken.items) [] (Some self.new.taken.items)) }
         ensures same { let before = Some self.old.bytes.now in Some self.new.bytes.now ≡ before }
         ensures rest { self.new.writes.now ≡ rest_of self.old.writes.now }
         ensures reads { self.new.reads.now ≡ self.old.reads.now }

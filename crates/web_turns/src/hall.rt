@@ -1,7 +1,7 @@
 //! The callers of a house, each at its place.
 
-ghost use Rattle.std.specs.Prelude.{◌≡◌, ℕ, ◌<◌, ◌≤◌, None, length, option_map, replicate, IfOk, IfSome, IfNone, OnOk, OnErr};
-ghost use Rattle.web_connection.specs.Run.{AtTick};
+ghost use Rattle.std.specs.Prelude.{◌≡◌, ℕ, None, length, option_map, replicate, IfOk, IfSome, IfNone, OnOk, OnErr};
+ghost use Rattle.web_connection.specs.Run.{AtTick, IsPiece};
 ghost use Rattle.web_turns.specs.Acts.{between};
 ghost use Rattle.web_turns.specs.Talks.{begun};
 ghost use Rattle.web_turns.specs.Halls.{FindsFree, IsFree, TurnsAt, at_place, callers, leaves_with, place_needs, with_caller, with_place};
@@ -110,7 +110,8 @@ impl<E: Ends> Hall<E> {
     /// One more caller comes in, to a place that is free.
     pub fn let_in(&mut self, alloc: Global, place: usize, ends: E) -> Result<(), AllocError>
         requires { IsFree place self.old }
-        ensures come { OnOk result (self.new ≡ with_caller place (begun (E.left ends) (E.taken ends)) self.old) }
+        ensures come { OnOk result
+            (self.new ≡ with_caller place (begun (E.left ends) (E.taken ends)) self.old) }
         ensures same { OnErr result (self.new ≡ self.old) }
     {
         let number = self.came;
@@ -130,9 +131,10 @@ impl<E: Ends> Hall<E> {
         ticks: &mut T,
         desk: &mut D,
     ) -> Result<(), Refused>
-        requires some { 0 < length piece.old }
-        requires most { length piece.old ≤ 65536 }
-        ensures turn { TurnsAt (AtTick T.reads D.serves) (between (T.told ticks.old) desk.old) (between (T.told ticks.new) desk.new) place self.old self.new }
+        requires { IsPiece piece.old }
+        ensures turn { TurnsAt (AtTick T.reads D.serves)
+            (between (T.told ticks.old) desk.old) (between (T.told ticks.new) desk.new)
+            place self.old self.new }
         ensures piece { length piece.new ≡ length piece.old }
     {
         if place >= self.places.len() {

@@ -13,7 +13,8 @@ use web_connection::Desk;
 /// each caller was in, or began, is the acts that are for it, of its own bytes and in order, with nothing of another's.
 pub fn callers_go_on<T: Ticks, D: Desk>()
     ensures { (from to : Between D) (old new : Callers) (order : List Next)
-        → DoesAll (AtTick T.reads D.serves) from to old new order → LeadsOn (AtTick T.reads D.serves) from to old new }
+        → DoesAll (AtTick T.reads D.serves) from to old new order
+        → LeadsOn (AtTick T.reads D.serves) from to old new }
 {}
 
 /// The same of a hall from its opening on: of all who came each has its own acts.

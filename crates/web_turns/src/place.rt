@@ -1,7 +1,7 @@
 //! A place for a caller.
 
-ghost use Rattle.std.specs.Prelude.{◌≡◌, ◌<◌, ◌≤◌, [], None, Some, length, is_none, option_map, IfOk, OnOk, OnErr};
-ghost use Rattle.web_connection.specs.Run.{AtTick};
+ghost use Rattle.std.specs.Prelude.{◌≡◌, [], None, Some, length, is_none, option_map, IfOk, OnOk, OnErr};
+ghost use Rattle.web_connection.specs.Run.{AtTick, IsPiece};
 ghost use Rattle.web_turns.specs.Acts.{between};
 ghost use Rattle.web_turns.specs.Talks.{begun};
 ghost use Rattle.web_turns.specs.Halls.{IsSpare, TakesTurn, caller, leaves_with, place_needs};
@@ -88,7 +88,8 @@ impl<E: Ends> Place<E> {
     /// A caller takes it.
     pub fn take(&mut self, alloc: Global, number: u64, ends: E) -> Result<(), AllocError>
         requires { self.old ≡ None }
-        ensures taken { OnOk result (self.new ≡ Some (caller number (begun (E.left ends) (E.taken ends)))) }
+        ensures taken { OnOk result
+            (self.new ≡ Some (caller number (begun (E.left ends) (E.taken ends)))) }
         ensures free { OnErr result (self.new ≡ None) }
     {
         let frames = room_of(alloc, self.spare.take())?;
@@ -106,9 +107,10 @@ impl<E: Ends> Place<E> {
         ticks: &mut T,
         desk: &mut D,
     ) -> Result<(), Refused>
-        requires some { 0 < length piece.old }
-        requires most { length piece.old ≤ 65536 }
-        ensures turn { TakesTurn (AtTick T.reads D.serves) (between (T.told ticks.old) desk.old) (between (T.told ticks.new) desk.new) self.old self.new }
+        requires { IsPiece piece.old }
+        ensures turn { TakesTurn (AtTick T.reads D.serves)
+            (between (T.told ticks.old) desk.old) (between (T.told ticks.new) desk.new)
+            self.old self.new }
         ensures piece { length piece.new ≡ length piece.old }
     {
         match &mut self.talk {

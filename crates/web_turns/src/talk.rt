@@ -1,7 +1,7 @@
 //! A conversation, turn by turn.
 
-ghost use Rattle.std.specs.Prelude.{◌≡◌, ◌<◌, ◌≤◌, [], Some, length};
-ghost use Rattle.web_connection.specs.Run.{AtTick, cursor};
+ghost use Rattle.std.specs.Prelude.{◌≡◌, ◌<◌, [], Some, length};
+ghost use Rattle.web_connection.specs.Run.{AtTick, IsPiece, cursor};
 ghost use Rattle.web_turns.specs.declared.stage.Stage.TheVariants as stages;
 ghost use Rattle.web_turns.specs.Acts.{between};
 ghost use Rattle.web_turns.specs.Talks.{Hears, Moves, Sends, Takes, Turn, Went, begun, needs_of};
@@ -111,8 +111,7 @@ impl<E: Ends> Talk<E> {
 
     // Reads once.
     fn hear(&mut self, piece: &mut [u8])
-        requires some { 0 < length piece.old }
-        requires most { length piece.old ≤ 65536 }
+        requires piece { IsPiece piece.old }
         requires waits { self.old.stage ≡ stages.Waits }
         ensures { Hears self.old self.new }
     {
@@ -175,8 +174,7 @@ impl<E: Ends> Talk<E> {
 
     // Reads once where it waits for bytes.
     fn hear_on(&mut self, piece: &mut [u8])
-        requires some { 0 < length piece.old }
-        requires most { length piece.old ≤ 65536 }
+        requires { IsPiece piece.old }
         ensures moves { Moves self.old self.new }
         ensures unsent { self.new.unsent ≡ self.old.unsent }
         ensures same { self.old.stage ≡ stages.Goes → self.new ≡ self.old }
@@ -196,7 +194,9 @@ impl<E: Ends> Talk<E> {
         desk: &mut D,
     )
         requires sent { self.old.unsent ≡ [] }
-        ensures turn { Turn (AtTick T.reads D.serves) (between (T.told ticks.old) desk.old) (between (T.told ticks.new) desk.new) self.old self.new }
+        ensures turn { Turn (AtTick T.reads D.serves)
+            (between (T.told ticks.old) desk.old) (between (T.told ticks.new) desk.new)
+            self.old self.new }
         ensures takes { Takes self.old self.new }
     {
         match self.stage {
@@ -214,9 +214,10 @@ impl<E: Ends> Talk<E> {
         ticks: &mut T,
         desk: &mut D,
     ) -> Result<(), Refused>
-        requires some { 0 < length piece.old }
-        requires most { length piece.old ≤ 65536 }
-        ensures turn { Turn (AtTick T.reads D.serves) (between (T.told ticks.old) desk.old) (between (T.told ticks.new) desk.new) self.old self.new }
+        requires { IsPiece piece.old }
+        ensures turn { Turn (AtTick T.reads D.serves)
+            (between (T.told ticks.old) desk.old) (between (T.told ticks.new) desk.new)
+            self.old self.new }
         ensures takes { Takes self.old self.new }
     {
         if self.at < self.answer.len() {
@@ -259,9 +260,10 @@ impl<E: Ends> Talk<E> {
         ticks: &mut T,
         desk: &mut D,
     ) -> Result<(), Refused>
-        requires some { 0 < length piece.old }
-        requires most { length piece.old ≤ 65536 }
-        ensures turn { Turn (AtTick T.reads D.serves) (between (T.told ticks.old) desk.old) (between (T.told ticks.new) desk.new) self.old self.new }
+        requires { IsPiece piece.old }
+        ensures turn { Turn (AtTick T.reads D.serves)
+            (between (T.told ticks.old) desk.old) (between (T.told ticks.new) desk.new)
+            self.old self.new }
         ensures takes { Takes self.old self.new }
         ensures piece { length piece.new ≡ length piece.old }
     {

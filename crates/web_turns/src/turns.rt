@@ -1,7 +1,7 @@
 //! What happens in a hall, one after another.
 
-ghost use Rattle.std.specs.Prelude.{◌≡◌, ◌<◌, ◌≤◌, length};
-ghost use Rattle.web_connection.specs.Run.{AtTick};
+ghost use Rattle.std.specs.Prelude.{◌≡◌, length};
+ghost use Rattle.web_connection.specs.Run.{AtTick, IsPiece};
 ghost use Rattle.web_turns.specs.Acts.{between};
 ghost use Rattle.web_turns.specs.Halls.{Does, DoesAll, LetsIn};
 
@@ -47,9 +47,10 @@ fn do_next<E: Ends, L: Ledger, M: Ledger, T: Ticks, D: Desk>(
     ticks: &mut T,
     desk: &mut D,
 )
-    requires some { 0 < length piece.old }
-    requires most { length piece.old ≤ 65536 }
-    ensures does { Does (AtTick T.reads D.serves) (between (T.told ticks.old) desk.old) (between (T.told ticks.new) desk.new) hall.old hall.new next }
+    requires { IsPiece piece.old }
+    ensures does { Does (AtTick T.reads D.serves)
+        (between (T.told ticks.old) desk.old) (between (T.told ticks.new) desk.new)
+        hall.old hall.new next }
     ensures piece { length piece.new ≡ length piece.old }
 {
     match next {
@@ -75,9 +76,10 @@ pub fn serve_turns<E: Ends, L: Ledger, M: Ledger, T: Ticks, D: Desk>(
     ticks: &mut T,
     desk: &mut D,
 )
-    requires some { 0 < length piece.old }
-    requires most { length piece.old ≤ 65536 }
-    ensures { DoesAll (AtTick T.reads D.serves) (between (T.told ticks.old) desk.old) (between (T.told ticks.new) desk.new) hall.old hall.new order.now }
+    requires { IsPiece piece.old }
+    ensures { DoesAll (AtTick T.reads D.serves)
+        (between (T.told ticks.old) desk.old) (between (T.told ticks.new) desk.new)
+        hall.old hall.new order.now }
 {
     for next in order {
         do_next(alloc, piece, page, hall, comers, *next, ticks, desk);

@@ -1,6 +1,6 @@
 //! One case.
 
-ghost use Rattle.std.specs.Prelude.{◌≡◌, ◌<◌};
+ghost use Rattle.base_devices.specs.Blanks.{IsBlankOf};
 
 use crate::cut::Cut;
 use crate::listed::Listed;
@@ -73,11 +73,11 @@ fn run<A: Ledger, B: Ledger, C: Ledger, D: Ledger, E: Ledger, S: Answers>(
     write_failures: Blank,
     tick_failures: Blank,
 ) -> Result<(), Failure>
-    requires reads { (reads.name ≡ A.name) × (reads.parts ≡ A.parts) × (0 < A.parts) }
-    requires read_failures { (read_failures.name ≡ B.name) × (read_failures.parts ≡ B.parts) × (0 < B.parts) }
-    requires writes { (writes.name ≡ C.name) × (writes.parts ≡ C.parts) × (0 < C.parts) }
-    requires write_failures { (write_failures.name ≡ D.name) × (write_failures.parts ≡ D.parts) × (0 < D.parts) }
-    requires tick_failures { (tick_failures.name ≡ E.name) × (tick_failures.parts ≡ E.parts) × (0 < E.parts) }
+    requires reads { IsBlankOf A.Ledger reads }
+    requires read_failures { IsBlankOf B.Ledger read_failures }
+    requires writes { IsBlankOf C.Ledger writes }
+    requires write_failures { IsBlankOf D.Ledger write_failures }
+    requires tick_failures { IsBlankOf E.Ledger tick_failures }
 {
     let mut reader = Device {
         inner: input,

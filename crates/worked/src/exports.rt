@@ -1,6 +1,7 @@
 //! Order positions that are exported one at a time, from a shop in SQLite's memory, to writers of which some take too little.
 
-ghost use Rattle.std.specs.Prelude.{◌≡◌, ◌<◌, []};
+ghost use Rattle.std.specs.Prelude.{◌≡◌, []};
+ghost use Rattle.base_devices.specs.Blanks.{IsBlankOf};
 
 use app_export::write_positions;
 use app_run::open_memory;
@@ -86,8 +87,8 @@ fn exported<A: Ledger, B: Ledger>(
     calls: Blank,
     failures: Blank,
 ) -> Came
-    requires calls { (calls.name ≡ A.name) × (calls.parts ≡ A.parts) × (0 < A.parts) }
-    requires failures { (failures.name ≡ B.name) × (failures.parts ≡ B.parts) × (0 < B.parts) }
+    requires calls { IsBlankOf A.Ledger calls }
+    requires failures { IsBlankOf B.Ledger failures }
 {
     let mut writer = counted::<ShortWriter, A, B>(ShortWriter::new(alloc, most), calls, failures);
     let fault = match write_positions(alloc, connection, &mut writer, &mut Quiet) {

@@ -1,6 +1,6 @@
 //! Callers who are there at once, over memory, in every order of what two of them do.
 
-ghost use Rattle.std.specs.Prelude.{◌≡◌, ◌<◌};
+ghost use Rattle.base_devices.specs.Blanks.{IsBlankOf};
 
 use crate::case::moments;
 use crate::listed::Listed;
@@ -29,7 +29,7 @@ fn serve_with<M: Ledger, K: Desk>(
     desk: &mut K,
     blank: Blank,
 ) -> Result<Vec<Vec<u8>>, TogetherError>
-    requires { (blank.name ≡ M.name) × (blank.parts ≡ M.parts) × (0 < M.parts) }
+    requires { IsBlankOf M.Ledger blank }
 {
     let mut ticks = Listed {
         moments,

@@ -1,6 +1,7 @@
 //! A command line over devices that fail.
 
-ghost use Rattle.std.specs.Prelude.{⊤, ◌≡◌, ◌<◌};
+ghost use Rattle.std.specs.Prelude.{⊤};
+ghost use Rattle.base_devices.specs.Blanks.{IsBlankOf};
 
 use crate::failing::FailingWriter;
 use app_run::run;
@@ -149,10 +150,10 @@ fn run_line_with<A: Ledger, B: Ledger, C: Ledger, D: Ledger, R: Read + Drop>(
     written: Blank,
     write_failures: Blank,
 ) -> Tried
-    requires reads { (reads.name ≡ A.name) × (reads.parts ≡ A.parts) × (0 < A.parts) }
-    requires read_failures { (read_failures.name ≡ B.name) × (read_failures.parts ≡ B.parts) × (0 < B.parts) }
-    requires written { (written.name ≡ C.name) × (written.parts ≡ C.parts) × (0 < C.parts) }
-    requires write_failures { (write_failures.name ≡ D.name) × (write_failures.parts ≡ D.parts) × (0 < D.parts) }
+    requires reads { IsBlankOf A.Ledger reads }
+    requires read_failures { IsBlankOf B.Ledger read_failures }
+    requires written { IsBlankOf C.Ledger written }
+    requires write_failures { IsBlankOf D.Ledger write_failures }
 {
     let output = FailingWriter::new(rt.alloc(), writes);
     let mut reader = counted::<R, A, B>(input, reads, read_failures);

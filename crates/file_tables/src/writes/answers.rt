@@ -1,12 +1,10 @@
 //! The answer that is kept, and those that are past.
 
-ghost use Rattle.std.specs.Prelude.{OnOk, filter};
-ghost use Rattle.sqlite.specs.Held.{state};
-ghost use Rattle.sqlite.specs.State.{HasCleanDisk};
-ghost use Rattle.file_schema.specs.Inside.{StaysInside};
+ghost use Rattle.std.specs.Prelude.{filter};
 ghost use Rattle.model_answers.specs.KeptAnswers.{lasts};
 ghost use Rattle.model_answers.specs.ShopView.{listed};
-ghost use Rattle.file_rows.specs.Changes.{IsInside, Changes, ChangesFit};
+ghost use Rattle.file_rows.specs.Changes.{Changes, ChangesFit};
+ghost use Rattle.file_rows.specs.Written.{WritesInside};
 ghost use Rattle.file_meaning.specs.Free.{IsFree};
 ghost use Rattle.file_meaning.specs.Made.{without_past, with_listed};
 
@@ -23,8 +21,8 @@ fn keep_lasting<S: Alter>(
     kept: Option<&Kept>,
     at: Moment,
 ) -> Result<(), RowError>
-    ensures inside { StaysInside S.Store tx.old.conn tx.new.conn }
-    ensures written { HasCleanDisk (state S.Store tx.new.conn.now) → IsInside (state S.Store tx.old.conn.now) → OnOk result (Changes (with_listed number (filter (λ k. lasts at k.at) (listed kept.entry))) (state S.Store tx.old.conn.now) (state S.Store tx.new.conn.now)) }
+    ensures { WritesInside S.Store tx.old tx.new
+        (Changes (with_listed number (filter (λ k. lasts at k.at) (listed kept.entry)))) result }
 {
     match kept {
         Some(answer) if answer.lasts(at) => keep(tx, number, answer),
@@ -39,9 +37,9 @@ pub(crate) fn write_answer<S: Alter>(
     kept: Option<&Kept>,
     at: Moment,
 ) -> Result<(), RowError>
-    ensures inside { StaysInside S.Store tx.old.conn tx.new.conn }
-    ensures written { HasCleanDisk (state S.Store tx.new.conn.now) → IsInside (state S.Store tx.old.conn.now)
-        → OnOk result (ChangesFit (IsFree number) (λ t. without_past at (with_listed number (listed kept.entry) (without_past at t))) (state S.Store tx.old.conn.now) (state S.Store tx.new.conn.now)) }
+    ensures { WritesInside S.Store tx.old tx.new
+        (ChangesFit (IsFree number) (λ t. without_past at
+        (with_listed number (listed kept.entry) (without_past at t)))) result }
 {
     forget(tx, at)?;
     keep_lasting(tx, number, kept, at)

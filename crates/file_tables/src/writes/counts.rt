@@ -1,10 +1,7 @@
 //! The counts that a commit changes.
 
-ghost use Rattle.std.specs.Prelude.{OnOk};
-ghost use Rattle.sqlite.specs.Held.{state};
-ghost use Rattle.sqlite.specs.State.{HasCleanDisk};
-ghost use Rattle.file_schema.specs.Inside.{StaysInside};
-ghost use Rattle.file_rows.specs.Changes.{IsInside, Changes, ChangesFit};
+ghost use Rattle.file_rows.specs.Changes.{Changes, ChangesFit};
+ghost use Rattle.file_rows.specs.Written.{WritesInside};
 ghost use Rattle.file_meaning.specs.Free.{IsFree};
 ghost use Rattle.file_meaning.specs.Made.{put_count, put_exit, put_uses, each, counted};
 ghost use Rattle.file_tables.specs.Free.{count_stays_free, uses_stay_free};
@@ -59,8 +56,7 @@ impl Writable for VoucherCount {
 
 // Puts how many tickets are out of the quota of this count.
 fn write_exit<S: Alter>(tx: &mut Transaction<'_, S>, count: &QuotaCount) -> Result<(), RowError>
-    ensures inside { StaysInside S.Store tx.old.conn tx.new.conn }
-    ensures written { HasCleanDisk (state S.Store tx.new.conn.now) → IsInside (state S.Store tx.old.conn.now) → OnOk result (Changes (put_exit count.now) (state S.Store tx.old.conn.now) (state S.Store tx.new.conn.now)) }
+    ensures { WritesInside S.Store tx.old tx.new (Changes (put_exit count.now)) result }
 {
     let row = ExitRow {
         quota: count.quota,
@@ -71,8 +67,7 @@ fn write_exit<S: Alter>(tx: &mut Transaction<'_, S>, count: &QuotaCount) -> Resu
 
 // The same of each of these counts.
 fn write_exits<S: Alter>(tx: &mut Transaction<'_, S>, counts: &[QuotaCount]) -> Result<(), RowError>
-    ensures inside { StaysInside S.Store tx.old.conn tx.new.conn }
-    ensures written { HasCleanDisk (state S.Store tx.new.conn.now) → IsInside (state S.Store tx.old.conn.now) → OnOk result (Changes (each put_exit counts.now) (state S.Store tx.old.conn.now) (state S.Store tx.new.conn.now)) }
+    ensures { WritesInside S.Store tx.old tx.new (Changes (each put_exit counts.now)) result }
 {
     'counts: for count in counts {
         write_exit(tx, count)?;
@@ -88,8 +83,8 @@ pub(crate) fn write_counts<S: Alter>(
     counts: &CountRows,
     from: u64,
 ) -> Result<(), RowError>
-    ensures inside { StaysInside S.Store tx.old.conn tx.new.conn }
-    ensures written { HasCleanDisk (state S.Store tx.new.conn.now) → IsInside (state S.Store tx.old.conn.now) → OnOk result (ChangesFit (IsFree from) (counted counts.now) (state S.Store tx.old.conn.now) (state S.Store tx.new.conn.now)) }
+    ensures { WritesInside S.Store tx.old tx.new
+        (ChangesFit (IsFree from) (counted counts.now)) result }
 {
     let free = write_each(alloc, tx, counts.vouchers(), from)?;
     write_each(alloc, tx, counts.quotas(), free)?;

@@ -1,12 +1,11 @@
 //! The members of quotas, and the items of check-in lists.
 
 ghost use Rattle.std.specs.Prelude.{◌≡◌, ◌+◌, ◌==◌, length, map, filter, bytes_eq, IfOk, OnOk};
-ghost use Rattle.sqlite.specs.Held.{state};
-ghost use Rattle.sqlite.specs.State.{HasCleanDisk};
 ghost use Rattle.file_schema.specs.Inside.{StaysInside};
 ghost use Rattle.base_sorted.specs.Rising.{rising};
-ghost use Rattle.file_rows.specs.Changes.{IsInside, Changes, ChangesFit};
+ghost use Rattle.file_rows.specs.Changes.{Changes, ChangesFit};
 ghost use Rattle.file_rows.specs.Tables.{Tables, Holds};
+ghost use Rattle.file_rows.specs.Written.{WhileInside, WritesInside, NumbersInside};
 ghost use Rattle.file_writes.specs.Removed.{AreApart};
 ghost use Rattle.file_meaning.specs.Free.{IsFree};
 ghost use Rattle.file_meaning.specs.Links.{are_just};
@@ -30,9 +29,8 @@ fn add_member<S: Alter, T: RemoveByOwner>(
     number: u64,
     member: u64,
 ) -> Result<u64, RowError>
-    ensures inside { StaysInside S.Store tx.old.conn tx.new.conn }
-    ensures written { HasCleanDisk (state S.Store tx.new.conn.now) → IsInside (state S.Store tx.old.conn.now)
-        → IfOk result (λ free. (free ≡ number + 1) × Changes (T.Stored.with_row (T.Member.row_of number owner member)) (state S.Store tx.old.conn.now) (state S.Store tx.new.conn.now)) }
+    ensures { NumbersInside S.Store tx.old tx.new
+        (Changes (T.Stored.with_row (T.Member.row_of number owner member))) (number + 1) result }
 {
     let Some(following) = number.checked_add(1) else {
         return Err(RowError::Store);
@@ -49,9 +47,9 @@ fn add_members<S: Alter, T: RemoveByOwner>(
     from: u64,
     members: &[u64],
 ) -> Result<u64, RowError>
-    ensures inside { StaysInside S.Store tx.old.conn tx.new.conn }
-    ensures written { HasCleanDisk (state S.Store tx.new.conn.now) → IsInside (state S.Store tx.old.conn.now)
-        → IfOk result (λ free. (free ≡ from + length members.now) × Changes (made_each (λ id n. T.Stored.with_row (T.Member.row_of n owner id)) (λ _ n. n + 1) members.now from) (state S.Store tx.old.conn.now) (state S.Store tx.new.conn.now)) }
+    ensures { NumbersInside S.Store tx.old tx.new
+        (Changes (made_each (λ id n. T.Stored.with_row (T.Member.row_of n owner id))
+        (λ _ n. n + 1) members.now from)) (from + length members.now) result }
 {
     let mut free = from;
     'members: for member in members {
@@ -90,9 +88,11 @@ fn members_stand<S: Alter, T: FindByOwner>(
     members: &[u64],
 ) -> Result<bool, RowError>
     ensures inside { StaysInside S.Store tx.old.conn tx.new.conn }
-    ensures told { HasCleanDisk (state S.Store tx.new.conn.now) → IsInside (state S.Store tx.old.conn.now)
-        → IfOk result (λ just. (t : Tables) → Holds (state S.Store tx.old.conn.now).now.trees t → just ≡ are_just members.now (map T.member_of (filter (λ r. T.owner_of r == owner) (T.rows t)))) }
-    ensures still { HasCleanDisk (state S.Store tx.new.conn.now) → IsInside (state S.Store tx.old.conn.now) → OnOk result (Changes (λ t. t) (state S.Store tx.old.conn.now) (state S.Store tx.new.conn.now)) }
+    ensures told { WhileInside S.Store tx.old tx.new (λ old _. IfOk result (λ just. (t : Tables)
+        → Holds old.now.trees t → just ≡ are_just members.now
+        (map T.member_of (filter (λ r. T.owner_of r == owner) (T.rows t))))) }
+    ensures still { WhileInside S.Store tx.old tx.new (λ old new.
+        OnOk result (Changes (λ t. t) old new)) }
 {
     let rows = members_of::<S, T>(alloc, tx, owner)?;
     let found = members_named(alloc, rows.as_slice())?;
@@ -117,9 +117,10 @@ fn write_members<S: Alter, T: FindByOwner + RemoveByOwner>(
     from: u64,
     members: &[u64],
 ) -> Result<u64, RowError>
-    ensures inside { StaysInside S.Store tx.old.conn tx.new.conn }
-    ensures written { HasCleanDisk (state S.Store tx.new.conn.now) → IsInside (state S.Store tx.old.conn.now)
-        → IfOk result (λ free. (free ≡ from + length members.now) × ChangesFit (λ t. AreApart T.number_of (T.rows t)) (λ t. T.with_rows (put_links T.owner_of T.member_of (λ n id. T.row_of n owner id) owner from members.now (T.rows t)) t) (state S.Store tx.old.conn.now) (state S.Store tx.new.conn.now)) }
+    ensures { NumbersInside S.Store tx.old tx.new
+        (ChangesFit (λ t. AreApart T.number_of (T.rows t))
+        (λ t. T.with_rows (put_links T.owner_of T.member_of (λ n id. T.row_of n owner id)
+        owner from members.now (T.rows t)) t)) (from + length members.now) result }
 {
     let stand = members_stand::<S, T>(alloc, tx, owner, members)?;
     if stand {
@@ -131,8 +132,7 @@ fn write_members<S: Alter, T: FindByOwner + RemoveByOwner>(
 
 // Puts the row by which a quota releases places; removes it where the quota keeps them.
 fn write_release<S: Alter>(tx: &mut Transaction<'_, S>, row: &Quota) -> Result<(), RowError>
-    ensures inside { StaysInside S.Store tx.old.conn tx.new.conn }
-    ensures written { HasCleanDisk (state S.Store tx.new.conn.now) → IsInside (state S.Store tx.old.conn.now) → OnOk result (Changes (put_release row.now) (state S.Store tx.old.conn.now) (state S.Store tx.new.conn.now)) }
+    ensures { WritesInside S.Store tx.old tx.new (Changes (put_release row.now)) result }
 {
     if row.release_after_exit {
         file_writes::put(tx, &ReleaseRow { quota: row.id })
@@ -149,9 +149,9 @@ pub(crate) fn write_quota<S: Alter>(
     row: &Quota,
     from: u64,
 ) -> Result<u64, RowError>
-    ensures inside { StaysInside S.Store tx.old.conn tx.new.conn }
-    ensures written { HasCleanDisk (state S.Store tx.new.conn.now) → IsInside (state S.Store tx.old.conn.now)
-        → IfOk result (λ free. (free ≡ from + length row.now.items + length row.now.variations) × ChangesFit (IsFree from) (put_quota row.now from) (state S.Store tx.old.conn.now) (state S.Store tx.new.conn.now)) }
+    ensures { NumbersInside S.Store tx.old tx.new
+        (ChangesFit (IsFree from) (put_quota row.now from))
+        (from + length row.now.items + length row.now.variations) result }
 {
     file_writes::put(tx, row)?;
     write_release(tx, row)?;
@@ -165,9 +165,9 @@ pub(crate) fn write_list<S: Alter>(
     row: &CheckinList,
     from: u64,
 ) -> Result<u64, RowError>
-    ensures inside { StaysInside S.Store tx.old.conn tx.new.conn }
-    ensures written { HasCleanDisk (state S.Store tx.new.conn.now) → IsInside (state S.Store tx.old.conn.now)
-        → IfOk result (λ free. (free ≡ from + length row.now.limit_products) × ChangesFit (IsFree from) (put_list row.now from) (state S.Store tx.old.conn.now) (state S.Store tx.new.conn.now)) }
+    ensures { NumbersInside S.Store tx.old tx.new
+        (ChangesFit (IsFree from) (put_list row.now from))
+        (from + length row.now.limit_products) result }
 {
     file_writes::put(tx, row)?;
     remove_members::<S, ListItem>(tx, row.id)?;

@@ -1,10 +1,8 @@
 //! Rows with an id of their own: no row number is used.
 
-ghost use Rattle.std.specs.Prelude.{◌≡◌, ◌++◌, if◌then◌else◌, map, IfOk, OnOk};
-ghost use Rattle.sqlite.specs.Held.{state};
-ghost use Rattle.sqlite.specs.State.{HasCleanDisk};
-ghost use Rattle.file_schema.specs.Inside.{StaysInside};
-ghost use Rattle.file_rows.specs.Changes.{IsInside, Changes, ChangesFit, without_discount};
+ghost use Rattle.std.specs.Prelude.{◌++◌, if◌then◌else◌, map};
+ghost use Rattle.file_rows.specs.Changes.{Changes, ChangesFit, without_discount};
+ghost use Rattle.file_rows.specs.Written.{WritesInside, NumbersInside};
 ghost use Rattle.file_meaning.specs.Free.{IsFree};
 ghost use Rattle.file_meaning.specs.Made.{put_budget, put_voucher, drop_voucher, put_position};
 ghost use Rattle.file_meaning.specs.Rows.{discounts_of};
@@ -21,9 +19,9 @@ pub(crate) fn put_row<S: Alter, T: Stored>(
     row: &T,
     from: u64,
 ) -> Result<u64, RowError>
-    ensures inside { StaysInside S.Store tx.old.conn tx.new.conn }
-    ensures written { HasCleanDisk (state S.Store tx.new.conn.now) → IsInside (state S.Store tx.old.conn.now)
-        → IfOk result (λ free. (free ≡ from) × ChangesFit (IsFree from) (λ t. T.Stored.with_row row.now (T.Stored.without_row (T.Stored.key row.now) t)) (state S.Store tx.old.conn.now) (state S.Store tx.new.conn.now)) }
+    ensures { NumbersInside S.Store tx.old tx.new
+        (ChangesFit (IsFree from) (λ t. T.Stored.with_row row.now
+        (T.Stored.without_row (T.Stored.key row.now) t))) from result }
 {
     file_writes::put(tx, row)?;
     Ok(from)
@@ -35,8 +33,8 @@ pub(crate) fn drop_row<S: Alter, T: Stored>(
     id: u64,
     from: u64,
 ) -> Result<u64, RowError>
-    ensures inside { StaysInside S.Store tx.old.conn tx.new.conn }
-    ensures written { HasCleanDisk (state S.Store tx.new.conn.now) → IsInside (state S.Store tx.old.conn.now) → IfOk result (λ free. (free ≡ from) × ChangesFit (IsFree from) (T.Stored.without_row id) (state S.Store tx.old.conn.now) (state S.Store tx.new.conn.now)) }
+    ensures { NumbersInside S.Store tx.old tx.new
+        (ChangesFit (IsFree from) (T.Stored.without_row id)) from result }
 {
     T::remove(tx, id)?;
     Ok(from)
@@ -44,8 +42,7 @@ pub(crate) fn drop_row<S: Alter, T: Stored>(
 
 // Puts the row of a voucher's budget; removes it where the voucher has none.
 fn write_budget<S: Alter>(tx: &mut Transaction<'_, S>, row: &Voucher) -> Result<(), RowError>
-    ensures inside { StaysInside S.Store tx.old.conn tx.new.conn }
-    ensures written { HasCleanDisk (state S.Store tx.new.conn.now) → IsInside (state S.Store tx.old.conn.now) → OnOk result (Changes (put_budget row.now) (state S.Store tx.old.conn.now) (state S.Store tx.new.conn.now)) }
+    ensures { WritesInside S.Store tx.old tx.new (Changes (put_budget row.now)) result }
 {
     match row.budget {
         Some(budget) => file_writes::put(
@@ -65,8 +62,8 @@ pub(crate) fn put_voucher_row<S: Alter>(
     row: &Voucher,
     from: u64,
 ) -> Result<u64, RowError>
-    ensures inside { StaysInside S.Store tx.old.conn tx.new.conn }
-    ensures written { HasCleanDisk (state S.Store tx.new.conn.now) → IsInside (state S.Store tx.old.conn.now) → IfOk result (λ free. (free ≡ from) × ChangesFit (IsFree from) (λ t. put_budget row.now (put_voucher row.now t)) (state S.Store tx.old.conn.now) (state S.Store tx.new.conn.now)) }
+    ensures { NumbersInside S.Store tx.old tx.new
+        (ChangesFit (IsFree from) (λ t. put_budget row.now (put_voucher row.now t))) from result }
 {
     file_writes::put_voucher(tx, row)?;
     write_budget(tx, row)?;
@@ -79,8 +76,8 @@ pub(crate) fn drop_voucher<S: Alter>(
     id: u64,
     from: u64,
 ) -> Result<u64, RowError>
-    ensures inside { StaysInside S.Store tx.old.conn tx.new.conn }
-    ensures written { HasCleanDisk (state S.Store tx.new.conn.now) → IsInside (state S.Store tx.old.conn.now) → IfOk result (λ free. (free ≡ from) × ChangesFit (IsFree from) (drop_voucher id) (state S.Store tx.old.conn.now) (state S.Store tx.new.conn.now)) }
+    ensures { NumbersInside S.Store tx.old tx.new
+        (ChangesFit (IsFree from) (drop_voucher id)) from result }
 {
     BudgetRow::remove(tx, id)?;
     SpentRow::remove(tx, id)?;
@@ -94,8 +91,8 @@ fn drop_discount<S: Alter>(
     id: u64,
     stood: bool,
 ) -> Result<(), RowError>
-    ensures inside { StaysInside S.Store tx.old.conn tx.new.conn }
-    ensures written { HasCleanDisk (state S.Store tx.new.conn.now) → IsInside (state S.Store tx.old.conn.now) → OnOk result (Changes (λ t. if stood then without_discount id t else t) (state S.Store tx.old.conn.now) (state S.Store tx.new.conn.now)) }
+    ensures { WritesInside S.Store tx.old tx.new
+        (Changes (λ t. if stood then without_discount id t else t)) result }
 {
     if stood {
         return DiscountRow::remove(tx, id);
@@ -105,8 +102,12 @@ fn drop_discount<S: Alter>(
 
 // Adds the row of what was taken off the position's price, if anything was.
 fn add_discount<S: Alter>(tx: &mut Transaction<'_, S>, row: &OrderPos) -> Result<(), RowError>
-    ensures inside { StaysInside S.Store tx.old.conn tx.new.conn }
-    ensures written { HasCleanDisk (state S.Store tx.new.conn.now) → IsInside (state S.Store tx.old.conn.now) → OnOk result (Changes (λ t. record t { discounts = map (λ n. record { position_id = row.now.id; discount = n }) (discounts_of row.now) ++ t.discounts }) (state S.Store tx.old.conn.now) (state S.Store tx.new.conn.now)) }
+    ensures { WritesInside S.Store tx.old tx.new
+        (Changes (λ t. record t {
+          discounts =
+              map (λ n. record { position_id = row.now.id; discount = n }) (discounts_of row.now)
+              ++ t.discounts;
+        })) result }
 {
     if row.discount.get() == 0 {
         return Ok(());
@@ -125,8 +126,8 @@ pub(crate) fn put_position_row<S: Alter>(
     row: &OrderPos,
     from: u64,
 ) -> Result<u64, RowError>
-    ensures inside { StaysInside S.Store tx.old.conn tx.new.conn }
-    ensures written { HasCleanDisk (state S.Store tx.new.conn.now) → IsInside (state S.Store tx.old.conn.now) → IfOk result (λ free. (free ≡ from) × ChangesFit (IsFree from) (put_position row.now) (state S.Store tx.old.conn.now) (state S.Store tx.new.conn.now)) }
+    ensures { NumbersInside S.Store tx.old tx.new
+        (ChangesFit (IsFree from) (put_position row.now)) from result }
 {
     let stood = file_writes::put_position(tx, row)?;
     drop_discount(tx, row.id, stood)?;

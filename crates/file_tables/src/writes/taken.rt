@@ -60,8 +60,10 @@ fn are_rising(changes: &[Change]) -> bool
 
 // Whether a voucher was dropped up to and with this change; none where it puts a voucher after that.
 fn dropped_after(change: &Change, dropped: bool) -> Option<bool>
-    ensures goes_on { IfSome result (λ now. (others : List Made) → puts_come_first dropped (change.now ∷ others) ≡ puts_come_first now others) }
-    ensures stops { IfNone result ((others : List Made) → puts_come_first dropped (change.now ∷ others) ≡ false) }
+    ensures goes_on { IfSome result (λ now. (others : List Made)
+        → puts_come_first dropped (change.now ∷ others) ≡ puts_come_first now others) }
+    ensures stops { IfNone result ((others : List Made)
+        → puts_come_first dropped (change.now ∷ others) ≡ false) }
 {
     match change {
         Change::PutVoucher(_) if dropped => None,
@@ -88,7 +90,8 @@ fn are_puts_first(changes: &[Change]) -> bool
 pub fn takes(changes: &[Change]) -> bool
     ensures rising { IsTrue result → AllByRecursion IsRising changes.now }
     ensures first { IsTrue result → puts_come_first false changes.now ≡ true }
-    ensures refused { result ≡ false → AllByRecursion IsRising changes.now → puts_come_first false changes.now ≡ false }
+    ensures refused { result ≡ false → AllByRecursion IsRising changes.now
+        → puts_come_first false changes.now ≡ false }
 {
     are_rising(changes) && are_puts_first(changes)
 }

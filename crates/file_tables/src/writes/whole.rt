@@ -1,11 +1,9 @@
 //! A commit's writes, all of them.
 
-ghost use Rattle.std.specs.Prelude.{◌≡◌, ◌+◌, IfOk};
-ghost use Rattle.sqlite.specs.Held.{state};
-ghost use Rattle.sqlite.specs.State.{HasCleanDisk};
-ghost use Rattle.file_schema.specs.Inside.{StaysInside};
+ghost use Rattle.std.specs.Prelude.{◌+◌};
 ghost use Rattle.model_answers.specs.ShopView.{listed};
-ghost use Rattle.file_rows.specs.Changes.{IsInside, ChangesFit};
+ghost use Rattle.file_rows.specs.Changes.{ChangesFit};
+ghost use Rattle.file_rows.specs.Written.{NumbersInside};
 ghost use Rattle.file_meaning.specs.Free.{IsFree};
 ghost use Rattle.file_meaning.specs.Made.{done, next_after};
 
@@ -33,9 +31,10 @@ pub fn write_all<S: Alter>(
     kept: Option<&Kept>,
     at: Moment,
 ) -> Result<u64, RowError>
-    ensures inside { StaysInside S.Store tx.old.conn tx.new.conn }
-    ensures written { HasCleanDisk (state S.Store tx.new.conn.now) → IsInside (state S.Store tx.old.conn.now)
-        → IfOk result (λ free. (free ≡ next_after changes.now from + 1) × ChangesFit (IsFree from) (done shop.now changes.now counts.now from (listed kept.entry) at) (state S.Store tx.old.conn.now) (state S.Store tx.new.conn.now)) }
+    ensures { NumbersInside S.Store tx.old tx.new
+        (ChangesFit (IsFree from)
+        (done shop.now changes.now counts.now from (listed kept.entry) at))
+        (next_after changes.now from + 1) result }
 {
     file_writes::put(tx, shop)?;
     let number = write_each(alloc, tx, changes, from)?;

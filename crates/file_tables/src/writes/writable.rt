@@ -1,11 +1,9 @@
 //! What is written one after another.
 
-ghost use Rattle.std.specs.Prelude.{◌≡◌, ℕ, IfOk};
-ghost use Rattle.sqlite.specs.Held.{state};
-ghost use Rattle.sqlite.specs.State.{HasCleanDisk};
-ghost use Rattle.file_schema.specs.Inside.{StaysInside};
+ghost use Rattle.std.specs.Prelude.{ℕ};
 ghost use Rattle.file_rows.specs.Tables.{Tables};
-ghost use Rattle.file_rows.specs.Changes.{IsInside, ChangesFit};
+ghost use Rattle.file_rows.specs.Changes.{ChangesFit};
+ghost use Rattle.file_rows.specs.Written.{NumbersInside};
 ghost use Rattle.file_meaning.specs.Free.{IsFree};
 ghost use Rattle.file_tables.specs.Steps.{made_each, next_each};
 
@@ -29,8 +27,8 @@ pub trait Writable {
         tx: &mut Transaction<'_, S>,
         from: u64,
     ) -> Result<u64, RowError>
-        ensures inside { StaysInside S.Store tx.old.conn tx.new.conn }
-        ensures written { HasCleanDisk (state S.Store tx.new.conn.now) → IsInside (state S.Store tx.old.conn.now) → IfOk result (λ free. (free ≡ next self.now from) × ChangesFit (IsFree from) (made self.now from) (state S.Store tx.old.conn.now) (state S.Store tx.new.conn.now)) };
+        ensures { NumbersInside S.Store tx.old tx.new
+            (ChangesFit (IsFree from) (made self.now from)) (next self.now from) result };
 
     ghost stays_free: { (x : Self) (from : ℕ) (t : Tables) → IsFree from t → IsFree (next x from) (made x from t) };
 }
@@ -42,9 +40,9 @@ pub(crate) fn write_each<S: Alter, T: Writable>(
     things: &[T],
     from: u64,
 ) -> Result<u64, RowError>
-    ensures inside { StaysInside S.Store tx.old.conn tx.new.conn }
-    ensures written { HasCleanDisk (state S.Store tx.new.conn.now) → IsInside (state S.Store tx.old.conn.now)
-        → IfOk result (λ free. (free ≡ next_each T.Writable.next things.now from) × ChangesFit (IsFree from) (made_each T.Writable.made T.Writable.next things.now from) (state S.Store tx.old.conn.now) (state S.Store tx.new.conn.now)) }
+    ensures { NumbersInside S.Store tx.old tx.new
+        (ChangesFit (IsFree from) (made_each T.Writable.made T.Writable.next things.now from))
+        (next_each T.Writable.next things.now from) result }
 {
     let mut free = from;
     'things: for thing in things {

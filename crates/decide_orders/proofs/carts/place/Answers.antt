@@ -10,8 +10,8 @@ use Rattle.decide_orders.specs.Places.{places_test}
 use Rattle.decide_orders.proofs.Tested.{tested_since, cart_refused}
 use Rattle.decide_orders.proofs.carts.place.Goals as goal
 
-pub returns-in_err-end_attempt-clause-refused : goal.returns-in_err-end_attempt-clause-refused
-returns-in_err-end_attempt-clause-refused g c =
+pub returns-in_err-end_attempt : goal.returns-in_err-end_attempt
+returns-in_err-end_attempt g c =
     let row = c.args.row in
     let state = now c.args.draft.now in
     let after = now c.put_cart.new.self in
@@ -21,4 +21,10 @@ returns-in_err-end_attempt-clause-refused g c =
     let failed : c.test_places-tested.result ≡ Err c.in_err-end_attempt.field-0.0 = search rules in
     let refused = cart_refused row state uses (sym (λ i. places_test (first_over state.lists (put i).lists state.moment (Cart row.id ∷ [])) (c.takes_cart-takes_cart.ensures i)) ∙ sym tested ∙ failed) in
     let given = err_from_is_err_and c.from_residual-in_err-end_attempt.result c.from_residual-in_err-end_attempt.ensures.1 in
-    rw given.1 (λ _. refused ∙ ap (λ e. Err e) (sym given.2))
+    record {
+      done = search rules;
+      refused = rw given.1 (λ _. refused ∙ ap (λ e. Err e) (sym given.2));
+      changes = search rules;
+      extends = search rules;
+      same = search rules;
+    }

@@ -15,8 +15,8 @@ put_order-requires g c =
     let state = now c.args.draft.now in
     headroom_revived_order c.args.row state.lists state.moment c.requires.sound.ids.vouchers.in_order (sym c.have_uses_again.ensures ∙ c.if-not-have_uses_again.false) c.requires.sound.headroom
 
-pub returns-clause-done : goal.returns-clause-done
-returns-clause-done g c =
+pub returns : goal.returns
+returns g c =
     let row = c.args.row in
     let state = now c.args.draft.now in
     let all = positions_of row.id state.lists in
@@ -27,10 +27,16 @@ returns-clause-done g c =
     let done = revived_done row state (sym c.have_uses_again.ensures ∙ c.if-not-have_uses_again.false) (sym tested ∙ sym c.in_ok-end_attempt.ensures.answer) in
     let after : now c.end_attempt.new.self ≡ changed (PutOrder row) state = ap now c.in_ok-end_attempt.ensures.kept ∙ put in
     let rows : c.in_ok-positions-2.positions ≡ by_positionid all = search rules in
-    done ∙ sym (λ i. Ok (after i, record { order = c.in_ok-order.ensures i; positions = rows i }))
+    record {
+      done = done ∙ sym (λ i. Ok (after i, record { order = c.in_ok-order.ensures i; positions = rows i }));
+      refused = search rules;
+      changes = search rules;
+      extends = search rules;
+      same = search rules;
+    }
 
-pub returns-in_err-end_attempt-clause-refused : goal.returns-in_err-end_attempt-clause-refused
-returns-in_err-end_attempt-clause-refused g c =
+pub returns-in_err-end_attempt : goal.returns-in_err-end_attempt
+returns-in_err-end_attempt g c =
     let row = c.args.row in
     let state = now c.args.draft.now in
     let all = positions_of row.id state.lists in
@@ -40,4 +46,10 @@ returns-in_err-end_attempt-clause-refused g c =
     let failed : c.test_sale-tested.result ≡ Err c.in_err-end_attempt.field-0.0 = search rules in
     let refused = revived_refused row state (sym c.have_uses_again.ensures ∙ c.if-not-have_uses_again.false) (sym tested ∙ failed) in
     let given = err_from_is_err_and c.from_residual-in_err-end_attempt.result c.from_residual-in_err-end_attempt.ensures.1 in
-    rw given.1 (λ _. refused ∙ ap (λ e. Err e) (sym given.2))
+    record {
+      done = search rules;
+      refused = rw given.1 (λ _. refused ∙ ap (λ e. Err e) (sym given.2));
+      changes = search rules;
+      extends = search rules;
+      same = search rules;
+    }

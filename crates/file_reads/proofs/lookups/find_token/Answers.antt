@@ -1,4 +1,4 @@
-use Rattle.std.proofs.Common.{[], ◌∷◌, map}
+use Rattle.std.proofs.Common.{[], ◌∷◌, map, rules}
 use Rattle.std.specs.Prelude.{Vec, IfOk}
 use Rattle.std.specs.declared.alloc.Global.{Global}
 use Rattle.sqlite_value.specs.declared.value.Value.TheVariants.{Blob}
@@ -12,22 +12,23 @@ use Rattle.file_reads.proofs.Loads.{if_ok, unchanged}
 use Rattle.file_reads.proofs.LookupLemmas.{token_text, digest_test, token_is, finds_token}
 use Rattle.file_reads.proofs.lookups.find_token.Goals as goal
 
-pub returns-clause-found : goal.returns-clause-found
-returns-clause-found g c clean known =
-    let old = state g.S.Store c.args.tx.now.conn.now in
-    let new = state g.S.Store c.rows_of.new.tx.conn.now in
-    let shown : IfOk c.rows_of.result (λ all. Shown token_text (Blob c.args.digest.now ∷ []) old new (map token_row all.items)) = (c.rows_of.ensures.shown clean) in
-    if_ok c.rows_of.result _ _ shown (λ (all : Vec Token Global) h. finds_token c.args.digest.now old new known all.items h)
-
-pub returns-clause-still : goal.returns-clause-still
-returns-clause-still g c clean known =
-    let old = state g.S.Store c.args.tx.now.conn.now in
-    let new = state g.S.Store c.rows_of.new.tx.conn.now in
-    let shown : IfOk c.rows_of.result (λ all. Shown token_text (Blob c.args.digest.now ∷ []) old new (map token_row all.items)) = (c.rows_of.ensures.shown clean) in
-    if_ok c.rows_of.result _ _ shown (λ (all : Vec Token Global) h. unchanged token_text (Blob c.args.digest.now ∷ []) old new token_is.asks.1 known (map token_row all.items) h)
-
-pub returns-clause-refused : goal.returns-clause-refused
-returns-clause-refused g c clean known =
-    let old = state g.S.Store c.args.tx.now.conn.now in
-    let new = state g.S.Store c.rows_of.new.tx.conn.now in
-    if_err c.rows_of.result _ _ (c.rows_of.ensures.refused clean (token_is.reads old.now.schema)) (λ e. refuses token_row IsFitToken token_text 22 digest_test token_is (Blob c.args.digest.now ∷ []) old new known e)
+pub returns : goal.returns
+returns g c = record {
+  same = search rules;
+  found = λ clean known.
+      let old = state g.S.Store c.args.tx.now.conn.now in
+      let new = state g.S.Store c.rows_of.new.tx.conn.now in
+      let shown : IfOk c.rows_of.result (λ all. Shown token_text (Blob c.args.digest.now ∷ []) old new (map token_row all.items)) = (c.rows_of.ensures.shown clean) in
+      if_ok c.rows_of.result _ _ shown (λ (all : Vec Token Global) h. finds_token c.args.digest.now old new known all.items h);
+  refused = λ clean known.
+      let old = state g.S.Store c.args.tx.now.conn.now in
+      let new = state g.S.Store c.rows_of.new.tx.conn.now in
+      if_err c.rows_of.result _ _ (c.rows_of.ensures.refused clean (token_is.reads old.now.schema)) (λ e. refuses token_row IsFitToken token_text 22 digest_test token_is (Blob c.args.digest.now ∷ []) old new known e);
+  still = λ clean known.
+      let old = state g.S.Store c.args.tx.now.conn.now in
+      let new = state g.S.Store c.rows_of.new.tx.conn.now in
+      let shown : IfOk c.rows_of.result (λ all. Shown token_text (Blob c.args.digest.now ∷ []) old new (map token_row all.items)) = (c.rows_of.ensures.shown clean) in
+      if_ok c.rows_of.result _ _ shown (λ (all : Vec Token Global) h. unchanged token_text (Blob c.args.digest.now ∷ []) old new token_is.asks.1 known (map token_row all.items) h);
+  kept = search rules;
+  crash = search rules;
+}

@@ -1,18 +1,24 @@
 use Rattle.std.proofs.Common.{◌≡◌, ◌≤◌, rules, inl, inr, [], ◌∷◌, ◌++◌, length, refl, sym, ap, subst, ◌∙◌, arith, length-append}
 use Rattle.sqlite.specs.Effect.{Database}
-use Rattle.sqlite.specs.Held.{state}
+use Rattle.sqlite_trees.specs.declared.store.Store.{Ghosts}
+use Rattle.sqlite.specs.Held.{Held, state}
 use Rattle.sqlite.specs.State.{HasCleanDisk, FailsToQuery}
 use Rattle.sqlite.proofs.StateLemmas.{survives_then}
 use Rattle.sqlite.proofs.Callers.{unchanged_then, given_begin}
 use Rattle.file_schema.specs.Failures.{failure_of}
 use Rattle.file_reads.specs.Damage.{HasNoMeaning, IsFor}
 use Rattle.file_reads.proofs.Causes.{failed}
-use Rattle.file_scan.proofs.Stays.{query_stays, commits_none, begun_reads, begins_from, shown_from}
+use Rattle.file_scan.proofs.Stays.{query_stays, then_stays, commits_none, begun_reads, begins_from, shown_from}
+use Rattle.file_scan.specs.Rests.{OnlyReads}
 use Rattle.file_scan.specs.Stopped.{WhereStopped}
 use Rattle.file_scan.proofs.Refusing.{unchanged}
 use Rattle.file_scan.proofs.Stopping.{endless, stopped_later, stops, where_stopped}
 use Rattle.file_scan.proofs.Walked.{took_more}
 use Rattle.file_scan.proofs.each.each_row.Goals as goal
+
+-- the connection that is given back is the one that the rows had
+ended : {S : Type 0} (g : Ghosts S) (old now end : Held S) → end ≡ now → OnlyReads g old now → OnlyReads g old end
+ended g old now end same h = subst (OnlyReads g old) (sym same) h
 
 pub returns-in-Err-clause-refused : goal.returns-in-Err-clause-refused
 returns-in-Err-clause-refused g c clean =
@@ -28,18 +34,19 @@ returns-in-Err-clause-store g c clean s tree is alone opened known =
     let fails : FailsToQuery c.args.sql.now [] old new c.in-Err.error = (rw c.in-Err.is at c.query.follows.holds-at-none).err clean in
     subst (WhereStopped _) (sym c.of.ensures) (stops c.args.sql.now tree is alone old new known opened c.in-Err.error fails)
 
-pub returns-in-Err-clause-rests : goal.returns-in-Err-clause-rests
-returns-in-Err-clause-rests g c clean opened =
+pub returns-in-Err-clause-only : goal.returns-in-Err-clause-only
+returns-in-Err-clause-only g c =
     let old = state g.S.Store c.args.conn.now in
     let new = state g.S.Store c.query.follows.lender-at-none in
-    let fails : FailsToQuery c.args.sql.now [] old new c.in-Err.error = (rw c.in-Err.is at c.query.follows.holds-at-none).err clean in
-    query_stays old new c.args.sql.now [] c.in-Err.error (c.requires.reads old.now.schema) fails opened
-
-pub returns-in-Err-clause-crash : goal.returns-in-Err-clause-crash
-returns-in-Err-clause-crash g c =
-    let old = state g.S.Store c.args.conn.now in
-    let new = state g.S.Store c.query.follows.lender-at-none in
-    commits_none c.args.sql.now [] old new (c.requires.reads old.now.schema) (rw c.in-Err.is at c.query.follows.holds-at-none).survives
+    let refused = rw c.in-Err.is at c.query.follows.holds-at-none in
+    let reads = c.requires.reads old.now.schema in
+    record {
+      rests = λ clean opened.
+          let fails : FailsToQuery c.args.sql.now [] old new c.in-Err.error = refused.err clean in
+          query_stays old new c.args.sql.now [] c.in-Err.error reads fails opened;
+      mode = refused.mode c.requires.outside;
+      crash = commits_none c.args.sql.now [] old new reads refused.survives;
+    }
 
 pub rows-init : goal.rows-init
 rows-init g c =
@@ -134,6 +141,22 @@ returns-in-Err-next-clause-refused g c clean =
     let told = failed was now c.args.sql.now [] c.in-Err-next.error ⊥ (c.requires.reads was.now.schema) (inl fails) in
     let here = subst (λ (d : Database). IsFor (HasNoMeaning d.schema c.args.sql.now) ⊥ (failure_of c.in-Err-next.error)) had.1.0.now_is told in
     search rules
+
+pub returns-in-Err-next-clause-only : goal.returns-in-Err-next-clause-only
+returns-in-Err-next-clause-only g c =
+    let moved = c.next.follows.holds-at-none in
+    let inv = c.rows.invariant in
+    let old = state g.S.Store c.args.conn.now in
+    let was = state g.S.Store c.rows.rows.conn.now in
+    let now = state g.S.Store c.next.follows.lender-at-none.conn.now in
+    ended g.S.Store _ c.next.follows.lender-at-none.conn.now _ (search rules) (record {
+      rests = λ late opened.
+          let had = inv.3.2 (omega (arith, moved.survives.clean, late)) in
+          let fails : FailsToQuery c.args.sql.now [] was now c.in-Err-next.error = (rw c.in-Err-next.is at (moved.err late)) c.args.sql.now [] inv.3.0 had.0 in
+          then_stays old was now had.1 (query_stays was now c.args.sql.now [] c.in-Err-next.error (c.requires.reads was.now.schema) fails opened);
+      mode = moved.mode inv.2;
+      crash = survives_then old was now (λ _. ⊥) (λ _. ⊥) (λ _. ⊥) (λ _ db none. none) (λ _ db none. none) inv.1 moved.survives;
+    })
 
 pub returns-in-Err-next-clause-store : goal.returns-in-Err-next-clause-store
 returns-in-Err-next-clause-store g c clean s tree is alone opened known =

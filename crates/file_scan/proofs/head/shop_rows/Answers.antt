@@ -1,4 +1,4 @@
-use Rattle.std.proofs.Common.{inl, [], ap, sym, subst}
+use Rattle.std.proofs.Common.{inl, [], ap, sym, subst, rules}
 use Rattle.sqlite.specs.Effect.{Database}
 use Rattle.sqlite.specs.Held.{state}
 use Rattle.sqlite.specs.State.{FailsToQuery, Shown}
@@ -40,25 +40,28 @@ returns-in-Ok-clause-same g c clean =
     let shown : Shown shop_text [] old new c.in-Ok.rows.items = rw c.statement.ensures.text at (c.in-Ok.ensures.ok clean) in
     shown_same shop_text [] old new c.in-Ok.rows.items (c.statement.ensures.reads old.now.schema) shown
 
-pub returns-in-Ok-clause-rests : goal.returns-in-Ok-clause-rests
-returns-in-Ok-clause-rests g c clean opened =
+pub returns-in-Ok-clause-only : goal.returns-in-Ok-clause-only
+returns-in-Ok-clause-only g c =
     let old = state g.S.Store c.args.conn.now in
     let new = state g.S.Store c.query_all.new.self in
-    let shown : Shown shop_text [] old new c.in-Ok.rows.items = rw c.statement.ensures.text at (c.in-Ok.ensures.ok clean) in
-    stays_same old new (shown_same shop_text [] old new c.in-Ok.rows.items (c.statement.ensures.reads old.now.schema) shown)
+    let reads = c.statement.ensures.reads old.now.schema in
+    record {
+      rests = λ clean opened.
+          let shown : Shown shop_text [] old new c.in-Ok.rows.items = rw c.statement.ensures.text at (c.in-Ok.ensures.ok clean) in
+          stays_same old new (shown_same shop_text [] old new c.in-Ok.rows.items reads shown);
+      mode = search rules;
+      crash = commits_none shop_text [] old new reads (rw c.statement.ensures.text at c.query_all.ensures.survives);
+    }
 
-pub returns-in-Err-clause-rests : goal.returns-in-Err-clause-rests
-returns-in-Err-clause-rests g c clean opened =
+pub returns-in-Err-clause-only : goal.returns-in-Err-clause-only
+returns-in-Err-clause-only g c =
     let old = state g.S.Store c.args.conn.now in
-    let fails : FailsToQuery shop_text [] old (state g.S.Store c.query_all.new.self) c.in-Err.error = rw c.statement.ensures.text at (c.in-Err.ensures.err clean) in
-    query_stays old (state g.S.Store c.query_all.new.self) shop_text [] c.in-Err.error (c.statement.ensures.reads old.now.schema) fails opened
-
-pub returns-in-Ok-clause-crash : goal.returns-in-Ok-clause-crash
-returns-in-Ok-clause-crash g c =
-    let old = state g.S.Store c.args.conn.now in
-    commits_none shop_text [] old (state g.S.Store c.query_all.new.self) (c.statement.ensures.reads old.now.schema) (rw c.statement.ensures.text at c.query_all.ensures.survives)
-
-pub returns-in-Err-clause-crash : goal.returns-in-Err-clause-crash
-returns-in-Err-clause-crash g c =
-    let old = state g.S.Store c.args.conn.now in
-    commits_none shop_text [] old (state g.S.Store c.query_all.new.self) (c.statement.ensures.reads old.now.schema) (rw c.statement.ensures.text at c.query_all.ensures.survives)
+    let new = state g.S.Store c.query_all.new.self in
+    let reads = c.statement.ensures.reads old.now.schema in
+    record {
+      rests = λ clean opened.
+          let fails : FailsToQuery shop_text [] old new c.in-Err.error = rw c.statement.ensures.text at (c.in-Err.ensures.err clean) in
+          query_stays old new shop_text [] c.in-Err.error reads fails opened;
+      mode = search rules;
+      crash = commits_none shop_text [] old new reads (rw c.statement.ensures.text at c.query_all.ensures.survives);
+    }

@@ -18,7 +18,7 @@ use Rattle.file_scan.proofs.whole.read_both.Goals.{in-Ok-read-2, in-Err-read-2}
 pub returns-in-Ok-read-clause-loaded : goal.returns-in-Ok-read-clause-loaded
 returns-in-Ok-read-clause-loaded g c clean db at known =
     let mid = state g.S.Store c.read.new.conn in
-    let clean_mid : HasCleanDisk mid = omega (arith, clean, c.read-in-Ok.ensures.crash.clean) in
+    let clean_mid : HasCleanDisk mid = omega (arith, clean, c.read-in-Ok.ensures.only.crash.clean) in
     let at_mid = at_same (state g.S.Store c.args.conn.now) mid (c.in-Ok.ensures.same clean_mid) db at in (
       c.in-Ok.ensures.loaded clean_mid db at (since_left g.A.Whole.since g.B.Whole.since db.schema known),
       c.in-Ok-read.ensures.loaded clean db at_mid (since_right g.A.Whole.since g.B.Whole.since db.schema known),
@@ -27,7 +27,7 @@ returns-in-Ok-read-clause-loaded g c clean db at known =
 pub returns-in-Err-read-clause-refused : goal.returns-in-Err-read-clause-refused
 returns-in-Err-read-clause-refused g c clean db at =
     let mid = state g.S.Store c.read.new.conn in
-    let clean_mid : HasCleanDisk mid = omega (arith, clean, c.read-in-Ok.ensures.crash.clean) in
+    let clean_mid : HasCleanDisk mid = omega (arith, clean, c.read-in-Ok.ensures.only.crash.clean) in
     let at_mid = at_same (state g.S.Store c.args.conn.now) mid (c.in-Ok.ensures.same clean_mid) db at in
     of_second (g.A.Whole.lacks db.schema) (g.B.Whole.lacks db.schema) (IsSince (max g.A.Whole.since g.B.Whole.since) db.schema) (g.A.Whole.is_damaged db.trees) (g.B.Whole.is_damaged db.trees) c.in-Err-read.error
     (for (g.B.Whole.lacks db.schema) (g.B.Whole.lacks db.schema) _ _ (λ f. f) (λ d known. d (since_right g.A.Whole.since g.B.Whole.since db.schema known)) c.in-Err-read.error (c.in-Err-read.ensures.refused clean db at_mid))
@@ -35,7 +35,7 @@ returns-in-Err-read-clause-refused g c clean db at =
 pub returns-after-read-3-clause-refused : goal.returns-after-read-3-clause-refused
 returns-after-read-3-clause-refused g c clean db at =
     let mid = state g.S.Store c.read.new.conn in
-    let clean_mid : HasCleanDisk mid = omega (arith, clean, c.read-in-Err-Damaged.ensures.crash.clean) in
+    let clean_mid : HasCleanDisk mid = omega (arith, clean, c.read-in-Err-Damaged.ensures.only.crash.clean) in
     let at_mid = at_same (state g.S.Store c.args.conn.now) mid (was_damaged c.read.result _ (c.in-Err-Damaged.is ∙ ap Err c.in-Err-Damaged.field-0-is) (c.read.ensures.same clean_mid)) db at in
     let F = g.A.Whole.lacks db.schema in
     let G = g.B.Whole.lacks db.schema in
@@ -58,18 +58,18 @@ returns-in-Err-read-clause-store g c clean db at known =
     let old = state g.S.Store c.args.conn.now in
     let mid = state g.S.Store c.read.new.conn in
     let new = state g.S.Store c.read-in-Ok.new.conn in
-    let clean_mid : HasCleanDisk mid = omega (arith, clean, c.read-in-Ok.ensures.crash.clean) in
+    let clean_mid : HasCleanDisk mid = omega (arith, clean, c.read-in-Ok.ensures.only.crash.clean) in
     let same = c.in-Ok.ensures.same clean_mid in
-    where_stopped c.in-Err-read.error _ _ (c.in-Err-read.ensures.store clean db (at_same old mid same db at) (since_right g.A.Whole.since g.B.Whole.since db.schema known)) (stopped_later old mid new same c.read.ensures.crash)
+    where_stopped c.in-Err-read.error _ _ (c.in-Err-read.ensures.store clean db (at_same old mid same db at) (since_right g.A.Whole.since g.B.Whole.since db.schema known)) (stopped_later old mid new same c.read.ensures.only.crash)
 
 pub returns-after-read-3-clause-store : goal.returns-after-read-3-clause-store
 returns-after-read-3-clause-store g c clean db at known =
     let old = state g.S.Store c.args.conn.now in
     let mid = state g.S.Store c.read.new.conn in
     let new = state g.S.Store c.read-in-Err-Damaged.new.conn in
-    let clean_mid : HasCleanDisk mid = omega (arith, clean, c.read-in-Err-Damaged.ensures.crash.clean) in
+    let clean_mid : HasCleanDisk mid = omega (arith, clean, c.read-in-Err-Damaged.ensures.only.crash.clean) in
     let same = was_damaged c.read.result _ (c.in-Err-Damaged.is ∙ ap Err c.in-Err-Damaged.field-0-is) (c.read.ensures.same clean_mid) in
-    let second = err_stopped c.read-in-Err-Damaged.result _ _ (c.read-in-Err-Damaged.ensures.store clean db (at_same old mid same db at) (since_right g.A.Whole.since g.B.Whole.since db.schema known)) (stopped_later old mid new same c.read.ensures.crash) in
+    let second = err_stopped c.read-in-Err-Damaged.result _ _ (c.read-in-Err-Damaged.ensures.store clean db (at_same old mid same db at) (since_right g.A.Whole.since g.B.Whole.since db.schema known)) (stopped_later old mid new same c.read.ensures.only.crash) in
     elim c.match-read-3.branch [
       | in-Ok-read-2 w ↦ subst (λ r. IfErr r (WhereStopped (IsStopped old new))) (sym w.result-is) tt
       | in-Err-read-2 w ↦ subst (λ r. IfErr r (WhereStopped (IsStopped old new))) (sym w.result-is) (was_err c.read-in-Err-Damaged.result _ _ w.in-Err-read-2.is second)

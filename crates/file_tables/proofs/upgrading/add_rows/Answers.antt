@@ -24,13 +24,16 @@ rows-preserved g c =
           one_added g.T.Stored.with_row all i c.row-item.result old mid new (drop_at all i c.row-item.result c.rows-test.true c.row-item.is) reached written,
     )
 
-pub returns-clause-written : goal.returns-clause-written
-returns-clause-written g c clean at =
-    let old = state g.S.Store c.args.tx.now.conn.now in
-    let new = state g.S.Store c.rows.tx.conn.now in
-    let all = c.args.rows.now in
-    let i = c.rows.row-index in
-    let reached = c.rows.invariant.1 clean at in
-    let with_row = g.T.Stored.with_row in
-    let none = drop_all all i c.rows-test.false in
-    all_added with_row all old new (ends (λ _. Unit {0}) (λ _. Unit {0}) (each with_row (drop i all)) (each with_row all) old new (λ u. ap (λ l. each with_row l u) none) reached)
+pub returns : goal.returns
+returns g c = record {
+  inside = c.rows.invariant.0;
+  written = λ clean at.
+      let old = state g.S.Store c.args.tx.now.conn.now in
+      let new = state g.S.Store c.rows.tx.conn.now in
+      let all = c.args.rows.now in
+      let i = c.rows.row-index in
+      let reached = c.rows.invariant.1 clean at in
+      let with_row = g.T.Stored.with_row in
+      let none = drop_all all i c.rows-test.false in
+      all_added with_row all old new (ends (λ _. Unit {0}) (λ _. Unit {0}) (each with_row (drop i all)) (each with_row all) old new (λ u. ap (λ l. each with_row l u) none) reached);
+}

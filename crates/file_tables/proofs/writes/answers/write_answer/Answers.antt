@@ -1,4 +1,4 @@
-use Rattle.std.proofs.Common.{arith, filter}
+use Rattle.std.proofs.Common.{arith, filter, rules}
 use Rattle.sqlite.specs.Held.{state}
 use Rattle.sqlite.specs.State.{HasCleanDisk}
 use Rattle.model_answers.specs.KeptAnswers.{lasts}
@@ -9,12 +9,15 @@ use Rattle.file_tables.proofs.AnswerLemmas.{answer_kept}
 use Rattle.file_tables.proofs.Steps.{inside_fit, on_ok}
 use Rattle.file_tables.proofs.writes.answers.write_answer.Goals as goal
 
-pub returns-clause-written : goal.returns-clause-written
-returns-clause-written g c clean at =
-    let s0 = state g.S.Store c.args.tx.now.conn.now in
-    let s1 = state g.S.Store c.forget.new.tx.conn.now in
-    let s2 = state g.S.Store c.keep_lasting.new.tx.conn.now in
-    let early : HasCleanDisk s1 = omega (arith, c.keep_lasting.ensures.inside.crash.clean) in
-    let gone = c.in_ok-forget.ensures.written early at in
-    on_ok c.keep_lasting.result (Changes (with_listed c.args.number (filter (λ k. lasts c.args.at k.at) (listed c.args.kept))) s1 s2) _ (c.keep_lasting.ensures.written clean (inside_fit _ _ s0 s1 gone))
-    (λ h. answer_kept c.args.at c.args.number c.args.kept s0 s1 s2 gone h)
+pub returns : goal.returns
+returns g c = record {
+  inside = search rules;
+  written = λ clean at.
+      let s0 = state g.S.Store c.args.tx.now.conn.now in
+      let s1 = state g.S.Store c.forget.new.tx.conn.now in
+      let s2 = state g.S.Store c.keep_lasting.new.tx.conn.now in
+      let early : HasCleanDisk s1 = omega (arith, c.keep_lasting.ensures.inside.crash.clean) in
+      let gone = c.in_ok-forget.ensures.written early at in
+      on_ok c.keep_lasting.result (Changes (with_listed c.args.number (filter (λ k. lasts c.args.at k.at) (listed c.args.kept))) s1 s2) _ (c.keep_lasting.ensures.written clean (inside_fit _ _ s0 s1 gone))
+      (λ h. answer_kept c.args.at c.args.number c.args.kept s0 s1 s2 gone h);
+}

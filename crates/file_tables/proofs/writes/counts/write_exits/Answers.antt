@@ -26,13 +26,16 @@ counts-preserved g c =
           one_added put_exit all i (get_or all i none) old mid new (rw add-one (drop-cons all i none c.counts-test.true)) reached written,
     )
 
-pub returns-clause-written : goal.returns-clause-written
-returns-clause-written g c clean at =
-    let old = state g.S.Store c.args.tx.now.conn.now in
-    let new = state g.S.Store c.counts.tx.conn.now in
-    let all = c.args.counts.now in
-    let i = c.counts.count-index in
-    let reached = c.counts.invariant.1 clean at in
-    let with_row = put_exit in
-    let none = drop_all all i c.counts-test.false in
-    all_added with_row all old new (ends (λ _. Unit {0}) (λ _. Unit {0}) (each with_row (drop i all)) (each with_row all) old new (λ u. ap (λ l. each with_row l u) none) reached)
+pub returns : goal.returns
+returns g c = record {
+  inside = c.counts.invariant.0;
+  written = λ clean at.
+      let old = state g.S.Store c.args.tx.now.conn.now in
+      let new = state g.S.Store c.counts.tx.conn.now in
+      let all = c.args.counts.now in
+      let i = c.counts.count-index in
+      let reached = c.counts.invariant.1 clean at in
+      let with_row = put_exit in
+      let none = drop_all all i c.counts-test.false in
+      all_added with_row all old new (ends (λ _. Unit {0}) (λ _. Unit {0}) (each with_row (drop i all)) (each with_row all) old new (λ u. ap (λ l. each with_row l u) none) reached);
+}

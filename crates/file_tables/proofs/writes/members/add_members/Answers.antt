@@ -31,16 +31,19 @@ members-preserved g c =
           ),
     )
 
-pub returns-clause-written : goal.returns-clause-written
-returns-clause-written g c clean at =
-    let old = state g.S.Store c.args.tx.now.conn.now in
-    let new = state g.S.Store c.members.tx.conn.now in
-    let all = c.args.members.now in
-    let i = c.members.member-index in
-    let reached = c.members.invariant.1 clean at in
-    let none = drop_all all i c.members-test.false in
-    let made : ℕ → ℕ → Tables → Tables = λ id n. g.T.Stored.with_row (g.T.Member.row_of n c.args.owner id) in
-    let next : ℕ → ℕ → ℕ = λ _ n. n + 1 in (
-      sym (ap (λ l. next_each next l c.members.free) none) ∙ reached.0 ∙ next_members c.args.from all,
-      changes_any c.args.from (made_each made next all c.args.from) old new (all_done made next any_tables (drop i all) all c.args.from c.members.free none old new reached.1),
-    )
+pub returns : goal.returns
+returns g c = record {
+  inside = c.members.invariant.0;
+  written = λ clean at.
+      let old = state g.S.Store c.args.tx.now.conn.now in
+      let new = state g.S.Store c.members.tx.conn.now in
+      let all = c.args.members.now in
+      let i = c.members.member-index in
+      let reached = c.members.invariant.1 clean at in
+      let none = drop_all all i c.members-test.false in
+      let made : ℕ → ℕ → Tables → Tables = λ id n. g.T.Stored.with_row (g.T.Member.row_of n c.args.owner id) in
+      let next : ℕ → ℕ → ℕ = λ _ n. n + 1 in (
+        sym (ap (λ l. next_each next l c.members.free) none) ∙ reached.0 ∙ next_members c.args.from all,
+        changes_any c.args.from (made_each made next all c.args.from) old new (all_done made next any_tables (drop i all) all c.args.from c.members.free none old new reached.1),
+      );
+}

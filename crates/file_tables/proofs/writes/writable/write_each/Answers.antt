@@ -30,12 +30,15 @@ things-preserved g c =
           ),
     )
 
-pub returns-clause-written : goal.returns-clause-written
-returns-clause-written g c clean at =
-    let all = c.args.things.now in
-    let i = c.things.thing-index in
-    let reached = c.things.invariant.1 clean at in
-    let none = drop_all all i c.things-test.false in (
-      sym (ap (λ l. next_each g.T.Writable.next l c.things.free) none) ∙ reached.0,
-      all_done g.T.Writable.made g.T.Writable.next IsFree (drop i all) all c.args.from c.things.free none (state g.S.Store c.args.tx.now.conn.now) (state g.S.Store c.things.tx.conn.now) reached.1,
-    )
+pub returns : goal.returns
+returns g c = record {
+  inside = c.things.invariant.0;
+  written = λ clean at.
+      let all = c.args.things.now in
+      let i = c.things.thing-index in
+      let reached = c.things.invariant.1 clean at in
+      let none = drop_all all i c.things-test.false in (
+        sym (ap (λ l. next_each g.T.Writable.next l c.things.free) none) ∙ reached.0,
+        all_done g.T.Writable.made g.T.Writable.next IsFree (drop i all) all c.args.from c.things.free none (state g.S.Store c.args.tx.now.conn.now) (state g.S.Store c.things.tx.conn.now) reached.1,
+      );
+}

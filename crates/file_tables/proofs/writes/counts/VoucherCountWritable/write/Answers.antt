@@ -1,4 +1,4 @@
-use Rattle.std.proofs.Common.{refl, arith}
+use Rattle.std.proofs.Common.{refl, arith, rules}
 use Rattle.sqlite.specs.Held.{state}
 use Rattle.sqlite.specs.State.{HasCleanDisk}
 use Rattle.file_meaning.specs.Free.{IsFree}
@@ -6,12 +6,15 @@ use Rattle.file_tables.proofs.CountLemmas.{uses_put}
 use Rattle.file_tables.proofs.Steps.{inside_after}
 use Rattle.file_tables.proofs.writes.counts.VoucherCountWritable.write.Goals as goal
 
-pub returns-clause-written : goal.returns-clause-written
-returns-clause-written g c clean at =
-    let s0 = state g.S.Store c.args.tx.now.conn.now in
-    let s1 = state g.S.Store c.put_redeemed.new.tx.conn.now in
-    let s2 = state g.S.Store c.put.new.tx.conn.now in
-    let early : HasCleanDisk s1 = omega (arith, c.put.ensures.inside.crash.clean) in
-    let a = c.in_ok-put_redeemed.ensures.written early at in
-    let b = c.in_ok-put.ensures.written clean (inside_after _ s0 s1 a) in
-    (refl, uses_put (IsFree c.args.from) c.args.self.now s0 s1 s2 a b)
+pub returns : goal.returns
+returns g c = record {
+  inside = search rules;
+  written = λ clean at.
+      let s0 = state g.S.Store c.args.tx.now.conn.now in
+      let s1 = state g.S.Store c.put_redeemed.new.tx.conn.now in
+      let s2 = state g.S.Store c.put.new.tx.conn.now in
+      let early : HasCleanDisk s1 = omega (arith, c.put.ensures.inside.crash.clean) in
+      let a = c.in_ok-put_redeemed.ensures.written early at in
+      let b = c.in_ok-put.ensures.written clean (inside_after _ s0 s1 a) in
+      (refl, uses_put (IsFree c.args.from) c.args.self.now s0 s1 s2 a b);
+}
