@@ -1,4 +1,4 @@
-"""The crates of this repository, and rooms in which rt works on one of them.
+"""The crates of this repository, and rooms in which rt works on one of them. As a program: the kit's rt, with each library summed up once.
 
 rt keeps all others out of a crate's folder and of the folders below it while it works there. A room is a folder of its
 own with copies of the sources and links to the libraries, so that checks run side by side.
@@ -25,6 +25,8 @@ GATE_CHECK = 4_500_000_000
 PACE = 14
 # Held while the kit's rt is read: several threads may ask for it at once.
 KIT = threading.Lock()
+# The kit's rt, as this file runs it where it is a program.
+RT = (sys.executable, "-B", os.path.abspath(__file__))
 
 
 def folder(name, top=TOP):
@@ -160,7 +162,7 @@ class Running:
     alive = set()
     stopped = False
 
-    def __init__(self, words, at, seconds=None, program=("rt",), begun=lambda process: None):
+    def __init__(self, words, at, seconds=None, program=RT, begun=lambda process: None):
         how = {"stdin": subprocess.DEVNULL, "stdout": subprocess.PIPE, "stderr": subprocess.STDOUT}
         ran = subprocess.Popen([*program, *words], cwd=at, start_new_session=True, text=True, errors="replace", **how)
         Running.alive.add(ran)
@@ -292,7 +294,28 @@ def read_kit():
     made = importlib.util.module_from_spec(importlib.util.spec_from_loader("rt", loader))
     sys.modules["rt"] = made
     loader.exec_module(made)
+    sum_once(made.rtlib)
     return made
+
+
+def sum_once(rtlib):
+    """Makes the kit's rt sum up a library once for each sum that is asked for. By itself it does so once for each way that leads down to
+    the library: 40,000 times below web_callers, in over a minute."""
+    stamp, asked = rtlib.Crate.stamp, threading.local()
+
+    def stamp_once(crate):
+        sums = getattr(asked, "sums", None)
+        if sums is None:
+            asked.sums = {}
+            try:
+                return stamp(crate)
+            finally:
+                asked.sums = None
+        if crate.folder not in sums:
+            sums[crate.folder] = stamp(crate)
+        return sums[crate.folder]
+
+    rtlib.Crate.stamp = stamp_once
 
 
 def is_built(name, top=TOP):
@@ -301,3 +324,7 @@ def is_built(name, top=TOP):
         return kit().rtlib.Crate(folder(name, top), top, {}).is_built()
     except SystemExit:
         return False
+
+
+if __name__ == "__main__":
+    sys.exit(kit().main(sys.argv[1:]))

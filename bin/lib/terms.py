@@ -18,6 +18,10 @@ STOPS = {"then", "else", "in", ")", "}", "]", ",", ";", ":", "=", "."}
 LISTED = {"×", "⊎"}
 # Words of std that say of a result what others say by a function of what it holds.
 CONSTANT = {"OnOk": "IfOk", "OnErr": "IfErr"}
+# What a contract says of a parameter: when, or as what, it is taken.
+GIVEN = {"now", "old", "new", "entry"}
+# What stands between a word and the module that defines it.
+OF = "§"
 DEEP = 400
 
 
@@ -58,9 +62,9 @@ class Reader:
             return begin()
         bound = self.bound()
         if bound:
-            names, its, sign = bound
+            sign = self.take()
             body = self.term(SIGNS[sign][0])
-            for name in reversed(names):
+            for name, its in reversed(bound):
                 body = ("all" if sign == "→" else "some", name, its, body)
             return body
         if self.sees() == "¬":
@@ -111,7 +115,7 @@ class Reader:
         return put(self.term(), {name: given})
 
     def bound(self):
-        """The names, their type and the sign of `(a b : T) →`, or None: several such groups before one sign go together."""
+        """The names of `(a b : T) (c : U)`, each with its type, where → or × comes next; or else None."""
         begun = self.at
         try:
             if self.sees() not in ("(", "{"):
@@ -122,11 +126,12 @@ class Reader:
             self.take(end)
             if not names or not all(re.fullmatch(r"[\w'«»]+", it) for it in names):
                 raise Unread("no names")
+            found = [(it, its) for it in names]
             if self.sees() in ("→", "×"):
-                return names, its, self.take()
+                return found
             more = self.bound()
             if more:
-                return names + more[0], ("tuple", its, more[1]), more[2]
+                return found + more
         except Unread:
             pass
         self.at = begun
@@ -295,11 +300,22 @@ class Words:
         if term[0] in ("of", "name"):
             return self.opened_call(*spine(term), depth)
         if term[0] == "part":
-            return self.opened_part(self.opened(term[1], depth + 1), term[2], depth)
+            is_given = term[1][0] == "name" and term[2] in GIVEN
+            return self.opened_part(term[1] if is_given else self.opened(term[1], depth + 1), term[2], depth)
+        if term[0] in ("all", "some"):
+            fields = self.fields_of(term[2])
+            if fields:
+                return self.opened(spread(term, fields), depth + 1)
         made = rebuilt(term, lambda it: self.opened(it, depth + 1))
         if made[0] == "fun" and made[2][0] == "of" and made[2][2] == ("name", made[1]) and made[1] not in names_in(made[2][1]):
             return made[2][1]
         return made
+
+    def fields_of(self, its):
+        """The fields of a type that is a record of these words, each with its type."""
+        called, given = spine(its)
+        names, fields = self.records.get(called[1], ((), ())) if called[0] == "name" else ((), ())
+        return [(name, put(field, dict(zip(names, given)))) for name, field in fields] if len(names) == len(given) else []
 
     def opened_call(self, called, given, depth):
         if called[0] == "name" and called[1] in self.equations:
@@ -328,24 +344,72 @@ class Words:
         return ("part", whole, field)
 
 
+def homed(term, homes):
+    """A term whose words are named with the module that `homes` gives for them."""
+    return put(term, {it: ("name", homes[it]) for it in names_in(term) if it in homes})
+
+
+def spread(term, fields):
+    """A term that binds a record as one that binds each of its fields."""
+    kind, name, _, body = term
+    own = {field: ("name", Fresh.name(field)) for field, _ in fields}
+    body = put(body, {name: ("record", None, tuple(sorted(own.items())))})
+    for field, its in reversed(fields):
+        body = (kind, own[field][1], put(its, {it: value for it, value in own.items() if it != field}), body)
+    return body
+
+
+def bare(name):
+    return name.rpartition(OF)[2]
+
+
 def plain(term, bound=(), depth=0):
     """A term without what says nothing: names of what is bound, the grouping of signs that are the same either way, a type parameter's
     trait in a member's name, the type in a case's."""
     if term[0] == "name":
-        return ("name", dict(bound).get(term[1], term[1]))
+        return ("name", dict(bound).get(term[1], bare(term[1])))
     if term[0] == "part" and term[2][:1].isupper() and term[1][0] == "name":
         return term[1] if len(term[1][1]) < 3 or term[1][1] == "Self" else ("name", term[2])
-    if term[0] in ("fun", "all", "some"):
+    if term[0] == "all" or term[:2] == ("op", "→"):
+        return plain_promise(term, bound, depth)
+    if term[0] in ("fun", "some"):
         more = (*bound, (term[1], f"#{depth}"))
         return (term[0], *(plain_type(it, bound, depth) for it in term[2:-1]), plain(term[-1], more, depth + 1))
     called, given = spine(term)
-    if called[0] == "name" and called[1] in CONSTANT and len(given) == 2:
-        return plain(applied_to(("name", CONSTANT[called[1]]), [given[0], ("fun", "_", given[1])]), bound, depth)
+    if called[0] == "name" and bare(called[1]) in CONSTANT and len(given) == 2:
+        return plain(applied_to(("name", CONSTANT[bare(called[1])]), [given[0], ("fun", "_", given[1])]), bound, depth)
     if term[0] == "op" and term[1] in LISTED:
         return (term[1], *(plain(it, bound, depth) for it in listed(term, term[1])))
     if term[0] == "op" and term[1] in ("++", "∷"):
         return ("++", *((kind, plain(it, bound, depth)) for kind, it in pieces(term)))
     return rebuilt(term, lambda it: plain(it, bound, depth))
+
+
+def plain_promise(term, bound, depth):
+    """What follows of which premises, for all of what: premises in any order, and what is bound in the order in which it is used."""
+    names, premises = [], []
+    while term[0] == "all" or term[:2] == ("op", "→"):
+        if term[0] == "all" and term[1] in names_in(term[3]):
+            names.append((term[1], term[2]))
+        else:
+            premises.append(term[2])
+        term = term[3]
+    blank = {name: ("name", "_") for name, _ in names}
+    premises.sort(key=lambda it: shown(plain(put(it, blank), bound, depth)))
+    used = [it for part in (term, *premises, *(its for _, its in names)) for it in sequence(part) if it in blank]
+    order = list(dict.fromkeys([*used, *blank]))
+    more = (*bound, *((name, f"#{depth + at}") for at, name in enumerate(order)))
+    inside = depth + len(order)
+    types = dict(names)
+    made = sorted({shown(plain(it, more, inside)) for it in premises})
+    return ("promise", *(plain_type(types[it], more, inside) for it in order), *(("name", it) for it in made), plain(term, more, inside))
+
+
+def sequence(term):
+    """The names of a term in the order in which they come."""
+    if term[0] == "name":
+        return [term[1]]
+    return [name for it in inner(term) for name in sequence(it)]
 
 
 def plain_type(its, bound, depth):
